@@ -5,20 +5,13 @@ use Rattle.std.specs.Cmp.Lexicographic.{bytes_decides, pointwise}
 use Rattle.std.specs.List.{All}
 use Rattle.std.proofs.lemmas.List.Elements.{All-cons, All-nil, All-tail}
 use Rattle.census_table.specs.declared.entry.Entry.{Entry}
+use Rattle.census_verify.proofs.Nothing.{first-none, second-none}
 use Rattle.census_verify.specs.Agreement.{IsTrueOf, NothingIsToldWhereAllAgree}
 use Rattle.census_verify.specs.Claims.{Cell, Claim}
 use Rattle.census_verify.specs.Patterns.{is_claimed, matched, patterns_of}
 use Rattle.census_verify.specs.Verdict.{all_unclaimed_text, cell_text, cells_text, claim_text, claims_text, match_text, told, unclaimed_line, unclaimed_text, wrong_text}
 
 -- # Parts of what is told
-
-first-none : (xs ys : List ℕ) → xs ++ ys ≡ [] → xs ≡ []
-first-none [] ys e = refl
-first-none (x ∷ xs) ys e = absurd (cc)
-
-second-none : (xs ys : List ℕ) → xs ++ ys ≡ [] → ys ≡ []
-second-none [] ys e = e
-second-none (x ∷ xs) ys e = absurd (cc)
 
 both-none : (xs ys : List ℕ) → xs ≡ [] → ys ≡ [] → xs ++ ys ≡ []
 both-none xs ys e f = ap (λ t. t ++ ys) e ∙ f

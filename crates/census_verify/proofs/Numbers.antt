@@ -6,6 +6,7 @@ use Rattle.std.specs.Cmp.Lexicographic.{pointwise}
 use Rattle.std.specs.Fmt.{signed_decimal}
 use Rattle.std.specs.Int.{w64}
 use Rattle.std.specs.List.{list_all}
+use Rattle.std.proofs.lemmas.Bool.{and_parts}
 use Rattle.std.proofs.lemmas.Bool.Decides.{nat_tests}
 use Rattle.std.proofs.lemmas.Fmt.{decimal_by_steps}
 use Rattle.std.proofs.lemmas.List.Folds.{list_all-append}
@@ -68,10 +69,6 @@ number-by : (n : ℕ) (text : List ℕ) → Digits n text → is_number text ≡
 number-by zero text d = ap is_number (d.zero_is refl)
 number-by (suc n) text d = leads-number text (d.first (omega arith)) d.all
 
-both : (a b : Bool) → (a && b) ≡ true → (a ≡ true) × (b ≡ true)
-both true b e = (refl, e)
-both false b e = absurd (cc)
-
 digit-no-sign : (digit : ℕ) → is_ascii_digit digit ≡ true → (digit == 45) ≡ false
 digit-no-sign digit e = grind (arith, nat_tests)
 
@@ -79,7 +76,7 @@ unsigned-signed : (text : List ℕ) → list_all is_ascii_digit text ≡ true �
 unsigned-signed [] all e = absurd (cc)
 unsigned-signed (digit ∷ others) all e =
     ap (λ (b : Bool). if b then is_number others && not (pointwise nat_eq others (48 ∷ [])) else is_number (digit ∷ others))
-    (digit-no-sign digit (both (is_ascii_digit digit) (list_all is_ascii_digit others) all).0)
+    (digit-no-sign digit (and_parts (is_ascii_digit digit) (list_all is_ascii_digit others) all).0)
     ∙ e
 
 signed-by : (z : ℤ) → FitsSigned w64 z → is_signed (signed_decimal z) ≡ true

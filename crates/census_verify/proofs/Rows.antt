@@ -3,8 +3,9 @@ use Rattle.std.proofs.Common.{◌≡◌, ℕ, ◌+◌, Bool, true, false, ◌&&�
 use Rattle.std.specs.Prelude.{◌≢◌, ◌⊎◌, Option, Some}
 use Rattle.std.specs.List.{list_all}
 use Rattle.std.specs.Option.{option_map}
-use Rattle.std.proofs.lemmas.Bool.{eqb-true}
+use Rattle.std.proofs.lemmas.Bool.{and_parts, eqb-true}
 use Rattle.std.proofs.lemmas.List.{append-nil}
+use Rattle.census_verify.proofs.Nothing.{first-none, second-none}
 use Rattle.census_verify.specs.Rows.{Begun, Row, whole, broken, all_cells, begun_on, cell_ended, ended, move_of, rows_from, with_byte}
 use Rattle.census_verify.specs.Written.{IsCellText, IsRowEnd, IsRowText, IsRowsText, cells_of, doubled, is_plain}
 use Rattle.census_verify.specs.declared.place.Move.{Move}
@@ -50,10 +51,6 @@ start-takes byte e = plain-by (byte == 34) (byte == 44) (byte == 10) (byte == 13
 plain-takes : TakesPlain Plain
 plain-takes byte e = plain-by (byte == 34) (byte == 44) (byte == 10) (byte == 13) Break e
 
-both : (a b : Bool) → (a && b) ≡ true → (a ≡ true) × (b ≡ true)
-both true b e = (refl, e)
-both false b e = absurd (cc)
-
 -- a row that the end of a text ends
 abbrev EndsRow : Begun → Type 0
 EndsRow row = rows_from row [] ≡ whole row.begun (all_cells row) ∷ []
@@ -87,7 +84,7 @@ record PlainRead (row : Begun) (cell rest : List ℕ) : Type 0 where
 plain-read : (cell : List ℕ) (row : Begun) (rest : List ℕ) → list_all is_plain cell ≡ true → row.place ≡ Plain → PlainRead row cell rest
 plain-read [] row rest plain at = record { behind = row; at = at; cells = refl; bytes = sym (append-nil row.cell); same = refl }
 plain-read (byte ∷ bytes) row rest plain at =
-    let p = both (is_plain byte) (list_all is_plain bytes) plain in
+    let p = and_parts (is_plain byte) (list_all is_plain bytes) plain in
     let r = plain-read bytes (with_byte Plain byte row) rest p.1 refl in
     record {
       behind = r.behind;
@@ -108,7 +105,7 @@ bare-read [] row rest plain at = record {
       (start-ended row.cells row.begun (all_cells row) (⊎_elim (λ before. before) (λ text. absurd (text refl)) some));
 }
 bare-read (byte ∷ bytes) row rest plain at =
-    let p = both (is_plain byte) (list_all is_plain bytes) plain in
+    let p = and_parts (is_plain byte) (list_all is_plain bytes) plain in
     let r = plain-read bytes (with_byte Plain byte row) rest p.1 refl in
     record {
       behind = r.behind;
@@ -197,7 +194,7 @@ record CellsRead (row : Begun) (cells : List (List ℕ)) (text rest : List ℕ) 
 last-cell : (row behind : Begun) (cell : List ℕ) → behind.cells ≡ row.cells → behind.cell ≡ row.cell ++ cell → row.cell ≡ [] → all_cells behind ≡ row.cells ++ cell ∷ []
 last-cell row behind cell cells bytes none = ap₂ (λ (a : List (List ℕ)) (b : List ℕ). a ++ b ∷ []) cells (bytes ∙ ap (λ t. t ++ cell) none)
 
-snoc-some : (cells : List (List ℕ)) (cell : List ℕ) → cells ++ cell ∷ [] ≢ []
+pub snoc-some : (cells : List (List ℕ)) (cell : List ℕ) → cells ++ cell ∷ [] ≢ []
 snoc-some [] cell e = absurd (cc)
 snoc-some (one ∷ others) cell e = absurd (cc)
 
@@ -236,19 +233,11 @@ no-end : (end rest : List ℕ) → IsRowEnd end → [] ≡ end ++ rest → ⊥
 no-end end rest (inl is) e = let f : [] ≡ 10 ∷ rest = e ∙ ap (λ t. t ++ rest) is in absurd (cc)
 no-end end rest (inr is) e = let f : [] ≡ 13 ∷ (10 ∷ rest) = e ∙ ap (λ t. t ++ rest) is in absurd (cc)
 
-first-none : (xs ys : List ℕ) → [] ≡ xs ++ ys → xs ≡ []
-first-none [] ys e = refl
-first-none (x ∷ xs) ys e = absurd (cc)
-
-second-none : (xs ys : List ℕ) → [] ≡ xs ++ ys → [] ≡ ys
-second-none [] ys e = e
-second-none (x ∷ xs) ys e = absurd (cc)
-
 -- without a byte there is no row
 no-rows : (rows : List (List (List ℕ))) → IsRowsText rows [] → rows ≡ []
 no-rows [] is = refl
 no-rows (cells ∷ rows) is =
-    absurd (⊎_elim (λ end. no-end is.1 is.2 end (second-none is.0 (is.1 ++ is.2) is.6)) (λ last. last.2 (first-none is.0 (is.1 ++ is.2) is.6)) is.4)
+    absurd (⊎_elim (λ end. no-end is.1 is.2 end (sym (second-none is.0 (is.1 ++ is.2) (sym is.6)))) (λ last. last.2 (first-none is.0 (is.1 ++ is.2) (sym is.6))) is.4)
 
 rows-read : (rows : List (List (List ℕ))) (text : List ℕ) → IsRowsText rows text → (line : ℕ) → cells_of (rows_from (begun_on line) text) ≡ Some rows
 rows-read [] text is line = ap (λ t. cells_of (rows_from (begun_on line) t)) is

@@ -12,7 +12,7 @@ use Rattle.census_verify.specs.declared.place.Move.{Move}
 use Rattle.census_verify.specs.declared.place.Move.TheVariants.{Add, Pass, EndCell, EndRow, Break}
 use Rattle.census_verify.specs.declared.place.Place.{Place}
 use Rattle.census_verify.specs.declared.place.Place.TheVariants.{Start, Plain, Quoted, Closed, Return}
-use Rattle.census_verify.proofs.Rows.{moved}
+use Rattle.census_verify.proofs.Rows.{moved, snoc-some}
 
 -- # What is left of a row
 
@@ -134,10 +134,6 @@ pass-rest place next row byte text rows r cell = record {
   text_is = ap (λ t. byte ∷ t) r.text_is;
   rows_are = r.rows_are;
 }
-
-snoc-some : (cells : List (List ℕ)) (cell : List ℕ) → cells ++ cell ∷ [] ≢ []
-snoc-some [] cell e = absurd (cc)
-snoc-some (one ∷ others) cell e = absurd (cc)
 
 cell-rest : (place : Place) (row : Begun) (text : List ℕ) (rows : List (List (List ℕ))) → CellRest place [] [] → Rest Start (cell_ended row) text rows
     → RowRest place row (44 ∷ text) rows
