@@ -85,10 +85,10 @@ const SHELF: Memory<'static> = Memory {
 // Reads reports and writes them, and gives what was written.
 fn written<I: Read + Drop>(
     alloc: Global,
-    form: Form,
+    form: Form<'_>,
     words: &[&str],
     input: I,
-) -> (Result<(), ReportsError>, Vec<u8>) {
+) -> (Result<bool, ReportsError>, Vec<u8>) {
     let mut input = Watched::new(input);
     let mut output = Watched::new(Vec::new(alloc));
     let result = write_reports(&SHELF, alloc, form, words, &mut input, &mut output);
@@ -96,19 +96,19 @@ fn written<I: Read + Drop>(
 }
 
 // A row for each pattern.
-const CSV_FORM: Form = Form::Table {
+const CSV_FORM: Form<'static> = Form::Table {
     subject: Subject::Patterns,
     format: Format::Csv { safe: false },
 };
 
-const JSON_FORM: Form = Form::Table {
+const JSON_FORM: Form<'static> = Form::Table {
     subject: Subject::Patterns,
     format: Format::Json,
 };
 
 /// Words, standard input, and what is written or why nothing is.
 type Case = (
-    Form,
+    Form<'static>,
     &'static [&'static str],
     &'static [u8],
     Result<&'static [u8], ReportsError>,
@@ -128,6 +128,38 @@ const CASES: &[Case] = &[
         Ok(
             b"rule,code,count,patterns,first_collection_name,first_name\nB3/S23,xs4_33,1,1,a,block\n",
         ),
+    ),
+    // What is looked for is found, or is not.
+    (
+        Form::Same { json: false },
+        &["first", "first"],
+        b"",
+        Ok(b"B3/S23 xs4_33\n  a/block\n  a/block\n"),
+    ),
+    (Form::Same { json: false }, &["first"], b"", Ok(b"")),
+    (
+        Form::Verdict {
+            claims: b"name,period\nblock,2\n",
+        },
+        &["first"],
+        b"",
+        Ok(b"wrong block period 2 1\n"),
+    ),
+    (
+        Form::Verdict {
+            claims: b"name,period\nblock,1\n",
+        },
+        &["first"],
+        b"",
+        Ok(b""),
+    ),
+    (
+        Form::Verdict {
+            claims: b"name,period\nblock,one\n",
+        },
+        &["first"],
+        b"",
+        Err(ReportsError::Claims { line: 2 }),
     ),
     // Standard input.
     (Form::Merged, &[], FIRST, Ok(FIRST)),
@@ -169,7 +201,8 @@ fn reports_of_files_and_of_standard_input(rt: HostRuntime) -> Result<(), Fail> {
         let (result, text) = written(rt.alloc(), *form, words, *input);
         match wanted {
             Ok(wanted) => {
-                assert!(rt; result.is_ok());
+                let looks = matches!(form, Form::Same { .. } | Form::Verdict { .. });
+                assert!(rt; result == Ok(looks && !wanted.is_empty()));
                 assert_eq!(rt; text.as_slice(), *wanted);
             }
             Err(wanted) => {

@@ -64,14 +64,28 @@ close 1 2 2 0 0
 end 1 2
 ";
 
-// What is told of a report, and whether that is anything.
-fn same_in(alloc: Global, report: &[u8]) -> Result<(bool, Vec<u8>), AllocError> {
+// Two patterns that are one object, of which one has a name that is no UTF-8.
+const TWINS: &[u8] = b"open 1 2 a \"b\"
+line 1 1 ok B3/S23 4 0 1 0 0 xs4_33 \xff
+line 1 2 ok B3/S23 4 0 1 0 0 xs4_33 block
+code 1 B3/S23 xs4_33 2
+close 1 2 2 0 0
+end 1 2
+";
+
+const TWINS_AS_JSON: &[u8] =
+    b"{\"code\":\"xs4_33\",\"collection_name\":\"a \\\"b\\\"\",\"collection_name_hex\":null,\"name\":\"\xef\xbf\xbd\",\"name_hex\":\"ff\",\"rule\":\"B3/S23\"}
+{\"code\":\"xs4_33\",\"collection_name\":\"a \\\"b\\\"\",\"collection_name_hex\":null,\"name\":\"block\",\"name_hex\":null,\"rule\":\"B3/S23\"}
+";
+
+// What is told of a report, as JSON or not, and whether that is anything.
+fn same_in(alloc: Global, json: bool, report: &[u8]) -> Result<(bool, Vec<u8>), AllocError> {
     let Ok(rows) = read_report(alloc, report)? else {
         return Err(AllocError);
     };
     let mut block = Block::new(alloc);
     let mut writer = Watched::new(Vec::new(alloc));
-    let any = put_same(alloc, rows.as_slice(), &mut block, &mut writer)?;
+    let any = put_same(alloc, json, rows.as_slice(), &mut block, &mut writer)?;
     match send(&mut block, &mut writer) {
         Ok(()) => Ok((any, writer.into_inner())),
         Err(_) => Err(AllocError),
@@ -80,16 +94,26 @@ fn same_in(alloc: Global, report: &[u8]) -> Result<(bool, Vec<u8>), AllocError> 
 
 #[test]
 fn patterns_of_one_object_are_told_together(rt: HostRuntime) -> Result<(), AllocError> {
-    let (any, text) = same_in(rt.alloc(), REPORT)?;
+    let (any, text) = same_in(rt.alloc(), false, REPORT)?;
     assert!(rt; any);
     assert!(rt; text.as_slice() == SAME);
     Ok(())
 }
 
 #[test]
+fn each_pattern_of_one_object_has_an_object_of_its_own(rt: HostRuntime) -> Result<(), AllocError> {
+    let (any, text) = same_in(rt.alloc(), true, TWINS)?;
+    assert!(rt; any);
+    assert!(rt; text.as_slice() == TWINS_AS_JSON);
+    Ok(())
+}
+
+#[test]
 fn nothing_is_told_where_each_is_another(rt: HostRuntime) -> Result<(), AllocError> {
-    let (any, text) = same_in(rt.alloc(), APART)?;
-    assert!(rt; !any);
-    assert!(rt; text.is_empty());
+    for json in [false, true] {
+        let (any, text) = same_in(rt.alloc(), json, APART)?;
+        assert!(rt; !any);
+        assert!(rt; text.is_empty());
+    }
     Ok(())
 }
