@@ -88,10 +88,10 @@ times_back (suc k) w =
     ∙ step_pair (let z : k * w.0 + w.0 ≡ suc k * w.0 = omega arith in omega (arith, ints))
     (pair (omega (arith, ints)) (omega (arith, ints)))
 
-abbrev forth : List (ℕ × Cell) → List ℕ → Step
+abbrev pub forth : List (ℕ × Cell) → List ℕ → Step
 forth ws k = (pos (time_of ws k), move_of ws k)
 
-abbrev back : List (ℕ × Cell) → List ℕ → Step
+abbrev pub back : List (ℕ × Cell) → List ℕ → Step
 back vs l = (neg_ℤ (pos (time_of vs l)), opposite (move_of vs l))
 
 sum_back : (vs : List (ℕ × Cell)) (l : List ℕ) → sum_of (map step_back vs) l ≡ back vs l
@@ -121,7 +121,7 @@ back_none : (vs : List (ℕ × Cell)) → back vs [] ≡ stay
 back_none [] = refl
 back_none (v ∷ vs) = refl
 
-joined : (ws vs : List (ℕ × Cell)) (k l : List ℕ) →
+pub joined : (ws vs : List (ℕ × Cell)) (k l : List ℕ) →
     (often : List ℕ) × (sum_of (map step_of ws ++ map step_back vs) often ≡ and_then (forth ws k) (back vs l))
 joined [] vs k l = (l, sum_back vs l ∙ no_way (back vs l) k)
 joined (w ∷ ws) vs [] l =
@@ -130,7 +130,7 @@ joined (w ∷ ws) vs (i ∷ k) l =
     let q = joined ws vs k l in
     (i ∷ q.0, one_more_way i w ws k (sum_of (map step_of ws ++ map step_back vs) q.0) (back vs l) q.1)
 
-parted : (ws vs : List (ℕ × Cell)) (often : List ℕ) →
+pub parted : (ws vs : List (ℕ × Cell)) (often : List ℕ) →
     (k l : List ℕ) × (sum_of (map step_of ws ++ map step_back vs) often ≡ and_then (forth ws k) (back vs l))
 parted [] vs often = ([], often, sum_back vs often ∙ no_way (back vs often) [])
 parted (w ∷ ws) vs [] = ([], [], sym (ap (and_then (forth (w ∷ ws) [])) (back_none vs)))

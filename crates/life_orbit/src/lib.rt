@@ -17,5 +17,6 @@ mod walk;
 mod watch;
 
 pub use hull::{Hull, are_far, hull_of};
+pub use near::are_clear;
 pub use orbit::{BOUND_LIMIT, Orbit};
 pub use shift::{offset_at, repeated};

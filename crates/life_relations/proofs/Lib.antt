@@ -1,7 +1,7 @@
 mod Numbers
-mod Relations
+pub mod Relations
 mod Singles
-mod Products
-mod Crosses
-mod Spans
-mod Signed
+pub mod Products
+pub mod Crosses
+pub mod Spans
+pub mod Signed

@@ -1,0 +1,49 @@
+use Rattle.std.proofs.Common.{◌≤ℤ◌, ◌^◌, sym, subst, arith}
+use Rattle.std.proofs.Math.IntN.{◌*ℤ◌}
+use Rattle.std.proofs.lemmas.Int.{ints}
+use Rattle.life_things.specs.Short.{IsWithin}
+use Rattle.life_things.proofs.Steady.{keeps_order, turns_order}
+use Rattle.life_things.proofs.Within.{product_fits, product_read, within_product}
+use Rattle.life_things.proofs.field.least_times.Goals as goal
+
+pub multiplied-requires : goal.multiplied-requires
+multiplied-requires c =
+    product_fits (2 ^ 28) (2 ^ 34) c.args.factor c.args.last (omega arith) (omega arith) (omega arith)
+    c.requires.factor c.requires.last
+
+pub returns-then-factor-lt0-clause-least : goal.returns-then-factor-lt0-clause-least
+returns-then-factor-lt0-clause-least c x before after =
+    subst (λ z. z ≤ℤ (c.args.factor *ℤ x))
+    (sym (product_read (2 ^ 28) (2 ^ 34) c.args.factor c.args.last (omega arith) (omega arith) (omega arith)
+    c.requires.factor c.requires.last
+    c.multiplied.result c.multiplied.ensures))
+    (turns_order c.args.factor x c.args.last (let b = c.if-factor-lt0.true in omega (arith, ints)) after)
+
+pub returns-then-factor-lt0-clause-within : goal.returns-then-factor-lt0-clause-within
+returns-then-factor-lt0-clause-within c =
+    subst (IsWithin (2 ^ 62))
+    (sym (product_read (2 ^ 28) (2 ^ 34) c.args.factor c.args.last (omega arith) (omega arith) (omega arith)
+    c.requires.factor c.requires.last
+    c.multiplied.result c.multiplied.ensures))
+    (within_product (2 ^ 28) (2 ^ 34) c.args.factor c.args.last c.requires.factor c.requires.last)
+
+pub multiplied-requires-2 : goal.multiplied-requires-2
+multiplied-requires-2 c =
+    product_fits (2 ^ 28) (2 ^ 34) c.args.factor c.args.first (omega arith) (omega arith) (omega arith)
+    c.requires.factor c.requires.first
+
+pub returns-clause-least : goal.returns-clause-least
+returns-clause-least c x before after =
+    subst (λ z. z ≤ℤ (c.args.factor *ℤ x))
+    (sym (product_read (2 ^ 28) (2 ^ 34) c.args.factor c.args.first (omega arith) (omega arith) (omega arith)
+    c.requires.factor c.requires.first
+    c.multiplied-2.result c.multiplied-2.ensures))
+    (keeps_order c.args.factor c.args.first x (let b = c.if-factor-lt0.false in omega (arith, ints)) before)
+
+pub returns-clause-within : goal.returns-clause-within
+returns-clause-within c =
+    subst (IsWithin (2 ^ 62))
+    (sym (product_read (2 ^ 28) (2 ^ 34) c.args.factor c.args.first (omega arith) (omega arith) (omega arith)
+    c.requires.factor c.requires.first
+    c.multiplied-2.result c.multiplied-2.ensures))
+    (within_product (2 ^ 28) (2 ^ 34) c.args.factor c.args.first c.requires.factor c.requires.first)

@@ -1,0 +1,16 @@
+use Rattle.std.proofs.Common.{[], ◌∷◌}
+use Rattle.life_things.proofs.Going.{by_span, to_span}
+use Rattle.life_things.proofs.ways.two_ways.Goals as goal
+
+pub related-requires-clause-stay : goal.related-requires-clause-stay
+related-requires-clause-stay c =
+    c.lightest-numbers.ensures.lighter.stays (c.args.step ∷ c.args.last ∷ []) c.parallel_numbers.ensures.stay
+
+pub returns-in-Some : goal.returns-in-Some
+returns-in-Some c = (
+  λ t. by_span c.args.one.now c.args.other.now c.args.start c.args.step (c.args.last ∷ []) c.in-Some.span.from
+      c.in-Some.span.until (c.in-Some.ensures.outside c.args.one.now c.args.other.now c.requires.field) (c.tried.ensures.0 t),
+  λ clear. c.tried.ensures.1
+      (to_span c.args.one.now c.args.other.now c.args.start c.args.step (c.args.last ∷ []) c.in-Some.span.from
+      c.in-Some.span.until clear),
+)

@@ -1,0 +1,139 @@
+//! What is reached by four steps, each made as often as may be.
+ghost use Rattle.std.specs.Prelude.{◌↔◌, ◌≤◌, IsTrue, [], ◌∷◌};
+ghost use Rattle.life_things.specs.Clear.{StaysClear, StaysClearBetween};
+ghost use Rattle.life_things.specs.Fields.{IsFieldOf};
+ghost use Rattle.life_things.specs.Numbers.{AreFew, StayBy, number_limit, total_above};
+ghost use Rattle.life_things.specs.Short.{IsShort, IsStride, four_start};
+
+use crate::crossing::space_numbers;
+use crate::field::Field;
+use crate::numbers::{Numbers, above, lightest};
+use crate::span::Span;
+use crate::step::{Step, after};
+use crate::three::three_ways;
+use life_cells::CellList;
+
+/// Whether a set is never near the other, where one step is made so often from the start, and three others as often as
+/// may be.
+fn tried(
+    one: &CellList,
+    other: &CellList,
+    field: Field,
+    start: Step,
+    step: Step,
+    rest: (Step, Step, Step),
+    span: Span,
+) -> bool
+    requires start { IsShort four_start start }
+    requires step { IsStride step }
+    requires rest { IsStride rest.0 × IsStride rest.1 × IsStride rest.2 }
+    requires span { span.until ≤ number_limit }
+    requires field { IsFieldOf field one.now other.now }
+    ensures { IsTrue result ↔
+        StaysClearBetween one.now other.now start step (rest.0 ∷ rest.1 ∷ rest.2 ∷ []) span.from span.until }
+{
+    for count in span.from..span.until {
+        let from = after(start, count, step);
+        if !three_ways(one, other, field, from, rest.0, rest.1, rest.2) {
+            return false;
+        }
+    }
+    true
+}
+
+/// Whether a set is never near the other, from the start on by four steps that stay by some numbers.
+fn related(
+    one: &CellList,
+    other: &CellList,
+    field: Field,
+    start: Step,
+    steps: (Step, Step, Step, Step),
+    numbers: Numbers,
+) -> bool
+    requires start { IsShort four_start start }
+    requires steps { IsStride steps.0 × IsStride steps.1 × IsStride steps.2 × IsStride steps.3 }
+    requires few { AreFew numbers }
+    requires some { 1 ≤ total_above numbers }
+    requires stay { StayBy (steps.0 ∷ steps.1 ∷ steps.2 ∷ steps.3 ∷ []) numbers }
+    requires field { IsFieldOf field one.now other.now }
+    ensures { IsTrue result ↔
+        StaysClear one.now other.now start (steps.0 ∷ steps.1 ∷ steps.2 ∷ steps.3 ∷ []) }
+{
+    let (first, second, third, fourth) = steps;
+    let ups = Span {
+        from: 0,
+        until: above(numbers.first),
+    };
+    if !tried(
+        one,
+        other,
+        field,
+        start,
+        first,
+        (second, third, fourth),
+        ups,
+    ) {
+        return false;
+    }
+    let ups = Span {
+        from: 0,
+        until: above(numbers.second),
+    };
+    if !tried(
+        one,
+        other,
+        field,
+        start,
+        second,
+        (first, third, fourth),
+        ups,
+    ) {
+        return false;
+    }
+    let ups = Span {
+        from: 0,
+        until: above(numbers.third),
+    };
+    if !tried(
+        one,
+        other,
+        field,
+        start,
+        third,
+        (first, second, fourth),
+        ups,
+    ) {
+        return false;
+    }
+    let ups = Span {
+        from: 0,
+        until: above(numbers.fourth),
+    };
+    tried(
+        one,
+        other,
+        field,
+        start,
+        fourth,
+        (first, second, third),
+        ups,
+    )
+}
+
+/// Whether a set is never near the other, from the start on by four steps.
+pub fn four_ways(
+    one: &CellList,
+    other: &CellList,
+    field: Field,
+    start: Step,
+    steps: (Step, Step, Step, Step),
+) -> bool
+    requires start { IsShort four_start start }
+    requires steps { IsStride steps.0 × IsStride steps.1 × IsStride steps.2 × IsStride steps.3 }
+    requires field { IsFieldOf field one.now other.now }
+    ensures { IsTrue result ↔
+        StaysClear one.now other.now start (steps.0 ∷ steps.1 ∷ steps.2 ∷ steps.3 ∷ []) }
+{
+    let numbers = lightest(space_numbers(steps.0, steps.1, steps.2, steps.3));
+    related(one, other, field, start, steps, numbers)
+}

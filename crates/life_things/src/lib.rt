@@ -1,0 +1,28 @@
+//! Things in space and time that the machine holds, and whether two of them ever meet.
+//!
+//! Tested in `tests_things`.
+#![tactic(auto)]
+
+mod arrival;
+mod crossing;
+mod field;
+mod four;
+mod gauges;
+mod meeting;
+mod numbers;
+mod places;
+mod span;
+mod step;
+mod steps;
+mod thing;
+mod three;
+mod way;
+mod ways;
+
+pub use field::{Field, field_of};
+pub use places::{no_way, one_way};
+pub use span::Span;
+pub use step::Step;
+pub use thing::{TIME_LIMIT, Thing};
+pub use way::{WAY_LIMIT, Way, Ways};
+pub use ways::two_ways;

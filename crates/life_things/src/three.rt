@@ -1,0 +1,125 @@
+//! What is reached by three steps, each made as often as may be.
+ghost use Rattle.std.specs.Prelude.{◌≡◌, ◌↔◌, ◌≤◌, IfNone, IfSome, IsTrue, [], ◌∷◌, pos};
+ghost use Rattle.life_model.specs.Generation.{Generation};
+ghost use Rattle.life_relations.specs.Relations.{spanned};
+ghost use Rattle.life_things.specs.Clear.{StaysClear, StaysClearBetween, StaysClearOutside};
+ghost use Rattle.life_things.specs.Fields.{IsFieldOf, IsNarrow};
+ghost use Rattle.life_things.specs.Numbers.{AreFew, StayBy, total_above};
+ghost use Rattle.life_things.specs.Short.{IsShort, IsStride, three_count, three_start};
+
+use crate::crossing::{cross, plane_numbers};
+use crate::field::{Field, span_by};
+use crate::numbers::{Numbers, above, lightest};
+use crate::span::Span;
+use crate::step::{Step, after};
+use crate::ways::two_ways;
+use life_cells::CellList;
+
+/// Whether a set is never near the other, where one step is made so often from the start, and two others as often as may
+/// be.
+fn tried(
+    one: &CellList,
+    other: &CellList,
+    field: Field,
+    start: Step,
+    step: Step,
+    rest: (Step, Step),
+    span: Span,
+) -> bool
+    requires start { IsShort three_start start }
+    requires step { IsStride step }
+    requires rest { IsStride rest.0 × IsStride rest.1 }
+    requires span { span.until ≤ three_count }
+    requires field { IsFieldOf field one.now other.now }
+    ensures { IsTrue result ↔
+        StaysClearBetween one.now other.now start step (rest.0 ∷ rest.1 ∷ []) span.from span.until }
+{
+    for count in span.from..span.until {
+        if !two_ways(one, other, field, after(start, count, step), rest.0, rest.1) {
+            return false;
+        }
+    }
+    true
+}
+
+/// Whether a set is never near the other, from the start on by three steps that stay by some numbers.
+fn related(
+    one: &CellList,
+    other: &CellList,
+    field: Field,
+    start: Step,
+    steps: (Step, Step, Step),
+    numbers: Numbers,
+) -> bool
+    requires start { IsShort three_start start }
+    requires steps { IsStride steps.0 × IsStride steps.1 × IsStride steps.2 }
+    requires few { AreFew numbers }
+    requires some { 1 ≤ total_above numbers }
+    requires three { numbers.fourth ≡ pos 0 }
+    requires stay { StayBy (steps.0 ∷ steps.1 ∷ steps.2 ∷ []) numbers }
+    requires field { IsFieldOf field one.now other.now }
+    ensures { IsTrue result ↔ StaysClear one.now other.now start (steps.0 ∷ steps.1 ∷ steps.2 ∷ []) }
+{
+    let (first, second, third) = steps;
+    let ups = Span {
+        from: 0,
+        until: above(numbers.first),
+    };
+    if !tried(one, other, field, start, first, (second, third), ups) {
+        return false;
+    }
+    let ups = Span {
+        from: 0,
+        until: above(numbers.second),
+    };
+    if !tried(one, other, field, start, second, (first, third), ups) {
+        return false;
+    }
+    let ups = Span {
+        from: 0,
+        until: above(numbers.third),
+    };
+    tried(one, other, field, start, third, (first, second), ups)
+}
+
+/// How often the first of three steps may be made from the start so that the set can be near the other after the others,
+/// made as often as may be; or nothing, where the three lie in a plane.
+fn span_over(start: Step, first: Step, second: Step, third: Step, field: Field) -> Option<Span>
+    requires start { IsShort three_start start }
+    requires first { IsStride first }
+    requires second { IsStride second }
+    requires third { IsStride third }
+    requires narrow { IsNarrow field }
+    ensures none { IfNone result (spanned first second third ≡ pos 0) }
+    ensures few { IfSome result (λ span. span.until ≤ three_count) }
+    ensures outside { IfSome result (λ span. (P Q : Generation) → IsFieldOf field P Q →
+        StaysClearOutside P Q start first (second ∷ third ∷ []) span.from span.until) }
+{
+    span_by(cross(second, third), start, first, field)
+}
+
+/// Whether a set is never near the other, from the start on by three steps.
+pub fn three_ways(
+    one: &CellList,
+    other: &CellList,
+    field: Field,
+    start: Step,
+    first: Step,
+    second: Step,
+    third: Step,
+) -> bool
+    requires start { IsShort three_start start }
+    requires first { IsStride first }
+    requires second { IsStride second }
+    requires third { IsStride third }
+    requires field { IsFieldOf field one.now other.now }
+    ensures { IsTrue result ↔ StaysClear one.now other.now start (first ∷ second ∷ third ∷ []) }
+{
+    match span_over(start, first, second, third, field) {
+        Some(span) => tried(one, other, field, start, first, (second, third), span),
+        None => {
+            let numbers = lightest(plane_numbers(first, second, third));
+            related(one, other, field, start, (first, second, third), numbers)
+        }
+    }
+}

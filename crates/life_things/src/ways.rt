@@ -1,0 +1,173 @@
+//! What is reached by two steps, each made as often as may be.
+ghost use Rattle.std.specs.Prelude.{◌≡◌, ◌+◌, ◌↔◌, ◌≤◌, IfNone, IfSome, IsTrue, [], ◌∷◌, pos};
+ghost use Rattle.life_model.specs.Generation.{Generation};
+ghost use Rattle.life_relations.specs.Relations.{product};
+ghost use Rattle.life_things.specs.Clear.{StaysClear, StaysClearBetween, StaysClearOutside};
+ghost use Rattle.life_things.specs.Fields.{IsFieldOf, IsNarrow};
+ghost use Rattle.life_things.specs.Gauges.{across_gauge, along_gauge};
+ghost use Rattle.life_things.specs.Numbers.{AreFew, StayBy, total_above, turned};
+ghost use Rattle.life_things.specs.Short.{IsShort, IsStride, count_limit, two_start};
+
+use crate::field::{Field, span_by};
+use crate::gauges::{across_gauge, along_gauge};
+use crate::numbers::{Numbers, above, lightest};
+use crate::places::one_way;
+use crate::span::Span;
+use crate::step::{Step, after};
+use life_cells::CellList;
+
+/// Whether a set is never near the other, where one step is made so often from the start, and another as often as may be.
+fn tried(
+    one: &CellList,
+    other: &CellList,
+    field: Field,
+    start: Step,
+    step: Step,
+    last: Step,
+    span: Span,
+) -> bool
+    requires start { IsShort two_start start }
+    requires step { IsStride step }
+    requires last { IsStride last }
+    requires span { span.until ≤ count_limit }
+    requires field { IsFieldOf field one.now other.now }
+    ensures { IsTrue result ↔
+        StaysClearBetween one.now other.now start step (last ∷ []) span.from span.until }
+{
+    for count in span.from..span.until {
+        if !one_way(one, other, field, after(start, count, step), last) {
+            return false;
+        }
+    }
+    true
+}
+
+/// Whether a set is never near the other, from the start on by two steps that stay by some numbers.
+fn related(
+    one: &CellList,
+    other: &CellList,
+    field: Field,
+    start: Step,
+    step: Step,
+    last: Step,
+    numbers: Numbers,
+) -> bool
+    requires start { IsShort two_start start }
+    requires step { IsStride step }
+    requires last { IsStride last }
+    requires few { AreFew numbers }
+    requires some { 1 ≤ total_above numbers }
+    requires two { numbers.third ≡ pos 0 × numbers.fourth ≡ pos 0 }
+    requires stay { StayBy (step ∷ last ∷ []) numbers }
+    requires field { IsFieldOf field one.now other.now }
+    ensures { IsTrue result ↔ StaysClear one.now other.now start (step ∷ last ∷ []) }
+{
+    let steps = Span {
+        from: 0,
+        until: above(numbers.first),
+    };
+    if !tried(one, other, field, start, step, last, steps) {
+        return false;
+    }
+    let steps = Span {
+        from: 0,
+        until: above(numbers.second),
+    };
+    tried(one, other, field, start, last, step, steps)
+}
+
+/// Numbers by which two steps stay, where neither goes faster than the other.
+pub fn parallel_numbers(step: Step, last: Step) -> Numbers
+    requires step { IsStride step }
+    requires last { IsStride last }
+    requires across { product (across_gauge last) step ≡ pos 0 }
+    requires along { product (along_gauge last) step ≡ pos 0 }
+    ensures few { AreFew result }
+    ensures some { 1 ≤ total_above result + total_above (turned result) }
+    ensures two { result.third ≡ pos 0 × result.fourth ≡ pos 0 }
+    ensures stay { StayBy (step ∷ last ∷ []) result }
+{
+    Numbers {
+        first: last.0,
+        second: -step.0,
+        third: 0,
+        fourth: 0,
+    }
+}
+
+/// How often a step may be made from the start so that the set can be near the other in some column after another, made as
+/// often as may be; or nothing, where the one goes across as fast as the other.
+fn span_across(start: Step, step: Step, last: Step, field: Field) -> Option<Span>
+    requires start { IsShort two_start start }
+    requires step { IsStride step }
+    requires last { IsStride last }
+    requires narrow { IsNarrow field }
+    ensures none { IfNone result (product (across_gauge last) step ≡ pos 0) }
+    ensures few { IfSome result (λ span. span.until ≤ count_limit) }
+    ensures outside { IfSome result (λ span. (P Q : Generation) → IsFieldOf field P Q →
+        StaysClearOutside P Q start step (last ∷ []) span.from span.until) }
+{
+    span_by(across_gauge(last), start, step, field)
+}
+
+/// The same in some row.
+fn span_along(start: Step, step: Step, last: Step, field: Field) -> Option<Span>
+    requires start { IsShort two_start start }
+    requires step { IsStride step }
+    requires last { IsStride last }
+    requires narrow { IsNarrow field }
+    ensures none { IfNone result (product (along_gauge last) step ≡ pos 0) }
+    ensures few { IfSome result (λ span. span.until ≤ count_limit) }
+    ensures outside { IfSome result (λ span. (P Q : Generation) → IsFieldOf field P Q →
+        StaysClearOutside P Q start step (last ∷ []) span.from span.until) }
+{
+    span_by(along_gauge(last), start, step, field)
+}
+
+/// The same in some place; or nothing, where the one step goes as fast as the other.
+fn span_beside(start: Step, step: Step, last: Step, field: Field) -> Option<Span>
+    requires start { IsShort two_start start }
+    requires step { IsStride step }
+    requires last { IsStride last }
+    requires narrow { IsNarrow field }
+    ensures across { IfNone result (product (across_gauge last) step ≡ pos 0) }
+    ensures along { IfNone result (product (along_gauge last) step ≡ pos 0) }
+    ensures few { IfSome result (λ span. span.until ≤ count_limit) }
+    ensures outside { IfSome result (λ span. (P Q : Generation) → IsFieldOf field P Q →
+        StaysClearOutside P Q start step (last ∷ []) span.from span.until) }
+{
+    match span_across(start, step, last, field) {
+        None => span_along(start, step, last, field),
+        Some(columns) => match span_along(start, step, last, field) {
+            None => Some(columns),
+            Some(rows) => Some(Span {
+                from: columns.from.max(rows.from),
+                until: columns.until.min(rows.until),
+            }),
+        },
+    }
+}
+
+/// Whether a set is never near the other, from the start on by two steps.
+pub fn two_ways(
+    one: &CellList,
+    other: &CellList,
+    field: Field,
+    start: Step,
+    step: Step,
+    last: Step,
+) -> bool
+    requires start { IsShort two_start start }
+    requires step { IsStride step }
+    requires last { IsStride last }
+    requires field { IsFieldOf field one.now other.now }
+    ensures { IsTrue result ↔ StaysClear one.now other.now start (step ∷ last ∷ []) }
+{
+    match span_beside(start, step, last, field) {
+        Some(span) => tried(one, other, field, start, step, last, span),
+        None => {
+            let numbers = lightest(parallel_numbers(step, last));
+            related(one, other, field, start, step, last, numbers)
+        }
+    }
+}
