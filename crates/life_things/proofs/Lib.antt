@@ -8,3 +8,5 @@ pub mod Relating
 pub mod Beside
 pub mod Planes
 pub mod Meetings
+pub mod Leading
+pub mod InTime

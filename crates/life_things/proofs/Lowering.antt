@@ -14,7 +14,7 @@ use Rattle.life_relations.proofs.Products.{spreads}
 use Rattle.life_things.specs.Numbers.{DividesAll, IsLighter, numbers_of, total_above, turned}
 use Rattle.life_things.specs.declared.numbers.Numbers.{Numbers}
 
-regrouped : (f a x : ℤ) → ((f *ℤ a) *ℤ x) ≡ (f *ℤ (a *ℤ x))
+pub regrouped : (f a x : ℤ) → ((f *ℤ a) *ℤ x) ≡ (f *ℤ (a *ℤ x))
 regrouped f a x = ap (λ z. z *ℤ x) (*ℤ_comm f a) ∙ last_two a f x ∙ *ℤ_comm (a *ℤ x) f
 
 pub combination-times : (f : ℤ) (us : List Step) (ns : List ℤ) →

@@ -1,9 +1,10 @@
 -- How often a number may rise or fall.
-use Rattle.std.proofs.Common.{◌≡◌, ℕ, zero, suc, ℤ, neg_ℤ, pos, ◌+ℤ◌, ◌≤ℤ◌, ◌+◌, ◌*◌, ◌/◌, ◌<◌, ◌≤◌, inl, inr, refl, ap, subst, ◌∙◌, mul-le-mul_left, arith}
+use Rattle.std.proofs.Common.{◌≡◌, ℕ, zero, suc, ℤ, neg_ℤ, pos, ◌+ℤ◌, ◌≤ℤ◌, ◌+◌, ◌*◌, ◌/◌, ◌%◌, ◌<◌, ◌≤◌, inl, inr, refl, ap, subst, ◌∙◌, mul-le-mul_left, arith}
 use Rattle.std.proofs.Math.IntN.{◌*ℤ◌, *ℤ-zero}
 use Rattle.std.proofs.Math.Nat.{div-lt_iff_lt-mul}
 use Rattle.std.proofs.lemmas.Bool.{cases_lt}
 use Rattle.std.proofs.lemmas.Int.{by_lt_z, ints}
+use Rattle.std.proofs.lemmas.Nat.{mod-mul-add}
 
 pub not_before : (low start : ℤ) (excess gain n : ℕ) → 1 ≤ gain → (start ≤ℤ low → low ≡ start +ℤ pos excess) →
     (low ≤ℤ start → excess ≡ 0) → low ≤ℤ (start +ℤ pos (n * gain)) → excess / gain ≤ n
@@ -24,6 +25,10 @@ not_after high start excess gain n one e h =
           absurd (omega (arith, ints))
       | inr late ↦ omega arith
     ]
+
+pub no_rest : (d n g : ℕ) → 1 ≤ g → d ≡ n * g → d % g ≡ 0
+no_rest d n g one e =
+    ap (λ z. z % g) (let z : d ≡ n * g + 0 = omega arith in z) ∙ mod-mul-add n g 0 (omega arith)
 
 pub quotient_least : (a g : ℕ) → 1 ≤ g → a / g ≤ a
 quotient_least a g one =

@@ -5,6 +5,8 @@ use Rattle.life_model.specs.Generation.{Generation, contains}
 use Rattle.life_objects.specs.Apart.{AreNear}
 use Rattle.life_meeting.specs.Sums.{Step, and_then, rest_after, times}
 use Rattle.life_relations.specs.Relations.{IsSumOf}
+use Rattle.life_things.specs.Fields.{IsFieldOf}
+use Rattle.life_things.specs.declared.field.Field.{Field}
 
 -- no cell of P, moved by d, is near one of Q
 abbrev pub IsClear : Generation → Cell → Generation → Type 0
@@ -27,3 +29,7 @@ StaysClearBetween P Q s u us from until =
 pub record StaysClearOutside (P Q : Generation) (s u : Step) (us : List Step) (from until : ℕ) : Type 0 where
   pub before : (n : ℕ) → n < from → StaysClear P Q (and_then s (times n u)) us
   pub after : (n : ℕ) → until ≤ n → StaysClear P Q (and_then s (times n u)) us
+
+-- the same, of all sets that can be near each other in the field alone
+abbrev pub IsClearOver : Field → Step → List Step → Type 0
+IsClearOver f s us = (P Q : Generation) → IsFieldOf f P Q → StaysClear P Q s us

@@ -1,6 +1,7 @@
 -- Gauges: steps by the product with which others are told apart.
-use Rattle.std.specs.Prelude.{pos, neg_ℤ}
+use Rattle.std.specs.Prelude.{pos, neg_ℤ, ◌≤ℤ◌, List, [], ◌∷◌}
 use Rattle.life_meeting.specs.Sums.{Step}
+use Rattle.life_relations.specs.Relations.{product}
 
 -- the product with these is 0 of the step, and tells how far another goes from its way along each axis
 abbrev pub across_gauge : Step → Step
@@ -8,3 +9,11 @@ across_gauge u = (neg_ℤ u.1.0, (u.0, pos 0))
 
 abbrev pub along_gauge : Step → Step
 along_gauge u = (neg_ℤ u.1.1, (pos 0, u.0))
+
+abbrev pub turned_gauge : Step → Step
+turned_gauge u = (neg_ℤ u.0, (neg_ℤ u.1.0, neg_ℤ u.1.1))
+
+-- no step leads back along the gauge
+abbrev pub NoneFalls : Step → List Step → Type 0
+NoneFalls g [] = Unit {0}
+NoneFalls g (u ∷ us) = (pos 0 ≤ℤ product g u) × NoneFalls g us

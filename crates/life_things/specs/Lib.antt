@@ -5,3 +5,4 @@ pub mod Numbers
 pub mod Clear
 pub mod Ways
 pub mod Steps
+pub mod Times

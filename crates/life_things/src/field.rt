@@ -94,7 +94,7 @@ fn least_product(gauge: Step, field: Field) -> i128
 }
 
 /// The greatest product of the gauge with a place of the field.
-fn most_product(gauge: Step, field: Field) -> i128
+pub fn most_product(gauge: Step, field: Field) -> i128
     requires gauge { IsShort (2 ^ 28) gauge }
     requires field { IsNarrow field }
     ensures most { (d : Cell) → IsInField field d → product gauge (pos 0, d) ≤ℤ result }

@@ -1,7 +1,7 @@
 //! Gauges: steps by the product with which others are told apart.
 ghost use Rattle.std.specs.Prelude.{◌≡◌, ◌^◌, ◌≤◌};
-ghost use Rattle.life_things.specs.Gauges.{across_gauge, along_gauge};
-ghost use Rattle.life_things.specs.Short.{IsShort, IsStride, way_limit};
+ghost use Rattle.life_things.specs.Gauges.{across_gauge, along_gauge, turned_gauge};
+ghost use Rattle.life_things.specs.Short.{IsShort, IsStride, cross_limit};
 
 use crate::step::Step;
 
@@ -19,4 +19,13 @@ pub fn along_gauge(step: Step) -> Step
     ensures { result ≡ along_gauge step }
 {
     (-step.1.1, (0, step.0))
+}
+
+/// The gauge that tells how far others go the other way.
+pub fn turned_gauge(gauge: Step) -> Step
+    requires { IsShort cross_limit gauge }
+    ensures value { result ≡ turned_gauge gauge }
+    ensures short { IsShort cross_limit result }
+{
+    (-gauge.0, (-gauge.1.0, -gauge.1.1))
 }

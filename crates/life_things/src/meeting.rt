@@ -9,10 +9,12 @@ ghost use Rattle.life_things.specs.Steps.{AreStrides, list_of};
 use crate::field::{Field, field_of};
 use crate::four::four_ways;
 use crate::places::{no_way, one_way};
+use crate::refusal::leads_away;
 use crate::step::Step;
 use crate::steps::{Steps, joined, steps_back, steps_forth};
 use crate::thing::Thing;
 use crate::three::three_ways;
+use crate::together::are_never_together;
 use crate::ways::two_ways;
 use life_cells::CellList;
 
@@ -23,6 +25,12 @@ fn stays_clear(one: &CellList, other: &CellList, field: Field, start: Step, step
     requires field { IsFieldOf field one.now other.now }
     ensures { IsTrue result ↔ StaysClear one.now other.now start (list_of steps) }
 {
+    if are_never_together(start, steps) {
+        return true;
+    }
+    if leads_away(start, steps, field) {
+        return true;
+    }
     match steps {
         Steps::Zero => no_way(one, other, field, start),
         Steps::One(a) => one_way(one, other, field, start, a),

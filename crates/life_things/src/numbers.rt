@@ -50,7 +50,7 @@ fn turned(numbers: Numbers) -> Numbers
 }
 
 /// The greatest common divisor of two numbers.
-fn common_divisor(first: u128, second: u128) -> u128
+pub fn common_divisor(first: u128, second: u128) -> u128
     ensures { IsGcd first second result }
 {
     let mut divisor = first;

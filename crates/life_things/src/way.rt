@@ -1,8 +1,8 @@
 //! The ways of things.
-ghost use Rattle.std.specs.Prelude.{◌≡◌};
+ghost use Rattle.std.specs.Prelude.{◌≡◌, ◌↔◌, All, IsTrue};
 ghost use Rattle.life_meeting.specs.Meeting as meetings;
-ghost use Rattle.life_things.specs.Short.{IsStride};
-ghost use Rattle.life_things.specs.Ways.{IsFit, way_of};
+ghost use Rattle.life_things.specs.Short.{IsStride, IsWithin, way_limit};
+ghost use Rattle.life_things.specs.Ways.{IsFit, way_of, ways_of};
 
 use crate::step::Step;
 
@@ -22,6 +22,51 @@ pub enum Ways {
     Never,
     Once(Way),
     Twice(Way, Way),
+}
+
+/// Whether a way may go so far along an axis.
+fn is_short(place: i32) -> bool
+    ensures { IsTrue result ↔ IsWithin way_limit place }
+{
+    if place > 10_000 {
+        return false;
+    }
+    if place < -10_000 {
+        return false;
+    }
+    true
+}
+
+/// Whether a way takes from 1 to `WAY_LIMIT` generations, and goes no further than that along an axis.
+fn is_fit(way: Way) -> bool
+    ensures { IsTrue result ↔ IsFit (way_of way) }
+{
+    if way.generations == 0 {
+        return false;
+    }
+    if way.generations > WAY_LIMIT {
+        return false;
+    }
+    if !is_short(way.by.0) {
+        return false;
+    }
+    is_short(way.by.1)
+}
+
+/// Whether each of the ways takes from 1 to `WAY_LIMIT` generations, and goes no further than that along an axis.
+pub fn are_fit(ways: Ways) -> bool
+    ensures { IsTrue result ↔ All IsFit (ways_of ways) }
+{
+    match ways {
+        Ways::Never => true,
+        Ways::Once(way) => is_fit(way),
+        Ways::Twice(way, other) => {
+            if !is_fit(way) {
+                return false;
+            }
+            is_fit(other)
+        }
+    }
 }
 
 /// A way as a step.
