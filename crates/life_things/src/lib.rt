@@ -21,10 +21,5 @@ mod together;
 mod way;
 mod ways;
 
-pub use field::{Field, field_of};
-pub use places::{no_way, one_way};
-pub use span::Span;
-pub use step::Step;
 pub use thing::{TIME_LIMIT, Thing};
 pub use way::{WAY_LIMIT, Way, Ways, are_fit};
-pub use ways::two_ways;
