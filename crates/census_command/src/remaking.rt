@@ -47,14 +47,14 @@ fn write<S: Shelf, I: Read, O: Write>(
 ) -> Result<bool, ReportsError>
     requires sound { HasSoundStreams streams.old }
     ensures done { IfOk result
-        (λ found. WritesReports form found ((S.tellings shelf.now).held []) (map (λ s. s.now) files.now)
+        (λ found. WritesReports form.entry found ((S.tellings shelf.now).held []) (map (λ s. s.now) files.now)
         (both_streams streams.old) (both_streams streams.new)) }
     ensures fails { IfErr result
-        (λ error. ReportsFail error form ((S.tellings shelf.now).held [])
+        (λ error. ReportsFail error form.entry ((S.tellings shelf.now).held [])
         (map (λ s. s.now) files.now)
         (both_streams streams.old) (both_streams streams.new)) }
     ensures lawful { OnOk result
-        (KeepsLaw form ((S.tellings shelf.now).held []) (map (λ s. s.now) files.now) streams.old
+        (KeepsLaw form.entry ((S.tellings shelf.now).held []) (map (λ s. s.now) files.now) streams.old
         streams.new) }
 {
     let Streams { input, output } = streams;
@@ -95,7 +95,7 @@ pub fn remake<S: Shelf, I: Read, O: Write, E: Write>(
 ) -> u8
     requires sound { HasSoundStreams streams.old }
     requires errors { errors.old.failed ≡ false }
-    ensures { Remakes ((S.tellings shelf.now).held []) form (map (λ s. s.now) files.now) explain
+    ensures { Remakes ((S.tellings shelf.now).held []) form.entry (map (λ s. s.now) files.now) explain
         result streams.old streams.new errors.old errors.new }
 {
     match write(shelf, alloc, form, files, streams) {

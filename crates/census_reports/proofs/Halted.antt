@@ -1,5 +1,5 @@
 -- What is told by way of a block is written, as far as memory lasts.
-use Rattle.std.proofs.Common.{◌≡◌, ◌≢◌, ◌↔◌, ◌∙◌, ℕ, ◌≤◌, Bool, IsTrue, true, false, true≢false, List, [], ◌∷◌, ◌++◌, length, take, Option, Result, Ok, Err, MatchBool, MatchResult, sym, ap, subst, arith, append-nil, length-append}
+use Rattle.std.proofs.Common.{◌≡◌, ◌≢◌, ◌↔◌, ◌∙◌, ℕ, ◌≤◌, Bool, IsTrue, true, false, true≢false, List, [], ◌∷◌, ◌++◌, length, take, Option, Result, Ok, Err, MatchBool, MatchResult, refl, sym, ap, subst, arith, append-nil, length-append}
 use Rattle.std.proofs.lemmas.List.{take-append-le, take_all}
 use Rattle.std.specs.Io.KnownBytes.{Appends}
 use Rattle.watched.specs.Watching.{AppendsFront}

@@ -166,9 +166,9 @@ fn write_disagreement<O: Write>(
     requires claims { claims_in text.now ≡ Ok (claims_read claims.now.items.items) }
     requires reports { AreReports rows.now }
     ensures { MatchResult result
-        (λ found. WritesRows (Form.Verdict text) found rows.now (sink O.contents output.old)
+        (λ found. WritesRows (Form.Verdict text.entry) found rows.now (sink O.contents output.old)
         (sink O.contents output.new))
-        (λ error. FailsRows error (Form.Verdict text) rows.now
+        (λ error. FailsRows error (Form.Verdict text.entry) rows.now
         (sink O.contents output.old) (sink O.contents output.new)) }
 {
     let mut block = Block::new(alloc);
@@ -188,9 +188,9 @@ fn write_verdict<O: Write>(
 ) -> Result<bool, ReportsError>
     requires { AreReports rows.now }
     ensures { MatchResult result
-        (λ found. WritesRows (Form.Verdict text) found rows.now (sink O.contents output.old)
+        (λ found. WritesRows (Form.Verdict text.entry) found rows.now (sink O.contents output.old)
         (sink O.contents output.new))
-        (λ error. FailsRows error (Form.Verdict text) rows.now
+        (λ error. FailsRows error (Form.Verdict text.entry) rows.now
         (sink O.contents output.old) (sink O.contents output.new)) }
 {
     match read_claims(alloc, text)? {
@@ -209,8 +209,8 @@ pub fn write_made<O: Write>(
 ) -> Result<bool, ReportsError>
     requires { AreReports rows.now }
     ensures { MatchResult result
-        (λ found. WritesRows form found rows.now (sink O.contents output.old) (sink O.contents output.new))
-        (λ error. FailsRows error form rows.now (sink O.contents output.old)
+        (λ found. WritesRows form.entry found rows.now (sink O.contents output.old) (sink O.contents output.new))
+        (λ error. FailsRows error form.entry rows.now (sink O.contents output.old)
         (sink O.contents output.new)) }
 {
     match form {

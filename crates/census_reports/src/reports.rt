@@ -25,8 +25,8 @@ fn write_of<O: Write>(
 ) -> Result<bool, ReportsError>
     requires { 0 < length texts.now }
     ensures { MatchResult result
-        (λ found. WritesTexts form found texts.now (sink O.contents output.old) (sink O.contents output.new))
-        (λ error. FailsTexts error form texts.now (sink O.contents output.old)
+        (λ found. WritesTexts form.entry found texts.now (sink O.contents output.old) (sink O.contents output.new))
+        (λ error. FailsTexts error form.entry texts.now (sink O.contents output.old)
         (sink O.contents output.new)) }
 {
     let rows = rows_of(alloc, texts)?;
@@ -62,11 +62,11 @@ pub fn write_reports<S: Shelf, I: Read, O: Write>(
 ) -> Result<bool, ReportsError>
     requires { has_failed input.old ≡ false }
     ensures done { IfOk result
-        (λ found. WritesReports form found ((S.tellings shelf.now).held []) (map (λ s. s.now) words.now)
+        (λ found. WritesReports form.entry found ((S.tellings shelf.now).held []) (map (λ s. s.now) words.now)
         (streams I.remaining O.contents input.old output.old)
         (streams I.remaining O.contents input.new output.new)) }
     ensures fails { IfErr result
-        (λ error. ReportsFail error form ((S.tellings shelf.now).held [])
+        (λ error. ReportsFail error form.entry ((S.tellings shelf.now).held [])
         (map (λ s. s.now) words.now)
         (streams I.remaining O.contents input.old output.old)
         (streams I.remaining O.contents input.new output.new)) }
