@@ -1,5 +1,5 @@
 //! Runs: by workers that are started here, or without any.
-ghost use Rattle.std.specs.Prelude.{◌≡◌, ◌≤◌, false, MatchResult, IfErr, IfOk};
+ghost use Rattle.std.specs.Prelude.{◌≡◌, ◌≤◌, ◌-◌, ◌^◌, false, min, MatchResult, IfErr, IfOk};
 ghost use Rattle.life_answer.specs.Questions.{IsAnswered};
 ghost use Rattle.watched.specs.Watching.{inner_of, has_failed};
 ghost use Rattle.census_crew.specs.Faults.{FitsFault, MayTellTicket};
@@ -7,6 +7,7 @@ ghost use Rattle.census_crew.specs.Strangers.{HasStrangers};
 ghost use Rattle.census_crew.specs.Tallying.{TalliesPatterns};
 ghost use Rattle.census_crew.specs.Writing.{WritesPrefix, WritesReport};
 ghost use Rattle.census_bundle.specs.Sizes.{worker_limit};
+ghost use Rattle.census_format.specs.Lines.{pattern_count};
 
 use crate::fault::RunFault;
 use crate::gate::Gate;
@@ -22,8 +23,10 @@ use std::sync::Wait;
 use std::thread::Threads;
 use watched::Watched;
 
-// How many patterns a bundle has.
-fn patterns_of(bundle: &Bundle) -> u64 {
+// How many patterns a bundle has, as far as 64 bits go.
+fn patterns_of(bundle: &Bundle) -> u64
+    ensures { result ≡ min (pattern_count bundle.now) (2 ^ 64 - 1) }
+{
     let mut patterns: u64 = 0;
     for folder in bundle.folders() {
         patterns = patterns.saturating_add(folder.entries.as_slice().len() as u64);
