@@ -1,4 +1,4 @@
-//! Reports that are read from files or from standard input, and written as one report, as a table, as a page, or as the
+//! Reports that are read from files or from standard input, and written as one report, as a table, as a page, as the
 //! patterns that are one object, or as what does not agree with claims.
 //!
 //! Tested in `tests_reports`.
