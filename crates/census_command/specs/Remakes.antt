@@ -63,15 +63,19 @@ pub record RemakesWhole (held : List ℕ → Told) (form : Form) (files : List (
   pub lawful : KeepsLaw form held files before after
   pub quiet : new ≡ old
 
--- An error ended it, and its line was told, and where faults are explained one more, with its place as far as that is known.
+-- The line of an error of these files was told, and where faults are explained one more, with its place as far as that is known.
+pub record TellsOfReports (held : List ℕ → Told) (files : List (List ℕ)) (error : ReportsError) (explain : Bool) (old new : Errors) : Type 0 where
+  pub place : Place
+  pub at : IsReportsPlace held error place
+  pub lines : TellsText (error_line (command.Reports error) ++ said_if explain (reports_line files error place)) old new
+
+-- An error ended it, and was told.
 pub record RemakesNot (held : List ℕ → Told) (form : Form) (files : List (List ℕ)) (explain : Bool) (status : ℕ)
     (before after : State) (old new : Errors) : Type 0 where
   pub error : ReportsError
   pub status_is : status ≡ reports.status_of error
   pub fails : ReportsFail error form held files (both_streams before) (both_streams after)
-  pub place : Place
-  pub at : IsReportsPlace held error place
-  pub lines : TellsText (error_line (command.Reports error) ++ said_if explain (reports_line files error place)) old new
+  pub told : TellsOfReports held files error explain old new
 
 abbrev pub Remakes : (List ℕ → Told) → Form → List (List ℕ) → Bool → ℕ → State → State → Errors → Errors → Type 0
 Remakes held form files explain status before after old new =
@@ -96,9 +100,7 @@ pub record MissesClaims (held : List ℕ → Told) (claims : List ℕ) (explain 
   pub status_is : status ≡ reports.status_of error
   pub why : RefusesWord error held claims (both_streams before).input (both_streams after).input
   pub unwritten : (both_streams after).output ≡ (both_streams before).output
-  pub place : Place
-  pub at : IsReportsPlace held error place
-  pub lines : TellsText (error_line (command.Reports error) ++ said_if explain (reports_line (claims ∷ []) error place)) old new
+  pub told : TellsOfReports held (claims ∷ []) error explain old new
 
 abbrev pub Verifies : (List ℕ → Told) → List ℕ → List (List ℕ) → Bool → ℕ → State → State → Errors → Errors → Type 0
 Verifies held claims files explain status before after old new =

@@ -1,8 +1,9 @@
 //! `census merge`, `table`, `page`, `same` and `verify`: one report, a table, a page, patterns that are one object, or
 //! what does not agree with claims, made of reports.
 ghost use Rattle.std.specs.Prelude.{◌≡◌, [], false, map, IfErr, IfOk, OnOk};
+ghost use Rattle.census_reports.specs.Errors as reports;
 ghost use Rattle.census_reports.specs.Outcomes.{ReportsFail, WritesReports};
-ghost use Rattle.census_command.specs.Remakes.{KeepsLaw, Remakes, Verifies, both_streams, format_of, found_status, subject_of};
+ghost use Rattle.census_command.specs.Remakes.{KeepsLaw, Remakes, TellsOfReports, Verifies, both_streams, format_of, found_status, subject_of};
 ghost use Rattle.census_command.specs.Streams.{HasSoundStreams};
 
 use crate::streams::Streams;
@@ -66,6 +67,25 @@ fn write<S: Shelf, I: Read, O: Write>(
     }
 }
 
+// Tells an error of what is made of the reports of these files, and gives its exit status.
+fn stop_of<S: Shelf, E: Write>(
+    shelf: &S,
+    alloc: Global,
+    files: &[&str],
+    error: ReportsError,
+    explain: bool,
+    errors: &mut ErrorStream<E>,
+) -> u8
+    requires { errors.old.failed ≡ false }
+    ensures status { result ≡ reports.status_of error }
+    ensures told { TellsOfReports ((S.tellings shelf.now).held []) (map (λ s. s.now) files.now) error
+        explain errors.old errors.new }
+{
+    let place = reports_place_if(explain, shelf, alloc, files, error);
+    let saying = reports_saying(files, error).at(&place);
+    stop_saying(CommandError::Reports(error), saying, explain, errors)
+}
+
 /// The exit status where all was written: 5 where what was looked for was found.
 fn found_status(found: bool) -> u8
     ensures { result ≡ found_status found }
@@ -100,11 +120,7 @@ pub fn remake<S: Shelf, I: Read, O: Write, E: Write>(
 {
     match write(shelf, alloc, form, files, streams) {
         Ok(found) => found_status(found),
-        Err(error) => {
-            let place = reports_place_if(explain, shelf, alloc, files, error);
-            let saying = reports_saying(files, error).at(&place);
-            stop_saying(CommandError::Reports(error), saying, explain, errors)
-        }
+        Err(error) => stop_of(shelf, alloc, files, error, explain, errors),
     }
 }
 
@@ -132,10 +148,6 @@ pub fn verify<S: Shelf, I: Read, O: Write, E: Write>(
             };
             remake(shelf, alloc, form, reports, explain, streams, errors)
         }
-        Err(error) => {
-            let place = reports_place_if(explain, shelf, alloc, &[claims], error);
-            let saying = reports_saying(&[claims], error).at(&place);
-            stop_saying(CommandError::Reports(error), saying, explain, errors)
-        }
+        Err(error) => stop_of(shelf, alloc, &[claims], error, explain, errors),
     }
 }

@@ -1,0 +1,13 @@
+use Rattle.std.proofs.Common.{inr, refl}
+use Rattle.census_command.proofs.remaking.verify.Goals as goal
+
+pub returns-in-Err : goal.returns-in-Err
+returns-in-Err g c =
+    rw (← c.streams.view_is)
+    (inr (record {
+      error = c.in-Err.error;
+      status_is = c.stop_of.ensures.status;
+      why = c.in-Err.ensures.fault;
+      unwritten = refl;
+      told = c.stop_of.ensures.told;
+    }))
