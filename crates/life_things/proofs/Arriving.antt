@@ -63,6 +63,13 @@ module _ (P Q : Generation) (s u : Step) where
     then_once clear =
         no_step_at P Q (and_then s (times n u)) (time_then s u n ∙ at) (each_number P Q s u [] clear n)
 
+-- two steps that lead to no time together, one of them made so often
+pub never_after : (P Q : Generation) (s u v : Step) (n : ℕ) →
+    ((k : ℕ) → (s.0 +ℤ ((pos n *ℤ u.0) +ℤ (pos k *ℤ v.0))) ≢ pos 0) → StaysClear P Q (and_then s (times n u)) (v ∷ [])
+never_after P Q s u v n none =
+    never_then P Q (and_then s (times n u)) v (λ k e.
+    none k (let start = time_then s u n in omega (arith, ints)))
+
 -- what is not in the field is not near
 pub out_of_columns : (f : Field) (P Q : Generation) (d : Cell) → IsFieldOf f P Q → ¬ IsWithin (2 ^ 34) d.0 → IsClear P d Q
 out_of_columns f P Q d field far c e in_P in_Q near =

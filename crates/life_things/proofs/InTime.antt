@@ -15,10 +15,10 @@ use Rattle.life_things.proofs.Rising.{no_rest, times_back}
 use Rattle.life_things.proofs.Within.{times_is}
 
 -- so many times a whole number
-abbrev Times : ℕ → ℤ → Type 0
+abbrev pub Times : ℕ → ℤ → Type 0
 Times g x = (z : ℤ) × (x ≡ (pos g *ℤ z))
 
-whole : (g : ℕ) (x : ℤ) → g ∣ unsigned_abs x → Times g x
+pub whole : (g : ℕ) (x : ℤ) → g ∣ unsigned_abs x → Times g x
 whole g x divides =
     let q = unsigned_abs x / g in
     let size : g * q ≡ unsigned_abs x = mul-div_cancel' g divides in

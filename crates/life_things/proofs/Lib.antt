@@ -10,3 +10,5 @@ pub mod Planes
 pub mod Meetings
 pub mod Leading
 pub mod InTime
+pub mod Likeness
+pub mod Turning

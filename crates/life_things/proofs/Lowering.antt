@@ -35,7 +35,7 @@ none_of g (suc n) some e =
     let more : g * 1 ≤ g * suc n = mul-le-mul_left g (omega arith) in
     absurd (omega arith)
 
-only_none : (g : ℕ) (x : ℤ) → 1 ≤ g → (pos g *ℤ x) ≡ pos 0 → x ≡ pos 0
+pub only_none : (g : ℕ) (x : ℤ) → 1 ≤ g → (pos g *ℤ x) ≡ pos 0 → x ≡ pos 0
 only_none g (pos n) some e = ap pos (none_of g n some (omega (arith, ints)))
 only_none g (negsuc n) some e =
     let none : suc n ≡ 0 = none_of g (suc n) some (omega (arith, ints)) in

@@ -6,3 +6,4 @@ pub mod Clear
 pub mod Ways
 pub mod Steps
 pub mod Times
+pub mod Alike

@@ -18,6 +18,7 @@ mod steps;
 mod thing;
 mod three;
 mod together;
+mod turn;
 mod way;
 mod ways;
 

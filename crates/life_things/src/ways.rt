@@ -1,11 +1,12 @@
 //! What is reached by two steps, each made as often as may be.
-ghost use Rattle.std.specs.Prelude.{◌≡◌, ◌+◌, ◌↔◌, ◌≤◌, IfNone, IfSome, IsTrue, [], ◌∷◌, pos};
+ghost use Rattle.std.specs.Prelude.{◌≡◌, ◌≢◌, ℕ, ◌+◌, ◌%◌, ◌<◌, ◌↔◌, ◌≤◌, IfNone, IfSome, IsTrue, [], ◌∷◌, pos};
 ghost use Rattle.life_model.specs.Generation.{Generation};
+ghost use Rattle.life_meeting.specs.Sums.{and_then, times};
 ghost use Rattle.life_relations.specs.Relations.{product};
 ghost use Rattle.life_things.specs.Clear.{StaysClear, StaysClearBetween, StaysClearOutside};
 ghost use Rattle.life_things.specs.Fields.{IsFieldOf, IsNarrow};
 ghost use Rattle.life_things.specs.Gauges.{across_gauge, along_gauge};
-ghost use Rattle.life_things.specs.Numbers.{AreFew, StayBy, total_above, turned};
+ghost use Rattle.life_things.specs.Numbers.{AreFew, StayBy, number_limit, total_above, turned};
 ghost use Rattle.life_things.specs.Short.{IsShort, IsStride, count_limit, two_start};
 
 use crate::field::{Field, span_by};
@@ -14,7 +15,43 @@ use crate::numbers::{Numbers, above, lightest};
 use crate::places::one_way;
 use crate::span::Span;
 use crate::step::{Step, after};
+use crate::turn::{Turn, first_in_turn, turn_of};
 use life_cells::CellList;
+
+/// Whether a set is never near the other, where one step is made so often from the start as is in turn, and another as often
+/// as may be.
+fn tried_in_turn(
+    one: &CellList,
+    other: &CellList,
+    field: Field,
+    start: Step,
+    steps: (Step, Step),
+    span: Span,
+    turn: Turn,
+) -> bool
+    requires start { IsShort two_start start }
+    requires steps { IsStride steps.0 × IsStride steps.1 }
+    requires span { span.until ≤ count_limit }
+    requires every { 1 ≤ turn.every × turn.every ≤ number_limit }
+    requires first { turn.first < turn.every }
+    requires others { (n : ℕ) → n % turn.every ≢ turn.first →
+        StaysClear one.now other.now (and_then start (times n steps.0)) (steps.1 ∷ []) }
+    requires field { IsFieldOf field one.now other.now }
+    ensures { IsTrue result ↔
+        StaysClearBetween one.now other.now start steps.0 (steps.1 ∷ []) span.from span.until }
+{
+    if span.until <= span.from {
+        return true;
+    }
+    let mut count = first_in_turn(span.from, turn);
+    while count < span.until {
+        if !one_way(one, other, field, after(start, count, steps.0), steps.1) {
+            return false;
+        }
+        count += turn.every;
+    }
+    true
+}
 
 /// Whether a set is never near the other, where one step is made so often from the start, and another as often as may be.
 fn tried(
@@ -34,12 +71,10 @@ fn tried(
     ensures { IsTrue result ↔
         StaysClearBetween one.now other.now start step (last ∷ []) span.from span.until }
 {
-    for count in span.from..span.until {
-        if !one_way(one, other, field, after(start, count, step), last) {
-            return false;
-        }
+    match turn_of(start.0, step.0, last.0) {
+        None => true,
+        Some(turn) => tried_in_turn(one, other, field, start, (step, last), span, turn),
     }
-    true
 }
 
 /// Whether a set is never near the other, from the start on by two steps that stay by some numbers.

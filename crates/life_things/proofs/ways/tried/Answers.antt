@@ -1,34 +1,29 @@
-use Rattle.std.proofs.Common.{◌+◌, ◌*◌, [], ◌∷◌, refl, sym, subst, true≢false, arith}
-use Rattle.life_things.specs.Clear.{StaysClear}
-use Rattle.life_things.specs.Short.{IsShort, count_limit, one_start, two_start, way_limit}
-use Rattle.life_things.proofs.Going.{between_more}
-use Rattle.life_things.proofs.Within.{short_after, short_wider}
+use mir.Syntax.{w128}
+use mir.Val.{SFits, of_z, to_z}
+use Rattle.std.proofs.Common.{◌≡◌, ℕ, ℤ, pos, ◌+ℤ◌, refl, ◌∙◌, rules}
+use Rattle.std.proofs.Math.IntN.{◌*ℤ◌}
+use Rattle.std.proofs.lemmas.Int.{to_z-of_z}
+use Rattle.life_things.proofs.Arriving.{never_after}
 use Rattle.life_things.proofs.ways.tried.Goals as goal
 
-pub one_way-requires-clause-start : goal.one_way-requires-clause-start
-one_way-requires-clause-start c =
-    subst (IsShort one_start) (sym c.after.ensures)
-    (short_wider (two_start + count_limit * way_limit) one_start _ (omega arith)
-    (short_after two_start count_limit way_limit c.loop-count.count c.args.start c.args.step c.requires.start (omega arith)
-    c.requires.step.short))
+-- as the machine has it
+read : (n k : ℕ) (x y z : ℤ) → SFits w128 x → SFits w128 y → SFits w128 z →
+    (to_z w128 (of_z w128 x) +ℤ ((pos n *ℤ to_z w128 (of_z w128 y)) +ℤ (pos k *ℤ to_z w128 (of_z w128 z))))
+    ≡ (x +ℤ ((pos n *ℤ y) +ℤ (pos k *ℤ z)))
+read n k x y z one two three =
+    λ i. to_z-of_z w128 x one i +ℤ ((pos n *ℤ to_z-of_z w128 y two i) +ℤ (pos k *ℤ to_z-of_z w128 z three i))
 
-pub loop-count-init : goal.loop-count-init
-loop-count-init c n late early = absurd (omega arith)
+pub tried_in_turn-requires-clause-others : goal.tried_in_turn-requires-clause-others
+tried_in_turn-requires-clause-others c n other =
+    never_after c.args.one.now c.args.other.now c.args.start c.args.step c.args.last n (λ k e.
+    other (c.in-Some.ensures.some n (pos k)
+    (read n k c.args.start.0 c.args.step.0 c.args.last.0 (search rules) (search rules) (search rules) ∙ e)))
 
-pub loop-count-preserved : goal.loop-count-preserved
-loop-count-preserved c =
-    between_more c.args.one.now c.args.other.now c.args.start c.args.step (c.args.last ∷ []) c.args.span.from c.loop-count.count
-    c.loop-count.invariant
-    (subst (λ s. StaysClear c.args.one.now c.args.other.now s (c.args.last ∷ [])) c.after.ensures
-    (c.if-not-one_way.ensures.0 refl))
-
-pub returns-then-not-one_way : goal.returns-then-not-one_way
-returns-then-not-one_way c = (
-  λ t. absurd (true≢false (sym t)),
-  λ clear. c.if-not-one_way.ensures.1
-      (subst (λ s. StaysClear c.args.one.now c.args.other.now s (c.args.last ∷ [])) (sym c.after.ensures)
-      (clear c.loop-count.count (omega arith) (omega arith))),
+pub returns-in-None : goal.returns-in-None
+returns-in-None c = (
+  λ t n late early.
+      never_after c.args.one.now c.args.other.now c.args.start c.args.step c.args.last n (λ k e.
+      c.in-None.ensures.none n (pos k)
+      (read n k c.args.start.0 c.args.step.0 c.args.last.0 (search rules) (search rules) (search rules) ∙ e)),
+  λ clear. refl,
 )
-
-pub returns : goal.returns
-returns c = (λ t n late early. c.loop-count.invariant n late (omega arith), λ clear. refl)
