@@ -8,10 +8,10 @@ use Rattle.life_model.specs.Generation.{Generation}
 use Rattle.life_meeting.specs.Sums.{Step, and_then, times}
 use Rattle.life_things.specs.Clear.{IsClear, StaysClear}
 use Rattle.life_things.specs.Fields.{IsFieldOf}
-use Rattle.life_things.specs.Short.{IsWithin}
+use Rattle.life_steps.specs.Short.{IsWithin}
 use Rattle.life_things.specs.declared.field.Field.{Field}
 use Rattle.life_things.proofs.Going.{at_another_time, at_no_step, by_numbers, each_number, no_step_at}
-use Rattle.life_things.proofs.Within.{times_is}
+use Rattle.life_steps.proofs.Within.{times_is}
 
 no_less : (m n a : ℕ) → 1 ≤ a → m * a ≡ n * a → m < n → ⊥
 no_less m n a some e less =

@@ -1,30 +1,17 @@
 -- What divides the times of all steps divides the time of each sum.
-use Rattle.std.proofs.Common.{◌≡◌, ℕ, ℤ, pos, neg_ℤ, ◌+ℤ◌, ◌*◌, ◌/◌, ◌%◌, ◌≤◌, List, [], ◌∷◌, sym, ap, ◌∙◌, arith}
-use Rattle.std.specs.Int.{◌∣◌}
+use Rattle.std.proofs.Common.{◌≡◌, ℕ, ℤ, pos, ◌+ℤ◌, ◌*◌, ◌%◌, ◌≤◌, List, [], ◌∷◌, sym, ap, ◌∙◌, arith}
 use Rattle.std.specs.Prelude.{unsigned_abs}
 use Rattle.std.proofs.Math.IntN.{◌*ℤ◌, *ℤ_comm, *ℤ-zero}
-use Rattle.std.proofs.Math.Nat.{mul-div_cancel'}
-use Rattle.std.proofs.lemmas.Int.{by_lt_z, ints, unsigned_abs-mul}
+use Rattle.std.proofs.lemmas.Int.{ints, unsigned_abs-mul}
 use Rattle.life_model.specs.Generation.{Generation}
 use Rattle.life_meeting.specs.Sums.{Step, sum_of, times}
 use Rattle.life_relations.proofs.Products.{spreads}
 use Rattle.life_things.specs.Clear.{StaysClear}
 use Rattle.life_things.specs.Times.{DividesTimes}
-use Rattle.life_things.proofs.Lowering.{regrouped}
-use Rattle.life_things.proofs.Rising.{no_rest, times_back}
-use Rattle.life_things.proofs.Within.{times_is}
-
--- so many times a whole number
-abbrev pub Times : ℕ → ℤ → Type 0
-Times g x = (z : ℤ) × (x ≡ (pos g *ℤ z))
-
-pub whole : (g : ℕ) (x : ℤ) → g ∣ unsigned_abs x → Times g x
-whole g x divides =
-    let q = unsigned_abs x / g in
-    let size : g * q ≡ unsigned_abs x = mul-div_cancel' g divides in
-    by_lt_z x (pos 0)
-    (λ below. (neg_ℤ (pos q), (let z : x ≡ neg_ℤ (pos (g * q)) = omega (arith, ints) in z) ∙ sym (times_back g q)))
-    (λ up. (pos q, (let z : x ≡ pos (g * q) = omega (arith, ints) in z)))
+use Rattle.life_steps.proofs.Likeness.{Times, whole}
+use Rattle.life_steps.proofs.Lowering.{regrouped}
+use Rattle.life_steps.proofs.Rising.{no_rest}
+use Rattle.life_steps.proofs.Within.{times_is}
 
 in_turn : (k g : ℕ) (z : ℤ) → (pos k *ℤ (pos g *ℤ z)) ≡ (pos g *ℤ (pos k *ℤ z))
 in_turn k g z = sym (regrouped (pos k) (pos g) z) ∙ ap (λ a. a *ℤ z) (*ℤ_comm (pos k) (pos g)) ∙ regrouped (pos g) (pos k) z

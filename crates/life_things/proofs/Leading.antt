@@ -10,9 +10,9 @@ use Rattle.life_relations.specs.Relations.{product}
 use Rattle.life_relations.proofs.Products.{product-stay, product-then, product-times}
 use Rattle.life_things.specs.Clear.{IsClearOver, left_to}
 use Rattle.life_things.specs.Fields.{IsInField}
-use Rattle.life_things.specs.Gauges.{NoneFalls}
+use Rattle.life_steps.specs.Gauges.{NoneFalls}
 use Rattle.life_things.specs.declared.field.Field.{Field}
-use Rattle.life_things.proofs.Steady.{keeps_order}
+use Rattle.life_steps.proofs.Steady.{keeps_order}
 
 pub on_true_more : (b : Bool) (F G : Type 0) → (F → G) → OnTrue b F → OnTrue b G
 on_true_more true F G more h = more h

@@ -1,14 +1,7 @@
-pub mod Within
-pub mod Steady
-pub mod Rising
 pub mod Going
 pub mod Arriving
-pub mod Lowering
 pub mod Relating
 pub mod Beside
-pub mod Planes
 pub mod Meetings
 pub mod Leading
 pub mod InTime
-pub mod Likeness
-pub mod Turning

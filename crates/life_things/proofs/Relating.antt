@@ -9,11 +9,11 @@ use Rattle.life_relations.specs.Relations.{IsRelation, IsSumOf, above, below, le
 use Rattle.life_relations.proofs.Relations.{few_numbers, from_few}
 use Rattle.life_relations.proofs.Signed.{is_relation}
 use Rattle.life_things.specs.Clear.{StaysClear, StaysClearBetween, left_to}
-use Rattle.life_things.specs.Numbers.{StayBy, number_limit, numbers_of, total_above}
-use Rattle.life_things.specs.Short.{IsWithin}
-use Rattle.life_things.specs.declared.numbers.Numbers.{Numbers}
+use Rattle.life_steps.specs.Numbers.{StayBy, number_limit, numbers_of, total_above}
+use Rattle.life_steps.specs.Short.{IsWithin}
+use Rattle.life_steps.specs.declared.numbers.Numbers.{Numbers}
 use Rattle.life_things.proofs.Going.{rest_is}
-use Rattle.life_things.proofs.Within.{read_back}
+use Rattle.life_steps.proofs.Within.{read_back}
 
 module _ (P Q : Generation) (s : Step) (us : List Step) (ups downs : List ℕ) (relation : IsRelation us ups downs) where
   -- it is clear where the step in a place is made less often than the relation has it

@@ -1,9 +1,5 @@
-pub mod Short
 pub mod Fields
-pub mod Gauges
-pub mod Numbers
 pub mod Clear
 pub mod Ways
 pub mod Steps
 pub mod Times
-pub mod Alike

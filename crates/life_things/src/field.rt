@@ -6,11 +6,10 @@ ghost use Rattle.life_meeting.specs.Sums.{and_then, times};
 ghost use Rattle.life_orbit.specs.Hulls.{HoldsAllCells};
 ghost use Rattle.life_relations.specs.Relations.{product};
 ghost use Rattle.life_things.specs.Fields.{IsFieldOf, IsInField, IsNarrow};
-ghost use Rattle.life_things.specs.Short.{AreShort, IsShort, IsWithin};
+ghost use Rattle.life_steps.specs.Short.{AreShort, IsShort, IsWithin};
 
-use crate::span::{Span, span_to};
-use crate::step::{Step, multiplied, product};
 use life_orbit::Hull;
+use life_steps::{Span, Step, multiplied, product, span_to};
 
 /// Places from one column to another, and from one row to another.
 #[derive(Clone, Copy)]

@@ -2,16 +2,13 @@
 ghost use Rattle.std.specs.Prelude.{◌↔◌, ◌≤◌, IsTrue, [], ◌∷◌};
 ghost use Rattle.life_things.specs.Clear.{StaysClear, StaysClearBetween};
 ghost use Rattle.life_things.specs.Fields.{IsFieldOf};
-ghost use Rattle.life_things.specs.Numbers.{AreFew, StayBy, number_limit, total_above};
-ghost use Rattle.life_things.specs.Short.{IsShort, IsStride, four_start};
+ghost use Rattle.life_steps.specs.Numbers.{AreFew, StayBy, number_limit, total_above};
+ghost use Rattle.life_steps.specs.Short.{IsShort, IsStride, four_start};
 
-use crate::crossing::space_numbers;
 use crate::field::Field;
-use crate::numbers::{Numbers, above, lightest};
-use crate::span::Span;
-use crate::step::{Step, after};
 use crate::three::three_ways;
 use life_cells::CellList;
+use life_steps::{Numbers, Span, Step, above, after, lightest, space_numbers};
 
 /// Whether a set is never near the other, where one step is made so often from the start, and three others as often as
 /// may be.

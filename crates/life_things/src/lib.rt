@@ -3,22 +3,15 @@
 //! Tested in `tests_things`.
 #![tactic(auto)]
 
-mod arrival;
-mod crossing;
 mod field;
 mod four;
-mod gauges;
 mod meeting;
-mod numbers;
 mod places;
 mod refusal;
-mod span;
-mod step;
 mod steps;
 mod thing;
 mod three;
 mod together;
-mod turn;
 mod way;
 mod ways;
 

@@ -3,20 +3,20 @@ ghost use Rattle.std.specs.Prelude.{◌↔◌, IsTrue};
 ghost use Rattle.life_growth.specs.Things.{NeverMeet};
 ghost use Rattle.life_things.specs.Clear.{StaysClear};
 ghost use Rattle.life_things.specs.Fields.{IsFieldOf};
-ghost use Rattle.life_things.specs.Short.{IsShort, four_start};
+ghost use Rattle.life_steps.specs.Short.{IsShort, four_start};
 ghost use Rattle.life_things.specs.Steps.{AreStrides, list_of};
 
 use crate::field::{Field, field_of};
 use crate::four::four_ways;
 use crate::places::{no_way, one_way};
 use crate::refusal::leads_away;
-use crate::step::Step;
 use crate::steps::{Steps, joined, steps_back, steps_forth};
 use crate::thing::Thing;
 use crate::three::three_ways;
 use crate::together::are_never_together;
 use crate::ways::two_ways;
 use life_cells::CellList;
+use life_steps::Step;
 
 /// Whether a set is never near the other, from the start on by some steps.
 fn stays_clear(one: &CellList, other: &CellList, field: Field, start: Step, steps: Steps) -> bool

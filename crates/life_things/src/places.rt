@@ -3,13 +3,12 @@ ghost use Rattle.std.specs.Prelude.{◌≡◌, ◌↔◌, ◌≤◌, ◌^◌, Is
 ghost use Rattle.life_meeting.specs.Sums.{and_then, times};
 ghost use Rattle.life_things.specs.Clear.{IsClear, StaysClear};
 ghost use Rattle.life_things.specs.Fields.{IsFieldOf};
-ghost use Rattle.life_things.specs.Short.{IsShort, IsStride, one_start};
+ghost use Rattle.life_steps.specs.Short.{IsShort, IsStride, one_start};
 
-use crate::arrival::{moved, rounds_to_none};
 use crate::field::{Field, has_place};
-use crate::step::Step;
 use life_cells::CellList;
 use life_orbit::are_clear;
+use life_steps::{Step, moved, rounds_to_none};
 
 /// Whether no cell of a set, moved, is near one of the other.
 fn is_clear(one: &CellList, by: (i128, i128), other: &CellList, field: Field) -> bool

@@ -4,15 +4,13 @@ ghost use Rattle.std.specs.Bool.{OnTrue};
 ghost use Rattle.life_relations.specs.Relations.{product};
 ghost use Rattle.life_things.specs.Clear.{IsClearOver};
 ghost use Rattle.life_things.specs.Fields.{IsNarrow};
-ghost use Rattle.life_things.specs.Gauges.{NoneFalls};
-ghost use Rattle.life_things.specs.Short.{IsShort, IsStride, cross_limit, four_start};
+ghost use Rattle.life_steps.specs.Gauges.{NoneFalls};
+ghost use Rattle.life_steps.specs.Short.{IsShort, IsStride, cross_limit, four_start};
 ghost use Rattle.life_things.specs.Steps.{AreStrides, list_of};
 
-use crate::crossing::cross;
 use crate::field::{Field, most_product};
-use crate::gauges::{across_gauge, along_gauge, turned_gauge};
-use crate::step::{Step, product};
 use crate::steps::Steps;
+use life_steps::{Step, across_gauge, along_gauge, cross, product, turned_gauge};
 
 /// Whether a step does not lead back along a gauge.
 fn rises(gauge: Step, step: Step) -> bool

@@ -4,8 +4,8 @@ ghost use Rattle.life_meeting.specs.Meeting as meetings;
 ghost use Rattle.life_things.specs.Steps.{AreStrides, list_of};
 ghost use Rattle.life_things.specs.Ways.{IsFit, ways_of};
 
-use crate::step::Step;
 use crate::way::{Ways, step_back, step_of};
+use life_steps::Step;
 
 /// Up to four steps.
 #[derive(Clone, Copy)]

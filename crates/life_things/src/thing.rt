@@ -24,7 +24,7 @@ impl Model for Thing {
     ghost use Rattle.std.specs.Prelude.{All, ◌≤◌};
     ghost use Rattle.life_growth.specs.Things as things;
     ghost use Rattle.life_orbit.specs.Hulls.{HoldsAllCells};
-    ghost use Rattle.life_things.specs.Short.{four_start};
+    ghost use Rattle.life_steps.specs.Short.{four_start};
     ghost use Rattle.life_things.specs.Ways.{IsFit, coded_thing, ways_of};
 
     ghost Value = { things.Thing };

@@ -4,16 +4,13 @@ ghost use Rattle.life_model.specs.Generation.{Generation};
 ghost use Rattle.life_relations.specs.Relations.{spanned};
 ghost use Rattle.life_things.specs.Clear.{StaysClear, StaysClearBetween, StaysClearOutside};
 ghost use Rattle.life_things.specs.Fields.{IsFieldOf, IsNarrow};
-ghost use Rattle.life_things.specs.Numbers.{AreFew, StayBy, total_above};
-ghost use Rattle.life_things.specs.Short.{IsShort, IsStride, three_count, three_start};
+ghost use Rattle.life_steps.specs.Numbers.{AreFew, StayBy, total_above};
+ghost use Rattle.life_steps.specs.Short.{IsShort, IsStride, three_count, three_start};
 
-use crate::crossing::{cross, plane_numbers};
 use crate::field::{Field, span_by};
-use crate::numbers::{Numbers, above, lightest};
-use crate::span::Span;
-use crate::step::{Step, after};
 use crate::ways::two_ways;
 use life_cells::CellList;
+use life_steps::{Numbers, Span, Step, above, after, cross, lightest, plane_numbers};
 
 /// Whether a set is never near the other, where one step is made so often from the start, and two others as often as may
 /// be.

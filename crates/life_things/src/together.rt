@@ -6,9 +6,8 @@ ghost use Rattle.life_things.specs.Clear.{StaysClear};
 ghost use Rattle.life_things.specs.Steps.{list_of};
 ghost use Rattle.life_things.specs.Times.{DividesTimes};
 
-use crate::numbers::common_divisor;
-use crate::step::Step;
 use crate::steps::Steps;
+use life_steps::{Step, common_divisor};
 
 /// The greatest number of generations that divides the times of two steps.
 fn common_time(first: Step, second: Step) -> u128

@@ -1,10 +1,10 @@
 //! The ways of things.
 ghost use Rattle.std.specs.Prelude.{◌≡◌, ◌↔◌, All, IsTrue};
 ghost use Rattle.life_meeting.specs.Meeting as meetings;
-ghost use Rattle.life_things.specs.Short.{IsStride, IsWithin, way_limit};
+ghost use Rattle.life_steps.specs.Short.{IsStride, IsWithin, way_limit};
 ghost use Rattle.life_things.specs.Ways.{IsFit, way_of, ways_of};
 
-use crate::step::Step;
+use life_steps::Step;
 
 /// The greatest number of generations that a way may take, and the greatest move along an axis.
 pub const WAY_LIMIT: u32 = 10_000;

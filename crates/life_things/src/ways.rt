@@ -5,18 +5,17 @@ ghost use Rattle.life_meeting.specs.Sums.{and_then, times};
 ghost use Rattle.life_relations.specs.Relations.{product};
 ghost use Rattle.life_things.specs.Clear.{StaysClear, StaysClearBetween, StaysClearOutside};
 ghost use Rattle.life_things.specs.Fields.{IsFieldOf, IsNarrow};
-ghost use Rattle.life_things.specs.Gauges.{across_gauge, along_gauge};
-ghost use Rattle.life_things.specs.Numbers.{AreFew, StayBy, number_limit, total_above, turned};
-ghost use Rattle.life_things.specs.Short.{IsShort, IsStride, count_limit, two_start};
+ghost use Rattle.life_steps.specs.Gauges.{across_gauge, along_gauge};
+ghost use Rattle.life_steps.specs.Numbers.{AreFew, StayBy, number_limit, total_above, turned};
+ghost use Rattle.life_steps.specs.Short.{IsShort, IsStride, count_limit, two_start};
 
 use crate::field::{Field, span_by};
-use crate::gauges::{across_gauge, along_gauge};
-use crate::numbers::{Numbers, above, lightest};
 use crate::places::one_way;
-use crate::span::Span;
-use crate::step::{Step, after};
-use crate::turn::{Turn, first_in_turn, turn_of};
 use life_cells::CellList;
+use life_steps::{
+    Numbers, Span, Step, Turn, above, across_gauge, after, along_gauge, first_in_turn, lightest,
+    parallel_numbers, turn_of,
+};
 
 /// Whether a set is never near the other, where one step is made so often from the start as is in turn, and another as often
 /// as may be.
@@ -109,25 +108,6 @@ fn related(
         until: above(numbers.second),
     };
     tried(one, other, field, start, last, step, steps)
-}
-
-/// Numbers by which two steps stay, where neither goes faster than the other.
-pub fn parallel_numbers(step: Step, last: Step) -> Numbers
-    requires step { IsStride step }
-    requires last { IsStride last }
-    requires across { product (across_gauge last) step ≡ pos 0 }
-    requires along { product (along_gauge last) step ≡ pos 0 }
-    ensures few { AreFew result }
-    ensures some { 1 ≤ total_above result + total_above (turned result) }
-    ensures two { result.third ≡ pos 0 × result.fourth ≡ pos 0 }
-    ensures stay { StayBy (step ∷ last ∷ []) result }
-{
-    Numbers {
-        first: last.0,
-        second: -step.0,
-        third: 0,
-        fourth: 0,
-    }
 }
 
 /// How often a step may be made from the start so that the set can be near the other in some column after another, made as

@@ -5,8 +5,8 @@ use Rattle.std.proofs.Math.IntN.{◌*ℤ◌}
 use Rattle.life_meeting.specs.Sums.{Step, times}
 use Rattle.life_relations.specs.Relations.{product}
 use Rattle.life_relations.proofs.Products.{product-then, product-times}
-use Rattle.life_things.specs.Short.{AreShort, IsWithin}
-use Rattle.life_things.proofs.Within.{read_back, within_product_of, within_wider}
+use Rattle.life_steps.specs.Short.{AreShort, IsWithin}
+use Rattle.life_steps.proofs.Within.{read_back, within_product_of, within_wider}
 use Rattle.life_things.proofs.field.span_by.Goals as goal
 
 product_small : (u v : Step) → AreShort u v → IsWithin (2 ^ 124) (product u v)

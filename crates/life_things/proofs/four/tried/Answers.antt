@@ -1,9 +1,9 @@
 use Rattle.std.proofs.Common.{◌+◌, ◌*◌, [], ◌∷◌, refl, sym, subst, true≢false, arith}
 use Rattle.life_things.specs.Clear.{StaysClear}
-use Rattle.life_things.specs.Numbers.{number_limit}
-use Rattle.life_things.specs.Short.{IsShort, four_start, three_start, way_limit}
+use Rattle.life_steps.specs.Numbers.{number_limit}
+use Rattle.life_steps.specs.Short.{IsShort, four_start, three_start, way_limit}
 use Rattle.life_things.proofs.Going.{between_more}
-use Rattle.life_things.proofs.Within.{short_after, short_wider}
+use Rattle.life_steps.proofs.Within.{short_after, short_wider}
 use Rattle.life_things.proofs.four.tried.Goals as goal
 
 pub three_ways-requires-clause-start : goal.three_ways-requires-clause-start

@@ -5,11 +5,11 @@ use Rattle.std.proofs.Common.{◌≡◌, ℕ, false, ◌+◌, ◌*◌, ◌^◌, 
 use Rattle.std.proofs.lemmas.Int.{ints}
 use Rattle.life_relations.specs.Relations.{product}
 use Rattle.life_things.specs.Clear.{IsClearOver}
-use Rattle.life_things.specs.Gauges.{NoneFalls}
-use Rattle.life_things.specs.Short.{IsWithin, cross_limit, four_start}
+use Rattle.life_steps.specs.Gauges.{NoneFalls}
+use Rattle.life_steps.specs.Short.{IsWithin, cross_limit, four_start}
 use Rattle.life_things.specs.Steps.{list_of}
 use Rattle.life_things.proofs.Leading.{clear_past, on_true_more}
-use Rattle.life_things.proofs.Within.{within_product_of}
+use Rattle.life_steps.proofs.Within.{within_product_of}
 use Rattle.life_things.proofs.refusal.is_past.Goals as goal
 
 abbrev most : ℕ

@@ -7,10 +7,10 @@ use Rattle.life_relations.specs.Relations.{cross, product}
 use Rattle.life_relations.proofs.Crosses.{square_first, square_second}
 use Rattle.life_things.specs.Clear.{StaysClearOutside}
 use Rattle.life_things.specs.Fields.{IsFieldOf, IsInField}
-use Rattle.life_things.specs.Short.{IsWithin, cross_limit, three_count, three_start, way_limit}
+use Rattle.life_steps.specs.Short.{IsWithin, cross_limit, three_count, three_start, way_limit}
 use Rattle.life_things.proofs.Beside.{some_more}
 use Rattle.life_things.proofs.Going.{IsLevel, level_more, level_none, outside_by}
-use Rattle.life_things.proofs.Within.{short_wider, within_product_of}
+use Rattle.life_steps.proofs.Within.{short_wider, within_product_of}
 use Rattle.life_things.proofs.three.span_over.Goals as goal
 
 pub span_by-requires-clause-gauge : goal.span_by-requires-clause-gauge

@@ -5,11 +5,12 @@ use Rattle.life_meeting.specs.Sums.{Step, and_then, times}
 use Rattle.life_relations.specs.Relations.{product}
 use Rattle.life_things.specs.Clear.{StaysClearOutside}
 use Rattle.life_things.specs.Fields.{IsFieldOf, IsInField}
-use Rattle.life_things.specs.Gauges.{across_gauge}
-use Rattle.life_things.specs.Short.{IsShort, IsWithin, count_limit, two_start, way_limit}
-use Rattle.life_things.proofs.Beside.{across_level, across_short, across_within, some_more}
+use Rattle.life_steps.specs.Gauges.{across_gauge}
+use Rattle.life_steps.specs.Short.{IsShort, IsWithin, count_limit, two_start, way_limit}
+use Rattle.life_steps.proofs.Gauging.{across_level, across_short, across_within}
+use Rattle.life_things.proofs.Beside.{some_more}
 use Rattle.life_things.proofs.Going.{level_more, level_none, outside_by}
-use Rattle.life_things.proofs.Within.{short_wider}
+use Rattle.life_steps.proofs.Within.{short_wider}
 use Rattle.life_things.proofs.ways.span_across.Goals as goal
 
 gauge_short : (u v : Step) → u ≡ across_gauge v → IsShort way_limit v → IsShort way_limit u

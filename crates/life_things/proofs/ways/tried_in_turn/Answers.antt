@@ -2,9 +2,9 @@ use Rattle.std.proofs.Common.{◌≡◌, ◌+◌, ◌*◌, [], ◌∷◌, inl, i
 use Rattle.std.proofs.lemmas.Bool.{cases_lt}
 use Rattle.life_meeting.specs.Sums.{and_then, times}
 use Rattle.life_things.specs.Clear.{StaysClear}
-use Rattle.life_things.specs.Short.{IsShort, count_limit, one_start, two_start, way_limit}
-use Rattle.life_things.proofs.Turning.{next_turn, out_of_turn}
-use Rattle.life_things.proofs.Within.{short_after, short_wider}
+use Rattle.life_steps.specs.Short.{IsShort, count_limit, one_start, two_start, way_limit}
+use Rattle.life_steps.proofs.Turning.{next_turn, out_of_turn}
+use Rattle.life_steps.proofs.Within.{short_after, short_wider}
 use Rattle.life_things.proofs.ways.tried_in_turn.Goals as goal
 
 pub one_way-requires-clause-start : goal.one_way-requires-clause-start

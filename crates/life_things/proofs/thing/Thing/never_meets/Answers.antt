@@ -5,7 +5,7 @@ use Rattle.std.proofs.lemmas.Int.{ints}
 use Rattle.life_model.specs.Cell.{origin}
 use Rattle.life_meeting.specs.Meeting.{step_back, step_of, steps_between}
 use Rattle.life_meeting.specs.Sums.{Step}
-use Rattle.life_things.specs.Short.{four_start}
+use Rattle.life_steps.specs.Short.{four_start}
 use Rattle.life_things.specs.Steps.{list_of}
 use Rattle.life_things.specs.Fields.{IsFieldOf}
 use Rattle.life_things.proofs.Meetings.{machine_by_never, never_by_machine, start_of}

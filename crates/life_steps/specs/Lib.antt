@@ -1,0 +1,4 @@
+pub mod Short
+pub mod Gauges
+pub mod Numbers
+pub mod Alike
