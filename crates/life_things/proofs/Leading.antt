@@ -29,7 +29,7 @@ never_back g (u ∷ us) (k ∷ often) none =
     let rest = never_back g us often none.1 in
     omega (arith, ints)
 
-whole : (s v : Step) (d : Cell) → v ≡ left_to s d → and_then s v ≡ (pos 0, d)
+pub whole : (s v : Step) (d : Cell) → v ≡ left_to s d → and_then s v ≡ (pos 0, d)
 whole s v d e =
     let first = ap (λ (w : Step). w.0) e in
     let second = ap (λ (w : Step). w.1.0) e in

@@ -5,3 +5,4 @@ pub mod Beside
 pub mod Meetings
 pub mod Leading
 pub mod InTime
+pub mod Fielding

@@ -1,5 +1,6 @@
 pub mod Fields
 pub mod Clear
+pub mod Tries
 pub mod Ways
 pub mod Steps
 pub mod Times

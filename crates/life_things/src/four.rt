@@ -6,9 +6,9 @@ ghost use Rattle.life_steps.specs.Numbers.{AreFew, StayBy, number_limit, total_a
 ghost use Rattle.life_steps.specs.Short.{IsShort, IsStride, four_start};
 
 use crate::field::Field;
-use crate::three::three_ways;
+use crate::tries::{Tries, are_clear};
 use life_cells::CellList;
-use life_steps::{Numbers, Span, Step, above, after, lightest, space_numbers};
+use life_steps::{Numbers, Span, Step, above, lightest, space_numbers};
 
 /// Whether a set is never near the other, where one step is made so often from the start, and three others as often as
 /// may be.
@@ -29,13 +29,16 @@ fn tried(
     ensures { IsTrue result ↔
         StaysClearBetween one.now other.now start step (rest.0 ∷ rest.1 ∷ rest.2 ∷ []) span.from span.until }
 {
-    for count in span.from..span.until {
-        let from = after(start, count, step);
-        if !three_ways(one, other, field, from, rest.0, rest.1, rest.2) {
-            return false;
-        }
-    }
-    true
+    let tries = Tries {
+        start,
+        step,
+        first: rest.0,
+        second: rest.1,
+        third: rest.2,
+        from: span.from,
+        until: span.until,
+    };
+    are_clear(one, other, field, tries)
 }
 
 /// Whether a set is never near the other, from the start on by four steps that stay by some numbers.

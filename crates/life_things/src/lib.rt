@@ -12,6 +12,7 @@ mod steps;
 mod thing;
 mod three;
 mod together;
+mod tries;
 mod way;
 mod ways;
 

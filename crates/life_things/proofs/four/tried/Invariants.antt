@@ -1,7 +1,0 @@
-use Rattle.std.proofs.Common.{[], ◌∷◌}
-use Rattle.life_things.specs.Clear.{StaysClearBetween}
-use Rattle.life_things.proofs.four.tried.Given as goal
-
--- it is clear for each number before this one
-abbrev pub invariant-loop-count : goal.invariant-loop-count
-invariant-loop-count l = StaysClearBetween l.one l.other l.start l.step (l.rest.0 ∷ l.rest.1 ∷ l.rest.2 ∷ []) l.initial.count l.count
