@@ -12,3 +12,4 @@ pub mod Cutting
 pub mod Telling
 pub mod Tallied
 pub mod Counted
+pub mod Walks

@@ -1,7 +1,7 @@
 -- The lines of a text.
-use Rattle.std.specs.Prelude.{ℕ, List, [], ◌∷◌, ◌++◌, ◌≢◌, ⊤}
+use Rattle.std.specs.Prelude.{ℕ, List, [], ◌∷◌, ◌++◌, ◌≡◌, ◌≢◌, ⊤}
 use Rattle.census_rows.specs.declared.row.Row.{Row}
-use Rattle.census_rows.specs.Lines.{IsRow, SameRow, line_of, row_text}
+use Rattle.census_rows.specs.Lines.{IsRow, SameRow, line_of, row_text, text_of}
 
 -- no byte is LF
 abbrev pub HasNoFeed : List ℕ → Type 0
@@ -25,3 +25,11 @@ abbrev pub SameRows : List Row → List Row → Type 0
 SameRows [] [] = ⊤
 SameRows (row ∷ rows) (other ∷ others) = SameRow row other × SameRows rows others
 SameRows _ _ = ⊥
+
+-- as many rows as stand at the start of the text, and what stands behind them
+pub record Ends (text rest : List ℕ) : Type 0 where
+  pub rows : List Row
+  pub lines : AllLines rows
+  pub whole : text ≡ text_of rows ++ rest
+  pub stuck : IsStuck rest
+  pub all : (others : List Row) (after : List ℕ) → AllLines others → text ≡ text_of others ++ after → IsStuck after → SameRows rows others × (rest ≡ after)

@@ -17,5 +17,6 @@ mod sectioning;
 mod told;
 
 pub use limits::COUNT_LIMIT;
-pub use reading::read_report;
+pub use lines::{First, first_row};
+pub use reading::{fault_of, read_report};
 pub use sectioning::{collections, sections};

@@ -2,12 +2,12 @@
 ghost use Rattle.std.specs.Prelude.{◌≡◌, ◌==◌, ◌++◌, ◌<◌, ℕ, List, length, position, IfOk, IfSome, MatchOption};
 ghost use Rattle.census_rows.specs.declared.row.Row.{Row};
 ghost use Rattle.census_rows.specs.Lines.{SameRow, line_of, text_of};
-ghost use Rattle.census_readback.specs.Texts.{AllLines, IsLine, IsStuck, SameRows};
+ghost use Rattle.census_readback.specs.Texts.{AllLines, Ends, IsLine, IsStuck, SameRows};
 
 use census_rows::{Row, read_row};
 use std::alloc::{AllocError, Global};
 
-// A row, and what stands after its line.
+/// A row, and what stands after its line.
 #[derive(Clone, Copy)]
 pub struct First<'a> {
     pub row: Row<'a>,
@@ -28,8 +28,8 @@ fn first_feed(text: &[u8]) -> Option<usize>
     text.iter().position(|byte| *byte == b'\n')
 }
 
-// The row of the first line.
-fn first_row(text: &[u8]) -> Option<First>
+/// The row of the first line. `None` where no row is written so.
+pub fn first_row(text: &[u8]) -> Option<First>
     ensures sound { IfSome result
         (λ first. IsLine first.row × (text.now ≡ line_of first.row ++ first.rest.now)) }
     ensures all { (row : Row) (after : List ℕ) → IsLine row → text.now ≡ line_of row ++ after
@@ -58,4 +58,15 @@ pub fn read_rows(alloc: Global, text: &[u8]) -> Result<Front, AllocError>
         rest = first.rest;
     }
     Ok(Front { rows, rest })
+}
+
+// What stands behind as many rows as stand at the start of a text.
+pub fn behind_rows(text: &[u8]) -> &[u8]
+    ensures { Ends text.now result.now }
+{
+    let mut rest = text;
+    while let Some(first) = first_row(rest) {
+        rest = first.rest;
+    }
+    rest
 }

@@ -10,60 +10,90 @@
 //! `code` lines of a collection are what its lines count: for each rule and code that `ok` and `part`
 //! lines have, in the order of first appearance, one line with the number of these `ok` lines and the
 //! sum of the counts of these `part` lines. What follows the `_` of a code is not looked at.
-ghost use Rattle.std.specs.Prelude.{◌≡◌, ◌+◌, ◌<◌, ◌^◌, ℕ, List, length, IfOk, MatchResult};
+ghost use Rattle.std.specs.Prelude.{◌≡◌, ◌⊎◌, ℕ, List, None, Some, IfOk, IsFalse, IsTrue, MatchOption, MatchResult};
+ghost use Rattle.census_readback.specs.Steps.{reading_of, step};
+ghost use Rattle.census_readback.specs.Told.{told_after, told_of};
 ghost use Rattle.census_rows.specs.declared.row.Row.{Row};
 ghost use Rattle.census_readback.specs.Reports.{IsFault, ReadsAsReports};
-ghost use Rattle.census_readback.specs.Steps.{initial_reading, first_stray};
-ghost use Rattle.census_readback.specs.Texts.{SameRows};
-ghost use Rattle.census_readback.specs.Told.{nothing_told};
+ghost use Rattle.census_readback.specs.Texts.{Ends, SameRows};
 
-use crate::lines::read_rows;
+use crate::lines::{behind_rows, first_row, read_rows};
 use crate::progress::Progress;
 use crate::told::Told;
 use census_rows::Row;
 use std::alloc::{AllocError, Global};
 
-// The number, from 1, of the first row that may not stand where it does, or tells what no report
-// tells there.
-fn first_stray<'a>(alloc: Global, rows: &[Row<'a>]) -> Result<Option<usize>, AllocError>
-    requires { length rows.now < 2 ^ 63 }
-    ensures { IfOk result
-        (λ number. number ≡ first_stray nothing_told initial_reading 1 rows.now) }
+// Takes a row, where it may stand here and tells what a report tells here.
+fn take<'a>(
+    alloc: Global,
+    progress: &mut Progress<'a>,
+    told: &mut Told<'a>,
+    row: &Row<'a>,
+) -> Result<bool, AllocError>
+    ensures told { IfOk result (λ taken. IsTrue taken
+        → told_after (told_of told.old) row.now ≡ Some (told_of told.new)) }
+    ensures goes { IfOk result (λ taken. IsTrue taken
+        → step (reading_of progress.old) row.now ≡ Some (reading_of progress.new)) }
+    ensures no { IfOk result (λ taken. IsFalse taken
+        → (told_after (told_of told.old) row.now ≡ None)
+        ⊎ (step (reading_of progress.old) row.now ≡ None)) }
+{
+    let Some(more) = told.after(row) else {
+        return Ok(false);
+    };
+    if !progress.take(alloc, row)? {
+        return Ok(false);
+    }
+    *told = more;
+    Ok(true)
+}
+
+// The number of a line that is wrong, before the rest of the text.
+fn first_fault(number: usize, rest: &[u8]) -> usize
+    ensures value { result ≡ number }
+    ensures ends { (end : List ℕ) × Ends rest.now end }
+{
+    let _end = behind_rows(rest);
+    number
+}
+
+/// The number of the first line, from 1, at which a text is no report, nor several after one
+/// another: a line that is no row, a row that may not stand where it does or tells what no report
+/// tells there, or the line that is missing after the last. `None` where it is. No row is kept.
+pub fn fault_of(alloc: Global, text: &[u8]) -> Result<Option<usize>, AllocError>
+    ensures sound { IfOk result (λ fault. MatchOption fault
+        ((rows : List Row) × ReadsAsReports rows text.now) (λ line. IsFault text.now line)) }
+    ensures all { (rows : List Row) → ReadsAsReports rows text.now
+        → IfOk result (λ fault. fault ≡ None) }
 {
     let mut progress = Progress::start(alloc);
     let mut told = Told::nothing();
-    for index in 0..rows.len() {
-        let row = &rows[index];
-        let Some(more) = told.after(row) else {
-            return Ok(Some(index + 1));
-        };
-        if !progress.take(alloc, row)? {
-            return Ok(Some(index + 1));
+    let mut rest = text;
+    let mut number = 1;
+    while let Some(first) = first_row(rest) {
+        if !take(alloc, &mut progress, &mut told, &first.row)? {
+            return Ok(Some(first_fault(number, first.rest)));
         }
-        told = more;
+        rest = first.rest;
+        number += 1;
     }
-    if progress.ended {
+    if progress.ended && rest.is_empty() {
         Ok(None)
     } else {
-        Ok(Some(rows.len() + 1))
+        Ok(Some(number))
     }
 }
 
-/// The rows of a report, or of several after one another. `Err` has the number of the first line,
-/// from 1, at which the text is no report: a line that is no row, a row that may not stand where it
-/// does or tells what no report tells there, or the line that is missing after the last.
+/// The rows of a report, or of several after one another. `Err` has the line of the fault, as
+/// `fault_of` tells it.
 pub fn read_report(alloc: Global, text: &[u8]) -> Result<Result<Vec<Row>, usize>, AllocError>
     ensures sound { IfOk result (λ read. MatchResult read
         (λ rows. ReadsAsReports rows.items text.now) (λ line. IsFault text.now line)) }
     ensures all { (rows : List Row) → ReadsAsReports rows text.now
         → IfOk result (λ read. MatchResult read (λ found. SameRows found.items rows) (λ line. ⊥)) }
 {
-    let front = read_rows(alloc, text)?;
-    if let Some(number) = first_stray(alloc, front.rows.as_slice())? {
-        return Ok(Err(number));
+    match fault_of(alloc, text)? {
+        Some(line) => Ok(Err(line)),
+        None => Ok(Ok(read_rows(alloc, text)?.rows)),
     }
-    if !front.rest.is_empty() {
-        return Ok(Err(front.rows.len() + 1));
-    }
-    Ok(Ok(front.rows))
 }

@@ -1,50 +1,35 @@
-use Rattle.std.proofs.Common.{◌≡◌, ◌++◌, ◌∷◌, [], List, ℕ, length, Some, None, sym, ap, ◌∙◌, true, eqb, refl, arith, rules}
-use Rattle.std.proofs.lemmas.Bool.{eqb-true}
-use Rattle.std.proofs.lemmas.Grind.{common_steps}
-use Rattle.std.proofs.lemmas.List.{append-nil}
+use Rattle.std.proofs.Common.{◌≡◌, ◌++◌, ℕ, List, [], Option, Some, None, ap, sym, ◌∙◌}
+use Rattle.std.specs.Prelude.{MatchOption}
 use Rattle.census_rows.specs.declared.row.Row.{Row}
+use Rattle.census_readback.specs.Reports.{ReadsAsReports}
+use Rattle.std.proofs.lemmas.List.{append-nil}
 use Rattle.census_rows.specs.Lines.{text_of}
-use Rattle.census_readback.specs.Steps.{initial_reading, first_stray}
-use Rattle.census_readback.specs.Told.{nothing_told}
 use Rattle.census_readback.proofs.Alike.{stray-same}
-use Rattle.census_readback.proofs.Interleaved.{reports-sound, reports-complete}
+use Rattle.census_readback.proofs.Interleaved.{reports-complete, reports-sound}
 use Rattle.census_readback.proofs.Reached.{stuck-at-end}
+use Rattle.census_readback.specs.Steps.{first_stray, initial_reading}
+use Rattle.census_readback.specs.Told.{nothing_told}
 use Rattle.census_readback.proofs.reading.read_report.Goals as goal
 
-pub returns-in-Some-clause-all : goal.returns-in-Some-clause-all
-returns-in-Some-clause-all c = λ rows is.
-    let items : List Row = c.in_ok-front.front.rows.items in
-    let told = c.in_ok-front.ensures.all rows [] is.lines (is.whole ∙ sym (append-nil (text_of rows))) stuck-at-end in
-    let none : first_stray nothing_told initial_reading 1 items ≡ None = stray-same nothing_told initial_reading 1 items rows told.0 ∙ reports-complete rows is.shape in
-    let same : c.as_slice.result.now ≡ items = c.as_slice.ensures.value in
-    let some : first_stray nothing_told initial_reading 1 c.as_slice.result.now ≡ Some c.in-Some.number = sym c.in_ok-number.ensures ∙ c.in-Some.is in
-    absurd (cc)
+read-of : {P : Type 0} (fault : Option ℕ) (Q : ℕ → Type 0) → fault ≡ None → MatchOption fault P Q → P
+read-of None Q e h = h
+read-of (Some line) Q e h = absurd (cc)
 
-pub returns-then-not-is_empty-clause-all : goal.returns-then-not-is_empty-clause-all
-returns-then-not-is_empty-clause-all c = λ rows is.
-    let told = c.in_ok-front.ensures.all rows [] is.lines (is.whole ∙ sym (append-nil (text_of rows))) stuck-at-end in
-    let rest : List ℕ = c.in_ok-front.front.rest.now in
-    let none : rest ≡ [] = told.1 in
-    let empty : eqb (length rest) 0 ≡ true = rw none refl in
-    let no : ⊥ = first_of (cc (empty, c.is_empty.ensures, c.if-not-is_empty.true), grind arith, search rules) in no
-
-pub returns-clause-all : goal.returns-clause-all
-returns-clause-all c = λ rows is.
-    (c.in_ok-front.ensures.all rows [] is.lines (is.whole ∙ sym (append-nil (text_of rows))) stuck-at-end).0
-
-none-left : (xs : List ℕ) → eqb (length xs) 0 ≡ true → xs ≡ []
-none-left [] h = refl
-none-left (x ∷ xs) h = absurd (let e : length (x ∷ xs) ≡ 0 = eqb-true _ _ h in omega arith)
-
-pub returns-clause-sound : goal.returns-clause-sound
-returns-clause-sound c =
-    let items : List Row = c.in_ok-front.front.rows.items in
-    let rest : List ℕ = c.in_ok-front.front.rest.now in
-    let told = c.in_ok-front.ensures.sound in
-    let none : rest ≡ [] = none-left rest (first_of (cc (c.is_empty.ensures, c.if-not-is_empty.false), search rules, grind arith)) in
-    let lawful : first_stray nothing_told initial_reading 1 items ≡ None = first_of (search rules, grind (arith, common_steps)) in
+pub returns-in_ok-read_rows-in-None-clause-sound :
+    goal.returns-in_ok-read_rows-in-None-clause-sound
+returns-in_ok-read_rows-in-None-clause-sound c =
+    let read = c.in_ok-line.ensures.sound in
+    let there : (rows : List Row) × ReadsAsReports rows c.args.text.now = read-of c.in_ok-line.field-0 _ c.in-None.is read in
+    let is = there.1 in
+    let front = c.in_ok-read_rows-in-None.ensures in
+    let rows = c.in_ok-read_rows-in-None.field-0.rows.items in
+    let same = front.all there.0 [] is.lines (is.whole ∙ sym (append-nil (text_of there.0))) stuck-at-end in
     record {
-      lines = told.0;
-      whole = told.1 ∙ ap (λ (w : List ℕ). text_of items ++ w) none ∙ append-nil (text_of items);
-      shape = reports-sound items lawful;
+      lines = front.sound.0;
+      whole = front.sound.1 ∙ ap (λ (t : List ℕ). text_of rows ++ t) same.1 ∙ append-nil (text_of rows);
+      shape = reports-sound rows (stray-same nothing_told initial_reading 1 rows there.0 same.0 ∙ reports-complete there.0 is.shape);
     }
+
+pub returns-in_ok-read_rows-in-None-clause-all : goal.returns-in_ok-read_rows-in-None-clause-all
+returns-in_ok-read_rows-in-None-clause-all c = λ rows is.
+    (c.in_ok-read_rows-in-None.ensures.all rows [] is.lines (is.whole ∙ sym (append-nil (text_of rows))) stuck-at-end).0
