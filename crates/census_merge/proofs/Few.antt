@@ -5,11 +5,7 @@ use Rattle.census_rows.specs.declared.row.Row.TheVariants.{End}
 use Rattle.census_readback.specs.Steps.{collection_of}
 use Rattle.census_readback.specs.Shapes.{AreOfCollections, AreReports, AreWhole, all_rows, patterns_in}
 use Rattle.census_readback.specs.Limits.{count_limit}
-
--- each row's number is at most 65,535
-abbrev pub AreFew : List Row → Type 0
-AreFew [] = Unit {0}
-AreFew (row ∷ rows) = (collection_of row ≤ count_limit) × AreFew rows
+use Rattle.census_merge.specs.Merged.{AreFew}
 
 few-append : (xs ys : List Row) → AreFew xs → AreFew ys → AreFew (xs ++ ys)
 few-append [] ys h k = k
@@ -29,8 +25,3 @@ few-joined (rows ∷ reports) h =
 
 pub few-reports : (rows : List Row) → AreReports rows → AreFew rows
 few-reports rows is = subst (λ w. AreFew w) (sym is.whole) (few-joined is.reports is.each)
-
-pub few-at : (rows : List Row) (i : ℕ) (d : Row) → AreFew rows → i < length rows → collection_of (get_or rows i d) ≤ count_limit
-few-at [] i d h less = absurd (omega arith)
-few-at (x ∷ rows) zero d h less = h.0
-few-at (x ∷ rows) (suc i) d h less = few-at rows i d h.1 (omega arith)

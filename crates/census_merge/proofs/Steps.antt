@@ -1,41 +1,48 @@
--- What is known of rows that are merged one by one.
-use Rattle.std.proofs.Common.{◌≡◌, ℕ, suc, ◌+◌, ◌-◌, ◌^◌, ◌<◌, ◌≤◌, Bool, true, false, ◌&&◌, nat_le, if◌then◌else◌, List, [], ◌∷◌, ◌++◌, drop, get_or, ap, subst, sym, refl, ◌∙◌, append-nil, drop-cons, length, arith, Some, None as Nothing, Option}
-use Rattle.std.proofs.lemmas.List.{drop_all}
+-- What is known of rows that are read from a text and merged one by one.
+use Rattle.std.proofs.Common.{◌≡◌, ℕ, ◌+◌, ◌-◌, ◌^◌, ◌<◌, ◌≤◌, Bool, true, false, ◌&&◌, nat_le, if◌then◌else◌, List, [], ◌∷◌, ◌++◌, ap, subst, sym, refl, ◌∙◌, append-nil, length, length-append, arith, Some, None as Nothing, Option}
+use Rattle.std.specs.Prelude.{MatchOption}
 use Rattle.gathered.specs.Telling.{Sheet, TellsAfter}
 use Rattle.gathered.proofs.Telling.{tells_failed, tells_more, tells_none}
 use Rattle.census_rows.specs.declared.row.Row.{Row}
-use Rattle.census_rows.specs.declared.row.Row.TheVariants.{End}
-use Rattle.census_rows.specs.Lines.{line_of, text_of}
-use Rattle.census_rows.proofs.Texts.{text-append}
+use Rattle.census_rows.specs.Lines.{SameRow, line_of, row_text, text_of}
 use Rattle.census_readback.specs.Limits.{count_limit}
+use Rattle.census_readback.specs.Steps.{collection_of}
+use Rattle.census_readback.specs.Texts.{AllLines, IsLine, IsStuck}
+use Rattle.census_readback.proofs.Reached.{stuck-at-end}
+use Rattle.census_merge.specs.declared.merging.Counted.{Counted}
 use Rattle.census_merge.specs.declared.report_sums.Sums.{Sums}
-use Rattle.census_merge.specs.Sums.{first_excess, no_sums, sums_plus, sums_in, sums_of, with_more}
-use Rattle.census_merge.specs.Merged.{merged_rows, numbered_on, renumbered_row}
+use Rattle.census_merge.specs.Counting.{Counts, Exceeds, counted_after, counted_end, counted_with}
+use Rattle.census_merge.specs.Merged.{AreFew, numbered_on, renumbered_row}
+use Rattle.census_merge.specs.Putting.{PutsEnd, PutsRow, PutsRows}
+use Rattle.census_merge.specs.Sums.{first_excess, sums_plus, sums_in, sums_of, with_more}
+use Rattle.census_merge.proofs.Same.{collection-same, ends-same, line-same}
 
--- what is known where the rows up to i are counted: the sums of the reports before, and the number of this one
-pub record Counting (rows : List Row) (i report : ℕ) (s : Sums) : Type 0 where
-  pub few : s.collections ≤ count_limit
-  pub number : report ≤ i + 1
-  pub sums : sums_in s (drop i rows) ≡ sums_in no_sums rows
-  pub excess : first_excess report s (drop i rows) ≡ first_excess 1 no_sums rows
+-- ---- rows that are read
 
--- What is known where the rows up to i are told: the sums of the reports before, that none of those behind is too much, and
--- that whoever tells the others has told all.
-pub record Putting (rows : List Row) (i : ℕ) (s : Sums) (a b : Sheet) : Type 0 where
-  pub few : s.collections ≤ count_limit
-  pub report : ℕ
-  pub sums : sums_in s (drop i rows) ≡ sums_in no_sums rows
-  pub excess : first_excess report s (drop i rows) ≡ Nothing
-  pub told : (c : Sheet) → TellsAfter (text_of (numbered_on s.collections (drop i rows))) b c → TellsAfter (text_of (numbered_on 0 rows)) a c
+-- the next row, and those behind it
+record Next (todo : List Row) (row : Row) (behind : List ℕ) : Type 0 where
+  first : Row
+  left : List Row
+  whole : todo ≡ first ∷ left
+  same : SameRow row first
+  line : IsLine first
+  lines : AllLines left
+  text : behind ≡ text_of left
 
-pub putting_start : (rows : List Row) (s : Sums) (a : Sheet) → s ≡ no_sums → first_excess 1 no_sums rows ≡ Nothing → Putting rows 0 s a a
-putting_start rows s a e fits = subst (λ s. Putting rows 0 s a a) (sym e) (record {
-  few = omega arith;
-  report = 1;
-  sums = refl;
-  excess = fits;
-  told = λ c h. h;
-})
+abbrev Reads : List ℕ → Row → List ℕ → Type 0
+Reads rest row behind = IsLine row × (rest ≡ line_of row ++ behind) × ((q : Row) (b : List ℕ) → IsLine q → rest ≡ line_of q ++ b → SameRow row q × (behind ≡ b))
+
+next : (rest : List ℕ) (todo : List Row) (row : Row) (behind : List ℕ) → AllLines todo → rest ≡ text_of todo → Reads rest row behind → Next todo row behind
+next rest [] row behind lines text read = absurd (stuck-at-end row behind read.0 (sym text ∙ read.1))
+next rest (q ∷ left) row behind lines text read =
+    let same = read.2 q (text_of left) lines.0 text in
+    record { first = q; left = left; whole = refl; same = same.0; line = lines.0; lines = lines.1; text = same.1 }
+
+none-next : (rest : List ℕ) (todo : List Row) → AllLines todo → rest ≡ text_of todo → IsStuck rest → todo ≡ []
+none-next rest [] lines text stuck = refl
+none-next rest (q ∷ left) lines text stuck = absurd (stuck q (text_of left) lines.0 text)
+
+-- ---- sums
 
 sum_more : (s more all : Sums) → with_more s more ≡ Some all → s.collections ≤ count_limit → (all ≡ sums_plus s more) × (s.collections + more.collections ≤ count_limit)
 sum_more s more all is few = by_case (nat_le more.collections (count_limit - s.collections) && nat_le more.patterns (2 ^ 64 - 1 - s.patterns)) refl
@@ -48,76 +55,216 @@ sum_more s more all is few = by_case (nat_le more.collections (count_limit - s.c
     )
     by_case false e = absurd (let f : Nothing ≡ Some all = sym (ap (λ (b : Bool). if b then Some (sums_plus s more) else Nothing) e) ∙ is in cc)
 
--- # One row more
+few-more : (s more all : Sums) → with_more s more ≡ Some all → s.collections ≤ count_limit → all.collections ≤ count_limit
+few-more s more all is few = let sum = sum_more s more all is few in subst (λ (t : Sums). t.collections ≤ count_limit) (sym sum.0) sum.1
 
-module _ (rows : List Row) (i : ℕ) (s : Sums) (d : Row) (a b : Sheet) (p : Putting rows i s a b) (less : i < length rows) where
-  abbrev row : Row
-  row = get_or rows i d
+abbrev sums_from : Sums → List Row → Option Sums → Sums
+sums_from s rows o = elim o as (λ _. Sums) [ Nothing ↦ sums_in s rows | Some more ↦ sums_in (sums_plus s more) rows ]
 
-  abbrev back : List Row
-  back = drop (i + 1) rows
+abbrev excess_with : ℕ → List Row → Option Sums → Option ℕ
+excess_with n rows o = elim o as (λ _. Option ℕ) [ Nothing ↦ Some n | Some all ↦ first_excess (n + 1) all rows ]
 
-  next : drop i rows ≡ row ∷ back
-  next = drop-cons rows i d less ∙ ap (λ k. row ∷ drop k rows) (let e : suc i ≡ i + 1 = omega arith in e)
+abbrev excess_from : ℕ → Sums → List Row → Option Sums → Option ℕ
+excess_from n s rows o = elim o as (λ _. Option ℕ) [ Nothing ↦ first_excess n s rows | Some more ↦ excess_with n rows (with_more s more) ]
 
-  pub row_put : (c : Sheet) → sums_of row ≡ Nothing → TellsAfter (line_of (renumbered_row s.collections row)) b c → Putting rows (i + 1) s a c
-  row_put c is tells =
-      let r = renumbered_row s.collections row in
-      let on : numbered_on s.collections (drop i rows) ≡ r ∷ numbered_on s.collections back =
-      ap (λ w. numbered_on s.collections w) next
-      ∙ ap (λ (o : Option Sums). elim o as (λ _. List Row) [ Nothing ↦ r ∷ numbered_on s.collections back | Some more ↦ numbered_on (s.collections + more.collections) back ]) is in
+abbrev numbered_from : Sums → Row → List Row → Option Sums → List Row
+numbered_from s row rows o = elim o as (λ _. List Row) [ Nothing ↦ renumbered_row s.collections row ∷ numbered_on s.collections rows | Some more ↦ numbered_on (s.collections + more.collections) rows ]
+
+-- ---- counting
+
+with-some : (n : ℕ) (o : Option Sums) (more : Counted) → counted_with n o ≡ Some more → (all : Sums) × (o ≡ Some all) × (record { sums = all; report = n + 1 } ≡ more)
+with-some n Nothing more h = absurd (cc)
+with-some n (Some all) more h = (all, refl, (let e : Some (record { sums = all; report = n + 1 }) ≡ Some more = h in cc))
+
+record Grown (c more : Counted) (o : Option Sums) : Type 0 where
+  few : more.sums.collections ≤ count_limit
+  number : more.report ≤ c.report + 1
+  sums : (rows : List Row) → sums_from c.sums rows o ≡ sums_in more.sums rows
+  excess : (rows : List Row) → excess_from c.report c.sums rows o ≡ first_excess more.report more.sums rows
+
+grown : (c more : Counted) (o : Option Sums) → c.sums.collections ≤ count_limit → counted_end c o ≡ Some more → Grown c more o
+grown c more Nothing few h =
+    let same : c ≡ more = (let e : Some c ≡ Some more = h in cc) in
+    subst (λ (m : Counted). Grown c m Nothing) same (record { few = few; number = omega arith; sums = λ rows. refl; excess = λ rows. refl })
+grown c more (Some end) few h =
+    let w = with-some c.report (with_more c.sums end) more h in
+    let sum = sum_more c.sums end w.0 w.1 few in
+    subst (λ (m : Counted). Grown c m (Some end)) w.2 (record {
+      few = few-more c.sums end w.0 w.1 few;
+      number = omega arith;
+      sums = λ rows. ap (λ (s : Sums). sums_in s rows) (sym sum.0);
+      excess = λ rows. ap (excess_with c.report rows) w.1;
+    })
+
+exceeding : (c : Counted) (o : Option Sums) (rows : List Row) → counted_end c o ≡ Nothing → excess_from c.report c.sums rows o ≡ Some c.report
+exceeding c Nothing rows h = absurd (cc)
+exceeding c (Some end) rows h = by (with_more c.sums end) h
+  where
+    by : (o : Option Sums) → counted_with c.report o ≡ Nothing → excess_with c.report rows o ≡ Some c.report
+    by Nothing k = refl
+    by (Some all) k = absurd (cc)
+
+pub record CountingLeft (before all : Counted) (rows : List Row) (rest : List ℕ) : Type 0 where
+  pub todo : List Row
+  pub lines : AllLines todo
+  pub left : rest ≡ text_of todo
+  pub sums : (others : List Row) → sums_in before.sums (rows ++ others) ≡ sums_in all.sums (todo ++ others)
+  pub excess : (others : List Row) → first_excess before.report before.sums (rows ++ others) ≡ first_excess all.report all.sums (todo ++ others)
+
+-- what is known where the rows before the rest of a text are counted
+pub record Counting (text : List ℕ) (before all : Counted) (rest : List ℕ) : Type 0 where
+  pub few : all.sums.collections ≤ count_limit
+  pub number : all.report + length rest ≤ before.report + length text
+  pub rows : (rows : List Row) → AllLines rows → text ≡ text_of rows → CountingLeft before all rows rest
+
+pub counting-start : (text : List ℕ) (before : Counted) → before.sums.collections ≤ count_limit → Counting text before before text
+counting-start text before few = record {
+  few = few;
+  number = omega arith;
+  rows = λ rows lines e. record { todo = rows; lines = lines; left = e; sums = λ others. refl; excess = λ others. refl };
+}
+
+module _ (text : List ℕ) (before all : Counted) (rest : List ℕ) (c : Counting text before all rest) where
+  module _ (row : Row) (behind : List ℕ) (read : Reads rest row behind) where
+    shorter : length behind + 1 ≤ length rest
+    shorter =
+        let size : length rest ≡ length (line_of row) + length behind = ap length read.1 ∙ length-append (line_of row) behind in
+        let own : length (line_of row) ≡ length (row_text row) + 1 = length-append (row_text row) (10 ∷ []) in
+        omega (arith, size, own)
+
+    pub counting-room : all.report + 1 ≤ before.report + length text
+    counting-room = omega (arith, shorter, c.number)
+
+    pub counting-more : (more : Counted) → counted_after all row ≡ Some more → Counting text before more behind
+    counting-more more is =
+        let g = grown all more (sums_of row) c.few is in
+        record {
+          few = g.few;
+          number = omega (arith, g.number, shorter, c.number);
+          rows = λ rows lines e.
+              (let l = c.rows rows lines e in
+              let n = next rest l.todo row behind l.lines l.left read in
+              let end = ends-same row n.first n.same in
+              record {
+                todo = n.left;
+                lines = n.lines;
+                left = n.text;
+                sums = λ others. l.sums others ∙ ap (λ rs. sums_in all.sums (rs ++ others)) n.whole ∙ ap (sums_from all.sums (n.left ++ others)) (sym end) ∙ g.sums (n.left ++ others);
+                excess = λ others. l.excess others ∙ ap (λ rs. first_excess all.report all.sums (rs ++ others)) n.whole
+                    ∙ ap (excess_from all.report all.sums (n.left ++ others)) (sym end) ∙ g.excess (n.left ++ others);
+              });
+        }
+
+    pub counting-excess : counted_after all row ≡ Nothing → (rows : List Row) → AllLines rows → text ≡ text_of rows → Exceeds before rows all.report
+    counting-excess is rows lines e = λ others.
+        let l = c.rows rows lines e in
+        let n = next rest l.todo row behind l.lines l.left read in
+        l.excess others ∙ ap (λ rs. first_excess all.report all.sums (rs ++ others)) n.whole
+        ∙ ap (excess_from all.report all.sums (n.left ++ others)) (sym (ends-same row n.first n.same)) ∙ exceeding all (sums_of row) (n.left ++ others) is
+
+  pub counting-end : IsStuck rest → (rows : List Row) → AllLines rows → text ≡ text_of rows → Counts before rows all
+  counting-end stuck rows lines e =
+      let l = c.rows rows lines e in
+      let none = none-next rest l.todo l.lines l.left stuck in
       record {
-        few = p.few;
-        report = p.report;
-        sums = sym (ap (λ w. sums_in s w) next ∙ ap (λ (o : Option Sums). elim o as (λ _. Sums) [ Nothing ↦ sums_in s back | Some more ↦ sums_in (sums_plus s more) back ]) is) ∙ p.sums;
-        excess = sym (ap (λ w. first_excess p.report s w) next
-            ∙ ap (λ (o : Option Sums). elim o as (λ _. Option ℕ) [ Nothing ↦ first_excess p.report s back | Some more ↦ elim (with_more s more) as (λ _. Option ℕ) [ Nothing ↦ Some p.report | Some all ↦ first_excess (p.report + 1) all back ] ]) is)
-            ∙ p.excess;
-        told = λ last h. p.told last (subst (λ w. TellsAfter (text_of w) b last) (sym on) (tells_more (line_of r) (text_of (numbered_on s.collections back)) b c last tells h));
+        sums = λ others. l.sums others ∙ ap (λ rs. sums_in all.sums (rs ++ others)) none;
+        excess = λ others. l.excess others ∙ ap (λ rs. first_excess all.report all.sums (rs ++ others)) none;
       }
 
-  module _ (more : Sums) (is : sums_of row ≡ Some more) where
-    excess_of : first_excess p.report s (drop i rows) ≡ elim (with_more s more) as (λ _. Option ℕ) [ Nothing ↦ Some p.report | Some all ↦ first_excess (p.report + 1) all back ]
-    excess_of = ap (λ w. first_excess p.report s w) next
-        ∙ ap (λ (o : Option Sums). elim o as (λ _. Option ℕ) [ Nothing ↦ first_excess p.report s back | Some more ↦ elim (with_more s more) as (λ _. Option ℕ) [ Nothing ↦ Some p.report | Some all ↦ first_excess (p.report + 1) all back ] ]) is
+-- ---- telling
 
-    pub end_put : (all : Sums) → with_more s more ≡ Some all → Putting rows (i + 1) all a b
-    end_put all with =
-        let sum = sum_more s more all with p.few in
-        subst (λ s. Putting rows (i + 1) s a b) (sym sum.0) (record {
-          few = sum.1;
-          report = p.report + 1;
-          sums = sym (ap (λ w. sums_in s w) next ∙ ap (λ (o : Option Sums). elim o as (λ _. Sums) [ Nothing ↦ sums_in s back | Some more ↦ sums_in (sums_plus s more) back ]) is) ∙ p.sums;
-          excess = subst (λ (s : Sums). first_excess (p.report + 1) s back ≡ Nothing) sum.0
-              (sym (excess_of ∙ ap (λ (o : Option Sums). elim o as (λ _. Option ℕ) [ Nothing ↦ Some p.report | Some all ↦ first_excess (p.report + 1) all back ]) with) ∙ p.excess);
-          told = λ last h. p.told last (subst (λ w. TellsAfter (text_of w) b last) (sym
-              (ap (λ w. numbered_on s.collections w) next
-              ∙ ap (λ (o : Option Sums). elim o as (λ _. List Row) [ Nothing ↦ renumbered_row s.collections row ∷ numbered_on s.collections back | Some more ↦ numbered_on (s.collections + more.collections) back ]) is)) h);
-        })
+pub record PuttingLeft (sums all : Sums) (rows : List Row) (rest : List ℕ) (a b : Sheet) : Type 0 where
+  pub todo : List Row
+  pub lines : AllLines todo
+  pub left : rest ≡ text_of todo
+  pub fewer : AreFew todo
+  pub report : ℕ
+  pub excess : first_excess report all todo ≡ Nothing
+  pub all-sums : sums_in all todo ≡ sums_in sums rows
+  pub told : (c : Sheet) → TellsAfter (text_of (numbered_on all.collections todo)) b c → TellsAfter (text_of (numbered_on sums.collections rows)) a c
 
-    pub no_excess : with_more s more ≡ Nothing → ⊥
-    no_excess without =
-        let e : Nothing ≡ Some p.report = sym p.excess ∙ excess_of ∙ ap (λ (o : Option Sums). elim o as (λ _. Option ℕ) [ Nothing ↦ Some p.report | Some all ↦ first_excess (p.report + 1) all back ]) without in
-        absurd (cc)
+-- What is known where the rows before the rest of a text are told: that whoever tells the others has told all.
+pub record Putting (text : List ℕ) (sums all : Sums) (rest : List ℕ) (a b : Sheet) : Type 0 where
+  pub few : all.collections ≤ count_limit
+  pub rows : (rows : List Row) (report : ℕ) → AllLines rows → text ≡ text_of rows → AreFew rows → first_excess report sums rows ≡ Nothing → PuttingLeft sums all rows rest a b
 
--- # The last row
+pub putting-start : (text : List ℕ) (sums : Sums) (a : Sheet) → sums.collections ≤ count_limit → Putting text sums sums text a a
+putting-start text sums a few = record {
+  few = few;
+  rows = λ rows report lines e fewer fits. record { todo = rows; lines = lines; left = e; fewer = fewer; report = report; excess = fits; all-sums = refl; told = λ c h. h };
+}
 
-pub all_put : (rows : List Row) (i : ℕ) (s : Sums) (end : Row) (a b c : Sheet) → Putting rows i s a b → length rows ≤ i → end ≡ End s.collections s.patterns
-    → TellsAfter (line_of end) b c → TellsAfter (text_of (merged_rows rows)) a c
-all_put rows i s end a b c p over e tells =
-    let none_left : drop i rows ≡ [] = drop_all i rows over in
-    let sum : s ≡ sums_in no_sums rows = sym (ap (λ w. sums_in s w) none_left) ∙ p.sums in
-    let before : TellsAfter (text_of (numbered_on 0 rows)) a b =
-    p.told b (subst (λ w. TellsAfter (text_of (numbered_on s.collections w)) b b) (sym none_left) (tells_none b)) in
-    let last : end ≡ End (sums_in no_sums rows).collections (sums_in no_sums rows).patterns = e ∙ ap (λ (s : Sums). End s.collections s.patterns) sum in
-    subst (λ r. TellsAfter (text_of (numbered_on 0 rows ++ r ∷ [])) a c) last
-    (subst (λ t. TellsAfter t a c) (sym (text-append (numbered_on 0 rows) (end ∷ []) ∙ ap (λ w. text_of (numbered_on 0 rows) ++ w) (append-nil (line_of end))))
-    (tells_more (text_of (numbered_on 0 rows)) (line_of end) a b c before tells))
+-- a row that was told, and those behind it
+put-by : (s all : Sums) (row q : Row) (left : List Row) (n : ℕ) (b c : Sheet) (o : Option Sums) → s.collections ≤ count_limit → SameRow row q → collection_of q ≤ count_limit
+    → PutsEnd o s row (Some all) b c → excess_from n s left o ≡ Nothing → (m : ℕ) × (first_excess m all left ≡ Nothing) × (sums_from s left o ≡ sums_in all left)
+    × ((last : Sheet) → TellsAfter (text_of (numbered_on all.collections left)) c last → TellsAfter (text_of (numbered_from s q left o)) b last)
+put-by s all row q left n b c Nothing few same small puts fits =
+    let one : all ≡ s = (let e : Some all ≡ Some s = puts.1 in cc) in
+    let tells = puts.0 (omega (arith, small, collection-same row q same)) in (
+      n,
+      ap (λ (t : Sums). first_excess n t left) one ∙ fits,
+      ap (λ (t : Sums). sums_in t left) (sym one),
+      λ last h. subst (λ line. TellsAfter (line ++ text_of (numbered_on s.collections left)) b last) (line-same s.collections row q same)
+          (tells_more (line_of (renumbered_row s.collections row)) (text_of (numbered_on s.collections left)) b c last tells (subst (λ (t : Sums). TellsAfter (text_of (numbered_on t.collections left)) c last) one h)),
+    )
+put-by s all row q left n b c (Some more) few same small puts fits =
+    let is : with_more s more ≡ Some all = sym puts.1 in
+    let sum = sum_more s more all is few in (
+      n + 1,
+      sym (ap (excess_with n left) is) ∙ fits,
+      ap (λ (t : Sums). sums_in t left) (sym sum.0),
+      λ last h. tells_more [] (text_of (numbered_on (s.collections + more.collections) left)) b c last puts.0 (subst (λ (t : Sums). TellsAfter (text_of (numbered_on t.collections left)) c last) sum.0 h),
+    )
 
--- to a writer that has failed all was told that is to be told yet
-pub stopped_put : (rows : List Row) (i : ℕ) (s : Sums) (a b : Sheet) → Putting rows i s a b → b.failed ≡ true → TellsAfter (text_of (merged_rows rows)) a b
-stopped_put rows i s a b p failed =
-    let end = End (sums_in no_sums rows).collections (sums_in no_sums rows).patterns in
-    let before : TellsAfter (text_of (numbered_on 0 rows)) a b = p.told b (tells_failed (text_of (numbered_on s.collections (drop i rows))) b failed) in
-    subst (λ t. TellsAfter t a b) (sym (text-append (numbered_on 0 rows) (end ∷ [])))
-    (tells_more (text_of (numbered_on 0 rows)) (text_of (end ∷ [])) a b b before (tells_failed (text_of (end ∷ [])) b failed))
+few-put : (s all : Sums) (row : Row) (b c : Sheet) (o : Option Sums) → s.collections ≤ count_limit → PutsEnd o s row (Some all) b c → all.collections ≤ count_limit
+few-put s all row b c Nothing few puts = (let one : all ≡ s = (let e : Some all ≡ Some s = puts.1 in cc) in subst (λ (t : Sums). t.collections ≤ count_limit) (sym one) few)
+few-put s all row b c (Some more) few puts = few-more s more all (sym puts.1) few
+
+no-put : (s : Sums) (row : Row) (left : List Row) (n : ℕ) (b c : Sheet) (o : Option Sums) → PutsEnd o s row Nothing b c → excess_from n s left o ≡ Nothing → ⊥
+no-put s row left n b c Nothing puts fits = (let e : Nothing ≡ Some s = puts.1 in absurd (cc))
+no-put s row left n b c (Some more) puts fits = (let e : Nothing ≡ Some n = sym fits ∙ ap (excess_with n left) (sym puts.1) in absurd (cc))
+
+module _ (text : List ℕ) (sums all : Sums) (rest : List ℕ) (a b : Sheet) (p : Putting text sums all rest a b) where
+  module _ (row : Row) (behind : List ℕ) (read : Reads rest row behind) (c : Sheet) where
+    pub putting-more : (with : Sums) → PutsRow all row (Some with) b c → Putting text sums with behind a c
+    putting-more with puts = record {
+      few = few-put all with row b c (sums_of row) p.few puts;
+      rows = λ rows report lines e fewer fits.
+          (let l = p.rows rows report lines e fewer fits in
+          let n = next rest l.todo row behind l.lines l.left read in
+          let end = ends-same row n.first n.same in
+          let few = subst AreFew n.whole l.fewer in
+          let one = put-by all with row n.first n.left l.report b c (sums_of n.first) p.few n.same few.0 (subst (λ (o : Option Sums). PutsEnd o all row (Some with) b c) end puts)
+          (ap (λ rs. first_excess l.report all rs) (sym n.whole) ∙ l.excess) in
+          record {
+            todo = n.left;
+            lines = n.lines;
+            left = n.text;
+            fewer = few.1;
+            report = one.0;
+            excess = one.1;
+            all-sums = sym one.2 ∙ ap (λ rs. sums_in all rs) (sym n.whole) ∙ l.all-sums;
+            told = λ last h. l.told last (subst (λ rs. TellsAfter (text_of (numbered_on all.collections rs)) b last) (sym n.whole) (one.3 last h));
+          });
+    }
+
+    pub putting-none : PutsRow all row Nothing b c → (rows : List Row) (report : ℕ) → AllLines rows → text ≡ text_of rows → AreFew rows → first_excess report sums rows ≡ Nothing → ⊥
+    putting-none puts rows report lines e fewer fits =
+        let l = p.rows rows report lines e fewer fits in
+        let n = next rest l.todo row behind l.lines l.left read in
+        no-put all row n.left l.report b c (sums_of n.first) (subst (λ (o : Option Sums). PutsEnd o all row Nothing b c) (ends-same row n.first n.same) puts)
+        (ap (λ rs. first_excess l.report all rs) (sym n.whole) ∙ l.excess)
+
+  pub putting-failed : b.failed ≡ true → (rows : List Row) (report : ℕ) → AllLines rows → text ≡ text_of rows → AreFew rows → first_excess report sums rows ≡ Nothing → PutsRows sums rows Nothing a b
+  putting-failed failed rows report lines e fewer fits =
+      let l = p.rows rows report lines e fewer fits in
+      record { told = l.told b (tells_failed (text_of (numbered_on all.collections l.todo)) b failed); all = failed }
+
+  pub putting-end : IsStuck rest → (rows : List Row) (report : ℕ) → AllLines rows → text ≡ text_of rows → AreFew rows → first_excess report sums rows ≡ Nothing → PutsRows sums rows (Some all) a b
+  putting-end stuck rows report lines e fewer fits =
+      let l = p.rows rows report lines e fewer fits in
+      let none = none-next rest l.todo l.lines l.left stuck in
+      record {
+        told = l.told b (subst (λ rs. TellsAfter (text_of (numbered_on all.collections rs)) b b) (sym none) (tells_none b));
+        all = sym (ap (λ rs. sums_in all rs) none) ∙ l.all-sums;
+      }

@@ -1,2 +1,4 @@
 pub mod Sums
 pub mod Merged
+pub mod Counting
+pub mod Putting

@@ -1,8 +1,15 @@
 -- One report of several.
-use Rattle.std.specs.Prelude.{ℕ, ◌+◌, Some, None as Nothing, List, [], ◌∷◌, ◌++◌}
+use Rattle.std.specs.Prelude.{ℕ, ◌+◌, ◌≤◌, ⊤, Some, None as Nothing, List, [], ◌∷◌, ◌++◌}
 use Rattle.census_rows.specs.declared.row.Row.{Row}
 use Rattle.census_rows.specs.declared.row.Row.TheVariants.{Open, Line, Part, Code, Close, End}
+use Rattle.census_readback.specs.Limits.{count_limit}
+use Rattle.census_readback.specs.Steps.{collection_of}
 use Rattle.census_merge.specs.Sums.{no_sums, sums_in, sums_of}
+
+-- each row's number is at most 65,535
+abbrev pub AreFew : List Row → Type 0
+AreFew [] = ⊤
+AreFew (row ∷ rows) = (collection_of row ≤ count_limit) × AreFew rows
 
 -- a row, where so many collections come before those of its report
 abbrev pub renumbered_row : ℕ → Row → Row

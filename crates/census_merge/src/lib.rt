@@ -7,5 +7,5 @@ mod merging;
 mod renumber;
 mod report_sums;
 
-pub use merging::{TooMany, put_merged, sums};
+pub use merging::{Counted, TooMany, count, put_end, put_rows};
 pub use report_sums::{Sums, sums_at_end};

@@ -3,20 +3,35 @@
 //! The merged report has the collections of all reports: first those of the first report, under
 //! their numbers, then those of the second, numbered on, and so forth. Nothing else of their rows
 //! changes, nor their order; of the `end` rows one is left, which has the sums. Since a `code` row
-//! counts what is in one collection, none of these are added up.
-ghost use Rattle.std.specs.Prelude.{◌≡◌, MatchResult, Some, None};
+//! counts what is in one collection, none of these are added up. The rows are read from their text
+//! one by one, and none is kept.
+ghost use Rattle.std.specs.Prelude.{◌≡◌, ◌+◌, ◌<◌, ◌≤◌, ◌^◌, ℕ, List, length, IfOk, IfSome, MatchResult, Some, None};
 ghost use Rattle.gathered.specs.Telling.{TellsAfter, sheet};
-ghost use Rattle.census_readback.specs.Shapes.{AreReports};
+ghost use Rattle.census_readback.specs.Limits.{count_limit};
+ghost use Rattle.census_readback.specs.Texts.{AllLines};
 ghost use Rattle.census_rows.specs.Lines.{line_of, text_of};
-ghost use Rattle.census_merge.specs.Merged.{merged_rows};
-ghost use Rattle.census_merge.specs.Sums.{first_excess, no_sums, sums_in};
+ghost use Rattle.census_rows.specs.declared.row.Row.{Row};
+ghost use Rattle.census_rows.specs.declared.row.Row.TheVariants.{End};
+ghost use Rattle.census_merge.specs.Counting.{Counts, Exceeds, counted_after, nothing_counted};
+ghost use Rattle.census_merge.specs.Merged.{AreFew};
+ghost use Rattle.census_merge.specs.Putting.{PutsRow, PutsRows};
+ghost use Rattle.census_merge.specs.Sums.{first_excess};
 
 use crate::renumber::renumbered_row;
 use crate::report_sums::{Sums, sums_at_end};
+use census_readback::first_row;
 use census_rows::{Row, put_row};
 use gathered::{Block, put};
 use std::io::Write;
 use watched::Watched;
+
+/// How many collections and patterns the reports have that are counted, and the number, from 1, of
+/// the next.
+#[derive(Clone, Copy)]
+pub struct Counted {
+    pub sums: Sums,
+    pub report: usize,
+}
 
 /// The number, from 1, of the first of several reports with which there are too many collections,
 /// which is more than 65,535, or too many patterns, which is more than 64 bits can count.
@@ -25,26 +40,54 @@ pub struct TooMany {
     pub report: usize,
 }
 
-/// How many collections and patterns reports have that stand one after another, where one report can have so many.
-pub fn sums(rows: &[Row]) -> Result<Sums, TooMany>
-    requires { AreReports rows.now }
-    ensures { MatchResult result
-        (λ all. (first_excess 1 no_sums rows.now ≡ None) × (all ≡ sums_in no_sums rows.now))
-        (λ excess. first_excess 1 no_sums rows.now ≡ Some excess.report) }
-{
-    let mut sums = Sums::none();
-    let mut report = 1;
-    for row in rows {
-        let Some(more) = sums_at_end(row) else {
-            continue;
-        };
-        let Some(with) = sums.with(more) else {
-            return Err(TooMany { report });
-        };
-        sums = with;
-        report += 1;
+impl Counted {
+    /// Before any report.
+    pub fn nothing() -> Self
+        ensures { result ≡ nothing_counted }
+    {
+        Counted {
+            sums: Sums::none(),
+            report: 1,
+        }
     }
-    Ok(sums)
+
+    // After one row more, where one report can have so many.
+    fn after(self, row: &Row) -> Option<Counted>
+        requires few { self.sums.collections ≤ count_limit }
+        requires fits { self.report + 1 < 2 ^ 64 }
+        ensures { result ≡ counted_after self row.now }
+    {
+        let Some(more) = sums_at_end(row) else {
+            return Some(self);
+        };
+        let sums = self.sums.with(more)?;
+        Some(Counted {
+            sums,
+            report: self.report + 1,
+        })
+    }
+}
+
+/// Counts the reports that a text has, one after another, where one report can have as many
+/// collections and patterns as they and those that were counted.
+pub fn count(counted: Counted, text: &[u8]) -> Result<Counted, TooMany>
+    requires few { counted.sums.collections ≤ count_limit }
+    requires fits { counted.report + length text.now < 2 ^ 64 }
+    ensures few { IfOk result (λ all. all.sums.collections ≤ count_limit) }
+    ensures counts { (rows : List Row) → AllLines rows → text.now ≡ text_of rows
+        → MatchResult result (λ all. Counts counted rows all)
+        (λ excess. Exceeds counted rows excess.report) }
+{
+    let mut all = counted;
+    let mut rest = text;
+    while let Some(first) = first_row(rest) {
+        let Some(more) = all.after(&first.row) else {
+            return Err(TooMany { report: all.report });
+        };
+        all = more;
+        rest = first.rest;
+    }
+    Ok(all)
 }
 
 // Tells a row's line.
@@ -56,29 +99,60 @@ fn put_line<W: Write>(row: &Row, block: &mut Block, writer: &mut Watched<W>)
     put(b"\n", block, writer);
 }
 
-/// Tells one report of all the collections, from the rows of reports that stand one after another and aren't too many. It
-/// asks for no memory but the block's.
-pub fn put_merged<W: Write>(rows: &[Row], block: &mut Block, writer: &mut Watched<W>)
-    requires reports { AreReports rows.now }
-    requires fits { first_excess 1 no_sums rows.now ≡ None }
-    ensures { TellsAfter (text_of (merged_rows rows.now))
+// Tells a row, numbered on; of one that ends a report, its sums are added.
+fn put_next<W: Write>(
+    sums: Sums,
+    row: Row,
+    block: &mut Block,
+    writer: &mut Watched<W>,
+) -> Option<Sums>
+    requires { sums.collections ≤ count_limit }
+    ensures { PutsRow sums row.entry result (sheet W.contents block.old writer.old)
+        (sheet W.contents block.new writer.new) }
+{
+    let Some(more) = sums_at_end(&row) else {
+        put_line(&renumbered_row(sums.collections, row), block, writer);
+        return Some(sums);
+    };
+    sums.with(more)
+}
+
+/// Tells the rows of the reports that a text has, one after another, without their `end` rows,
+/// numbered on from those before them, of which these are the sums, and gives those of all; `None`
+/// once the writer has failed. They aren't too many together.
+pub fn put_rows<W: Write>(
+    sums: Sums,
+    text: &[u8],
+    block: &mut Block,
+    writer: &mut Watched<W>,
+) -> Option<Sums>
+    requires { sums.collections ≤ count_limit }
+    ensures few { IfSome result (λ all. all.collections ≤ count_limit) }
+    ensures told { (rows : List Row) (report : ℕ) → AllLines rows → text.now ≡ text_of rows
+        → AreFew rows → first_excess report sums rows ≡ None
+        → PutsRows sums rows result (sheet W.contents block.old writer.old)
+        (sheet W.contents block.new writer.new) }
+{
+    let mut all = sums;
+    let mut rest = text;
+    while let Some(first) = first_row(rest) {
+        if writer.failed() {
+            return None;
+        }
+        let Some(with) = put_next(all, first.row, block, writer) else {
+            return None;
+        };
+        all = with;
+        rest = first.rest;
+    }
+    Some(all)
+}
+
+/// Tells the `end` row of all reports.
+pub fn put_end<W: Write>(sums: Sums, block: &mut Block, writer: &mut Watched<W>)
+    ensures { TellsAfter (line_of (End sums.collections sums.patterns))
         (sheet W.contents block.old writer.old) (sheet W.contents block.new writer.new) }
 {
-    let mut sums = Sums::none();
-    for index in 0..rows.len() {
-        if writer.failed() {
-            return;
-        }
-        let row = rows[index];
-        let Some(more) = sums_at_end(&row) else {
-            put_line(&renumbered_row(sums.collections, row), block, writer);
-            continue;
-        };
-        let Some(all) = sums.with(more) else {
-            return;
-        };
-        sums = all;
-    }
     let end = Row::End {
         collections: sums.collections,
         patterns: sums.patterns,

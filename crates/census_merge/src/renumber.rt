@@ -8,16 +8,15 @@ use census_rows::Row;
 
 // A row, where so many collections come before those of its report.
 pub fn renumbered_row<'a>(before: u64, mut row: Row<'a>) -> Row<'a>
-    requires few { before ≤ count_limit }
-    requires small { collection_of row ≤ count_limit }
-    ensures { result ≡ renumbered_row before row.entry }
+    requires { before ≤ count_limit }
+    ensures { collection_of row.entry ≤ count_limit → result ≡ renumbered_row before row.entry }
 {
     match &mut row {
-        Row::Open { collection, .. } => *collection += before,
-        Row::Line { collection, .. } => *collection += before,
-        Row::Part { collection, .. } => *collection += before,
-        Row::Code { collection, .. } => *collection += before,
-        Row::Close { collection, .. } => *collection += before,
+        Row::Open { collection, .. } => *collection = collection.saturating_add(before),
+        Row::Line { collection, .. } => *collection = collection.saturating_add(before),
+        Row::Part { collection, .. } => *collection = collection.saturating_add(before),
+        Row::Code { collection, .. } => *collection = collection.saturating_add(before),
+        Row::Close { collection, .. } => *collection = collection.saturating_add(before),
         Row::End { .. } => {}
     }
     row
