@@ -1,13 +1,12 @@
 -- The numbers of collections in reports are small.
-use Rattle.std.proofs.Common.{ℕ, ◌<◌, ◌≤◌, List, [], ◌∷◌, ◌++◌, zero, suc, arith, sym, subst, length, get_or}
+use Rattle.std.proofs.Common.{ℕ, ◌≤◌, List, [], ◌∷◌, ◌++◌, arith, sym, subst}
 use Rattle.census_rows.specs.declared.row.Row.{Row}
 use Rattle.census_rows.specs.declared.row.Row.TheVariants.{End}
-use Rattle.census_readback.specs.Steps.{collection_of}
 use Rattle.census_readback.specs.Shapes.{AreOfCollections, AreReports, AreWhole, all_rows, patterns_in}
 use Rattle.census_readback.specs.Limits.{count_limit}
 use Rattle.census_merge.specs.Merged.{AreFew}
 
-few-append : (xs ys : List Row) → AreFew xs → AreFew ys → AreFew (xs ++ ys)
+pub few-append : (xs ys : List Row) → AreFew xs → AreFew ys → AreFew (xs ++ ys)
 few-append [] ys h k = k
 few-append (x ∷ xs) ys h k = (h.0, few-append xs ys h.1 k)
 

@@ -1,5 +1,5 @@
 -- Rows that say the same are told alike.
-use Rattle.std.proofs.Common.{◌≡◌, ℕ, ◌+◌, Option, Some, None as Nothing, List, [], ◌∷◌, ◌++◌, codes, decimal, ap, ◌∙◌, refl}
+use Rattle.std.proofs.Common.{◌≡◌, ℕ, ◌+◌, List, [], ◌∷◌, ◌++◌, codes, decimal, ap, ◌∙◌, refl}
 use Rattle.std.specs.Fmt.{signed_decimal}
 use Rattle.census_rows.specs.declared.kinds.Field.{Field}
 use Rattle.census_rows.specs.declared.kinds.Value.{Value}
@@ -9,7 +9,6 @@ use Rattle.census_rows.specs.declared.row.Row.TheVariants.{Open, Line, Part, Cod
 use Rattle.census_rows.specs.Kinds.{Said, said, texts_of, value_text}
 use Rattle.census_rows.specs.Lines.{SameFields, SameRow, SameSaid, SameValue, line_of, outcome_fields, spelled, spelling_text}
 use Rattle.census_readback.specs.Steps.{collection_of}
-use Rattle.census_merge.specs.declared.report_sums.Sums.{Sums}
 use Rattle.census_merge.specs.Merged.{renumbered_row}
 use Rattle.census_merge.specs.Sums.{sums_of}
 

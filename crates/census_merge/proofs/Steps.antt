@@ -1,6 +1,5 @@
 -- What is known of rows that are read from a text and merged one by one.
-use Rattle.std.proofs.Common.{◌≡◌, ℕ, ◌+◌, ◌-◌, ◌^◌, ◌<◌, ◌≤◌, Bool, true, false, ◌&&◌, nat_le, if◌then◌else◌, List, [], ◌∷◌, ◌++◌, ap, subst, sym, refl, ◌∙◌, append-nil, length, length-append, arith, Some, None as Nothing, Option}
-use Rattle.std.specs.Prelude.{MatchOption}
+use Rattle.std.proofs.Common.{◌≡◌, ℕ, ◌+◌, ◌-◌, ◌^◌, ◌≤◌, Bool, true, false, ◌&&◌, nat_le, if◌then◌else◌, List, [], ◌∷◌, ◌++◌, ap, subst, sym, refl, ◌∙◌, length, length-append, arith, Some, None as Nothing, Option}
 use Rattle.gathered.specs.Telling.{Sheet, TellsAfter}
 use Rattle.gathered.proofs.Telling.{tells_failed, tells_more, tells_none}
 use Rattle.census_rows.specs.declared.row.Row.{Row}

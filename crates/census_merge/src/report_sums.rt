@@ -13,7 +13,7 @@ pub struct Sums {
 }
 
 impl Sums {
-    // Those of no report.
+    /// Those of no report.
     pub fn none() -> Self
         ensures { result ≡ no_sums }
     {

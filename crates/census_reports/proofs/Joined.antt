@@ -1,5 +1,6 @@
 -- The rows of one text more.
-use Rattle.std.proofs.Common.{◌≡◌, ℕ, suc, ◌+◌, ◌<◌, ◌≤◌, List, [], ◌∷◌, ◌++◌, length, take, drop, get_or, refl, sym, ap, subst, ◌∙◌, append_assoc, append-nil, drop-cons, length-append, Result, Ok, Err, MatchResult, arith}
+use Rattle.std.proofs.Common.{◌≡◌, ℕ, suc, ◌+◌, ◌<◌, ◌≤◌, List, [], ◌∷◌, ◌++◌, length, take, drop, get_or, refl, sym, ap, subst, ◌∙◌, append_assoc, append-nil, drop-cons, length-append, Option, Some, None, Result, Ok, Err, MatchResult, arith}
+use Rattle.std.specs.Prelude.{MatchOption}
 use Rattle.std.specs.List.{AllZip}
 use Rattle.std.specs.declared.alloc.Global.{Global}
 use Rattle.std.specs.declared.vec.Vec.{Vec}
@@ -62,10 +63,10 @@ are_reports rows texts is some = subst AreReports (sym is.whole) (reports_joined
 -- # The texts of a list
 
 module _ (texts : List (List ℕ)) (i : ℕ) (d : List ℕ) (within : i < length texts) (rows : List Row) (before : AreRowsOf rows (take i texts)) where
-  next_rows : (own all : List Row) → ReadsAsReports own (get_or texts i d) → all ≡ rows ++ own → AreRowsOf all (take (i + 1) texts)
+  pub next_rows : (own all : List Row) → ReadsAsReports own (get_or texts i d) → all ≡ rows ++ own → AreRowsOf all (take (i + 1) texts)
   next_rows own all is e = subst (AreRowsOf all) (sym (take_more texts i d within)) (rows_more rows own all (take i texts) (get_or texts i d) before is e)
 
-  has_fault : (line : ℕ) → ((own : List Row) → ReadsAsReports own (get_or texts i d) → ⊥) → IsFault (get_or texts i d) line → HasReportFault (i + 1) line texts
+  pub has_fault : (line : ℕ) → ((own : List Row) → ReadsAsReports own (get_or texts i d) → ⊥) → IsFault (get_or texts i d) line → HasReportFault (i + 1) line texts
   has_fault line none first = record {
     done = take i texts;
     text = get_or texts i d;
@@ -92,6 +93,17 @@ module _ (texts : List (List ℕ)) (i : ℕ) (d : List ℕ) (within : i < length
         has_fault line
         (λ own report. subst (λ r. MatchResult r (λ found. SameRows found.items own) (λ line. ⊥)) is (all own (subst (ReadsAsReports own) (sym e) report)))
         (subst (λ t. IsFault t line) e fault)
+
+  module _ (bytes : List ℕ) (e : bytes ≡ get_or texts i d) (fault : Option ℕ) (sound : MatchOption fault ((own : List Row) × ReadsAsReports own bytes) (λ line. IsFault bytes line)) where
+    pub none_found : fault ≡ None → (all : List Row) × AreRowsOf all (take (i + 1) texts)
+    none_found is =
+        let read : (own : List Row) × ReadsAsReports own bytes = subst (λ o. MatchOption o ((own : List Row) × ReadsAsReports own bytes) (λ line. IsFault bytes line)) is sound in
+        (rows ++ read.0, next_rows read.0 (rows ++ read.0) (subst (ReadsAsReports read.0) e read.1) refl)
+
+    pub fault_found : (line : ℕ) → fault ≡ Some line → ((own : List Row) → ReadsAsReports own bytes → fault ≡ None) → HasReportFault (i + 1) line texts
+    fault_found line is all =
+        let first : IsFault bytes line = subst (λ o. MatchOption o ((own : List Row) × ReadsAsReports own bytes) (λ line. IsFault bytes line)) is sound in
+        has_fault line (λ own report. (let e : Some line ≡ None = sym is ∙ all own (subst (ReadsAsReports own) (sym e) report) in absurd (cc))) (subst (λ t. IsFault t line) e first)
 
 pub at_end : (rows : List Row) (texts : List (List ℕ)) (i : ℕ) → AreRowsOf rows (take i texts) → length texts ≤ i → 0 < length texts → AreReports rows
 at_end rows texts i is all some = are_reports rows (take i texts) is (let l = length-take i texts in omega arith)

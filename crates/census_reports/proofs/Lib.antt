@@ -4,3 +4,4 @@ pub mod Told
 pub mod Failing
 pub mod Halted
 pub mod SameTable
+pub mod Merging

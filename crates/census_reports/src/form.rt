@@ -1,17 +1,14 @@
 //! What is made of the rows of reports, written.
-ghost use Rattle.std.specs.Prelude.{◌≡◌, List, MatchResult, None, Ok};
+ghost use Rattle.std.specs.Prelude.{◌≡◌, List, MatchResult, Ok};
 ghost use Rattle.census_rows.specs.declared.row.Row.{Row};
-ghost use Rattle.census_identify.specs.Streams.{PutsPrefix, Writes, sink};
+ghost use Rattle.census_identify.specs.Streams.{sink};
 ghost use Rattle.census_readback.specs.Shapes.{AreReports};
-ghost use Rattle.census_rows.specs.Lines.{text_of};
 ghost use Rattle.census_merge.specs.Merged.{merged_rows};
-ghost use Rattle.census_merge.specs.Sums.{first_excess, no_sums};
 ghost use Rattle.census_table.specs.Entries.{entries_of};
 ghost use Rattle.census_verify.specs.Claims.{claims_in, claims_read};
 ghost use Rattle.census_reports.specs.Written.{FailsRows, WritesRows};
 
 use crate::error::ReportsError;
-use census_merge::{put_merged, sums};
 use census_page::put_page;
 use census_rows::Row;
 use census_same::put_same;
@@ -20,7 +17,7 @@ use census_verify::{Claims, put_verdict, read_claims};
 use gathered::{Block, send};
 use std::alloc::Global;
 use std::io::Write;
-use watched::{Failed, Watched};
+use watched::Watched;
 
 /// What is written of reports.
 #[derive(Clone, Copy, Debug, PartialEq, Eq)]
@@ -38,51 +35,8 @@ pub enum Form<'a> {
     Verdict { claims: &'a [u8] },
 }
 
-// Writes one report of reports that stand one after another and aren't too many.
-fn write_report<O: Write>(
-    alloc: Global,
-    rows: &[Row],
-    output: &mut Watched<O>,
-) -> Result<(), Failed>
-    requires reports { AreReports rows.now }
-    requires fits { first_excess 1 no_sums rows.now ≡ None }
-    ensures { MatchResult result
-        (λ _. Writes (text_of (merged_rows rows.now)) (sink O.contents output.old)
-        (sink O.contents output.new))
-        (λ _. PutsPrefix (text_of (merged_rows rows.now)) (sink O.contents output.old)
-        (sink O.contents output.new)) }
-{
-    let mut block = Block::new(alloc);
-    put_merged(rows, &mut block, output);
-    send(&mut block, output)
-}
-
-// The same, where they aren't too many.
-fn write_merged<O: Write>(
-    alloc: Global,
-    rows: &[Row],
-    output: &mut Watched<O>,
-) -> Result<bool, ReportsError>
-    requires { AreReports rows.now }
-    ensures { MatchResult result
-        (λ found. WritesRows Form.Merged found rows.now (sink O.contents output.old)
-        (sink O.contents output.new))
-        (λ error. FailsRows error Form.Merged rows.now (sink O.contents output.old)
-        (sink O.contents output.new)) }
-{
-    match sums(rows) {
-        Ok(_) => match write_report(alloc, rows, output) {
-            Ok(()) => Ok(false),
-            Err(_) => Err(ReportsError::Write),
-        },
-        Err(excess) => Err(ReportsError::TooMany {
-            report: excess.report,
-        }),
-    }
-}
-
 // Writes a table. Where memory is refused, what was told of it is written yet.
-fn write_table<O: Write>(
+pub fn write_table<O: Write>(
     alloc: Global,
     subject: Subject,
     format: Format,
@@ -109,7 +63,7 @@ fn write_table<O: Write>(
 }
 
 // Writes a page. Where memory is refused, what was told of it is written yet.
-fn write_page<O: Write>(
+pub fn write_page<O: Write>(
     alloc: Global,
     rows: &[Row],
     output: &mut Watched<O>,
@@ -133,7 +87,7 @@ fn write_page<O: Write>(
 }
 
 // Writes the patterns that are one object. Where memory is refused, what was told of them is written yet.
-fn write_same<O: Write>(
+pub fn write_same<O: Write>(
     alloc: Global,
     json: bool,
     rows: &[Row],
@@ -180,7 +134,7 @@ fn write_disagreement<O: Write>(
 }
 
 // Reads claims, and writes what does not agree between them and the rows.
-fn write_verdict<O: Write>(
+pub fn write_verdict<O: Write>(
     alloc: Global,
     text: &[u8],
     rows: &[Row],
@@ -196,29 +150,6 @@ fn write_verdict<O: Write>(
     match read_claims(alloc, text)? {
         Ok(claims) => write_disagreement(alloc, text, &claims, rows, output),
         Err(line) => Err(ReportsError::Claims { line }),
-    }
-}
-
-/// Writes what is made of these rows, which are those of reports that stand one after another, and tells whether what was
-/// looked for was found.
-pub fn write_made<O: Write>(
-    alloc: Global,
-    form: Form<'_>,
-    rows: &[Row],
-    output: &mut Watched<O>,
-) -> Result<bool, ReportsError>
-    requires { AreReports rows.now }
-    ensures { MatchResult result
-        (λ found. WritesRows form.entry found rows.now (sink O.contents output.old) (sink O.contents output.new))
-        (λ error. FailsRows error form.entry rows.now (sink O.contents output.old)
-        (sink O.contents output.new)) }
-{
-    match form {
-        Form::Merged => write_merged(alloc, rows, output),
-        Form::Table { subject, format } => write_table(alloc, subject, format, rows, output),
-        Form::Page => write_page(alloc, rows, output),
-        Form::Same { json } => write_same(alloc, json, rows, output),
-        Form::Verdict { claims } => write_verdict(alloc, claims, rows, output),
     }
 }
 

@@ -6,11 +6,12 @@
 
 mod error;
 mod form;
+mod merged;
 mod reports;
 mod rows;
 mod words;
 
 pub use error::ReportsError;
-pub use form::{Form, merging_changes_no_table, write_made};
+pub use form::{Form, merging_changes_no_table};
 pub use reports::write_reports;
 pub use words::read_text;

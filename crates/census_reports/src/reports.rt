@@ -7,7 +7,8 @@ ghost use Rattle.census_reports.specs.Outcomes.{ReportsFail, WritesReports};
 ghost use Rattle.census_reports.specs.Streams.{streams};
 
 use crate::error::ReportsError;
-use crate::form::{Form, write_made};
+use crate::form::{Form, write_page, write_same, write_table, write_verdict};
+use crate::merged::write_merged;
 use crate::rows::rows_of;
 use crate::words::{read_texts, words_or_input};
 use census_folders::Shelf;
@@ -29,8 +30,25 @@ fn write_of<O: Write>(
         (λ error. FailsTexts error form.entry texts.now (sink O.contents output.old)
         (sink O.contents output.new)) }
 {
-    let rows = rows_of(alloc, texts)?;
-    write_made(alloc, form, rows.as_slice(), output)
+    match form {
+        Form::Merged => write_merged(alloc, texts, output),
+        Form::Table { subject, format } => {
+            let rows = rows_of(alloc, texts)?;
+            write_table(alloc, subject, format, rows.as_slice(), output)
+        }
+        Form::Page => {
+            let rows = rows_of(alloc, texts)?;
+            write_page(alloc, rows.as_slice(), output)
+        }
+        Form::Same { json } => {
+            let rows = rows_of(alloc, texts)?;
+            write_same(alloc, json, rows.as_slice(), output)
+        }
+        Form::Verdict { claims } => {
+            let rows = rows_of(alloc, texts)?;
+            write_verdict(alloc, claims, rows.as_slice(), output)
+        }
+    }
 }
 
 /// Reads the texts of words, in their order, and writes what is made of the reports in them: of `-` the text that standard
