@@ -1,8 +1,10 @@
 -- What is known of rows that are read from a text and merged one by one.
-use Rattle.std.proofs.Common.{◌≡◌, ℕ, ◌+◌, ◌-◌, ◌^◌, ◌≤◌, Bool, true, false, ◌&&◌, nat_le, if◌then◌else◌, List, [], ◌∷◌, ◌++◌, ap, subst, sym, refl, ◌∙◌, length, length-append, arith, Some, None as Nothing, Option}
+use Rattle.std.proofs.Common.{◌≡◌, ℕ, ◌+◌, ◌-◌, ◌^◌, ◌<◌, ◌≤◌, Bool, true, false, ◌&&◌, codes, nat_eq, nat_le, if◌then◌else◌, List, [], ◌∷◌, ◌++◌, ap, subst, sym, refl, ◌∙◌, length, length-append, arith, Some, None as Nothing, Option}
 use Rattle.gathered.specs.Telling.{Sheet, TellsAfter}
 use Rattle.gathered.proofs.Telling.{tells_failed, tells_more, tells_none}
+use Rattle.std.specs.List.{starts_with}
 use Rattle.census_rows.specs.declared.row.Row.{Row}
+use Rattle.census_rows.specs.declared.row.Row.TheVariants.{Open, Line, Part, Code, Close, End}
 use Rattle.census_rows.specs.Lines.{SameRow, line_of, row_text, text_of}
 use Rattle.census_readback.specs.Limits.{count_limit}
 use Rattle.census_readback.specs.Steps.{collection_of}
@@ -10,7 +12,7 @@ use Rattle.census_readback.specs.Texts.{AllLines, IsLine, IsStuck}
 use Rattle.census_readback.proofs.Reached.{stuck-at-end}
 use Rattle.census_merge.specs.declared.merging.Counted.{Counted}
 use Rattle.census_merge.specs.declared.report_sums.Sums.{Sums}
-use Rattle.census_merge.specs.Counting.{Counts, Exceeds, counted_after, counted_end, counted_with}
+use Rattle.census_merge.specs.Counting.{Counts, Exceeds, counted_end, counted_with}
 use Rattle.census_merge.specs.Merged.{AreFew, numbered_on, renumbered_row}
 use Rattle.census_merge.specs.Putting.{PutsEnd, PutsRow, PutsRows}
 use Rattle.census_merge.specs.Sums.{first_excess, sums_plus, sums_in, sums_of, with_more}
@@ -123,43 +125,54 @@ counting-start text before few = record {
   rows = λ rows lines e. record { todo = rows; lines = lines; left = e; sums = λ others. refl; excess = λ others. refl };
 }
 
+-- the sums of the report that the next row ends, and what stands behind its line
+abbrev Skips : List ℕ → Option Sums → List ℕ → Type 0
+Skips rest end behind = (length behind < length rest) × ((q : Row) (b : List ℕ) → IsLine q → rest ≡ line_of q ++ b → (end ≡ sums_of q) × (behind ≡ b))
+
+record Skipped (todo : List Row) (end : Option Sums) (behind : List ℕ) : Type 0 where
+  first : Row
+  left : List Row
+  whole : todo ≡ first ∷ left
+  ends : sums_of first ≡ end
+  lines : AllLines left
+  text : behind ≡ text_of left
+
+skip : (rest : List ℕ) (todo : List Row) (end : Option Sums) (behind : List ℕ) → AllLines todo → rest ≡ text_of todo → Skips rest end behind → Skipped todo end behind
+skip rest [] end behind lines text skips = absurd (let none : length rest ≡ 0 = ap length text in omega (arith, none, skips.0))
+skip rest (q ∷ left) end behind lines text skips =
+    let same = skips.1 q (text_of left) lines.0 text in
+    record { first = q; left = left; whole = refl; ends = sym same.0; lines = lines.1; text = same.1 }
+
 module _ (text : List ℕ) (before all : Counted) (rest : List ℕ) (c : Counting text before all rest) where
-  module _ (row : Row) (behind : List ℕ) (read : Reads rest row behind) where
-    shorter : length behind + 1 ≤ length rest
-    shorter =
-        let size : length rest ≡ length (line_of row) + length behind = ap length read.1 ∙ length-append (line_of row) behind in
-        let own : length (line_of row) ≡ length (row_text row) + 1 = length-append (row_text row) (10 ∷ []) in
-        omega (arith, size, own)
-
+  module _ (end : Option Sums) (behind : List ℕ) (skips : Skips rest end behind) where
     pub counting-room : all.report + 1 ≤ before.report + length text
-    counting-room = omega (arith, shorter, c.number)
+    counting-room = omega (arith, skips.0, c.number)
 
-    pub counting-more : (more : Counted) → counted_after all row ≡ Some more → Counting text before more behind
+    pub counting-more : (more : Counted) → counted_end all end ≡ Some more → Counting text before more behind
     counting-more more is =
-        let g = grown all more (sums_of row) c.few is in
+        let g = grown all more end c.few is in
         record {
           few = g.few;
-          number = omega (arith, g.number, shorter, c.number);
+          number = omega (arith, g.number, skips.0, c.number);
           rows = λ rows lines e.
               (let l = c.rows rows lines e in
-              let n = next rest l.todo row behind l.lines l.left read in
-              let end = ends-same row n.first n.same in
+              let n = skip rest l.todo end behind l.lines l.left skips in
               record {
                 todo = n.left;
                 lines = n.lines;
                 left = n.text;
-                sums = λ others. l.sums others ∙ ap (λ rs. sums_in all.sums (rs ++ others)) n.whole ∙ ap (sums_from all.sums (n.left ++ others)) (sym end) ∙ g.sums (n.left ++ others);
+                sums = λ others. l.sums others ∙ ap (λ rs. sums_in all.sums (rs ++ others)) n.whole ∙ ap (sums_from all.sums (n.left ++ others)) n.ends ∙ g.sums (n.left ++ others);
                 excess = λ others. l.excess others ∙ ap (λ rs. first_excess all.report all.sums (rs ++ others)) n.whole
-                    ∙ ap (excess_from all.report all.sums (n.left ++ others)) (sym end) ∙ g.excess (n.left ++ others);
+                    ∙ ap (excess_from all.report all.sums (n.left ++ others)) n.ends ∙ g.excess (n.left ++ others);
               });
         }
 
-    pub counting-excess : counted_after all row ≡ Nothing → (rows : List Row) → AllLines rows → text ≡ text_of rows → Exceeds before rows all.report
+    pub counting-excess : counted_end all end ≡ Nothing → (rows : List Row) → AllLines rows → text ≡ text_of rows → Exceeds before rows all.report
     counting-excess is rows lines e = λ others.
         let l = c.rows rows lines e in
-        let n = next rest l.todo row behind l.lines l.left read in
+        let n = skip rest l.todo end behind l.lines l.left skips in
         l.excess others ∙ ap (λ rs. first_excess all.report all.sums (rs ++ others)) n.whole
-        ∙ ap (excess_from all.report all.sums (n.left ++ others)) (sym (ends-same row n.first n.same)) ∙ exceeding all (sums_of row) (n.left ++ others) is
+        ∙ ap (excess_from all.report all.sums (n.left ++ others)) n.ends ∙ exceeding all end (n.left ++ others) is
 
   pub counting-end : IsStuck rest → (rows : List Row) → AllLines rows → text ≡ text_of rows → Counts before rows all
   counting-end stuck rows lines e =
@@ -267,3 +280,19 @@ module _ (text : List ℕ) (sums all : Sums) (rest : List ℕ) (a b : Sheet) (p 
         told = l.told b (subst (λ rs. TellsAfter (text_of (numbered_on all.collections rs)) b b) (sym none) (tells_none b));
         all = sym (ap (λ rs. sums_in all rs) none) ∙ l.all-sums;
       }
+
+-- ---- rows that end no report
+
+pub no-end : (text : List ℕ) (row : Row) (after : List ℕ) → starts_with nat_eq text (codes "e") ≡ false → text ≡ line_of row ++ after → Nothing ≡ sums_of row
+no-end text (Open c k name) after h e = refl
+no-end text (Line c i o name) after h e = refl
+no-end text (Part c i code k) after h e = refl
+no-end text (Code c rule code k) after h e = refl
+no-end text (Close c k a b d) after h e = refl
+no-end text (End k p) after h e = absurd (let f : starts_with nat_eq (line_of (End k p) ++ after) (codes "e") ≡ false = ap (λ t. starts_with nat_eq t (codes "e")) (sym e) ∙ h in cc)
+
+pub line-shorter : (text : List ℕ) (row : Row) (after : List ℕ) → text ≡ line_of row ++ after → length after < length text
+line-shorter text row after e =
+    let size : length text ≡ length (line_of row) + length after = ap length e ∙ length-append (line_of row) after in
+    let own : length (line_of row) ≡ length (row_text row) + 1 = length-append (row_text row) (10 ∷ []) in
+    omega (arith, size, own)

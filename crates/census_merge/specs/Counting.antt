@@ -3,7 +3,7 @@ use Rattle.std.specs.Prelude.{◌≡◌, ℕ, ◌+◌, Some, None as Nothing, Op
 use Rattle.census_rows.specs.declared.row.Row.{Row}
 use Rattle.census_merge.specs.declared.merging.Counted.{Counted}
 use Rattle.census_merge.specs.declared.report_sums.Sums.{Sums}
-use Rattle.census_merge.specs.Sums.{first_excess, no_sums, sums_in, sums_of, with_more}
+use Rattle.census_merge.specs.Sums.{first_excess, no_sums, sums_in, with_more}
 
 -- before any report
 abbrev pub nothing_counted : Counted
@@ -17,10 +17,6 @@ counted_with report (Some all) = Some (record { sums = all; report = report + 1 
 abbrev pub counted_end : Counted → Option Sums → Option Counted
 counted_end c Nothing = Some c
 counted_end c (Some more) = counted_with c.report (with_more c.sums more)
-
--- after a row
-abbrev pub counted_after : Counted → Row → Option Counted
-counted_after c row = counted_end c (sums_of row)
 
 -- whatever rows follow, these are counted
 pub record Counts (before : Counted) (rows : List Row) (after : Counted) : Type 0 where

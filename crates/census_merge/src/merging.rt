@@ -5,21 +5,21 @@
 //! changes, nor their order; of the `end` rows one is left, which has the sums. Since a `code` row
 //! counts what is in one collection, none of these are added up. The rows are read from their text
 //! one by one, and none is kept.
-ghost use Rattle.std.specs.Prelude.{◌≡◌, ◌+◌, ◌<◌, ◌≤◌, ◌^◌, ℕ, List, length, IfOk, IfSome, MatchResult, Some, None};
+ghost use Rattle.std.specs.Prelude.{◌≡◌, ◌+◌, ◌<◌, ◌≤◌, ◌^◌, ◌++◌, ℕ, List, length, IfOk, IfSome, MatchOption, MatchResult, Some, None};
 ghost use Rattle.gathered.specs.Telling.{TellsAfter, sheet};
 ghost use Rattle.census_readback.specs.Limits.{count_limit};
-ghost use Rattle.census_readback.specs.Texts.{AllLines};
+ghost use Rattle.census_readback.specs.Texts.{AllLines, IsLine};
 ghost use Rattle.census_rows.specs.Lines.{line_of, text_of};
 ghost use Rattle.census_rows.specs.declared.row.Row.{Row};
 ghost use Rattle.census_rows.specs.declared.row.Row.TheVariants.{End};
-ghost use Rattle.census_merge.specs.Counting.{Counts, Exceeds, counted_after, nothing_counted};
+ghost use Rattle.census_merge.specs.Counting.{Counts, Exceeds, counted_end, nothing_counted};
 ghost use Rattle.census_merge.specs.Merged.{AreFew};
 ghost use Rattle.census_merge.specs.Putting.{PutsRow, PutsRows};
-ghost use Rattle.census_merge.specs.Sums.{first_excess};
+ghost use Rattle.census_merge.specs.Sums.{first_excess, sums_of};
 
 use crate::renumber::renumbered_row;
 use crate::report_sums::{Sums, sums_at_end};
-use census_readback::first_row;
+use census_readback::{behind_line, first_row};
 use census_rows::{Row, put_row};
 use gathered::{Block, put};
 use std::io::Write;
@@ -51,13 +51,14 @@ impl Counted {
         }
     }
 
-    // After one row more, where one report can have so many.
-    fn after(self, row: &Row) -> Option<Counted>
+    // After one row more, which ends a report with these sums, if it ends one; where one report can
+    // have so many.
+    fn after(self, end: Option<Sums>) -> Option<Counted>
         requires few { self.sums.collections ≤ count_limit }
         requires fits { self.report + 1 < 2 ^ 64 }
-        ensures { result ≡ counted_after self row.now }
+        ensures { result ≡ counted_end self end }
     {
-        let Some(more) = sums_at_end(row) else {
+        let Some(more) = end else {
             return Some(self);
         };
         let sums = self.sums.with(more)?;
@@ -66,6 +67,20 @@ impl Counted {
             report: self.report + 1,
         })
     }
+}
+
+// The sums of the report that the first row ends, where it ends one, and what stands behind its
+// line. (Of other rows no field is read.)
+fn first_end(text: &[u8]) -> Option<(Option<Sums>, &[u8])>
+    ensures shorter { IfSome result (λ end. length end.1.now < length text.now) }
+    ensures all { (row : Row) (after : List ℕ) → IsLine row → text.now ≡ line_of row ++ after
+        → MatchOption result ⊥ (λ end. (end.0 ≡ sums_of row) × (end.1.now ≡ after)) }
+{
+    if text.starts_with(b"e") {
+        let first = first_row(text)?;
+        return Some((sums_at_end(&first.row), first.rest));
+    }
+    Some((None, behind_line(text)?))
 }
 
 /// Counts the reports that a text has, one after another, where one report can have as many
@@ -80,12 +95,12 @@ pub fn count(counted: Counted, text: &[u8]) -> Result<Counted, TooMany>
 {
     let mut all = counted;
     let mut rest = text;
-    while let Some(first) = first_row(rest) {
-        let Some(more) = all.after(&first.row) else {
+    while let Some((end, behind)) = first_end(rest) {
+        let Some(more) = all.after(end) else {
             return Err(TooMany { report: all.report });
         };
         all = more;
-        rest = first.rest;
+        rest = behind;
     }
     Ok(all)
 }

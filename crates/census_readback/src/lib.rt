@@ -17,6 +17,6 @@ mod sectioning;
 mod told;
 
 pub use limits::COUNT_LIMIT;
-pub use lines::{First, first_row};
+pub use lines::{First, behind_line, first_row};
 pub use reading::{fault_of, read_report};
 pub use sectioning::{collections, sections};

@@ -43,6 +43,16 @@ pub fn first_row(text: &[u8]) -> Option<First>
     })
 }
 
+/// What stands behind the first line. `None` where there is no LF.
+pub fn behind_line(text: &[u8]) -> Option<&[u8]>
+    ensures shorter { IfSome result (λ rest. length rest.now < length text.now) }
+    ensures all { (row : Row) (after : List ℕ) → IsLine row → text.now ≡ line_of row ++ after
+        → MatchOption result ⊥ (λ rest. rest.now ≡ after) }
+{
+    let (_, behind) = text.split_at(first_feed(text)?);
+    Some(&behind[1..])
+}
+
 // As many rows as stand at the start of a text.
 pub fn read_rows(alloc: Global, text: &[u8]) -> Result<Front, AllocError>
     ensures sound { IfOk result (λ front. AllLines front.rows.items

@@ -2,8 +2,8 @@ use Rattle.std.proofs.Common.{length}
 use Rattle.census_merge.proofs.Steps.{Counting}
 use Rattle.census_merge.proofs.merging.count.Given as goal
 
-abbrev pub invariant-loop-first : goal.invariant-loop-first
-invariant-loop-first l = Counting l.text l.fn.counted l.all l.rest
+abbrev pub invariant-loop-end : goal.invariant-loop-end
+invariant-loop-end l = Counting l.text l.fn.counted l.all l.rest
 
-abbrev pub decreases-loop-first : goal.decreases-loop-first
-decreases-loop-first l = length l.rest
+abbrev pub decreases-loop-end : goal.decreases-loop-end
+decreases-loop-end l = length l.rest

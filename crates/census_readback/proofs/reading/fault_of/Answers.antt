@@ -1,5 +1,5 @@
-use Rattle.std.proofs.Common.{◌≡◌, ◌<◌, ◌^◌, ℕ, List, false, true, refl, sym, subst, arith, length, rules, ◌∙◌}
-use Rattle.census_readback.specs.Reports.{IsFault, ReadsAsReports}
+use Rattle.std.proofs.Common.{refl, sym, subst, arith, ◌∙◌}
+use Rattle.census_readback.specs.Reports.{IsFault}
 use Rattle.census_readback.specs.Steps.{reading_of}
 use Rattle.census_readback.specs.Told.{told_of}
 use Rattle.census_readback.proofs.Walks.{all-read, line-fault, no-line, no-open, no-stray, none-left, open-fault, some-left, stray, stray-fault, walked-more, walked-start}

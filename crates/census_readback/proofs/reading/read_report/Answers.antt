@@ -7,7 +7,7 @@ use Rattle.census_rows.specs.Lines.{text_of}
 use Rattle.census_readback.proofs.Alike.{stray-same}
 use Rattle.census_readback.proofs.Interleaved.{reports-complete, reports-sound}
 use Rattle.census_readback.proofs.Reached.{stuck-at-end}
-use Rattle.census_readback.specs.Steps.{first_stray, initial_reading}
+use Rattle.census_readback.specs.Steps.{initial_reading}
 use Rattle.census_readback.specs.Told.{nothing_told}
 use Rattle.census_readback.proofs.reading.read_report.Goals as goal
 
