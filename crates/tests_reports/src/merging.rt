@@ -1,7 +1,7 @@
 //! Reports that are merged: collections numbered on, and one `end` line with the sums.
 
-use census_merge::{put_merged, sums};
-use census_readback::read_report;
+use census_merge::{Counted, Sums, count, put_end, put_rows};
+use census_readback::fault_of;
 use gathered::{Block, send};
 use std::alloc::{AllocError, Global};
 use watched::Watched;
@@ -49,15 +49,15 @@ end 3 4
 
 // The merged report, or nothing where there is none.
 fn merged(alloc: Global, text: &[u8]) -> Result<Vec<u8>, AllocError> {
-    let Ok(rows) = read_report(alloc, text)? else {
-        return Ok(Vec::new(alloc));
-    };
-    if sums(rows.as_slice()).is_err() {
+    if fault_of(alloc, text)?.is_some() || count(Counted::nothing(), text).is_err() {
         return Ok(Vec::new(alloc));
     }
     let mut block = Block::new(alloc);
     let mut writer = Watched::new(Vec::new(alloc));
-    put_merged(rows.as_slice(), &mut block, &mut writer);
+    let Some(sums) = put_rows(Sums::none(), text, &mut block, &mut writer) else {
+        return Ok(Vec::new(alloc));
+    };
+    put_end(sums, &mut block, &mut writer);
     match send(&mut block, &mut writer) {
         Ok(()) => Ok(writer.into_inner()),
         Err(_) => Err(AllocError),
