@@ -12,7 +12,7 @@ use Rattle.census_faults.specs.declared.fault.Fault.{Fault}
 use Rattle.census_faults.specs.declared.fault.Fault.TheVariants.{FileForFolder}
 use Rattle.census_folders.specs.Sources.{Asked, Reads, Stops}
 use Rattle.census_folders.specs.Tellings.{Tellings}
-use Rattle.census_folders.specs.Told.{Told, MayExceed, MayFail}
+use Rattle.census_folders.specs.Told.{Told, IsSystemWord, MayExceed, MayFail}
 use Rattle.census_folders.specs.declared.fault.SourceFault.{SourceFault}
 use Rattle.census_folders.specs.declared.fault.SourceFault.TheVariants as reading
 use Rattle.census_folders.specs.declared.loss.Cause.{Cause}
@@ -53,11 +53,6 @@ pub record IsSaidAt (saying : Saying) (place : Place) (at : Saying) : Type 0 whe
   pub word_is : option_copied at.word ≡ option_or place.word (option_copied saying.word)
 
 -- # What is lost
-
--- Where an error has a number, what the system says of it, if there is memory for it; and else nothing.
-abbrev pub IsSystemWord : Option ℤ → Option (List ℕ) → Type 0
-IsSystemWord None word = word ≡ None
-IsSystemWord (Some code) word = Unit {0}
 
 -- of what is lost: its path, what the system says of it, and whether it is a file where a folder is wanted
 abbrev pub IsCausePlace : Option (List ℕ) → Cause → Place → Type 0

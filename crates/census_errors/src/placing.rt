@@ -1,6 +1,6 @@
 //! Where something stands that can't be read or is refused.
 ghost use Rattle.std.specs.Prelude.{◌≡◌, ◌++◌, [], false, IfOk, IfSome, Some, codes};
-ghost use Rattle.census_errors.specs.Places.{IsCausePlace, IsFilePlace, IsPathOf, IsPlaceInBundle, IsReportsPlace, IsSystemWord, MayBeTooLong, MayBeUnread};
+ghost use Rattle.census_errors.specs.Places.{IsCausePlace, IsFilePlace, IsPathOf, IsPlaceInBundle, IsReportsPlace, MayBeTooLong, MayBeUnread};
 ghost use Rattle.census_errors.specs.Places.{kept_place, numbers_of};
 
 use crate::advance_error::AdvanceError;
@@ -9,36 +9,24 @@ use crate::run_error::RunError;
 use arrayvec::ArrayString;
 use census_bundle::{Bundle, Text, Ticket};
 use census_crew::RunFault;
-use census_folders::{Cause, Shelf, ShelfFault, Unread};
+use census_folders::{Cause, Shelf, ShelfFault};
 use census_identify::{is_input, read_file};
 use census_reports::ReportsError;
 use itoa::Buffer;
 use std::alloc::{AllocError, Global};
-use std::io;
 
 /// The most bytes of the numbers of a pattern and of its collection.
 const NUMBERS_LIMIT: usize = 48;
-
-// What the system says of an error of this number. Where that takes memory and there is none, nothing is told.
-fn system_word(alloc: Global, code: Option<i32>) -> Option<Text>
-    ensures { IsSystemWord code result }
-{
-    let error = io::Error::from_raw_os_error(code?);
-    match format!(in alloc; "{error}") {
-        Ok(words) => Text::of(alloc, words.as_bytes()).ok(),
-        Err(_) => None,
-    }
-}
 
 // The place of what is lost, if its path is known.
 pub fn loss_place(alloc: Global, path: Option<Text>, cause: Cause) -> Place
     ensures { IsCausePlace path cause result }
 {
     match cause {
-        Cause::Unread(Unread { code, is_file }) => Place {
+        Cause::Unread(why) => Place {
             path,
-            word: system_word(alloc, code),
-            is_file,
+            word: why.word(alloc),
+            is_file: why.is_file,
         },
         Cause::BadName | Cause::TooLong => Place::at(path),
     }
@@ -106,9 +94,9 @@ pub fn file_place(alloc: Global, error: AdvanceError) -> Place
     ensures { IsFilePlace error result }
 {
     match error {
-        AdvanceError::Read(Unread { code, .. }) => Place {
+        AdvanceError::Read(why) => Place {
             path: None,
-            word: system_word(alloc, code),
+            word: why.word(alloc),
             is_file: false,
         },
         _ => Place::nowhere(),
@@ -127,7 +115,7 @@ fn first_unread<S: Shelf>(shelf: &S, alloc: Global, files: &[&str]) -> Place
         if let Err(ShelfFault::Unread(why)) = read_file(shelf, alloc, file.as_bytes()) {
             return Place {
                 path: Text::of(alloc, file.as_bytes()).ok(),
-                word: system_word(alloc, why.code),
+                word: why.word(alloc),
                 is_file: false,
             };
         }

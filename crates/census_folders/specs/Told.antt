@@ -1,5 +1,5 @@
 -- What a shelf tells of what a folder lists or of what a file holds, and what a reading gives by it.
-use Rattle.std.specs.Prelude.{◌≡◌, ℕ, ◌<◌, false, List, length, None}
+use Rattle.std.specs.Prelude.{◌≡◌, ℕ, ℤ, ◌<◌, false, List, length, Option, Some, None}
 use Rattle.watched.specs.declared.reading.ReadFault.{ReadFault}
 use Rattle.watched.specs.declared.reading.ReadFault.TheVariants as reads
 use Rattle.census_folders.specs.declared.unread.ShelfFault.{ShelfFault}
@@ -15,6 +15,11 @@ pub data Told : Type 0 where
 -- the system says nothing of it
 abbrev pub silent : unread.Unread
 silent = record { code = None; is_file = false }
+
+-- Where an error has a number, what the system says of it, if there is memory for it; and else nothing.
+abbrev pub IsSystemWord : Option ℤ → Option (List ℕ) → Type 0
+IsSystemWord None word = word ≡ None
+IsSystemWord (Some code) word = Unit {0}
 
 -- the fault of a shelf, by that of a reader
 abbrev pub shelf_fault_of : ReadFault → ShelfFault

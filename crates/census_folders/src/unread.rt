@@ -1,6 +1,8 @@
 //! Why something can't be read.
 
-use std::alloc::AllocError;
+use census_bundle::Text;
+use std::alloc::{AllocError, Global};
+use std::io;
 use thiserror::Error;
 use watched::ReadFault;
 
@@ -15,7 +17,7 @@ pub struct Unread {
 
 impl Unread {
     ghost use Rattle.std.specs.Prelude.{◌≡◌};
-    ghost use Rattle.census_folders.specs.Told.{silent};
+    ghost use Rattle.census_folders.specs.Told.{IsSystemWord, silent};
 
     /// The system says nothing of it.
     pub fn silent() -> Unread
@@ -24,6 +26,17 @@ impl Unread {
         Unread {
             code: None,
             is_file: false,
+        }
+    }
+
+    /// What the system says of it. Where that takes memory and there is none, nothing is told.
+    pub fn word(self, alloc: Global) -> Option<Text>
+        ensures { IsSystemWord self.code result }
+    {
+        let error = io::Error::from_raw_os_error(self.code?);
+        match format!(in alloc; "{error}") {
+            Ok(words) => Text::of(alloc, words.as_bytes()).ok(),
+            Err(_) => None,
         }
     }
 }

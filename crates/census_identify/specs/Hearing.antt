@@ -1,5 +1,5 @@
 -- What is got of files and of standard input.
-use Rattle.std.specs.Prelude.{◌≡◌, ℕ, ◌≤◌, Bool, true, false, List, [], ◌∷◌, length, codes, map, Result, Ok, Err, Vec, alloc_error, IfSome, MatchBool}
+use Rattle.std.specs.Prelude.{◌≡◌, ℕ, ◌≤◌, Bool, true, false, List, [], ◌∷◌, length, codes, map, Result, Ok, Err, None, Vec, alloc_error, IfSome, MatchBool}
 use Rattle.std.specs.declared.alloc.AllocError.{AllocError}
 use Rattle.std.specs.Global.{Global}
 use Rattle.std.specs.Str.{bytes_eq}
@@ -8,7 +8,7 @@ use Rattle.watched.specs.Watching.{ConsumesMoreThan}
 use Rattle.watched.specs.declared.reading.ReadFault.{ReadFault}
 use Rattle.watched.specs.declared.reading.ReadFault.TheVariants as reads
 use Rattle.census_bundle.specs.Sizes.{input_limit}
-use Rattle.census_folders.specs.Told.{Told, GivesTold, MayExceed, MayFail}
+use Rattle.census_folders.specs.Told.{Told, GivesTold, IsSystemWord, MayExceed, MayFail}
 use Rattle.census_folders.specs.declared.unread.Unread as unread
 use Rattle.census_identify.specs.Streams.{Reader}
 use Rattle.census_identify.specs.declared.heard.Heard.{Heard}
@@ -22,7 +22,7 @@ is_input word = bytes_eq word (codes "-")
 abbrev pub heard_of : Result (Vec ℕ Global) ReadFault → Result Heard AllocError
 heard_of (Ok bytes) = Ok (Text bytes.items)
 heard_of (Err reads.TooLong) = Ok TooLong
-heard_of (Err reads.Read) = Ok Unread
+heard_of (Err reads.Read) = Ok (Unread None)
 heard_of (Err reads.Memory) = Err alloc_error
 
 -- # One
@@ -31,7 +31,7 @@ heard_of (Err reads.Memory) = Err alloc_error
 abbrev pub HearsFile : Told → Heard → Type 0
 HearsFile told (Text bytes) = GivesTold told bytes × (length bytes ≤ input_limit)
 HearsFile told TooLong = MayExceed input_limit told
-HearsFile told Unread = (why : unread.Unread) × MayFail told why
+HearsFile told (Unread word) = (why : unread.Unread) × MayFail told why × IsSystemWord why.code word
 
 -- the text is all that the reader had left, up to its end, and within the limit
 pub record ReadsText (text : List ℕ) (before after : Reader) : Type 0 where
@@ -50,7 +50,7 @@ pub record ReadsTooMuch (before after : Reader) : Type 0 where
 abbrev pub HearsInput : Heard → Reader → Reader → Type 0
 HearsInput (Text bytes) before after = ReadsText bytes before after
 HearsInput TooLong before after = ReadsTooMuch before after
-HearsInput Unread before after = after.failed ≡ true
+HearsInput (Unread word) before after = (word ≡ None) × (after.failed ≡ true)
 
 -- What is got of a word, where this is told of files by their paths. Nothing is read from standard input for a file.
 abbrev pub Hears : (List ℕ → Told) → List ℕ → Heard → Reader → Reader → Type 0

@@ -1,5 +1,5 @@
 -- What is told of what was heard: blocks, lines and statuses.
-use Rattle.std.specs.Prelude.{ℕ, Bool, true, false, List, [], ◌∷◌, ◌++◌, codes, cond, map, max, Result, Ok, Err}
+use Rattle.std.specs.Prelude.{ℕ, Bool, true, false, List, [], ◌∷◌, ◌++◌, codes, cond, map, max, Option, Some, None, Result, Ok, Err}
 use Rattle.std.specs.List.{join_with_byte}
 use Rattle.life_text.specs.declared.rle.RleFault.{RleFault}
 use Rattle.life_faults.specs.Lines.{fault_line}
@@ -26,11 +26,16 @@ abbrev pub told_of_block : List ℕ → List ℕ → Result (List ℕ) RleFault 
 told_of_block word text (Ok block) = Block (block_with_head word block)
 told_of_block word text (Err fault) = Line (message_line word (fault_line text fault)) 1
 
+-- that it can't be read, after what the system says of it
+abbrev pub unread_message : Option (List ℕ) → List ℕ
+unread_message None = codes " read failed"
+unread_message (Some reason) = codes " " ++ reason ++ codes " (read failed)"
+
 -- what is told of a word, by what was got of it
 abbrev pub told_of : Inquiry → List ℕ → Heard → Told
 told_of inquiry word (Text text) = told_of_block word text (block_of inquiry text)
 told_of inquiry word TooLong = Line (message_line word (codes " input too long")) 1
-told_of inquiry word Unread = Line (message_line word (codes " read failed")) 4
+told_of inquiry word (Unread reason) = Line (message_line word (unread_message reason)) 4
 
 -- # All
 

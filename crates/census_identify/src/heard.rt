@@ -6,7 +6,7 @@ ghost use Rattle.census_identify.specs.Hearing.{Hears, HearsFile, HearsInput, he
 ghost use Rattle.census_identify.specs.Streams.{source};
 
 use crate::bytes::Bytes;
-use census_bundle::INPUT_LIMIT;
+use census_bundle::{INPUT_LIMIT, Text};
 use census_folders::{Shelf, ShelfFault, Unread};
 use std::alloc::{AllocError, Global};
 use std::io::Read;
@@ -20,7 +20,10 @@ pub enum Heard {
     /// It has more bytes than a text may have.
     TooLong,
     /// It can't be read.
-    Unread,
+    Unread {
+        /// What the system says of it, where that is known and there is memory for it.
+        word: Option<Text>,
+    },
 }
 
 // What is heard, by what a reading answers. Out of memory is nothing that is heard.
@@ -30,7 +33,7 @@ fn heard_of(read: Result<Vec<u8>, ReadFault>) -> Result<Heard, AllocError>
     match read {
         Ok(bytes) => Ok(Heard::Text(Bytes::new(bytes))),
         Err(ReadFault::TooLong) => Ok(Heard::TooLong),
-        Err(ReadFault::Read) => Ok(Heard::Unread),
+        Err(ReadFault::Read) => Ok(Heard::Unread { word: None }),
         Err(ReadFault::Memory) => Err(AllocError),
     }
 }
@@ -56,7 +59,9 @@ fn hear_file<S: Shelf>(shelf: &S, alloc: Global, path: &[u8]) -> Result<Heard, A
     match read_file(shelf, alloc, path) {
         Ok(bytes) => Ok(Heard::Text(Bytes::new(bytes))),
         Err(ShelfFault::TooLong) => Ok(Heard::TooLong),
-        Err(ShelfFault::Unread(_)) => Ok(Heard::Unread),
+        Err(ShelfFault::Unread(why)) => Ok(Heard::Unread {
+            word: why.word(alloc),
+        }),
         Err(ShelfFault::Memory) => Err(AllocError),
     }
 }

@@ -1,11 +1,12 @@
 //! What is told of what was got.
 ghost use Rattle.std.specs.Prelude.{◌≡◌, ◌≤◌, IfOk};
 ghost use Rattle.census_blocks.specs.Blocks.{block_of};
-ghost use Rattle.census_identify.specs.Telling.{block_with_head, message_line, told_of, told_of_block};
+ghost use Rattle.census_identify.specs.Telling.{block_with_head, message_line, told_of, told_of_block, unread_message};
 
 use crate::bytes::Bytes;
 use crate::heard::{Heard, is_input};
 use census_blocks::{Inquiry, block};
+use census_bundle::Text;
 use life_faults::fault_line;
 use life_orbit::BOUND_LIMIT;
 use std::alloc::{AllocError, Global};
@@ -35,6 +36,22 @@ fn message_line(alloc: Global, word: &str, message: &[u8]) -> Result<Bytes, Allo
     line.extend_from_slice(message)?;
     line.extend_from_slice(b"\n")?;
     Ok(Bytes::new(line))
+}
+
+// That it can't be read, after what the system says of it.
+fn unread_message(alloc: Global, reason: &Option<Text>) -> Result<Vec<u8>, AllocError>
+    ensures { IfOk result (λ message. message.items ≡ unread_message reason.now) }
+{
+    let mut message = Vec::new(alloc);
+    message.extend_from_slice(b" ")?;
+    match reason {
+        Some(reason) => {
+            message.extend_from_slice(reason.as_slice())?;
+            message.extend_from_slice(b" (read failed)")?;
+        }
+        None => message.extend_from_slice(b"read failed")?,
+    }
+    Ok(message)
 }
 
 // The lines of a block, after the line `file WORD` where the word stands for a file.
@@ -77,7 +94,8 @@ fn told_of_text(
 /// Of a text that means a pattern it is its block, after the line `file WORD` where the word isn't `-`. Of any other
 /// text it is the line `census: WORD:LINE:COLUMN: WORDS (rle fault N at A)`, which asks for status 1; of one that is too
 /// long the line `census: WORD: input too long`, which asks for status 1; and of what can't be read the line
-/// `census: WORD: read failed`, which asks for status 4. The word is written as it is.
+/// `census: WORD: REASON (read failed)`, or where the system gives no reason `census: WORD: read failed`, which asks for
+/// status 4. The word is written as it is.
 pub fn told_of(
     alloc: Global,
     word: &str,
@@ -93,8 +111,8 @@ pub fn told_of(
             line: message_line(alloc, word, b" input too long")?,
             status: 1,
         }),
-        Heard::Unread => Ok(Told::Line {
-            line: message_line(alloc, word, b" read failed")?,
+        Heard::Unread { word: reason } => Ok(Told::Line {
+            line: message_line(alloc, word, unread_message(alloc, reason)?.as_slice())?,
             status: 4,
         }),
     }

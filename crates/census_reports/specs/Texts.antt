@@ -1,5 +1,5 @@
 -- The texts of words, one after another.
-use Rattle.std.specs.Prelude.{◌≡◌, ℕ, ◌+◌, false, List, [], ◌∷◌, ◌++◌}
+use Rattle.std.specs.Prelude.{◌≡◌, ℕ, ◌+◌, false, None, List, [], ◌∷◌, ◌++◌}
 use Rattle.watched.specs.Watching.{ConsumesAtMost}
 use Rattle.census_bundle.specs.Sizes.{input_limit}
 use Rattle.census_folders.specs.Told.{Told}
@@ -24,7 +24,7 @@ pub record LosesAtMost (before after : Reader) : Type 0 where
 
 -- why the text of a word was not read
 abbrev pub RefusesWord : ReportsError → (List ℕ → Told) → List ℕ → Reader → Reader → Type 0
-RefusesWord Read held word before after = Hears held word heard.Unread before after
+RefusesWord Read held word before after = Hears held word (heard.Unread None) before after
 RefusesWord TooLong held word before after = Hears held word heard.TooLong before after × (after.failed ≡ false)
 RefusesWord Memory held word before after = LosesAtMost before after
 RefusesWord error held word before after = ⊥
