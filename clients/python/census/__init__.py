@@ -684,7 +684,7 @@ def _same_of(ran: subprocess.CompletedProcess[bytes]) -> List[Same]:
 
 
 _FAULT = re.compile(r"census: ([0-9]+|-):([0-9]+):([0-9]+): (.*) \(rle fault ([0-9]+)(?: at ([0-9]+))?\)")
-_REFUSED = re.compile(r"census: ([0-9]+|-): (read failed|input too long)")
+_REFUSED = re.compile(r"census: ([0-9]+|-): (?:.* \()?(read failed|input too long)\)?")
 
 
 def _error_of(line: str) -> Optional[Tuple[str, CensusError]]:
