@@ -143,11 +143,11 @@ const CASES: &[Case] = &[
         },
         &["first"],
         b"",
-        Ok(b"wrong block period 2 1\n"),
+        Ok(b"wrong block period 2 1\nunclaimed a/broken\n"),
     ),
     (
         Form::Verdict {
-            claims: b"name,period\nblock,1\n",
+            claims: b"name,period\nblock,1\nbroken,\n",
         },
         &["first"],
         b"",
