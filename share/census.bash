@@ -3,7 +3,7 @@ _census() {
     local word=${COMP_WORDS[COMP_CWORD]} last=${COMP_WORDS[COMP_CWORD - 1]} options='' kind=neither
     COMPREPLY=()
     if [ "$COMP_CWORD" = 1 ] || { [ "$COMP_CWORD" = 2 ] && [ "$last" = help ]; }; then
-        mapfile -t COMPREPLY < <(compgen -W 'run objects identify advance draw merge table page help --help --version' -- "$word")
+        mapfile -t COMPREPLY < <(compgen -W 'run objects identify advance draw merge table page same verify help --help --version' -- "$word")
         return
     fi
     case ${COMP_WORDS[1]} in
@@ -15,6 +15,8 @@ _census() {
     merge) options='--explain -h --help' kind=files ;;
     table) options='--csv --json --safe --parts --codes --explain -h --help' kind=files ;;
     page) options='--explain -h --help' kind=files ;;
+    same) options='--json --explain -h --help' kind=files ;;
+    verify) options='--explain -h --help' kind=files ;;
     esac
     case $last in
     --bound | --cells | --input | --rule | --workers | -b | -w) return ;;

@@ -54,3 +54,12 @@ complete -c census -n __fish_use_subcommand -a page -d 'Write one HTML page of r
 complete -c census -n '__fish_seen_subcommand_from page' -l explain -d 'Tell of each fault on standard error also where it is, what is wrong and what would be right'
 complete -c census -n '__fish_seen_subcommand_from page' -s h -l help -d 'Print help'
 complete -c census -n '__fish_seen_subcommand_from page' -F
+complete -c census -n __fish_use_subcommand -a same -d 'Tell which patterns of reports are one object'
+complete -c census -n '__fish_seen_subcommand_from same' -l json -d 'JSON, one object a line'
+complete -c census -n '__fish_seen_subcommand_from same' -l explain -d 'Tell of each fault on standard error also where it is, what is wrong and what would be right'
+complete -c census -n '__fish_seen_subcommand_from same' -s h -l help -d 'Print help'
+complete -c census -n '__fish_seen_subcommand_from same' -F
+complete -c census -n __fish_use_subcommand -a verify -d 'Compare claims about patterns with what reports say'
+complete -c census -n '__fish_seen_subcommand_from verify' -l explain -d 'Tell of each fault on standard error also where it is, what is wrong and what would be right'
+complete -c census -n '__fish_seen_subcommand_from verify' -s h -l help -d 'Print help'
+complete -c census -n '__fish_seen_subcommand_from verify' -F
