@@ -1,0 +1,7 @@
+pub mod Roots
+pub mod Beside
+pub mod Tying
+pub mod Near
+pub mod Held
+pub mod Step
+pub mod Backwards

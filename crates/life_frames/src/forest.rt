@@ -1,0 +1,63 @@
+//! Numbers that are joined: a forest in which each number goes to a lesser one, or is a root.
+ghost use Rattle.std.specs.Prelude.{◌≡◌, ℕ, ◌<◌, ◌≤◌, length};
+ghost use Rattle.std.specs.List.{sum};
+ghost use Rattle.life_islands.specs.Forest.{moved, root};
+ghost use Rattle.life_frames.specs.Ties.{AreSameRoots, IsUnited};
+
+/// The root of a number. On the way each second number is let go to the next but one, so that later walks are short.
+pub fn find(forest: &mut Vec<usize>, number: usize) -> usize
+    ensures value { result ≡ root forest.old.items number }
+    ensures same { AreSameRoots forest.old.items forest.new.items }
+    ensures within { number < length forest.old.items → result < length forest.old.items }
+{
+    let mut at = number;
+    while at < forest.len() {
+        let next = forest[at];
+        if next >= at {
+            return at;
+        }
+        let further = forest[next];
+        if further >= next {
+            return next;
+        }
+        forest[at] = further;
+        at = further;
+    }
+    at
+}
+
+/// Lets a root go to a lesser one.
+fn put(forest: &mut Vec<usize>, high: usize, low: usize)
+    requires within { high < length forest.old.items }
+    requires less { low < high }
+    requires high { root forest.old.items high ≡ high }
+    requires low { root forest.old.items low ≡ low }
+    ensures long { length forest.new.items ≡ length forest.old.items }
+    ensures moved { (k : ℕ) → root forest.new.items k ≡ moved high low (root forest.old.items k) }
+    ensures less { sum forest.new.items < sum forest.old.items }
+{
+    forest[high] = low;
+}
+
+/// Joins two numbers.
+pub fn join(forest: &mut Vec<usize>, one: usize, other: usize)
+    requires { one < length forest.old.items × other < length forest.old.items }
+    ensures { IsUnited forest.old.items forest.new.items one other }
+{
+    let first = find(forest, one);
+    let second = find(forest, other);
+    if first < second {
+        put(forest, second, first);
+    } else if second < first {
+        put(forest, first, second);
+    }
+}
+
+/// Lets each number go to its root.
+pub fn flatten(forest: &mut Vec<usize>)
+    ensures { AreSameRoots forest.old.items forest.new.items }
+{
+    for n in 0..forest.len() {
+        find(forest, n);
+    }
+}

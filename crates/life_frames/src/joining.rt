@@ -1,0 +1,70 @@
+//! Places of a generation's cells are joined where these bear cells of one set.
+ghost use Rattle.std.specs.Prelude.{◌≡◌, ℕ, ◌<◌, IfOk, List, length, true};
+ghost use Rattle.std.specs.List.{Contains};
+ghost use Rattle.life_model.specs.Cell.{Cell};
+ghost use Rattle.life_model.specs.Generation.{Generation, cells, contains};
+ghost use Rattle.life_frames.specs.Bearers.{IsTouched};
+ghost use Rattle.life_frames.specs.Ties.{AreTouched, IsFurther, IsJoined, JoinsTied};
+
+use crate::bearers::bearer;
+use crate::forest::{flatten, join};
+use life_cells::CellList;
+use life_islands::numbers;
+use std::alloc::{AllocError, Global};
+
+/// Joins the cells that bear the cells of a set.
+fn join_set(forest: &mut Vec<usize>, list: &CellList, set: &CellList)
+    requires long { length forest.old.items ≡ length (cells list.now) }
+    requires touched { (c : Cell) → contains set.now c ≡ true → IsTouched list.now c }
+    ensures further { IsFurther forest.old.items forest.new.items }
+    ensures joined { IsJoined list.now forest.new.items set.now }
+    ensures tied { (Ss : List Generation) → Contains Ss set.now → JoinsTied list.now Ss forest.old.items →
+        JoinsTied list.now Ss forest.new.items }
+{
+    let all = set.as_slice();
+    if all.len() == 0 {
+        return;
+    }
+    let first = bearer(list, all[0]);
+    for n in 0..all.len() {
+        let other = bearer(list, all[n]);
+        join(forest, first, other);
+    }
+}
+
+/// Joins the cells that bear cells of one of the sets.
+fn join_sets(forest: &mut Vec<usize>, list: &CellList, sets: &[CellList])
+    requires long { length forest.old.items ≡ length (cells list.now) }
+    requires touched { AreTouched list.now sets.now }
+    ensures further { IsFurther forest.old.items forest.new.items }
+    ensures joined { (S : Generation) → Contains sets.now S → IsJoined list.now forest.new.items S }
+    ensures tied { (Ss : List Generation) → ((S : Generation) → Contains sets.now S → Contains Ss S) →
+        JoinsTied list.now Ss forest.old.items → JoinsTied list.now Ss forest.new.items }
+{
+    for n in 0..sets.len() {
+        join_set(forest, list, &sets[n]);
+    }
+}
+
+/// The places of the cells, joined where the cells bear cells of one of the sets.
+pub fn joined(
+    alloc: Global,
+    list: &CellList,
+    pieces: &[CellList],
+    later: &[CellList],
+) -> Result<Vec<usize>, AllocError>
+    requires pieces { AreTouched list.now pieces.now }
+    requires later { AreTouched list.now later.now }
+    ensures long { IfOk result (λ forest. length forest.items ≡ length (cells list.now)) }
+    ensures pieces { IfOk result (λ forest. (S : Generation) → Contains pieces.now S → IsJoined list.now forest.items S) }
+    ensures later { IfOk result (λ forest. (S : Generation) → Contains later.now S → IsJoined list.now forest.items S) }
+    ensures tied { IfOk result (λ forest. (Ss : List Generation) →
+        ((S : Generation) → Contains pieces.now S → Contains Ss S) →
+        ((S : Generation) → Contains later.now S → Contains Ss S) → JoinsTied list.now Ss forest.items) }
+{
+    let mut forest = numbers(alloc, list.len())?;
+    join_sets(&mut forest, list, pieces);
+    join_sets(&mut forest, list, later);
+    flatten(&mut forest);
+    Ok(forest)
+}
