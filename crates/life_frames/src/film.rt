@@ -4,7 +4,7 @@ ghost use Rattle.life_model.specs.Evolution.{generation, next};
 ghost use Rattle.life_model.specs.Generation.{Generation};
 ghost use Rattle.life_model.specs.Rule.{Rule as ModelRule};
 ghost use Rattle.life_growth.specs.Unsplit.{AreClasses};
-ghost use Rattle.life_frames.specs.Frames.{AreFrames, AreGenerations, IsFilm, IsNextFrame, classes_at, frame_classes, parents_at};
+ghost use Rattle.life_frames.specs.Frames.{AreFrames, AreGenerations, AreParents, IsFilm, IsNextFrame, classes_at, parents_at};
 
 use crate::frame::{Frame, frame_before, last_frame};
 use life_cells::{CellList, Rule};
@@ -104,7 +104,9 @@ impl Film {
     /// For each class of the generation after a generation, in their order, the place of the class of this one that bears
     /// it; none of the last generation.
     pub fn parents(&self, t: usize) -> &[usize]
-        ensures { t < length self.now.frames.items → result.now ≡ parents_at self.now t }
+        ensures lent { t < length self.now.frames.items → result.now ≡ parents_at self.now t }
+        ensures parents { (R : ModelRule) (G : Generation) (T : ℕ) → IsFilm R G T self.now → t < T →
+            AreParents R (classes_at self.now t) (classes_at self.now (t + 1)) result.now }
     {
         if t >= self.frames.len() {
             return &[];

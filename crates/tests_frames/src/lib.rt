@@ -1,0 +1,5 @@
+//! Tests of the classes of films.
+#![tactic(auto)]
+
+#[cfg(test)]
+mod films;
