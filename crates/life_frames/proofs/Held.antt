@@ -3,8 +3,8 @@ use Rattle.std.proofs.Common.{◌≡◌, ℕ, ◌+◌, ◌<◌, ◌≤◌, true,
 use Rattle.std.proofs.lemmas.Bool.{cases_lt}
 use Rattle.std.proofs.lemmas.List.{get_or_default, get_or_append_left, get_or_push}
 use Rattle.std.proofs.lemmas.List.Folds.{Any-from_list_any}
-use Rattle.life_model.specs.Cell.{Cell, origin}
-use Rattle.life_model.specs.Generation.{Generation, cells, contains, empty}
+use Rattle.life_model.specs.Cell.{Cell}
+use Rattle.life_model.specs.Generation.{Generation, contains, empty}
 use Rattle.life_objects.specs.Union.{union_of}
 use Rattle.life_objects.proofs.Unions.{contains-union_of}
 use Rattle.life_frames.specs.Frames.{IsBeside}

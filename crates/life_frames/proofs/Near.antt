@@ -1,13 +1,13 @@
 -- The near pieces of a set, without those that have no cell.
-use Rattle.std.proofs.Common.{◌≡◌, ◌≢◌, ℕ, ◌==◌, Bool, true, false, not, List, [], ◌∷◌, filter, map, cond, inl, inr, sym, refl, ap, subst, ◌∙◌, true≢false, arith, eq-eqb, eqb-true}
-use Rattle.std.specs.List.{All, AllPairs}
+use Rattle.std.proofs.Common.{◌≡◌, ◌≢◌, ◌==◌, Bool, true, false, not, List, [], ◌∷◌, map, cond, inl, inr, sym, refl, ap, subst, ◌∙◌, true≢false, arith, eq-eqb, eqb-true}
+use Rattle.std.specs.List.{All}
 use Rattle.std.proofs.lemmas.Bool.{cases_Bool}
 use Rattle.std.proofs.lemmas.List.Elements.{All-cons, All-filter, All-map, All-nil}
 use Rattle.std.proofs.lemmas.List.Kept.{AllPairs-filter}
 use Rattle.life_model.specs.Cell.{Cell}
 use Rattle.life_model.specs.Rule.{Rule}
-use Rattle.life_model.specs.Generation.{Generation, cells, contains, empty, size}
-use Rattle.life_model.proofs.Generations.{same_members, size-cells, size-empty}
+use Rattle.life_model.specs.Generation.{Generation, cells, empty, size}
+use Rattle.life_model.proofs.Generations.{size-cells, size-empty}
 use Rattle.life_model.proofs.Moves.{nothing_or_some}
 use Rattle.life_objects.specs.Apart.{AreApartFor}
 use Rattle.life_objects.specs.Union.{union, union_of}

@@ -1,7 +1,6 @@
 -- Roots stay where numbers go further up.
-use Rattle.std.proofs.Common.{◌≡◌, ◌⊎◌, ℕ, true, ◌<◌, ◌≤◌, List, length, length-set, get_or, inl, inr, sym, refl, ap, ◌∙◌, arith}
+use Rattle.std.proofs.Common.{◌≡◌, ℕ, true, ◌<◌, List, length, length-set, get_or, inl, inr, sym, refl, ap, ◌∙◌, arith}
 use Rattle.std.proofs.Math.ListN.{set}
-use Rattle.std.specs.List.{sum}
 use Rattle.std.proofs.lemmas.List.{get_or_default}
 use Rattle.life_islands.specs.Forest.{IsJoined, root}
 use Rattle.life_islands.proofs.Forests.{root-root, root-set_within, root-up, sum-set-le}

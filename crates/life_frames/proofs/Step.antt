@@ -1,10 +1,10 @@
 -- Places that are joined make up the classes of a generation, told by those of the next one.
-use Rattle.std.proofs.Common.{◌≡◌, ◌⊎◌, ℕ, ◌<◌, true, List, ◌++◌, length, get_or, inl, inr, sym, refl, ap, subst, ◌∙◌, zero-add, arith}
+use Rattle.std.proofs.Common.{◌≡◌, ℕ, ◌<◌, true, List, ◌++◌, length, get_or, inl, inr, sym, refl, ap, subst, ◌∙◌, zero-add, arith}
 use Rattle.std.specs.List.{AllPairs, Contains, range_with_len}
 use Rattle.std.proofs.lemmas.Bool.{cases_lt}
 use Rattle.std.proofs.lemmas.List.Elements.{Contains-append_cases, Contains-append_left, Contains-append_right, Contains-get_or}
 use Rattle.std.proofs.lemmas.List.FromFn.{get_or-range_with_len, length-range_with_len}
-use Rattle.life_model.specs.Cell.{Cell, IsNear, origin}
+use Rattle.life_model.specs.Cell.{Cell, origin}
 use Rattle.life_model.specs.Rule.{Rule}
 use Rattle.life_model.specs.Generation.{Generation, cells, contains, empty}
 use Rattle.life_model.specs.Evolution.{generation, next}
@@ -12,7 +12,6 @@ use Rattle.life_model.proofs.Near.{next_near}
 use Rattle.life_objects.specs.Apart.{AreApart, AreApartFor, AreDisjoint, AreNear}
 use Rattle.life_objects.specs.Union.{IsSubsetOf, union_of}
 use Rattle.life_objects.proofs.Distances.{AreApart-swap, near_through}
-use Rattle.life_objects.proofs.Dividing.{AreApartFor-swap}
 use Rattle.life_objects.proofs.Lists.{AllPairs-weaker, related_or_same}
 use Rattle.life_objects.proofs.Many.{next-union_of}
 use Rattle.life_objects.proofs.Members.{found_in, found_now, in_list_now}
@@ -24,7 +23,7 @@ use Rattle.life_islands.specs.Forest.{root}
 use Rattle.life_islands.specs.Labels.{AreThoseWithCells, joined_sets, mark_of}
 use Rattle.life_islands.proofs.Forests.{root-le}
 use Rattle.life_islands.proofs.Labelled.{in_set, listed_cell, mark-at, of_listed, of_set, place_in_list, sets_make_up}
-use Rattle.life_frames.specs.Bearers.{IsBearer, IsTouched}
+use Rattle.life_frames.specs.Bearers.{IsBearer}
 use Rattle.life_frames.specs.Frames.{AreParents, IsBeside, IsParent}
 use Rattle.life_frames.specs.Ties.{AreTied, AreTouched, IsJoined, JoinsTied}
 use Rattle.life_frames.specs.Ties as ties
@@ -128,9 +127,12 @@ module _ (G : Generation) (forest : List ℕ) (long : length forest ≡ length (
           (N : Generation) × Contains pieces N × (contains N (get_or (cells G) m origin) ≡ true) × (contains (next R N) q ≡ true)
       bears_cell Q one q m h bears =
           let c = get_or (cells G) m origin in
-          let N = piece_of c (cell_there m bears.within) in
-          (N.0, N.1, N.2,
-          owner R pieces pieces_apart N.0 N.1 q c (ap (λ H. contains (next R H) q) near.together ∙ in_next Q one q h) N.2 bears.near)
+          let N = piece_of c (cell_there m bears.within) in (
+            N.0,
+            N.1,
+            N.2,
+            owner R pieces pieces_apart N.0 N.1 q c (ap (λ H. contains (next R H) q) near.together ∙ in_next Q one q h) N.2 bears.near,
+          )
 
       linked_by : (m k : ℕ) → AreTied G (pieces ++ Qs) m k →
           AreLinked R pieces Qs (get_or (cells G) m origin) (get_or (cells G) k origin)

@@ -1,5 +1,5 @@
 -- Forests that join places of a generation, and no more than is tied.
-use Rattle.std.proofs.Common.{◌≡◌, ◌⊎◌, ℕ, ◌+◌, ◌<◌, ◌≤◌, true, List, [], length, get_or, inl, inr, sym, refl, ap, subst, ◌∙◌, arith}
+use Rattle.std.proofs.Common.{◌≡◌, ℕ, ◌+◌, ◌<◌, ◌≤◌, true, List, length, get_or, inl, inr, sym, refl, ap, subst, ◌∙◌, arith}
 use Rattle.std.specs.List.{Contains, range_with_len}
 use Rattle.std.proofs.lemmas.Bool.{cases_lt}
 use Rattle.std.proofs.lemmas.List.{get_or_default}
@@ -11,7 +11,7 @@ use Rattle.life_islands.specs.Forest.{root}
 use Rattle.life_islands.proofs.Forests.{root-past, root-stays}
 use Rattle.life_islands.proofs.Labelled.{place_in_list}
 use Rattle.life_frames.specs.Bearers.{IsBearer}
-use Rattle.life_frames.specs.Ties.{AreBorneAsOne, AreSameRoots, AreTied, HasRootOf, IsFurther, IsJoined, IsUnited, JoinsTied, bearing, itself, swapped, through}
+use Rattle.life_frames.specs.Ties.{AreSameRoots, AreTied, HasRootOf, IsFurther, IsJoined, IsUnited, JoinsTied, bearing, itself, swapped, through}
 
 -- what was read from a list is in it
 pub contained : (Ss : List Generation) (n : ℕ) (S : Generation) → n < length Ss → S ≡ get_or Ss n S → Contains Ss S
@@ -75,7 +75,7 @@ module _ (G : Generation) where
       IsJoined G g (get_or Ss k empty)
   one_more_joined f g Ss n S inside is further one all k below = elim (cases_lt k n) [
     | inl before ↦ joined_still f g (get_or Ss k empty) further (all k before)
-    | inr past ↦ 
+    | inr past ↦
         let here : n ≡ k = omega arith in
         let same : S ≡ get_or Ss n empty = is ∙ get_or_default Ss n S empty inside in
         subst (λ j. IsJoined G g (get_or Ss j empty)) here (subst (IsJoined G g) same one)

@@ -1,8 +1,8 @@
 -- Places of cells that are tied by sets, and forests that join them.
-use Rattle.std.specs.Prelude.{◌≡◌, ◌⊎◌, ℕ, ◌<◌, ◌≤◌, true, List, length, get_or}
+use Rattle.std.specs.Prelude.{◌≡◌, ◌⊎◌, ℕ, ◌≤◌, true, List, length}
 use Rattle.std.specs.List.{Contains, sum}
 use Rattle.life_model.specs.Cell.{Cell}
-use Rattle.life_model.specs.Generation.{Generation, cells, contains}
+use Rattle.life_model.specs.Generation.{Generation, contains}
 use Rattle.life_islands.specs.Forest.{AreAs, root}
 use Rattle.life_frames.specs.Bearers.{IsBearer, IsTouched}
 

@@ -32,11 +32,7 @@ pub fn last_frame(alloc: Global, list: &CellList) -> Result<Frame, AllocError>
 
 /// A generation, where these are the classes of the next one: its near pieces, joined wherever they bear cells of one of
 /// these.
-pub fn frame_before(
-    alloc: Global,
-    list: &CellList,
-    later: &[CellList],
-) -> Result<Frame, AllocError>
+pub fn frame_before(alloc: Global, list: &CellList, later: &[CellList]) -> Result<Frame, AllocError>
     requires { (R : Rule) × (b : ℕ) × AreClasses R b (next R list.now) later.now }
     ensures classes { IfOk result (λ frame. (R : Rule) (b : ℕ) → AreClasses R b (next R list.now) later.now →
         AreClasses R (b + 1) list.now frame.classes.items) }

@@ -133,11 +133,7 @@ const GUN: &[(i32, i32)] = &[
 ];
 
 /// Cells, up to which generation the film goes, and how many classes some of its generations have.
-type Case = (
-    &'static [(i32, i32)],
-    u32,
-    &'static [(usize, usize)],
-);
+type Case = (&'static [(i32, i32)], u32, &'static [(usize, usize)]);
 
 const CASES: &[Case] = &[
     (PARTING, 12, &[(0, 2), (6, 2), (12, 2)]),
@@ -156,7 +152,10 @@ fn are_same(found: &[CellList], wanted: &[life_classes::Class]) -> bool {
     let mut count = 0usize;
     for class in wanted {
         if !class.first.is_empty() {
-            if !found.iter().any(|set| set.as_slice() == class.first.as_slice()) {
+            if !found
+                .iter()
+                .any(|set| set.as_slice() == class.first.as_slice())
+            {
                 return false;
             }
             count = count.saturating_add(1);
@@ -167,7 +166,10 @@ fn are_same(found: &[CellList], wanted: &[life_classes::Class]) -> bool {
 
 /// Whether the cells are all among those of a set.
 fn are_among(cells: &CellList, set: &CellList) -> bool {
-    cells.as_slice().iter().all(|cell| set.as_slice().contains(cell))
+    cells
+        .as_slice()
+        .iter()
+        .all(|cell| set.as_slice().contains(cell))
 }
 
 #[test]

@@ -1,7 +1,5 @@
-use Rattle.std.proofs.Common.{◌≡◌, get_or, sym, ap, subst, ◌∙◌, arith}
+use Rattle.std.proofs.Common.{arith}
 use Rattle.std.proofs.lemmas.Int.{ints}
-use Rattle.life_model.specs.Cell.{origin}
-use Rattle.life_classes.specs.Tags.{place_number}
 use Rattle.life_frames.proofs.Beside.{none_between}
 use Rattle.life_frames.proofs.bearers.first_between.Goals as goal
 

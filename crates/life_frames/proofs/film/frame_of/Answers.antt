@@ -18,9 +18,9 @@ frame_before-requires c =
       R,
       length fs - 1,
       subst (AreClasses R (length fs - 1) (next R c.args.list.now))
-      (sym (c.as_slice.ensures.value ∙ ap (λ (f : Frame). f.classes.items) (sym c.index-frames-count.is)))
-      (classes_later R c.requires.1 c.requires.2 fs c.args.list.now c.index-frames-count.result c.requires.3 c.requires.4 c.requires.5
-      some c.index-frames-count.is),
+          (sym (c.as_slice.ensures.value ∙ ap (λ (f : Frame). f.classes.items) (sym c.index-frames-count.is)))
+          (classes_later R c.requires.1 c.requires.2 fs c.args.list.now c.index-frames-count.result c.requires.3 c.requires.4 c.requires.5
+          some c.index-frames-count.is),
     )
 
 pub returns : goal.returns

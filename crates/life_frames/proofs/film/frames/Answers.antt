@@ -1,4 +1,4 @@
-use Rattle.std.proofs.Common.{◌≡◌, ◌+◌, ◌-◌, ◌≤◌, length, sym, refl, ap, subst, ◌∙◌, arith}
+use Rattle.std.proofs.Common.{◌≡◌, ◌-◌, ◌≤◌, length, sym, ap, subst, ◌∙◌, arith}
 use Rattle.std.proofs.lemmas.List.{length_push}
 use Rattle.life_model.specs.Evolution.{generation}
 use Rattle.life_frames.specs.Frames.{AreFrames, IsNextFrame}
@@ -18,12 +18,15 @@ frame_of-requires c =
     let count = at.count in
     let whole = gens.count in
     let long = ap length c.in-Some.ensures.items ∙ length_push less c.in-Some.list in
-    let place : length less ≡ T - length fs = omega arith in
-    (R, G, T,
-    subst (λ gs. AreFrames R G T (length gs) gs) (sym c.as_slice.ensures.value) (at.made R G T gens),
-    subst (λ gs. length gs ≤ T) (sym c.as_slice.ensures.value) (omega arith),
-    subst (λ gs. c.in-Some.list ≡ generation R G (T - length gs)) (sym c.as_slice.ensures.value)
-    (last_left R G all less c.in-Some.list c.in-Some.ensures.items (at.left R G T gens) ∙ ap (generation R G) place))
+    let place : length less ≡ T - length fs = omega arith in (
+      R,
+      G,
+      T,
+      subst (λ gs. AreFrames R G T (length gs) gs) (sym c.as_slice.ensures.value) (at.made R G T gens),
+      subst (λ gs. length gs ≤ T) (sym c.as_slice.ensures.value) (omega arith),
+      subst (λ gs. c.in-Some.list ≡ generation R G (T - length gs)) (sym c.as_slice.ensures.value)
+          (last_left R G all less c.in-Some.list c.in-Some.ensures.items (at.left R G T gens) ∙ ap (generation R G) place),
+    )
 
 pub loop-list-preserved : goal.loop-list-preserved
 loop-list-preserved c =

@@ -1,4 +1,3 @@
-use Rattle.std.proofs.Common.{◌≡◌, sym, ap, ◌∙◌, arith}
 use Rattle.life_frames.proofs.Roots.{root_still, same_roots}
 use Rattle.life_frames.proofs.forest.join.Goals as goal
 

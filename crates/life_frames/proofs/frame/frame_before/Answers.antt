@@ -1,4 +1,4 @@
-use Rattle.std.proofs.Common.{◌≡◌, ℕ, ◌<◌, length, get_or, sym, subst, ◌∙◌, ap, add-one}
+use Rattle.std.proofs.Common.{ℕ, ◌<◌, length, get_or, sym, subst, ◌∙◌, ap, add-one}
 use Rattle.std.specs.List.{Contains}
 use Rattle.life_model.specs.Generation.{empty}
 use Rattle.life_objects.specs.Union.{union_of}

@@ -1,4 +1,4 @@
-use Rattle.std.proofs.Common.{get_or, sym, arith}
+use Rattle.std.proofs.Common.{get_or, arith}
 use Rattle.life_model.specs.Cell.{origin}
 use Rattle.life_islands.proofs.Labelled.{listed_cell}
 use Rattle.life_frames.proofs.Tying.{further_through, further_united, joined_by_root, joined_of_none, one_more_rooted, tied_more}

@@ -1,4 +1,4 @@
-use Rattle.std.proofs.Common.{◌≡◌, length, sym, ap, ◌∙◌, arith}
+use Rattle.std.proofs.Common.{length, ap, ◌∙◌}
 use Rattle.std.proofs.lemmas.List.FromFn.{length-range_with_len}
 use Rattle.life_model.proofs.Generations.{size-cells}
 use Rattle.life_frames.proofs.Tying.{further_same, further_through, joined_still, tied_at_first, tied_same}

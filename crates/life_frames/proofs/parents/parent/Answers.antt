@@ -1,6 +1,6 @@
-use Rattle.std.proofs.Common.{◌≡◌, ◌<◌, length, get_or, sym, ap, subst, ◌∙◌, arith}
+use Rattle.std.proofs.Common.{◌<◌, length, get_or, sym, ap, subst, ◌∙◌, arith}
 use Rattle.life_model.specs.Cell.{origin}
-use Rattle.life_model.specs.Generation.{cells, contains, empty}
+use Rattle.life_model.specs.Generation.{contains, empty}
 use Rattle.life_model.proofs.Generations.{size-cells}
 use Rattle.life_islands.proofs.Labelled.{listed_cell}
 use Rattle.life_frames.proofs.Near.{none_is_empty}
