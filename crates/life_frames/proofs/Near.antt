@@ -2,7 +2,7 @@
 use Rattle.std.proofs.Common.{◌≡◌, ◌≢◌, ◌==◌, Bool, true, false, not, List, [], ◌∷◌, map, cond, inl, inr, sym, refl, ap, subst, ◌∙◌, true≢false, arith, eq-eqb, eqb-true}
 use Rattle.std.specs.List.{All}
 use Rattle.std.proofs.lemmas.Bool.{cases_Bool}
-use Rattle.std.proofs.lemmas.List.Elements.{All-cons, All-filter, All-map, All-nil}
+use Rattle.std.proofs.lemmas.List.Elements.{All-filter, All-map, All-weaker, filter_passes}
 use Rattle.std.proofs.lemmas.List.Kept.{AllPairs-filter}
 use Rattle.life_model.specs.Cell.{Cell}
 use Rattle.life_model.specs.Rule.{Rule}
@@ -47,7 +47,7 @@ has_cell P e gone =
 chosen : (b : Bool) (P : Generation) (Ps : List Generation) → some_cell P ≡ b → with_cells (P ∷ Ps) ≡ cond b (P ∷ with_cells Ps) (with_cells Ps)
 chosen b P Ps e = ap (λ t. cond t (P ∷ with_cells Ps) (with_cells Ps)) e
 
-pub union-with_cells : (Ps : List Generation) → union_of (with_cells Ps) ≡ union_of Ps
+union-with_cells : (Ps : List Generation) → union_of (with_cells Ps) ≡ union_of Ps
 union-with_cells [] = refl
 union-with_cells (P ∷ Ps) = elim (cases_Bool (some_cell P)) [
   | inl some ↦ ap union_of (chosen true P Ps some) ∙ ap (union P) (union-with_cells Ps)
@@ -56,14 +56,9 @@ union-with_cells (P ∷ Ps) = elim (cases_Bool (some_cell P)) [
       ∙ union-comm (union_of Ps) empty ∙ ap (λ H. union H (union_of Ps)) (sym (no_cell P none))
 ]
 
-pub some-with_cells : (Ps : List Generation) → All (λ P. P ≢ empty) (with_cells Ps)
-some-with_cells [] = All-nil (λ P. P ≢ empty)
-some-with_cells (P ∷ Ps) = elim (cases_Bool (some_cell P)) [
-  | inl some ↦
-      subst (All (λ P. P ≢ empty)) (sym (chosen true P Ps some))
-      (All-cons (λ P. P ≢ empty) P (with_cells Ps) (has_cell P some) (some-with_cells Ps))
-  | inr none ↦ subst (All (λ P. P ≢ empty)) (sym (chosen false P Ps none)) (some-with_cells Ps)
-]
+some-with_cells : (Ps : List Generation) → All (λ P. P ≢ empty) (with_cells Ps)
+some-with_cells Ps =
+    All-weaker (λ P. some_cell P ≡ true) (λ P. P ≢ empty) has_cell (with_cells Ps) (filter_passes some_cell Ps)
 
 -- the pieces that are led to
 pub pieces_are : (G : Generation) (cs : List Cell) (ds : List Class) → cs ≡ cells G →
