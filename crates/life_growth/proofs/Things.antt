@@ -14,7 +14,7 @@ use Rattle.life_model.proofs.Moves.{moved-moved, moved-origin}
 use Rattle.life_model.proofs.Recurrences.{generation-add}
 use Rattle.life_model.proofs.Symmetries.{contains-moved, generation-moved}
 use Rattle.life_objects.specs.Apart.{AreApart, AreApartForEver}
-use Rattle.life_objects.specs.Ash.{HasFallenApart}
+use Rattle.life_objects.specs.Ash.{HasFallenApart, IsAsh}
 use Rattle.life_objects.specs.Drift.{multiple_of}
 use Rattle.life_objects.specs.Union.{IsSubsetOf, generations, union, union_of}
 use Rattle.life_objects.proofs.Unions.{in_union}
@@ -29,17 +29,17 @@ use Rattle.life_growth.specs.Engine.{IsEngine, Way}
 use Rattle.life_growth.specs.Onward.{LeavesCores, LeavesLefts, endless}
 use Rattle.life_growth.proofs.Endless.{at_product, goes_on}
 use Rattle.life_growth.proofs.Pieces.{core_in, cores_then, left_in, lefts_then, made_of_pieces, olds, olds-are, starts}
-use Rattle.life_growth.specs.Things.{IsEngineThing, IsMadeOf, IsSettledThing, NeverMeet, NeverMeetAgain, Thing, a_period_later, core_thing, left_once, left_thing, move_of, set_then, time_of, time_then}
+use Rattle.life_growth.specs.Things.{AreThingsOfLefts, IsEngineThing, IsMadeOf, IsSettledThing, NeverMeet, NeverMeetAgain, Thing, a_period_later, core_thing, left_once, left_thing, lefts_within, move_of, set_then, time_of, time_then}
 
 module _ (R : Rule) where
   -- ---- what falls apart
 
-  module _ (b : ℕ) (P : Generation) (parts : List Generation) (fallen : HasFallenApart R b P parts) where
+  module _ (a b : ℕ) (P : Generation) (parts : List Generation) (ash : IsAsh R b (generation R P a) parts) where
     abbrev H : Generation
-    H = generation R P b
+    H = generation R P a
 
     abbrev IsIts : Thing → Type 0
-    IsIts = IsSettledThing R b P parts
+    IsIts = IsSettledThing R a P parts
 
     early_within : (m : ℕ) (often : List ℕ) →
         IsSubsetOf (translate_of (generation R P m) origin) (generation R P (m + 0))
@@ -49,14 +49,14 @@ module _ (R : Rule) where
 
     -- a phase of a part, moved so often, is in the generation of that time
     part_within_then : (part : Generation) → Contains parts part → (q : ℕ) (e : Cell) (m : ℕ) → RecursBy R part q e →
-        (k : ℕ) → IsSubsetOf (translate_of (generation R part m) (multiple_of k e)) (generation R P ((b + m) + k * q))
+        (k : ℕ) → IsSubsetOf (translate_of (generation R part m) (multiple_of k e)) (generation R P ((a + m) + k * q))
     part_within_then part one q e m again k c h =
         let later : generation R part (k * q + m) ≡ translate_of (generation R part m) (multiple_of k e) =
         sym (generation-add R part (k * q) m) ∙ ap (λ K. generation R K m) (generation-times R part q e again k)
         ∙ generation-moved R part (multiple_of k e) m in
-        ap (λ K. contains K c) (ap (generation R P) (let z : (b + m) + k * q ≡ b + (k * q + m) = omega arith in z)
-        ∙ sym (generation-add R P b (k * q + m)))
-        ∙ in_whole R b H parts fallen part one (k * q + m) c (ap (λ K. contains K c) later ∙ h)
+        ap (λ K. contains K c) (ap (generation R P) (let z : (a + m) + k * q ≡ a + (k * q + m) = omega arith in z)
+        ∙ sym (generation-add R P a (k * q + m)))
+        ∙ in_whole R b H parts ash part one (k * q + m) c (ap (λ K. contains K c) later ∙ h)
 
     moved_none : (A : Generation) (d : Cell) → translate_of A (plus d origin) ≡ translate_of A d
     moved_none A d =
@@ -65,12 +65,12 @@ module _ (R : Rule) where
     part_often : (part : Generation) → Contains parts part → (q : ℕ) (e : Cell) (m : ℕ) → RecursBy R part q e →
         (often : List ℕ) →
         IsSubsetOf (translate_of (generation R part m) (move_of ((q, e) ∷ []) often))
-        (generation R P ((b + m) + time_of ((q, e) ∷ []) often))
+        (generation R P ((a + m) + time_of ((q, e) ∷ []) often))
     part_often part one q e m again [] c h =
-        ap (λ K. contains K c) (ap (generation R P) (let z : (b + m) + 0 ≡ (b + m) + 0 * q = omega arith in z))
+        ap (λ K. contains K c) (ap (generation R P) (let z : (a + m) + 0 ≡ (a + m) + 0 * q = omega arith in z))
         ∙ part_within_then part one q e m again 0 c h
     part_often part one q e m again (k ∷ often) c h =
-        ap (λ K. contains K c) (ap (generation R P) (let z : (b + m) + (k * q + 0) ≡ (b + m) + k * q = omega arith in z))
+        ap (λ K. contains K c) (ap (generation R P) (let z : (a + m) + (k * q + 0) ≡ (a + m) + k * q = omega arith in z))
         ∙ part_within_then part one q e m again k c
         (ap (λ K. contains K c) (sym (moved_none (generation R part m) (multiple_of k e))) ∙ h)
 
@@ -79,10 +79,10 @@ module _ (R : Rule) where
     settled_each thing it often =
         elim it [
           | inl x ↦
-              subst (λ (a : Thing). IsSubsetOf (set_then a often) (generation R P (time_then a often))) (sym x.2)
+              subst (λ (X : Thing). IsSubsetOf (set_then X often) (generation R P (time_then X often))) (sym x.2)
               (early_within x.0 often)
           | inr y ↦
-              subst (λ (a : Thing). IsSubsetOf (set_then a often) (generation R P (time_then a often))) (sym y.7)
+              subst (λ (X : Thing). IsSubsetOf (set_then X often) (generation R P (time_then X often))) (sym y.7)
               (part_often y.0 y.1 y.2 y.3 y.4 y.5 often)
         ]
 
@@ -90,7 +90,7 @@ module _ (R : Rule) where
         (thing : Thing) × IsIts thing × (often : List ℕ) × (time_then thing often ≡ t) ×
         (contains (set_then thing often) c ≡ true)
     settled_all t c h =
-        elim (cases_lt t b) [
+        elim (cases_lt t a) [
           | inl early ↦ (
             record { time = t; set = generation R P t; ways = [] },
             inl (t, early, refl),
@@ -99,16 +99,16 @@ module _ (R : Rule) where
             ap (λ K. contains K c) (moved-origin (generation R P t)) ∙ h,
           )
           | inr not_early ↦
-              let m : ℕ = t - b in
+              let m : ℕ = t - a in
               let there : contains (union_of (generations R parts m)) c ≡ true =
-              ap (λ K. contains K c) (sym (list_ever R m parts fallen.apart)
-              ∙ ap (λ K. generation R K m) fallen.together ∙ generation-add R P b m
-              ∙ ap (generation R P) (let z : b + m ≡ t = omega arith in z)) ∙ h in
+              ap (λ K. contains K c) (sym (list_ever R m parts ash.apart)
+              ∙ ap (λ K. generation R K m) ash.together ∙ generation-add R P a m
+              ∙ ap (generation R P) (let z : a + m ≡ t = omega arith in z)) ∙ h in
               let Q = found_in R m parts c there in
-              let again = (object_of R b H parts fallen Q.0 Q.1).recurs in
+              let again = (object_of R b H parts ash Q.0 Q.1).recurs in
               let q : ℕ = again.steps in
               let e : (m / q) * q + m % q ≡ m = div-add-mod' m q in (
-                record { time = b + m % q; set = generation R Q.0 (m % q); ways = (q, again.by) ∷ [] },
+                record { time = a + m % q; set = generation R Q.0 (m % q); ways = (q, again.by) ∷ [] },
                 inr (Q.0, Q.1, q, again.by, m % q, again.recurs, mod-lt m again.recurs.later, refl),
                 m / q ∷ [],
                 omega arith,
@@ -119,6 +119,11 @@ module _ (R : Rule) where
 
     pub settled_is_made : IsMadeOf R P IsIts
     settled_is_made = record { each = settled_each; all = settled_all }
+
+  pub lefts_are_made : (b : ℕ) (way : Way) (ashes : ℕ → List Generation) →
+      ((n : ℕ) → n < way.period → HasFallenApart R b (way.left n) (ashes n)) →
+      AreThingsOfLefts R way (lefts_within R b way ashes)
+  lefts_are_made b way ashes fallen n h = settled_is_made b b (way.left n) (ashes n) (fallen n h)
 
   -- ---- what things tell
 
@@ -180,8 +185,8 @@ once_more A d m x =
     moved-moved A d (plus m x)
     ∙ ap (translate_of A) (let z : plus d (plus m x) ≡ plus (plus m d) x = pair (omega (arith, ints)) (omega (arith, ints)) in z)
 
-module _ (R : Rule) (b : ℕ) (way : Way) (later : 1 ≤ way.period) (ashes : ℕ → List Generation)
-    (fallen : (n : ℕ) → n < way.period → HasFallenApart R b (way.left n) (ashes n)) where
+module _ (R : Rule) (way : Way) (later : 1 ≤ way.period) (IsLeft : ℕ → Thing → Type 0)
+    (made : AreThingsOfLefts R way IsLeft) where
   abbrev p : ℕ
   p = way.period
 
@@ -193,9 +198,6 @@ module _ (R : Rule) (b : ℕ) (way : Way) (later : 1 ≤ way.period) (ashes : �
 
   abbrev left : ℕ → Generation
   left = (endless way).left
-
-  abbrev IsLeft : ℕ → Thing → Type 0
-  IsLeft n = IsSettledThing R b (way.left n) (ashes n)
 
   -- ---- where the things of a way stand
 
@@ -237,7 +239,7 @@ module _ (R : Rule) (b : ℕ) (way : Way) (later : 1 ≤ way.period) (ashes : �
         λ c x.
             ap (λ K. contains K c) (sym (left_stands n o.first m h))
             ∙ translate_within (set_then it o.others) (generation R (way.left n) m) (multiple_of o.first d)
-            ((settled_is_made R b (way.left n) (ashes n) (fallen n h)).each it is o.others) c
+            ((made n h).each it is o.others) c
             (ap (λ K. contains K c) (sym (ap (translate_of it.set) o.moves
             ∙ moved_in_turn it.set (multiple_of o.first d) (move_of it.ways o.others))) ∙ x),
       )
@@ -251,7 +253,7 @@ module _ (R : Rule) (b : ℕ) (way : Way) (later : 1 ≤ way.period) (ashes : �
       let by : Cell = multiple_of (n / p) d in
       let within : r < p = mod-lt n later in
       let back = plus c (opposite by) in
-      let found = settled_all R b (way.left r) (ashes r) (fallen r within) m back
+      let found = (made r within).all m back
       (sym (contains-moved (generation R (way.left r) m) by c)
       ∙ ap (λ K. contains K c) (sym (left_wrapped n m)) ∙ h) in (
         found.0,
@@ -264,17 +266,17 @@ module _ (R : Rule) (b : ℕ) (way : Way) (later : 1 ≤ way.period) (ashes : �
 
   -- ---- what leaves never comes near again
 
-  pub leaves_cores_by_things : NeverMeetAgain R b way ashes → LeavesCores R way
+  pub leaves_cores_by_things : NeverMeetAgain way IsLeft → LeavesCores R way
   leaves_cores_by_things never n m h c q x y near =
       let at : ℕ = suc (n + m) in
-      let found = settled_all R b (way.left n) (ashes n) (fallen n h) m q y in
+      let found = (made n h).all m q y in
       let e : (at / p) * p + at % p ≡ at = div-add-mod' at p in
       let times : time_then found.0 found.2 ≡ m = found.3 in
       never.cores n (at % p) found.0 h (mod-lt at later) found.1 found.2 (at / p ∷ []) (omega arith) q c found.4
       (ap (λ K. contains K c) (moved_by_none (way.core (at % p)) (multiple_of (at / p) d)) ∙ x) (AreNear-swap c q near)
 
   -- some periods later, not at once
-  again_apart : NeverMeetAgain R b way ashes → (n r times : ℕ) → n < p → r ≤ n → n < r + times * p →
+  again_apart : NeverMeetAgain way IsLeft → (n r times : ℕ) → n < p → r ≤ n → n < r + times * p →
       (it other : Thing) → IsLeft n it → IsLeft r other → (often others : List ℕ) →
       time_then (left_once n it) often ≡ time_then (left_thing way r other) (times ∷ others) →
       AreApart (set_then (left_once n it) often) (set_then (left_thing way r other) (times ∷ others))
@@ -289,13 +291,13 @@ module _ (R : Rule) (b : ℕ) (way : Way) (later : 1 ≤ way.period) (ashes : �
       let z : (suc n + it.time) + time_of it.ways often
       ≡ ((suc r + other.time) + p) + (times * p + time_of other.ways others) = omega arith in z))
 
-  pub leaves_lefts_by_things : NeverMeetAgain R b way ashes → LeavesLefts R way
+  pub leaves_lefts_by_things : NeverMeetAgain way IsLeft → LeavesLefts R way
   leaves_lefts_by_things never n k m h some c q x y near =
       let at : ℕ = n + k in
       let r : ℕ = at % p in
       let e : (at / p) * p + r ≡ at = div-add-mod' at p in
       let within : r < p = mod-lt at later in
-      let one = settled_all R b (way.left n) (ashes n) (fallen n h) (k + m) c x in
+      let one = (made n h).all (k + m) c x in
       let two = left_found at m q y in
       let first : time_then one.0 one.2 ≡ k + m = one.3 in
       let second : time_then two.0 two.2 ≡ m = two.3 in
@@ -310,7 +312,7 @@ module _ (R : Rule) (b : ℕ) (way : Way) (later : 1 ≤ way.period) (ashes : �
 
   left_within : (n : ℕ) → n < p → (it : Thing) → IsLeft n it → (often : List ℕ) →
       IsSubsetOf (set_then (left_once n it) often) (generation R (way.left n) (time_then it often))
-  left_within n h it is often = (settled_is_made R b (way.left n) (ashes n) (fallen n h)).each it is often
+  left_within n h it is often = (made n h).each it is often
 
   later_apart : LeavesLefts R way → (n k : ℕ) (it other : Thing) → n < p → k < p → IsLeft n it → IsLeft k other →
       (often others : List ℕ) (j m : ℕ) (Y : Generation) → n < k + j * p →
@@ -339,10 +341,10 @@ module _ (R : Rule) (b : ℕ) (way : Way) (later : 1 ≤ way.period) (ashes : �
       (λ c x.
       ap (λ K. contains K c) (sym (left_stands k (suc j) m within))
       ∙ translate_within (set_then other others) (generation R (way.left k) m) (multiple_of (suc j) d)
-      ((settled_is_made R b (way.left k) (ashes k) (fallen k within)).each other too others) c
+      ((made k within).each other too others) c
       (ap (λ K. contains K c) (sym (moved_in_turn other.set (multiple_of (suc j) d) (move_of other.ways others))) ∙ x))
 
-  pub things_by_leaving : LeavesCores R way → LeavesLefts R way → NeverMeetAgain R b way ashes
+  pub things_by_leaving : LeavesCores R way → LeavesLefts R way → NeverMeetAgain way IsLeft
   things_by_leaving cores lefts = record {
     cores = λ n k it h l is often others e c q x y near.
         let then = core_thing_then k l others in
@@ -375,8 +377,8 @@ module _ (R : Rule) (b : ℕ) (way : Way) (later : 1 ≤ way.period) (ashes : �
 
 -- ---- of which things an engine is made
 
-module _ (R : Rule) (a b : ℕ) (E : Generation) (way : Way) (engine : IsEngine R a E way) (ashes : ℕ → List Generation)
-    (fallen : (n : ℕ) → n < way.period → HasFallenApart R b (way.left n) (ashes n)) where
+module _ (R : Rule) (a : ℕ) (E : Generation) (way : Way) (engine : IsEngine R a E way) (IsLeft : ℕ → Thing → Type 0)
+    (made : AreThingsOfLefts R way IsLeft) where
   abbrev period : ℕ
   period = way.period
 
@@ -397,21 +399,21 @@ module _ (R : Rule) (a b : ℕ) (E : Generation) (way : Way) (engine : IsEngine 
   core_thing_inside : (n : ℕ) → n < period → (often : List ℕ) →
       IsSubsetOf (set_then (core_thing way n) often) (generation R E (time_then (core_thing way n) often))
   core_thing_inside n h often c x =
-      let then = core_thing_then R b way engine.later ashes fallen n h often in
+      let then = core_thing_then R way engine.later IsLeft made n h often in
       ap (λ t. contains (generation R E t) c) then.1
       ∙ core_inside (n + then.0 * period) c (ap (λ K. contains K c) (sym then.2) ∙ x)
 
-  left_thing_inside : (n : ℕ) → n < period → (it : Thing) → IsSettledThing R b (way.left n) (ashes n) it →
+  left_thing_inside : (n : ℕ) → n < period → (it : Thing) → IsLeft n it →
       (often : List ℕ) →
       IsSubsetOf (set_then (left_thing way n it) often) (generation R E (time_then (left_thing way n it) often))
   left_thing_inside n h it is often c x =
-      let then = left_thing_then R b way engine.later ashes fallen n h it is often in
+      let then = left_thing_then R way engine.later IsLeft made n h it is often in
       let time : time_then (left_thing way n it) often ≡ (suc n + then.0 * period) + then.1 = then.2 in
       ap (λ t. contains (generation R E t) c)
       (let z : time_then (left_thing way n it) often ≡ suc (n + then.0 * period) + then.1 = omega arith in z)
       ∙ left_inside (n + then.0 * period) then.1 c (then.3 c x)
 
-  engine_each : (thing : Thing) → IsEngineThing R b way ashes thing → (often : List ℕ) →
+  engine_each : (thing : Thing) → IsEngineThing way IsLeft thing → (often : List ℕ) →
       IsSubsetOf (set_then thing often) (generation R E (time_then thing often))
   engine_each thing it often =
       elim it [
@@ -425,7 +427,7 @@ module _ (R : Rule) (a b : ℕ) (E : Generation) (way : Way) (engine : IsEngine 
 
   abbrev Found : ℕ → Cell → Type 0
   Found t c =
-      (thing : Thing) × IsEngineThing R b way ashes thing × (often : List ℕ) × (time_then thing often ≡ t) ×
+      (thing : Thing) × IsEngineThing way IsLeft thing × (often : List ℕ) × (time_then thing often ≡ t) ×
       (contains (set_then thing often) c ≡ true)
 
   core_is_found : (t : ℕ) (c : Cell) → contains (cores t) c ≡ true → Found t c
@@ -441,7 +443,7 @@ module _ (R : Rule) (a b : ℕ) (E : Generation) (way : Way) (engine : IsEngine 
   left_is_found : (n m : ℕ) (c : Cell) → contains (generation R (lefts n) m) c ≡ true → Found (suc n + m) c
   left_is_found n m c h =
       let e : (n / period) * period + n % period ≡ n = div-add-mod' n period in
-      let it = left_found R b way engine.later ashes fallen n m c h in
+      let it = left_found R way engine.later IsLeft made n m c h in
       let times : time_then it.0 it.2 ≡ m = it.3 in (
         left_thing way (n % period) it.0,
         inr (n % period, mod-lt n engine.later, it.0, it.1, refl),
@@ -454,9 +456,9 @@ module _ (R : Rule) (a b : ℕ) (E : Generation) (way : Way) (engine : IsEngine 
   engine_all t c h =
       let steps : (n : ℕ) → union (cores (suc n)) (lefts n) ≡ next R (cores n) =
       λ n. ((goes_on R a E way engine).leaves n).together in
-      let made = made_of_pieces R cores lefts steps (cores_then R a E way engine) (lefts_then R a E way engine) 0 t in
+      let pieces = made_of_pieces R cores lefts steps (cores_then R a E way engine) (lefts_then R a E way engine) 0 t in
       let there : contains (union (cores (0 + t)) (union_of (olds R cores lefts 0 t))) c ≡ true =
-      ap (λ K. contains K c) (sym made ∙ ap (λ K. generation R K t) (starts R a E way engine)) ∙ h in
+      ap (λ K. contains K c) (sym pieces ∙ ap (λ K. generation R K t) (starts R a E way engine)) ∙ h in
       elim (in_union (cores (0 + t)) (union_of (olds R cores lefts 0 t)) c there) [
         | inl x ↦ core_is_found t c (ap (λ n. contains (cores n) c) (let z : t ≡ 0 + t = omega arith in z) ∙ x)
         | inr y ↦
@@ -469,7 +471,7 @@ module _ (R : Rule) (a b : ℕ) (E : Generation) (way : Way) (engine : IsEngine 
             ∙ ap (λ K. contains K c) (sym old.same) ∙ X.2))
       ]
 
-  pub engine_is_made : IsMadeOf R E (IsEngineThing R b way ashes)
+  pub engine_is_made : IsMadeOf R E (IsEngineThing way IsLeft)
   engine_is_made = record { each = engine_each; all = engine_all }
 
 -- ---- only how far the one has gone beyond the other counts

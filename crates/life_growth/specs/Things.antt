@@ -49,12 +49,12 @@ pub record IsMadeOf (R : Rule) (P : Generation) (IsThing : Thing → Type 0) : T
       (thing : Thing) × IsThing thing × (often : List ℕ) × (time_then thing often ≡ t) ×
       (contains (set_then thing often) c ≡ true)
 
--- a thing of what falls apart into these parts: one of its first b generations, or a phase of a part
+-- a thing of what is ash of these parts from generation a on: one of the generations before, or a phase of a part
 abbrev pub IsSettledThing : Rule → ℕ → Generation → List Generation → Thing → Type 0
-IsSettledThing R b P parts thing =
-    ((m : ℕ) × (m < b) × (thing ≡ record { time = m; set = generation R P m; ways = [] }))
+IsSettledThing R a P parts thing =
+    ((m : ℕ) × (m < a) × (thing ≡ record { time = m; set = generation R P m; ways = [] }))
     ⊎ ((part : Generation) × Contains parts part × (q : ℕ) × (e : Cell) × (m : ℕ) × RecursBy R part q e × (m < q) ×
-    (thing ≡ record { time = b + m; set = generation R part m; ways = (q, e) ∷ [] }))
+    (thing ≡ record { time = a + m; set = generation R part m; ways = (q, e) ∷ [] }))
 
 -- the core of an engine at a step of its first period
 abbrev pub core_thing : Way → ℕ → Thing
@@ -79,19 +79,29 @@ a_period_later way thing = record {
   ways = thing.ways;
 }
 
--- a thing of an engine, with the parts of the ash of what leaves at each step: a core, or a thing of what leaves
-abbrev pub IsEngineThing : Rule → ℕ → Way → (ℕ → List Generation) → Thing → Type 0
-IsEngineThing R b way ashes thing =
+-- a thing of an engine, where these are things of what leaves at each step: a core, or a thing of what leaves
+abbrev pub IsEngineThing : Way → (ℕ → Thing → Type 0) → Thing → Type 0
+IsEngineThing way IsLeft thing =
     ((n : ℕ) × (n < way.period) × (thing ≡ core_thing way n))
-    ⊎ ((n : ℕ) × (n < way.period) × (it : Thing) × IsSettledThing R b (way.left n) (ashes n) it ×
-    (thing ≡ left_thing way n it))
+    ⊎ ((n : ℕ) × (n < way.period) × (it : Thing) × IsLeft n it × (thing ≡ left_thing way n it))
 
--- What leaves an engine never meets a core, nor what leaves later.
-pub record NeverMeetAgain (R : Rule) (b : ℕ) (way : Way) (ashes : ℕ → List Generation) : Type 0 where
-  pub cores : (n k : ℕ) (it : Thing) → n < way.period → k < way.period → IsSettledThing R b (way.left n) (ashes n) it →
+-- What leaves an engine never meets a core, nor what leaves later, where these are things of what leaves at each step.
+pub record NeverMeetAgain (way : Way) (IsLeft : ℕ → Thing → Type 0) : Type 0 where
+  pub cores : (n k : ℕ) (it : Thing) → n < way.period → k < way.period → IsLeft n it →
       NeverMeet (left_once n it) (core_thing way k)
-  pub later : (n k : ℕ) (it other : Thing) → n < k → k < way.period → IsSettledThing R b (way.left n) (ashes n) it →
-      IsSettledThing R b (way.left k) (ashes k) other → NeverMeet (left_once n it) (left_thing way k other)
-  pub again : (n k : ℕ) (it other : Thing) → n < way.period → k ≤ n → IsSettledThing R b (way.left n) (ashes n) it →
-      IsSettledThing R b (way.left k) (ashes k) other →
+  pub later : (n k : ℕ) (it other : Thing) → n < k → k < way.period → IsLeft n it → IsLeft k other →
+      NeverMeet (left_once n it) (left_thing way k other)
+  pub again : (n k : ℕ) (it other : Thing) → n < way.period → k ≤ n → IsLeft n it → IsLeft k other →
       NeverMeet (left_once n it) (a_period_later way (left_thing way k other))
+
+-- what leaves at each step is made of these things
+abbrev pub AreThingsOfLefts : Rule → Way → (ℕ → Thing → Type 0) → Type 0
+AreThingsOfLefts R way IsLeft = (n : ℕ) → n < way.period → IsMadeOf R (way.left n) (IsLeft n)
+
+-- the things of what leaves at each step, which falls apart within b into these parts
+abbrev pub lefts_within : Rule → ℕ → Way → (ℕ → List Generation) → ℕ → Thing → Type 0
+lefts_within R b way ashes n = IsSettledThing R b (way.left n) (ashes n)
+
+-- the things that a list has for each step
+abbrev pub listed : (ℕ → List Thing) → ℕ → Thing → Type 0
+listed lists n = Contains (lists n)

@@ -12,7 +12,7 @@ ghost use Rattle.life_model.specs.Recurrence.{RecursBy};
 ghost use Rattle.life_model.specs.Rule.{Rule};
 ghost use Rattle.life_model.specs.Symmetry.{translate_of};
 ghost use Rattle.life_objects.specs.Apart.{AreApart, AreApartForEver};
-ghost use Rattle.life_objects.specs.Ash.{HasFallenApart};
+ghost use Rattle.life_objects.specs.Ash.{HasFallenApart, IsAsh};
 ghost use Rattle.life_objects.specs.Drift.{multiple_of};
 ghost use Rattle.life_objects.specs.Kinds.{AreAlike, IsKind};
 ghost use Rattle.life_objects.specs.Union.{IsSubsetOf, generations, union, union_of};
@@ -20,7 +20,7 @@ ghost use Rattle.life_growth.specs.Engine.{Emits, FallsApart, IsEngine, Way};
 ghost use Rattle.life_growth.specs.Growth.{HasComeToGrowth, IsGrowth};
 ghost use Rattle.life_growth.specs.Onward.{AreNeverNear, IsCoreAfter, IsDebrisAfter, IsNeverNear, LeavesCores, LeavesLefts, debris_after, endless, onward};
 ghost use Rattle.life_growth.specs.Population.{HasBound, HasNoBound};
-ghost use Rattle.life_growth.specs.Things.{IsEngineThing, IsMadeOf, IsSettledThing, NeverMeet, NeverMeetAgain, Thing, move_of, time_then};
+ghost use Rattle.life_growth.specs.Things.{AreThingsOfLefts, IsEngineThing, IsMadeOf, IsSettledThing, NeverMeet, NeverMeetAgain, Thing, lefts_within, listed, move_of, time_then};
 ghost use Rattle.life_growth.specs.Told.{AreToldAlike, EmitsOver, emitted_by};
 ghost use Rattle.life_growth.specs.Unsplit.{AreClasses, IsUnsplit, Leaves};
 
@@ -230,16 +230,18 @@ pub fn what_never_comes_near_an_engine_stays_apart()
         IsEngine R c F other → AreApartForEver R E F ↔ AreNeverNear R way other }
 {}
 
-/// What falls apart, and an engine, is at each time all that its things have there: what falls apart its first
-/// generations and the phases of its parts, which come again and again, and an engine its cores and the things of what
-/// leaves, which come again after each period too.
+/// What becomes ash, and an engine, is at each time all that its things have there: what becomes ash its generations
+/// before it is, and the phases of its parts, which come again and again; and an engine its cores and the things of what
+/// leaves, which come again after each period too. So it is where what leaves is made of other things, as listed.
 pub fn a_growth_is_made_of_things()
-    ensures settled { (R : Rule) (b : ℕ) (P : Generation) (parts : List Generation) →
-        HasFallenApart R b P parts → IsMadeOf R P (IsSettledThing R b P parts) }
+    ensures settled { (R : Rule) (a b : ℕ) (P : Generation) (parts : List Generation) →
+        IsAsh R b (generation R P a) parts → IsMadeOf R P (IsSettledThing R a P parts) }
     ensures engine { (R : Rule) (b c : ℕ) (E : Generation) (way : Way) (ashes : ℕ → List Generation) →
         IsEngine R b E way →
         ((n : ℕ) → n < way.period → HasFallenApart R c (way.left n) (ashes n)) →
-        IsMadeOf R E (IsEngineThing R c way ashes) }
+        IsMadeOf R E (IsEngineThing way (lefts_within R c way ashes)) }
+    ensures listed { (R : Rule) (b : ℕ) (E : Generation) (way : Way) (lists : ℕ → List Thing) →
+        IsEngine R b E way → AreThingsOfLefts R way (listed lists) → IsMadeOf R E (IsEngineThing way (listed lists)) }
 {}
 
 /// Two engines, or an engine and what falls apart, stay apart for ever exactly where the things of the one and the things
@@ -249,21 +251,24 @@ pub fn things_tell_what_stays_apart()
         IsEngine R b E way → IsEngine R c F other →
         ((n : ℕ) → n < way.period → HasFallenApart R b (way.left n) (ashes n)) →
         ((n : ℕ) → n < other.period → HasFallenApart R c (other.left n) (others n)) →
-        AreApartForEver R E F ↔ ((A B : Thing) → IsEngineThing R b way ashes A →
-        IsEngineThing R c other others B → NeverMeet A B) }
+        AreApartForEver R E F ↔ ((A B : Thing) → IsEngineThing way (lefts_within R b way ashes) A →
+        IsEngineThing other (lefts_within R c other others) B → NeverMeet A B) }
     ensures debris { (R : Rule) (b c : ℕ) (E S : Generation) (way : Way) (ashes : ℕ → List Generation)
         (parts : List Generation) → IsEngine R b E way → HasFallenApart R c S parts →
         ((n : ℕ) → n < way.period → HasFallenApart R b (way.left n) (ashes n)) →
         AreApartForEver R S E ↔ ((A B : Thing) → IsSettledThing R c S parts A →
-        IsEngineThing R b way ashes B → NeverMeet A B) }
+        IsEngineThing way (lefts_within R b way ashes) B → NeverMeet A B) }
 {}
 
 /// What leaves the cores of a way that comes back never comes near them, or what leaves later, exactly where its things
 /// never meet them again, nor the things of what leaves later.
 pub fn things_tell_what_leaves_for_ever()
-    ensures { (R : Rule) (b : ℕ) (way : Way) (ashes : ℕ → List Generation) → 1 ≤ way.period →
+    ensures settled { (R : Rule) (b : ℕ) (way : Way) (ashes : ℕ → List Generation) → 1 ≤ way.period →
         ((n : ℕ) → n < way.period → HasFallenApart R b (way.left n) (ashes n)) →
-        (LeavesCores R way × LeavesLefts R way) ↔ NeverMeetAgain R b way ashes }
+        (LeavesCores R way × LeavesLefts R way) ↔ NeverMeetAgain way (lefts_within R b way ashes) }
+    ensures listed { (R : Rule) (way : Way) (lists : ℕ → List Thing) → 1 ≤ way.period →
+        AreThingsOfLefts R way (listed lists) →
+        (LeavesCores R way × LeavesLefts R way) ↔ NeverMeetAgain way (listed lists) }
 {}
 
 /// Whether two things meet is told by how far the moves of the one go beyond those of the other, at the times at which

@@ -16,7 +16,7 @@ use Rattle.life_decided.specs.Tests.{each_below}
 use Rattle.life_decided.proofs.Tests.{both, each_below_by, each_below_tells}
 use Rattle.life_engines.proofs.Lists.{of_map}
 use Rattle.life_growth.specs.Engine.{Way}
-use Rattle.life_growth.specs.Things.{IsSettledThing, NeverMeet, NeverMeetAgain, Thing, a_period_later, core_thing, left_once, left_thing, move_of, set_then, time_of, time_then}
+use Rattle.life_growth.specs.Things.{IsSettledThing, NeverMeet, NeverMeetAgain, Thing, a_period_later, core_thing, left_once, left_thing, lefts_within, move_of, set_then, time_of, time_then}
 use Rattle.life_growth.proofs.Things.{how_often, settled_is_made}
 use Rattle.life_meeting.specs.Again.{never_meet_again, things_later, things_left, things_once}
 use Rattle.life_meeting.specs.Listed.{settled_things}
@@ -121,7 +121,7 @@ module _ (R : Rule) (b : ℕ) (way : Way) (ashes : ℕ → List Generation)
   covers_its : (n : ℕ) (it : Thing) → n < p → IsIts n it → Covers (its n) it
   covers_its n it h is often c there =
       listed_all R b (way.left n) (ashes n) (fallen n h) (time_then it often) c
-      ((settled_is_made R b (way.left n) (ashes n) (fallen n h)).each it is often c there)
+      ((settled_is_made R b b (way.left n) (ashes n) (fallen n h)).each it is often c there)
 
   is_its : (n : ℕ) (it : Thing) → n < p → Contains (its n) it → IsIts n it
   is_its n it h of = settled_by_listed R b (way.left n) (ashes n) (fallen n h) it of
@@ -144,7 +144,7 @@ module _ (R : Rule) (b : ℕ) (way : Way) (ashes : ℕ → List Generation)
   abbrev later_pass : Bool
   later_pass = each_below (λ n. each_below (not_later n) (suc n)) p
 
-  pub again_by_search : never_meet_again R b way ashes ≡ true → NeverMeetAgain R b way ashes
+  pub again_by_search : never_meet_again R b way ashes ≡ true → NeverMeetAgain way (lefts_within R b way ashes)
   unfolding never_meet_again
   again_by_search h =
       let first = both cores_pass (lefts_pass && later_pass) h in
@@ -175,7 +175,7 @@ module _ (R : Rule) (b : ℕ) (way : Way) (ashes : ℕ → List Generation)
         | inr none ↦ let z : none.0 < 0 = none.1 in absurd (omega arith)
       ]
 
-  pub search_by_again : NeverMeetAgain R b way ashes → never_meet_again R b way ashes ≡ true
+  pub search_by_again : NeverMeetAgain way (lefts_within R b way ashes) → never_meet_again R b way ashes ≡ true
   unfolding never_meet_again
   search_by_again never =
       and_from cores_pass (lefts_pass && later_pass)

@@ -15,8 +15,8 @@ use Rattle.life_objects.specs.Ash.{HasFallenApart}
 use Rattle.life_objects.specs.Drift.{multiple_of}
 use Rattle.life_engines.proofs.Lists.{Contains-flat_map, of_flat_map, of_map}
 use Rattle.life_growth.specs.Engine.{IsEngine, Way}
-use Rattle.life_growth.specs.Things.{IsEngineThing, IsMadeOf, IsSettledThing, Thing, core_thing, left_thing, move_of, set_then, time_of, time_then}
-use Rattle.life_growth.proofs.Things.{engine_is_made, how_often, settled_is_made}
+use Rattle.life_growth.specs.Things.{IsEngineThing, IsMadeOf, IsSettledThing, Thing, core_thing, left_thing, lefts_within, move_of, set_then, time_of, time_then}
+use Rattle.life_growth.proofs.Things.{engine_is_made, how_often, lefts_are_made, settled_is_made}
 use Rattle.life_meeting.specs.Listed.{engine_things, numbers_below, settled_things}
 use Rattle.life_meeting.proofs.Listed.{listed_all, listed_below, of_below, settled_by_listed}
 use Rattle.life_meeting.proofs.Reach.{mapped}
@@ -40,7 +40,7 @@ module _ (R : Rule) (a b : ℕ) (E : Generation) (way : Way) (engine : IsEngine 
   abbrev lefts : ℕ → List Thing
   lefts n = map (left_thing way n) (settled n)
 
-  of_engine : (thing : Thing) → Contains things thing → IsEngineThing R b way ashes thing
+  of_engine : (thing : Thing) → Contains things thing → IsEngineThing way (lefts_within R b way ashes) thing
   unfolding engine_things
   of_engine thing one =
       elim (Contains-append_cases (map (core_thing way) (numbers_below p)) (flat_map lefts (numbers_below p)) thing one) [
@@ -83,7 +83,7 @@ module _ (R : Rule) (a b : ℕ) (E : Generation) (way : Way) (engine : IsEngine 
       sym (contains-moved (set_then it o.others) by c)
       ∙ ap (λ K. contains K c) (sym (moved_in_turn it.set by (move_of it.ways o.others)))
       ∙ ap (λ m. contains (translate_of it.set m) c) (sym o.moves) ∙ there in
-      let now = (settled_is_made R b (way.left n) (ashes n) (fallen n h)).each it is o.others c0 before in
+      let now = (settled_is_made R b b (way.left n) (ashes n) (fallen n h)).each it is o.others c0 before in
       let q = listed_all R b (way.left n) (ashes n) (fallen n h) (time_then it o.others) c0 now in
       let same : q.0.time + time_of q.0.ways q.2 ≡ it.time + time_of it.ways o.others = q.3 in
       let long : time_of ((p, way.displacement) ∷ it.ways) often ≡ o.first * p + time_of it.ways o.others = o.times in (
@@ -97,7 +97,7 @@ module _ (R : Rule) (a b : ℕ) (E : Generation) (way : Way) (engine : IsEngine 
 
   engine_all : (t : ℕ) (c : Cell) → contains (generation R E t) c ≡ true → Stands t c
   engine_all t c h =
-      let q = (engine_is_made R a b E way engine ashes fallen).all t c h in
+      let q = (engine_is_made R a E way engine (lefts_within R b way ashes) (lefts_are_made R b way ashes fallen)).all t c h in
       elim q.1 [
         | inl core ↦
             (q.0, subst (Contains things) (sym core.2) (listed_core core.0 core.1), q.2, q.3, q.4)
@@ -110,6 +110,6 @@ module _ (R : Rule) (a b : ℕ) (E : Generation) (way : Way) (engine : IsEngine 
   pub engine_is_listed : IsMadeOf R E (Contains things)
   engine_is_listed =
       record {
-        each = λ thing one. (engine_is_made R a b E way engine ashes fallen).each thing (of_engine thing one);
+        each = λ thing one. (engine_is_made R a E way engine (lefts_within R b way ashes) (lefts_are_made R b way ashes fallen)).each thing (of_engine thing one);
         all = engine_all;
       }

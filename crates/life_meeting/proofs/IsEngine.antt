@@ -13,7 +13,8 @@ use Rattle.life_engines.proofs.Tracks.{track_by_test}
 use Rattle.life_engines.proofs.Ways.{engine_by_track, found_by_engine}
 use Rattle.life_growth.specs.Engine.{FallsApart, IsEngine, IsEngineWithin}
 use Rattle.life_growth.proofs.Pieces.{engine_leaves_cores, engine_leaves_lefts}
-use Rattle.life_growth.proofs.Things.{leaves_cores_by_things, leaves_lefts_by_things, things_by_leaving}
+use Rattle.life_growth.specs.Things.{lefts_within}
+use Rattle.life_growth.proofs.Things.{lefts_are_made, leaves_cores_by_things, leaves_lefts_by_things, things_by_leaving}
 use Rattle.life_meeting.specs.Engines.{ashes_along, goes_away, is_engine}
 use Rattle.life_meeting.specs.Listed.{numbers_below}
 use Rattle.life_meeting.proofs.Again.{again_by_search, search_by_again}
@@ -45,9 +46,11 @@ module _ (R : Rule) (b : ℕ) (E : Generation) where
       let long : length track ≡ suc n = long_along (suc n) track one in
       let fallen = fallen_along (suc n) track one in
       let never = again_by_search R b (way_along E track) (ashes_along R b track) fallen away in
+      let its = lefts_within R b (way_along E track) (ashes_along R b track) in
+      let made = lefts_are_made R b (way_along E track) (ashes_along R b track) fallen in
       engine_by_track R b E (suc n) track one (omega arith) (omega arith)
-      (leaves_cores_by_things R b (way_along E track) (omega arith) (ashes_along R b track) fallen never)
-      (leaves_lefts_by_things R b (way_along E track) (omega arith) (ashes_along R b track) fallen never)
+      (leaves_cores_by_things R (way_along E track) (omega arith) its made never)
+      (leaves_lefts_by_things R (way_along E track) (omega arith) its made never)
 
   pub engine_by_search : is_engine R b E ≡ true → IsEngineWithin R b E
   unfolding is_engine
@@ -75,5 +78,6 @@ module _ (R : Rule) (b : ℕ) (E : Generation) where
       (listed_below b (p - 1) (omega arith))
       (any_by (goes_away R b E) (engine_tracks R b (suc (p - 1)) E) track there
       (search_by_again R b (way_along E track) (ashes_along R b track) fallen
-      (things_by_leaving R b (way_along E track) along.later (ashes_along R b track) fallen
+      (things_by_leaving R (way_along E track) along.later (lefts_within R b (way_along E track) (ashes_along R b track))
+      (lefts_are_made R b (way_along E track) (ashes_along R b track) fallen)
       (engine_leaves_cores R b E (way_along E track) along) (engine_leaves_lefts R b E (way_along E track) along))))

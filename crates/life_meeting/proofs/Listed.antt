@@ -128,6 +128,6 @@ module _ (R : Rule) (b : ℕ) (P : Generation) (parts : List Generation) where
   pub settled_is_listed : HasFallenApart R b P parts → IsMadeOf R P (Contains (settled_things R b P parts))
   settled_is_listed fallen =
       record {
-        each = λ thing one. (settled_is_made R b P parts fallen).each thing (settled_by_listed fallen thing one);
+        each = λ thing one. (settled_is_made R b b P parts fallen).each thing (settled_by_listed fallen thing one);
         all = listed_all fallen;
       }

@@ -6,7 +6,7 @@ ghost use Rattle.std.specs.Prelude.{◌≡◌, ℕ, ◌↔◌, true, List, Conta
 ghost use Rattle.life_model.specs.Generation.{Generation};
 ghost use Rattle.life_model.specs.Rule.{Rule};
 ghost use Rattle.life_objects.specs.Apart.{AreApartForEver};
-ghost use Rattle.life_growth.specs.Things.{IsMadeOf, NeverMeet, NeverMeetAgain, Thing};
+ghost use Rattle.life_growth.specs.Things.{IsMadeOf, NeverMeet, NeverMeetAgain, Thing, lefts_within};
 ghost use Rattle.life_growth.specs.Engine.{IsEngine, IsEngineWithin, Way};
 ghost use Rattle.life_objects.specs.Ash.{HasFallenApart};
 ghost use Rattle.life_meeting.specs.Again.{never_meet_again};
@@ -44,7 +44,7 @@ pub fn things_are_listed()
 pub fn what_meets_again_is_found()
     ensures { (R : Rule) (b : ℕ) (way : Way) (ashes : ℕ → List Generation) →
         ((n : ℕ) → n < way.period → HasFallenApart R b (way.left n) (ashes n)) →
-        (never_meet_again R b way ashes ≡ true) ↔ NeverMeetAgain R b way ashes }
+        (never_meet_again R b way ashes ≡ true) ↔ NeverMeetAgain way (lefts_within R b way ashes) }
 {}
 
 /// Whether a set is an engine within a bound is told by a search.
