@@ -1,3 +1,4 @@
+pub mod Classes
 mod Finding
 pub mod Tracks
 pub mod Growths

@@ -1,3 +1,4 @@
 pub mod Tracks
+pub mod Picked
 pub mod Decided
 pub mod Fates

@@ -2,20 +2,22 @@
 //! `specs/`; and as the contracts of functions that do nothing the laws that it is right, and that it lasts.
 #![tactic(auto)]
 
-ghost use Rattle.std.specs.Prelude.{◌≡◌, ℕ, ◌-◌, ◌≤◌, List, None, Some};
+ghost use Rattle.std.specs.Prelude.{◌≡◌, ℕ, ◌-◌, ◌*◌, ◌≤◌, List, None, Some};
 ghost use Rattle.std.specs.List.{AllZip};
 ghost use Rattle.std.specs.List.Sorted.{IsPermutation};
 ghost use Rattle.life_model.specs.Evolution.{generation};
 ghost use Rattle.life_model.specs.Generation.{Generation};
 ghost use Rattle.life_model.specs.Rule.{Rule};
 ghost use Rattle.life_objects.specs.Ash.{HasFallenApart};
-ghost use Rattle.life_objects.specs.Union.{generations};
+ghost use Rattle.life_objects.specs.Union.{generations, union_of};
 ghost use Rattle.life_growth.specs.Engine.{Emits, IsEngine, Way};
 ghost use Rattle.life_growth.specs.Growth.{HasComeToGrowth, IsGrowth};
 ghost use Rattle.life_growth.specs.Told.{AreToldAlike};
+ghost use Rattle.life_growth.specs.Unsplit.{AreClasses};
 ghost use Rattle.life_engines.specs.Tracks.{Step, way_along};
 ghost use Rattle.life_fates.specs.Decided.{growth_of};
 ghost use Rattle.life_fates.specs.Fates.{Ash, Grows, Unresolved, fate_of};
+ghost use Rattle.life_fates.specs.Picked.{ArePicked};
 ghost use Rattle.life_fates.specs.Tracks.{emitted_along, track_of};
 
 /// The track that is found of a set is an engine's way, along which it emits what is told. Where none is found, the set
@@ -109,4 +111,11 @@ pub fn fates_last()
         fate_of R b G ≡ Grows Es S →
         (found : List Generation) × (T : Generation) × (fate_of R c G ≡ Grows found T)
         × (Fs : List Generation) × AllZip (AreToldAlike R b c) Es Fs × IsPermutation Fs found }
+{}
+
+/// The classes of a pattern, for at least twice the bound, tell its growth: its engines are those of them that are engines
+/// within the bound, and its debris is the union of the others.
+pub fn classes_tell_growth()
+    ensures { (R : Rule) (b far : ℕ) (G S : Generation) (Es Ps Fs Os : List Generation) → 2 * b ≤ far →
+        AreClasses R far G Ps → ArePicked R b Ps Fs Os → IsGrowth R b G Es S → IsGrowth R b G Fs (union_of Os) }
 {}

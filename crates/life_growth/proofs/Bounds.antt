@@ -81,7 +81,7 @@ module _ (R : Rule) where
       (All-head (HasBound R) P Ps all)
       (HasBound-list Ps pairs (All-tail (HasBound R) P Ps all))
 
-  HasBound-sooner : (P : Generation) (n : ℕ) → HasBound R (generation R P n) → HasBound R P
+  pub HasBound-sooner : (P : Generation) (n : ℕ) → HasBound R (generation R P n) → HasBound R P
   HasBound-sooner P n bound = (
     total P n + bound.0,
     λ m. elim (cases_lt m n) [
