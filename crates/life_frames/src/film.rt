@@ -89,6 +89,14 @@ impl Film {
         Ok(Film { frames })
     }
 
+    /// The number of its last generation.
+    pub fn length(&self) -> usize
+        ensures count { result ≡ length self.now.frames.items - 1 }
+        ensures length { (R : ModelRule) (G : Generation) (T : ℕ) → IsFilm R G T self.now → result ≡ T }
+    {
+        self.frames.len().saturating_sub(1)
+    }
+
     /// The classes of a generation, for all generations that are left up to the last one; none past that.
     pub fn classes(&self, t: usize) -> &[CellList]
         ensures lent { t < length self.now.frames.items → result.now ≡ classes_at self.now t }
