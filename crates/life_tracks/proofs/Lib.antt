@@ -1,0 +1,16 @@
+pub mod Ancestors
+pub mod GoingOn
+pub mod Classes
+pub mod Steps
+pub mod Along
+pub mod Pushing
+pub mod Later
+pub mod Gathering
+pub mod Adding
+pub mod Corners
+pub mod Placing
+pub mod Stepping
+pub mod Backs
+pub mod Alike
+pub mod Engines
+pub mod Found

@@ -1,0 +1,5 @@
+pub mod Lines
+pub mod Returns
+pub mod Tracks
+pub mod Readings
+pub mod Films

@@ -1,0 +1,13 @@
+//! The classes of a film's first generation that come back, moved or not, and what leaves them on the way.
+//!
+//! Tested in `tests_tracks`.
+#![tactic(auto)]
+
+mod lines;
+mod reading;
+mod returns;
+mod track;
+mod tracking;
+
+pub use track::{Step, Track};
+pub use tracking::tracks;
