@@ -1,0 +1,131 @@
+-- A set moves in a period no further along each axis than the period has generations.
+use Rattle.std.proofs.Common.{◌≡◌, ℕ, zero, suc, ℤ, pos, neg_ℤ, ◌+ℤ◌, ◌≤ℤ◌, int_lt, true, false, cond, ◌⊎◌, List, [], ◌∷◌, inl, inr, sym, refl, ap, subst, ◌∙◌, true≢false, arith}
+use Rattle.std.specs.Int.{int_min}
+use Rattle.std.specs.List.{list_any}
+use Rattle.std.proofs.lemmas.Bool.{or_cases, or_left, or_right}
+use Rattle.std.proofs.lemmas.Int.{clamps, ints}
+use Rattle.life_model.specs.Cell.{Cell, IsNear, plus, same_cell}
+use Rattle.life_model.specs.Rule.{Rule}
+use Rattle.life_model.specs.Generation.{Generation, cells, contains}
+use Rattle.life_model.specs.Evolution.{generation}
+use Rattle.life_model.specs.Recurrence.{RecursBy}
+use Rattle.life_model.proofs.Cells.{plus-opposite, same_cell-is}
+use Rattle.life_model.proofs.Generations.{contains-cells}
+use Rattle.life_model.proofs.Moves.{same_cell_itself, same_le}
+use Rattle.life_model.proofs.Near.{next_near}
+use Rattle.life_model.proofs.Symmetries.{contains-moved}
+
+-- a number for each cell, which rises by that of a move and by no more than one to a neighbour
+pub record IsHeight (f : Cell → ℤ) : Type 0 where
+  pub adds : (c d : Cell) → f (plus c d) ≡ f c +ℤ f d
+  pub near : (c g : Cell) → IsNear c g → f g ≤ℤ (f c +ℤ pos 1)
+
+one_further : (n : ℕ) (a b c : ℤ) → a ≤ℤ (b +ℤ pos n) → b ≤ℤ (c +ℤ pos 1) → a ≤ℤ (c +ℤ pos (suc n))
+one_further n a b c h k = omega (arith, ints)
+
+no_further : (a : ℤ) → a ≤ℤ (a +ℤ pos 0)
+no_further a = omega (arith, ints)
+
+not_below : (n : ℕ) (m d g : ℤ) → m ≤ℤ g → g ≤ℤ ((m +ℤ d) +ℤ pos n) → neg_ℤ (pos n) ≤ℤ d
+not_below n m d g h k = omega (arith, ints)
+
+least_is : (a b : ℤ) → (int_min a b ≡ a) ⊎ (int_min a b ≡ b)
+least_is a b = elim (int_lt b a) as (λ t. (cond t b a ≡ a) ⊎ (cond t b a ≡ b)) [ true ↦ inr refl | false ↦ inl refl ]
+
+first_least : (a b : ℤ) → int_min a b ≡ a → a ≤ℤ b
+first_least a b e = omega (arith, ints, clamps)
+
+other_least : (a b : ℤ) → int_min a b ≡ b → b ≤ℤ a
+other_least a b e = omega (arith, ints, clamps)
+
+in_turn : (a b c : ℤ) → a ≤ℤ b → b ≤ℤ c → a ≤ℤ c
+in_turn a b c h k = omega (arith, ints)
+
+module _ (f : Cell → ℤ) where
+  -- a cell of a list that none of its cells is below
+  record IsLowest (cs : List Cell) (m : Cell) : Type 0 where
+    has : list_any (same_cell m) cs ≡ true
+    low : (q : Cell) → list_any (same_cell q) cs ≡ true → f m ≤ℤ f q
+
+  lowest : (c : Cell) (cs : List Cell) → (m : Cell) × IsLowest (c ∷ cs) m
+  lowest c [] = (
+    c,
+    record {
+      has = or_left _ _ (same_cell_itself c);
+      low = λ q e. elim (or_cases (same_cell q c) _ e) [
+        | inl same ↦ same_le (f c) (f q) (ap f (sym ((same_cell-is q c).0 same)))
+        | inr later ↦ absurd (true≢false (sym later))
+      ];
+    },
+  )
+  lowest c (d ∷ ds) =
+      let r = lowest d ds in
+      elim (least_is (f c) (f r.0)) [
+        | inl first ↦ (
+          c,
+          record {
+            has = or_left _ _ (same_cell_itself c);
+            low = λ q e. elim (or_cases (same_cell q c) _ e) [
+              | inl same ↦ same_le (f c) (f q) (ap f (sym ((same_cell-is q c).0 same)))
+              | inr later ↦ in_turn (f c) (f r.0) (f q) (first_least (f c) (f r.0) first) (r.1.low q later)
+            ];
+          },
+        )
+        | inr other ↦ (
+          r.0,
+          record {
+            has = or_right _ _ r.1.has;
+            low = λ q e. elim (or_cases (same_cell q c) _ e) [
+              | inl same ↦ in_turn (f r.0) (f c) (f q) (other_least (f c) (f r.0) other)
+                  (same_le (f c) (f q) (ap f (sym ((same_cell-is q c).0 same))))
+              | inr later ↦ r.1.low q later
+            ];
+          },
+        )
+      ]
+
+  lowest_of : (G : Generation) (c : Cell) → contains G c ≡ true →
+      (m : Cell) × (contains G m ≡ true) × ((q : Cell) → contains G q ≡ true → f m ≤ℤ f q)
+  lowest_of G c h =
+      elim (cells G) as (λ cs. cells G ≡ cs →
+      (m : Cell) × (contains G m ≡ true) × ((q : Cell) → contains G q ≡ true → f m ≤ℤ f q)) [
+        | [] ↦ λ e. absurd (true≢false (sym h ∙ contains-cells G c ∙ ap (list_any (same_cell c)) e))
+        | k ∷ ks ↦ λ e.
+            let listed : (q : Cell) → contains G q ≡ list_any (same_cell q) (k ∷ ks) =
+            λ q. contains-cells G q ∙ ap (list_any (same_cell q)) e in
+            let r = lowest k ks in
+            (r.0, listed r.0 ∙ r.1.has, λ q j. r.1.low q (sym (listed q) ∙ j))
+      ] refl
+
+  module _ (is : IsHeight f) (R : Rule) where
+    -- a cell of generation n is no more than n below some cell of G
+    reached : (G : Generation) (n : ℕ) (c : Cell) → contains (generation R G n) c ≡ true →
+        (g : Cell) × (contains G g ≡ true) × (f g ≤ℤ (f c +ℤ pos n))
+    unfolding generation
+    reached G zero c h = (c, h, no_further (f c))
+    reached G (suc n) c h =
+        let near = next_near R (generation R G n) c h in
+        let far = reached G n near.0 near.1 in
+        (far.0, far.1, one_further n (f far.0) (f near.0) (f c) far.2 (is.near c near.0 near.2))
+
+    pub no_lower : (P : Generation) (n : ℕ) (d c : Cell) → RecursBy R P n d → contains P c ≡ true → neg_ℤ (pos n) ≤ℤ f d
+    no_lower P n d c again h =
+        let m = lowest_of P c h in
+        let there : contains (generation R P n) (plus m.0 d) ≡ true =
+        ap (λ H. contains H (plus m.0 d)) again.again ∙ contains-moved P d (plus m.0 d)
+        ∙ ap (contains P) (plus-opposite m.0 d) ∙ m.1 in
+        let g = reached P n (plus m.0 d) there in
+        not_below n (f m.0) (f d) (f g.0) (m.2 g.0 g.1)
+        (subst (λ z. f g.0 ≤ℤ (z +ℤ pos n)) (is.adds m.0 d) g.2)
+
+pub across_height : IsHeight (λ c. c.0)
+across_height = record { adds = λ c d. refl; near = λ c g h. omega (arith, ints, h.right, h.left) }
+
+pub back_height : IsHeight (λ c. neg_ℤ c.0)
+back_height = record { adds = λ c d. omega (arith, ints); near = λ c g h. omega (arith, ints, h.right, h.left) }
+
+pub along_height : IsHeight (λ c. c.1)
+along_height = record { adds = λ c d. refl; near = λ c g h. omega (arith, ints, h.above, h.below) }
+
+pub up_height : IsHeight (λ c. neg_ℤ c.1)
+up_height = record { adds = λ c d. omega (arith, ints); near = λ c g h. omega (arith, ints, h.above, h.below) }

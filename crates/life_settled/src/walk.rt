@@ -1,0 +1,46 @@
+//! Generations that are looked at until one of them is ash.
+ghost use Rattle.std.specs.Prelude.{◌+◌, ◌≤◌, All, IfNone, IfOk, IfSome};
+ghost use Rattle.life_model.specs.Generation as generations;
+ghost use Rattle.life_cells.specs.Limits.{IsWithin};
+ghost use Rattle.life_growth.specs.Engine.{FallsApart};
+ghost use Rattle.life_ash.specs.Parts.{ash_age_limit};
+ghost use Rattle.life_settled.specs.Settling.{IsSettling};
+
+use crate::outcome::Settled;
+use life_ash::ash_of;
+use life_cells::{CellList, Rule};
+use life_plane::Plane;
+use life_things::WAY_LIMIT;
+use std::alloc::{AllocError, Global};
+
+/// What a set of cells of this age falls apart into within the bound, if it does. Generations 0, 1, 2, 4 and so on are
+/// looked at, and at last the one after the bound.
+pub fn settled<P: Plane>(
+    alloc: Global,
+    rule: &Rule,
+    cells: &CellList,
+    age: u32,
+    bound: u32,
+) -> Result<Option<Settled>, AllocError>
+    requires bound { 1 ≤ bound × bound ≤ WAY_LIMIT }
+    requires age { age + bound ≤ ash_age_limit }
+    requires within { All (IsWithin age) (generations.cells cells.now) }
+    ensures some { IfOk result (λ found. IfSome found (IsSettling rule.now bound cells.now)) }
+    ensures none { IfOk result (λ found. IfNone found (FallsApart rule.now bound cells.now → ⊥)) }
+{
+    let mut plane = P::at_age(alloc, cells, age)?;
+    let mut early = Vec::new(alloc);
+    for n in 0..bound {
+        if n.count_ones() <= 1 {
+            if let Some(ash) = ash_of(alloc, &plane, rule, bound)? {
+                return Ok(Some(Settled::of(early, ash)));
+            }
+        }
+        early.push(plane.cells()?)?;
+        plane.step(rule)?;
+    }
+    match ash_of(alloc, &plane, rule, bound)? {
+        Some(ash) => Ok(Some(Settled::of(early, ash))),
+        None => Ok(None),
+    }
+}
