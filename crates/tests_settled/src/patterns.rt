@@ -1,0 +1,170 @@
+//! Patterns of Life, what is known of their ash, and how many things they have.
+
+use life_cells::{CellList, Rule};
+use life_orbit::Orbit;
+use life_plane::ListPlane;
+use life_settled::settled;
+use std::alloc::Global;
+use std::test::Fail;
+
+const BLOCK: &[(i32, i32)] = &[(0, 0), (1, 0), (0, 1), (1, 1)];
+
+const BLINKER: &[(i32, i32)] = &[(10, 10), (11, 10), (12, 10)];
+
+const GLIDER: &[(i32, i32)] = &[(1, 0), (2, 1), (0, 2), (1, 2), (2, 2)];
+
+// Two gliders that vanish with each other in generation 6.
+const VANISHING: &[(i32, i32)] = &[
+    (1, 0),
+    (2, 1),
+    (0, 2),
+    (1, 2),
+    (2, 2),
+    (4, 5),
+    (5, 5),
+    (6, 5),
+    (4, 6),
+    (5, 7),
+];
+
+// The R-pentomino, which is ash from generation 1,103 on.
+const PENTOMINO: &[(i32, i32)] = &[(1, 0), (2, 0), (0, 1), (1, 1), (1, 2)];
+
+// The gun of period 30, which never is.
+const GUN: &[(i32, i32)] = &[
+    (24, 0),
+    (22, 1),
+    (24, 1),
+    (12, 2),
+    (13, 2),
+    (20, 2),
+    (21, 2),
+    (34, 2),
+    (35, 2),
+    (11, 3),
+    (15, 3),
+    (20, 3),
+    (21, 3),
+    (34, 3),
+    (35, 3),
+    (0, 4),
+    (1, 4),
+    (10, 4),
+    (16, 4),
+    (20, 4),
+    (21, 4),
+    (0, 5),
+    (1, 5),
+    (10, 5),
+    (14, 5),
+    (16, 5),
+    (17, 5),
+    (22, 5),
+    (24, 5),
+    (10, 6),
+    (16, 6),
+    (24, 6),
+    (11, 7),
+    (15, 7),
+    (12, 8),
+    (13, 8),
+];
+
+/// A pattern, a bound, and how many early generations, parts and things it has, if it falls apart.
+type Case = (&'static [(i32, i32)], u32, Option<(usize, usize, usize)>);
+
+const CASES: &[Case] = &[
+    (&[], 1, Some((0, 0, 0))),
+    (BLOCK, 1, Some((0, 1, 1))),
+    (BLINKER, 1, None),
+    (BLINKER, 2, Some((0, 1, 2))),
+    (GLIDER, 3, None),
+    (GLIDER, 4, Some((0, 1, 4))),
+    // Generations 0, 1, 2, 4 and 8 are looked at.
+    (VANISHING, 100, Some((8, 0, 8))),
+    (VANISHING, 7, Some((7, 0, 7))),
+    (VANISHING, 5, None),
+    (PENTOMINO, 1000, None),
+    (GUN, 200, None),
+];
+
+/// Period, number of cells, and width and height together, of the seven kinds of objects that the pentomino leaves, and
+/// how many there are.
+const KINDS: &[(u32, usize, i32, usize)] = &[
+    // blocks
+    (1, 4, 4, 8),
+    // gliders
+    (4, 5, 6, 6),
+    // beehives
+    (1, 6, 7, 4),
+    // blinkers
+    (2, 3, 4, 4),
+    // a boat
+    (1, 5, 6, 1),
+    // a loaf
+    (1, 7, 8, 1),
+    // a ship
+    (1, 6, 6, 1),
+];
+
+/// How many columns and rows the cells take together.
+fn extent(cells: &[(i32, i32)]) -> i32 {
+    let mut low = (i32::MAX, i32::MAX);
+    let mut high = (i32::MIN, i32::MIN);
+    for cell in cells {
+        low = (low.0.min(cell.0), low.1.min(cell.1));
+        high = (high.0.max(cell.0), high.1.max(cell.1));
+    }
+    high.0
+        .wrapping_sub(low.0)
+        .wrapping_add(high.1.wrapping_sub(low.1))
+        .wrapping_add(2)
+}
+
+/// How many parts are of a kind.
+fn count(parts: &[Orbit], period: u32, size: usize, both: i32) -> usize {
+    parts
+        .iter()
+        .filter(|part| {
+            part.period() == period
+                && part.set().len() == size
+                && extent(part.set().as_slice()) == both
+        })
+        .count()
+}
+
+#[test]
+fn patterns_fall_apart_or_not(rt: HostRuntime) -> Result<(), Fail> {
+    for (cells, bound, expected) in CASES {
+        let list = CellList::of(rt.alloc(), cells)?;
+        if !list.fits() {
+            return Err("not in the field".into());
+        }
+        let found = settled::<ListPlane>(rt.alloc(), &Rule::life(), &list, 0, *bound)?;
+        match found {
+            None => assert!(rt; expected.is_none(), "within {bound}"),
+            Some(it) => {
+                let things = it.things(rt.alloc(), 0, (0, 0), None)?;
+                let numbers = (it.early().len(), it.parts().len(), things.len());
+                assert_eq!(rt; Some(numbers), *expected, "within {bound}");
+            }
+        }
+    }
+    Ok(())
+}
+
+#[test]
+fn the_pentomino_leaves_what_is_known(rt: HostRuntime) -> Result<(), Fail> {
+    let list = CellList::of(rt.alloc(), PENTOMINO)?;
+    if !list.fits() {
+        return Err("not in the field".into());
+    }
+    let found = settled::<ListPlane>(rt.alloc(), &Rule::life(), &list, 0, 1200)?;
+    let it = found.ok_or("no ash")?;
+    assert_eq!(rt; it.parts().len(), 25);
+    for (period, size, both, expected) in KINDS {
+        let number = count(it.parts(), *period, *size, *both);
+        assert_eq!(rt; number, *expected, "of period {period} with {size} cells");
+    }
+    Ok(())
+}
