@@ -83,7 +83,7 @@ fn add_phases(
 
 impl Settled {
     /// What falls apart after these generations into this ash.
-    pub fn of(early: Vec<CellList>, ash: Ash) -> Settled
+    pub(crate) fn of(early: Vec<CellList>, ash: Ash) -> Settled
         requires few { length early.items ≤ way_limit }
         requires within { All IsInField early.items }
         requires parts { AreShortParts ash }
