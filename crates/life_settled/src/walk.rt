@@ -13,8 +13,8 @@ use life_plane::Plane;
 use life_things::WAY_LIMIT;
 use std::alloc::{AllocError, Global};
 
-/// What a set of cells of this age falls apart into within the bound, if it does. Generations 0, 1, 2, 4 and so on are
-/// looked at, and at last the one after the bound.
+/// What a set of cells falls apart into within the bound, if it does; its cells have places of this age. Generations
+/// 0, 1, 2, 4 and so on are looked at, and at last that of the bound.
 pub fn settled<P: Plane>(
     alloc: Global,
     rule: &Rule,

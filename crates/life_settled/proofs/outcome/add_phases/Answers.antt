@@ -16,7 +16,8 @@ thing-requires-clause-within c =
     let o = c.args.part.now in
     let m = c.loop-m.m in
     subst (λ (H : Generation). All (IsWithin placed_age_limit) (cells H)) (sym c.phase.ensures)
-    (itself_within (ash_age_limit + m) placed_age_limit (let few = c.requires.way.few in let now = c.loop-m-test.true in omega arith) (generation o.rule o.set m)
+    (itself_within (ash_age_limit + m) placed_age_limit (let few = c.requires.way.few in let now = c.loop-m-test.true in omega arith)
+    (generation o.rule o.set m)
     (generation_within o.rule ash_age_limit o.set c.requires.within m))
 
 pub loop-m-preserved : goal.loop-m-preserved
