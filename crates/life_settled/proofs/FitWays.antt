@@ -1,12 +1,16 @@
 -- The periods and displacements of the parts of ash are ways that things may have.
-use Rattle.std.proofs.Common.{◌≡◌, ℕ, ℤ, pos, neg_ℤ, ◌≤ℤ◌, ◌≤◌, true, inl, inr, sym, subst, arith}
+use Rattle.std.proofs.Common.{◌≡◌, ℕ, suc, ℤ, pos, neg_ℤ, ◌≤ℤ◌, ◌<◌, ◌≤◌, true, inl, inr, sym, ap, subst, ◌∙◌, arith}
 use Rattle.std.specs.List.{All, Contains}
 use Rattle.std.proofs.lemmas.Int.{ints}
 use Rattle.std.proofs.lemmas.List.Elements.{All-contains, All-contains_itself, All-weaker}
 use Rattle.std.specs.Prelude.{List}
 use Rattle.life_model.specs.Cell.{Cell}
 use Rattle.life_model.specs.Generation.{Generation, contains}
+use Rattle.life_model.specs.Evolution.{generation, next}
 use Rattle.life_model.specs.Recurrence.{RecursBy}
+use Rattle.life_model.specs.Symmetry.{translate_of}
+use Rattle.life_objects.specs.Union.{IsSubsetOf}
+use Rattle.life_things.specs.Ways.{IsFit}
 use Rattle.life_model.specs.Rule.{Rule}
 use Rattle.life_model.proofs.Moves.{nothing_or_some}
 use Rattle.life_objects.specs.Ash.{IsAsh, IsObject}
@@ -20,6 +24,19 @@ use Rattle.life_settled.proofs.Speeds.{across_height, along_height, back_height,
 
 within_way : (n : ℕ) (z : ℤ) → n ≤ way_limit → neg_ℤ (pos n) ≤ℤ z → neg_ℤ (pos n) ≤ℤ neg_ℤ z → IsWithin way_limit z
 within_way n z le low high = record { low = omega (arith, ints); high = omega (arith, ints) }
+
+-- where sets become the next ones, and after few of them the first comes again, moved
+pub fit_by_steps : (R : Rule) (sets : ℕ → Generation) (p : ℕ) (d : Cell) → 1 ≤ p → p ≤ way_limit →
+    ((m : ℕ) → m < p → IsSubsetOf (sets (suc m)) (next R (sets m))) →
+    IsSubsetOf (translate_of (sets 0) d) (sets p) → (c : Cell) → contains (sets 0) c ≡ true → IsFit (p, d)
+fit_by_steps R sets p d some few step again c h = record {
+  some = some;
+  few = few;
+  across = within_way p d.0 few (no_lower (λ x. x.0) across_height R sets p d c step again h)
+      (no_lower (λ x. neg_ℤ x.0) back_height R sets p d c step again h);
+  along = within_way p d.1 few (no_lower (λ x. x.1) along_height R sets p d c step again h)
+      (no_lower (λ x. neg_ℤ x.1) up_height R sets p d c step again h);
+}
 
 module _ (R : Rule) (b : ℕ) (few : b ≤ way_limit) where
   module _ (o : Course) (rule : o.rule ≡ R) (course : IsCourse o) (object : IsObject R b o.set) where
@@ -35,17 +52,12 @@ module _ (R : Rule) (b : ℕ) (few : b ≤ way_limit) where
         omega arith
 
     fit_by_cell : (c : Cell) → contains o.set c ≡ true → HasFitWay o
+    unfolding generation
     fit_by_cell c h =
-        let p : ℕ = o.period in
-        let d : Cell = o.displacement in
-        record {
-          some = again.later;
-          few = short;
-          across = within_way p d.0 short (no_lower (λ x. x.0) across_height R o.set p d c again h)
-              (no_lower (λ x. neg_ℤ x.0) back_height R o.set p d c again h);
-          along = within_way p d.1 short (no_lower (λ x. x.1) along_height R o.set p d c again h)
-              (no_lower (λ x. neg_ℤ x.1) up_height R o.set p d c again h);
-        }
+        fit_by_steps R (generation R o.set) o.period o.displacement again.later short
+        (λ m k d x. x)
+        (λ d x. ap (λ H. contains H d) again.again ∙ x)
+        c h
 
     fit_way : HasFitWay o
     fit_way =

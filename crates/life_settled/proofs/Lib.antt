@@ -1,7 +1,7 @@
-mod Listing
-mod Making
-mod Parting
-mod Speeds
-mod FitWays
+pub mod Listing
+pub mod Making
+pub mod Parting
+pub mod Speeds
+pub mod FitWays
 mod Walking
-mod Ways
+pub mod Ways

@@ -1,5 +1,5 @@
--- A set moves in a period no further along each axis than the period has generations.
-use Rattle.std.proofs.Common.{◌≡◌, ℕ, zero, suc, ℤ, pos, neg_ℤ, ◌+ℤ◌, ◌≤ℤ◌, int_lt, true, false, cond, ◌⊎◌, List, [], ◌∷◌, inl, inr, sym, refl, ap, subst, ◌∙◌, true≢false, arith}
+-- What comes again, moved, has moved no further along each axis than that took generations.
+use Rattle.std.proofs.Common.{◌≡◌, ℕ, zero, suc, ℤ, pos, neg_ℤ, ◌+ℤ◌, ◌≤ℤ◌, ◌<◌, int_lt, true, false, cond, ◌⊎◌, List, [], ◌∷◌, inl, inr, sym, refl, ap, subst, ◌∙◌, true≢false, arith}
 use Rattle.std.specs.Int.{int_min}
 use Rattle.std.specs.List.{list_any}
 use Rattle.std.proofs.lemmas.Bool.{or_cases, or_left, or_right}
@@ -7,8 +7,9 @@ use Rattle.std.proofs.lemmas.Int.{clamps, ints}
 use Rattle.life_model.specs.Cell.{Cell, IsNear, plus, same_cell}
 use Rattle.life_model.specs.Rule.{Rule}
 use Rattle.life_model.specs.Generation.{Generation, cells, contains}
-use Rattle.life_model.specs.Evolution.{generation}
-use Rattle.life_model.specs.Recurrence.{RecursBy}
+use Rattle.life_model.specs.Evolution.{next}
+use Rattle.life_model.specs.Symmetry.{translate_of}
+use Rattle.life_objects.specs.Union.{IsSubsetOf}
 use Rattle.life_model.proofs.Cells.{plus-opposite, same_cell-is}
 use Rattle.life_model.proofs.Generations.{contains-cells}
 use Rattle.life_model.proofs.Moves.{same_cell_itself, same_le}
@@ -97,24 +98,27 @@ module _ (f : Cell → ℤ) where
             (r.0, listed r.0 ∙ r.1.has, λ q j. r.1.low q (sym (listed q) ∙ j))
       ] refl
 
-  module _ (is : IsHeight f) (R : Rule) where
-    -- a cell of generation n is no more than n below some cell of G
-    reached : (G : Generation) (n : ℕ) (c : Cell) → contains (generation R G n) c ≡ true →
-        (g : Cell) × (contains G g ≡ true) × (f g ≤ℤ (f c +ℤ pos n))
-    unfolding generation
-    reached G zero c h = (c, h, no_further (f c))
-    reached G (suc n) c h =
-        let near = next_near R (generation R G n) c h in
-        let far = reached G n near.0 near.1 in
+  module _ (is : IsHeight f) (R : Rule) (sets : ℕ → Generation) where
+    -- each of the first n sets becomes the next one, and perhaps more
+    abbrev BecomesEach : ℕ → Type 0
+    BecomesEach n = (m : ℕ) → m < n → IsSubsetOf (sets (suc m)) (next R (sets m))
+
+    -- a cell of set n is no more than n below some cell of the first
+    reached : (n : ℕ) → BecomesEach n → (c : Cell) → contains (sets n) c ≡ true →
+        (g : Cell) × (contains (sets 0) g ≡ true) × (f g ≤ℤ (f c +ℤ pos n))
+    reached zero step c h = (c, h, no_further (f c))
+    reached (suc n) step c h =
+        let near = next_near R (sets n) c (step n (omega arith) c h) in
+        let far = reached n (λ m k. step m (omega arith)) near.0 near.1 in
         (far.0, far.1, one_further n (f far.0) (f near.0) (f c) far.2 (is.near c near.0 near.2))
 
-    pub no_lower : (P : Generation) (n : ℕ) (d c : Cell) → RecursBy R P n d → contains P c ≡ true → neg_ℤ (pos n) ≤ℤ f d
-    no_lower P n d c again h =
-        let m = lowest_of P c h in
-        let there : contains (generation R P n) (plus m.0 d) ≡ true =
-        ap (λ H. contains H (plus m.0 d)) again.again ∙ contains-moved P d (plus m.0 d)
-        ∙ ap (contains P) (plus-opposite m.0 d) ∙ m.1 in
-        let g = reached P n (plus m.0 d) there in
+    pub no_lower : (n : ℕ) (d c : Cell) → BecomesEach n → IsSubsetOf (translate_of (sets 0) d) (sets n) →
+        contains (sets 0) c ≡ true → neg_ℤ (pos n) ≤ℤ f d
+    no_lower n d c step again h =
+        let m = lowest_of (sets 0) c h in
+        let there : contains (sets n) (plus m.0 d) ≡ true =
+        again (plus m.0 d) (contains-moved (sets 0) d (plus m.0 d) ∙ ap (contains (sets 0)) (plus-opposite m.0 d) ∙ m.1) in
+        let g = reached n step (plus m.0 d) there in
         not_below n (f m.0) (f d) (f g.0) (m.2 g.0 g.1)
         (subst (λ z. f g.0 ≤ℤ (z +ℤ pos n)) (is.adds m.0 d) g.2)
 
