@@ -1,0 +1,16 @@
+pub mod Deciding
+pub mod FindingClasses
+pub mod FindingCores
+pub mod FindingEngines
+pub mod FindingLists
+pub mod FindingPlaces
+pub mod FindingThings
+pub mod FindingTracks
+pub mod Others
+pub mod Picked
+pub mod GoingCores
+pub mod GoingLefts
+pub mod GoingPlaced
+pub mod GoingMeetings
+pub mod GoingAway
+pub mod GoingThings

@@ -1,0 +1,5 @@
+pub mod Emissions
+pub mod Places
+pub mod Growths
+pub mod Picking
+pub mod Meeting

@@ -1,0 +1,86 @@
+//! The growth of a generation.
+ghost use Rattle.std.specs.Prelude.{◌≡◌, ◌↔◌, ℕ, ◌+◌, ◌*◌, ◌<◌, ◌≤◌, All, AllPairs, IfNone, IfOk, IfSome, IsTrue, List, ◌∷◌, length};
+ghost use Rattle.life_model.specs.Generation.{Generation};
+ghost use Rattle.life_ash.specs.Parts.{ash_age_limit};
+ghost use Rattle.life_growth.specs.Growth.{IsGrowth};
+ghost use Rattle.life_settled.specs.Settling as settling;
+ghost use Rattle.life_growing.specs.Growths.{IsGrowthOf};
+
+use crate::apart::stay_apart;
+use crate::emission::Engine;
+use crate::engines::{debris_beside, engines_of};
+use life_cells::Rule;
+use life_frames::Film;
+use life_plane::Plane;
+use life_settled::{Settled, settled};
+use life_things::WAY_LIMIT;
+use std::alloc::{AllocError, Global};
+use std::marker::Model;
+
+/// What grows: its engines, and what becomes of the debris beside them.
+#[derive(Drop)]
+pub struct Growth {
+    engines: Vec<Engine>,
+    debris: Settled,
+}
+
+impl Model for Growth {
+    ghost use Rattle.life_growing.specs.Growths as growths;
+    ghost use Rattle.life_growing.specs.Growths.{coded_growth};
+
+    ghost Value = { growths.Growth };
+
+    ghost coded = { coded_growth };
+
+    ghost view = { λ g. record { engines = g.engines.items; debris = g.debris } };
+}
+
+impl Growth {
+    /// Its engines.
+    pub fn engines(&self) -> &[Engine]
+        ensures { result.now ≡ self.now.engines }
+    {
+        self.engines.as_slice()
+    }
+
+    /// What becomes of its debris.
+    pub fn debris(&self) -> &Settled
+        ensures { result.now ≡ self.now.debris }
+    {
+        &self.debris
+    }
+}
+
+/// The growth of a plane's cells within the bound, as a film of so many generations tells it. What is found is one. Where
+/// the film is at least twice as long as the bound, there is none where none is found.
+///
+/// The film holds each cell of each of its generations.
+pub fn growth_of<P: Plane>(
+    alloc: Global,
+    plane: &P,
+    rule: &Rule,
+    length: u32,
+    bound: u32,
+) -> Result<Option<Growth>, AllocError>
+    requires bound { 1 ≤ bound × bound ≤ WAY_LIMIT }
+    requires age { ((P.steps_made plane.now + length) + bound) + bound ≤ ash_age_limit }
+    ensures some { IfOk result (λ found. IfSome found (IsGrowthOf rule.now bound (P.members plane.now))) }
+    ensures none { IfOk result (λ found. IfNone found (2 * bound ≤ length → (Es : List Generation) (S : Generation) →
+        IsGrowth rule.now bound (P.members plane.now) Es S → ⊥)) }
+{
+    let film = Film::of(alloc, plane, rule, length)?;
+    let age = plane.age();
+    let engines = engines_of::<P>(alloc, rule, &film, age, length, bound)?;
+    let found = engines.as_slice();
+    if found.is_empty() {
+        return Ok(None);
+    }
+    let rest = debris_beside(alloc, &film, found)?;
+    let Some(debris) = settled::<P>(alloc, rule, &rest, age, bound)? else {
+        return Ok(None);
+    };
+    if !stay_apart(alloc, found, &debris)? {
+        return Ok(None);
+    }
+    Ok(Some(Growth { engines, debris }))
+}

@@ -1,0 +1,7 @@
+//! Tests of the growth of generations.
+#![tactic(auto)]
+
+#[cfg(test)]
+mod growths;
+#[cfg(test)]
+mod patterns;
