@@ -1,6 +1,9 @@
-mod Appending
+pub mod Appending
 pub mod Counts
+pub mod Divisors
 pub mod Escaping
 pub mod Lent
+pub mod Listing
+pub mod Numbered
 pub mod Places
 pub mod Tables

@@ -1,21 +1,21 @@
--- The patterns that have a code stand together, where all stand in the order of their codes.
-use Rattle.std.proofs.Common.{◌≡◌, ℕ, zero, suc, ◌+◌, ◌-◌, ◌<◌, ◌≤◌, Bool, true, false, not, ◌&&◌, List, [], ◌∷◌, ◌++◌, codes, length, take, drop, get_or, refl, sym, ap, ap₂, ◌∙◌, arith, true≢false, length-drop}
+-- The patterns that have a code stand together where all stand in the order of their codes.
+use Rattle.std.proofs.Common.{◌≡◌, ℕ, zero, suc, ◌+◌, ◌-◌, ◌<◌, ◌≤◌, Bool, true, false, not, ◌&&◌, List, [], ◌∷◌, length, take, drop, get_or, refl, sym, ap, ap₂, ◌∙◌, arith, true≢false, length-drop}
 use Rattle.std.specs.Prelude.{cond, filter, nat_eq}
 use Rattle.std.specs.Cmp.Lexicographic.{on_texts, pointwise, slice_cmp, texts_ties}
 use Rattle.std.specs.Cmp.{both_tied, IsTotalOrder}
 use Rattle.std.specs.List.{All}
-use Rattle.std.specs.List.Sorted.{ties, IsPartitionedBy}
+use Rattle.std.specs.List.Sorted.{ties, IsPartitionedBy, IsPartitionPoint}
 use Rattle.std.specs.Ordering.{is_eq, is_lt, nat_cmp, ordering_reverse}
 use Rattle.std.specs.declared.cmp.Ordering.{Ordering}
 use Rattle.std.specs.declared.cmp.Ordering.TheVariants.{Less, Equal, Greater}
 use Rattle.std.proofs.lemmas.Cmp.{then_total}
-use Rattle.std.proofs.lemmas.List.{get_or-drop, get_or_default, take_all}
+use Rattle.std.proofs.lemmas.List.{get_or-drop, take_all}
 use Rattle.std.proofs.lemmas.List.Elements.{All-tail}
 use Rattle.std.proofs.lemmas.List.Sorted.{ranks_by, sorted_far}
-use Rattle.census_page.specs.Escapes.{name_element}
-use Rattle.census_page.specs.Holders.{has_code, holder_item, holder_items}
+use Rattle.census_page.specs.Holders.{has_code, having}
 use Rattle.census_page.specs.Order.{holder_key, is_before, key_cmp, AreInOrder}
 use Rattle.census_page.specs.declared.holder.Holder.{Holder}
+use Rattle.census_page.specs.declared.holder.Share.TheVariants.{Parts}
 
 -- # The order
 
@@ -53,46 +53,60 @@ further k x y over up = go (key_cmp y x) refl up
         let after : key_cmp x y ≡ Less = key_total.antisymm x y ∙ ap ordering_reverse e in
         ap is_eq (key_total.antisymm y k ∙ ap ordering_reverse (key_total.trans k x y under after))
 
--- # The items
+-- # The patterns that have a code
 
-items-one : (rule code : List ℕ) (b : Bool) (h : Holder) (rest : List ℕ) → has_code rule code h ≡ b → b ≡ false → holder_item rule code h ++ rest ≡ rest
-items-one rule code true h rest e none = absurd (true≢false none)
-items-one rule code false h rest e none = rw e refl
+having-more : (rule code : List ℕ) (h : Holder) (hs : List Holder) → has_code rule code h ≡ true → having rule code (h ∷ hs) ≡ h ∷ having rule code hs
+having-more rule code h hs e = ap (λ (b : Bool). cond b (h ∷ having rule code hs) (having rule code hs)) e
 
-items-none : (rule code : List ℕ) (hs : List Holder) → All (λ h. has_code rule code h ≡ false) hs → holder_items rule code hs ≡ []
-items-none rule code [] none = refl
-items-none rule code (h ∷ hs) none =
-    items-one rule code (has_code rule code h) h (holder_items rule code hs) refl (none 0 h (omega arith))
-    ∙ items-none rule code hs (All-tail (λ h. has_code rule code h ≡ false) h hs none)
+having-less : (rule code : List ℕ) (h : Holder) (hs : List Holder) → has_code rule code h ≡ false → having rule code (h ∷ hs) ≡ having rule code hs
+having-less rule code h hs e = ap (λ (b : Bool). cond b (h ∷ having rule code hs) (having rule code hs)) e
+
+having-none : (rule code : List ℕ) (hs : List Holder) → All (λ h. has_code rule code h ≡ false) hs → having rule code hs ≡ []
+having-none rule code [] none = refl
+having-none rule code (h ∷ hs) none =
+    having-less rule code h hs (none 0 h (omega arith)) ∙ having-none rule code hs (All-tail (λ h. has_code rule code h ≡ false) h hs none)
 
 -- what comes before a place has nothing there
-pub items-drop : (rule code : List ℕ) (at : ℕ) (hs : List Holder) → ((k : ℕ) (d : Holder) → k < at → is_before rule code (get_or hs k d) ≡ true) → at ≤ length hs
-    → holder_items rule code hs ≡ holder_items rule code (drop at hs)
-items-drop rule code zero hs before within = refl
-items-drop rule code (suc at) [] before within = absurd (omega arith)
-items-drop rule code (suc at) (h ∷ hs) before within =
-    items-one rule code (has_code rule code h) h (holder_items rule code hs) refl
-    (has_is rule code h ∙ not-equal (key_cmp (holder_key h) (code, rule)) (before 0 h (omega arith)))
-    ∙ items-drop rule code at hs (λ k d small. before (suc k) d (omega (arith, small))) (omega (arith, within))
+having-drop : (rule code : List ℕ) (at : ℕ) (hs : List Holder) → ((k : ℕ) (d : Holder) → k < at → is_before rule code (get_or hs k d) ≡ true) → at ≤ length hs
+    → having rule code hs ≡ having rule code (drop at hs)
+having-drop rule code zero hs before within = refl
+having-drop rule code (suc at) [] before within = absurd (omega arith)
+having-drop rule code (suc at) (h ∷ hs) before within =
+    having-less rule code h hs (has_is rule code h ∙ not-equal (key_cmp (holder_key h) (code, rule)) (before 0 h (omega arith)))
+    ∙ having-drop rule code at hs (λ k d small. before (suc k) d (omega (arith, small))) (omega (arith, within))
 
--- nothing stands at a code from one on that doesn't, where none of these comes before
-module _ (rule code : List ℕ) (hs : List Holder) (order : AreInOrder hs) (at : ℕ) (d : Holder) (less : at < length hs)
-    (from : is_before rule code (get_or hs at d) ≡ false) (other : has_code rule code (get_or hs at d) ≡ false) where
-  over : key_cmp (holder_key (get_or hs at d)) (code, rule) ≡ Greater
-  over = behind (key_cmp (holder_key (get_or hs at d)) (code, rule)) from (sym (has_is rule code (get_or hs at d)) ∙ other)
+-- those that have it stand first, and none comes after these
+having-take : (rule code : List ℕ) (n : ℕ) (hs : List Holder) → IsPartitionPoint (λ h. has_code rule code h ≡ true) (λ h. has_code rule code h ≡ false) hs n
+    → n ≤ length hs → take n hs ≡ having rule code hs
+having-take rule code zero hs parted within = sym (having-none rule code hs (λ k d small. parted.1 k d (omega arith) small))
+having-take rule code (suc n) [] parted within = absurd (omega arith)
+having-take rule code (suc n) (h ∷ hs) parted within =
+    ap (λ ks. h ∷ ks)
+    (having-take rule code n hs (λ k d low small. parted.0 (suc k) d (omega arith) (omega (arith, small)), λ k d low small. parted.1 (suc k) d (omega (arith, low)) (omega (arith, small)))
+    (omega (arith, within)))
+    ∙ sym (having-more rule code h hs (parted.0 0 h (omega arith) (omega arith)))
 
-  past : (k : ℕ) (e : Holder) → k < length (drop at hs) → has_code rule code (get_or (drop at hs) k e) ≡ false
-  past k e small =
-      let within : at + k < length hs = omega (arith, length-drop at hs) in
-      let here : get_or hs at d ≡ get_or hs at e = get_or_default hs at d e less in
-      ap (has_code rule code) (get_or-drop at hs k e)
-      ∙ has_is rule code (get_or hs (at + k) e)
-      ∙ further (code, rule) (holder_key (get_or hs at d)) (holder_key (get_or hs (at + k) e)) over
-      (ap (λ h. is_lt (key_cmp (holder_key (get_or hs (at + k) e)) (holder_key h))) here
-      ∙ sorted_far (λ one two. is_lt (key_cmp (holder_key one) (holder_key two))) (ranks_by key_total holder_key) hs order at (at + k) e (omega arith) within)
+-- from a place on that all before it come before, those that have it stand first
+pub having-is : (rule code : List ℕ) (at n : ℕ) (hs rest : List Holder) → rest ≡ drop at hs → ((k : ℕ) (d : Holder) → k < at → is_before rule code (get_or hs k d) ≡ true)
+    → at ≤ length hs → IsPartitionPoint (λ h. has_code rule code h ≡ true) (λ h. has_code rule code h ≡ false) rest n → n ≤ length rest
+    → take n rest ≡ having rule code hs
+having-is rule code at n hs rest is before within parted few =
+    having-take rule code n rest parted few ∙ ap (having rule code) is ∙ sym (having-drop rule code at hs before within)
 
-  pub items-over : holder_items rule code (drop at hs) ≡ []
-  items-over = items-none rule code (drop at hs) past
+-- nothing stands at a code after one that doesn't, where none of these comes before
+pub having-parted : (rule code : List ℕ) (hs : List Holder) → AreInOrder hs → All (λ h. is_before rule code h ≡ false) hs → IsPartitionedBy (has_code rule code) hs
+having-parted rule code hs order from i j d low small has = go (has_code rule code (get_or hs i d)) refl
+  where
+    past : has_code rule code (get_or hs i d) ≡ false → has_code rule code (get_or hs j d) ≡ false
+    past other =
+        has_is rule code (get_or hs j d)
+        ∙ further (code, rule) (holder_key (get_or hs i d)) (holder_key (get_or hs j d))
+        (behind (key_cmp (holder_key (get_or hs i d)) (code, rule)) (from i d (omega (arith, low, small))) (sym (has_is rule code (get_or hs i d)) ∙ other))
+        (sorted_far (λ one two. is_lt (key_cmp (holder_key one) (holder_key two))) (ranks_by key_total holder_key) hs order i j d low small)
+
+    go : (b : Bool) → has_code rule code (get_or hs i d) ≡ b → has_code rule code (get_or hs i d) ≡ true
+    go true e = e
+    go false e = absurd (true≢false (sym has ∙ past e))
 
 -- the order is kept from a place on
 pub order-drop : (n : ℕ) (hs : List Holder) → AreInOrder hs → AreInOrder (drop n hs)
@@ -129,16 +143,7 @@ before-parted rule code hs order i j d low small before =
             let after : key_cmp x y ≡ Less = key_total.antisymm x y ∙ ap ordering_reverse e in
             ap is_lt (key_total.trans x y k after (less (key_cmp y k) under))
 
--- # The items of patterns that are put in order
-
-kept : (rule code : List ℕ) (b : Bool) (h : Holder) (hs ks : List Holder) → has_code rule code h ≡ b → holder_items rule code hs ≡ holder_items rule code ks
-    → holder_item rule code h ++ holder_items rule code hs ≡ holder_items rule code (cond b (h ∷ ks) ks)
-kept rule code true h hs ks e same = ap (λ t. holder_item rule code h ++ t) same
-kept rule code false h hs ks e same = items-one rule code false h (holder_items rule code hs) e refl ∙ same
-
-items-filter : (rule code : List ℕ) (hs : List Holder) → holder_items rule code hs ≡ holder_items rule code (filter (has_code rule code) hs)
-items-filter rule code [] = refl
-items-filter rule code (h ∷ hs) = kept rule code (has_code rule code h) h hs (filter (has_code rule code) hs) refl (items-filter rule code hs)
+-- # Patterns that are put in order
 
 filter-alike : (p q : Holder → Bool) (hs : List Holder) → ((h : Holder) → p h ≡ q h) → filter p hs ≡ filter q hs
 filter-alike p q [] same = refl
@@ -150,6 +155,7 @@ at_key rule code = record {
   rule = record { ref_ptr = (0, 0); now = rule };
   code = record { ref_ptr = (0, 0); now = code };
   name = record { ref_ptr = (0, 0); now = [] };
+  share = Parts 0;
 }
 
 level : (r : Ordering) → (not (is_lt (ordering_reverse r)) && not (is_lt r)) ≡ is_eq r
@@ -162,15 +168,12 @@ tied rule code h =
     ap (λ r. not (is_lt r) && not (is_lt (key_cmp (holder_key h) (code, rule)))) (key_total.antisymm (code, rule) (holder_key h))
     ∙ level (key_cmp (holder_key h) (code, rule)) ∙ sym (has_is rule code h)
 
-pub same-items : (rule code : List ℕ) (old new : List Holder)
+pub same-having : (rule code : List ℕ) (old new : List Holder)
     → filter (ties (λ one two. is_lt (key_cmp (holder_key one) (holder_key two))) (at_key rule code)) new
     ≡ filter (ties (λ one two. is_lt (key_cmp (holder_key one) (holder_key two))) (at_key rule code)) old
-    → holder_items rule code new ≡ holder_items rule code old
-same-items rule code old new stable =
+    → having rule code new ≡ having rule code old
+same-having rule code old new stable =
     let lt : Holder → Holder → Bool = λ one two. is_lt (key_cmp (holder_key one) (holder_key two)) in
-    let here : (hs : List Holder) → holder_items rule code hs ≡ holder_items rule code (filter (ties lt (at_key rule code)) hs) =
-    λ hs. items-filter rule code hs ∙ ap (holder_items rule code) (sym (filter-alike (ties lt (at_key rule code)) (has_code rule code) hs (tied rule code))) in
-    here new ∙ ap (holder_items rule code) stable ∙ sym (here old)
-
-pub item-is : (rule code : List ℕ) (h : Holder) → has_code rule code h ≡ true → holder_item rule code h ≡ codes "<li>" ++ name_element h.name.now ++ codes "</li>"
-item-is rule code h e = rw e refl
+    let here : (hs : List Holder) → filter (ties lt (at_key rule code)) hs ≡ having rule code hs =
+    λ hs. filter-alike (ties lt (at_key rule code)) (has_code rule code) hs (tied rule code) in
+    sym (here new) ∙ stable ∙ here old

@@ -1,22 +1,23 @@
 -- A table of codes of patterns that are put in order, and where there is none.
-use Rattle.std.proofs.Common.{◌≡◌, Bor, ℕ, Bool, true, false, ◌||◌, if◌then◌else◌, true≢false, sym, List, [], ◌∷◌, ◌++◌, codes, refl, ap, ap₂}
+use Rattle.std.proofs.Common.{◌≡◌, Bor, ℕ, Bool, true, false, not, ◌||◌, if◌then◌else◌, true≢false, sym, List, [], ◌∷◌, ◌++◌, codes, refl, ap, ap₂}
 use Rattle.std.specs.Prelude.{None}
 use Rattle.std.specs.List.{list_any}
 use Rattle.census_rows.specs.declared.row.Outcome.{Outcome}
 use Rattle.census_rows.specs.declared.row.Row.{Row}
 use Rattle.census_rows.specs.declared.row.Row.TheVariants.{Open, Line, Part, Code, Close, End}
 use Rattle.census_page.specs.Escapes.{name_element}
-use Rattle.census_page.specs.Holders.{holder_items, holders_from}
-use Rattle.census_page.specs.Markup.{list_begin, list_end, table_begin, table_end}
-use Rattle.census_page.specs.Pages.{code_row, code_rows, code_table, framed_text, front_cells, is_code, is_stray, is_unresolved_or_refused, reason, stray_list, stray_rows}
+use Rattle.census_page.specs.Fates.{fate_cells, recurs}
+use Rattle.census_page.specs.Holders.{having, holders_from}
+use Rattle.census_page.specs.Markup.{list_begin, table_begin, table_end}
+use Rattle.census_page.specs.Pages.{code_cells, code_row, code_rows, code_table, framed_text, is_code, is_stray, stray_list, stray_rows}
 use Rattle.census_page.specs.declared.holder.Holder.{Holder}
 
-module _ (old new : List Holder) (same : (rule code : List ℕ) → holder_items rule code new ≡ holder_items rule code old) where
+module _ (old new : List Holder) (same : (rule code : List ℕ) → having rule code new ≡ having rule code old) where
   same-row : (row : Row) → code_row new row ≡ code_row old row
   same-row (Open collection patterns name) = refl
   same-row (Line collection pattern outcome name) = refl
   same-row (Part collection pattern code count) = refl
-  same-row (Code collection rule code count) = ap (λ t. front_cells rule.now code.now count ++ (t ++ codes "</ul></td></tr>\n")) (same rule.now code.now)
+  same-row (Code collection rule code count) = ap (code_cells rule.now code.now count) (same rule.now code.now)
   same-row (Close collection patterns resolved unresolved refused) = refl
   same-row (End collections patterns) = refl
 
@@ -60,27 +61,28 @@ table-is rows = table-some (holders_from None rows) rows
 pub table-none : (rows : List Row) → list_any is_code rows ≡ false → code_table rows ≡ []
 table-none rows = no-table (holders_from None rows) rows
 
--- # A list where any row tells of an unresolved or refused pattern, and none elsewhere
+-- # A table where any row tells of a pattern that does not recur, and none elsewhere
 
-abbrev item : Bool → List ℕ → Outcome → List ℕ
-item stray name outcome = if stray then codes "<li>" ++ name_element name ++ codes ": " ++ reason outcome ++ codes "</li>\n" else []
+abbrev row_unless : Bool → List ℕ → Outcome → List ℕ
+row_unless recurring name outcome =
+    if recurring then [] else codes "<tr class=\"u\"><th scope=\"row\">" ++ name_element name ++ fate_cells outcome ++ codes "</td></tr>\n"
 
-some-item : (b some : Bool) (name rest : List ℕ) (outcome : Outcome) → (b || some) ≡ true
-    → (some ≡ true → framed_text list_begin rest list_end ≡ list_begin ++ (rest ++ list_end))
-    → framed_text list_begin (item b name outcome ++ rest) list_end ≡ list_begin ++ ((item b name outcome ++ rest) ++ list_end)
-some-item true some name rest outcome is others = refl
-some-item false some name rest outcome is others = others is
+some-row : (b some : Bool) (name rest : List ℕ) (outcome : Outcome) → (not b || some) ≡ true
+    → (some ≡ true → framed_text list_begin rest table_end ≡ list_begin ++ (rest ++ table_end))
+    → framed_text list_begin (row_unless b name outcome ++ rest) table_end ≡ list_begin ++ ((row_unless b name outcome ++ rest) ++ table_end)
+some-row true some name rest outcome is others = others is
+some-row false some name rest outcome is others = refl
 
-no-item : (b some : Bool) (name rest : List ℕ) (outcome : Outcome) → (b || some) ≡ false → (some ≡ false → framed_text list_begin rest list_end ≡ [])
-    → framed_text list_begin (item b name outcome ++ rest) list_end ≡ []
-no-item true some name rest outcome none others = absurd (true≢false none)
-no-item false some name rest outcome none others = others none
+no-stray : (b some : Bool) (name rest : List ℕ) (outcome : Outcome) → (not b || some) ≡ false → (some ≡ false → framed_text list_begin rest table_end ≡ [])
+    → framed_text list_begin (row_unless b name outcome ++ rest) table_end ≡ []
+no-stray true some name rest outcome none others = others none
+no-stray false some name rest outcome none others = absurd (true≢false none)
 
-pub list-is : (rows : List Row) → list_any is_stray rows ≡ true → stray_list rows ≡ list_begin ++ (stray_rows rows ++ list_end)
+pub list-is : (rows : List Row) → list_any is_stray rows ≡ true → stray_list rows ≡ list_begin ++ (stray_rows rows ++ table_end)
 list-is [] some = absurd (true≢false (sym some))
 list-is (Open collection patterns name ∷ rows) some = list-is rows some
 list-is (Line collection pattern outcome name ∷ rows) some =
-    some-item (is_unresolved_or_refused outcome) (list_any is_stray rows) name.now (stray_rows rows) outcome some (list-is rows)
+    some-row (recurs outcome) (list_any is_stray rows) name.now (stray_rows rows) outcome some (list-is rows)
 list-is (Part collection pattern code count ∷ rows) some = list-is rows some
 list-is (Code collection rule code count ∷ rows) some = list-is rows some
 list-is (Close collection patterns resolved unresolved refused ∷ rows) some = list-is rows some
@@ -90,7 +92,7 @@ pub list-none : (rows : List Row) → list_any is_stray rows ≡ false → stray
 list-none [] none = refl
 list-none (Open collection patterns name ∷ rows) none = list-none rows none
 list-none (Line collection pattern outcome name ∷ rows) none =
-    no-item (is_unresolved_or_refused outcome) (list_any is_stray rows) name.now (stray_rows rows) outcome none (list-none rows)
+    no-stray (recurs outcome) (list_any is_stray rows) name.now (stray_rows rows) outcome none (list-none rows)
 list-none (Part collection pattern code count ∷ rows) none = list-none rows none
 list-none (Code collection rule code count ∷ rows) none = list-none rows none
 list-none (Close collection patterns resolved unresolved refused ∷ rows) none = list-none rows none

@@ -11,9 +11,13 @@ abbrev pub escaped_text : List ℕ → List ℕ
 escaped_text [] = []
 escaped_text (c ∷ cs) = escaped_byte c ++ escaped_text cs
 
--- an element of its own, with U+FFFD for what is not UTF-8
-abbrev pub name_element : List ℕ → List ℕ
-name_element bytes = codes "<bdi>" ++ escaped_text (utf8_lossy bytes) ++ codes "</bdi>"
+-- with U+FFFD for what is not UTF-8
+abbrev pub told_text : List ℕ → List ℕ
+told_text bytes = escaped_text (utf8_lossy bytes)
+
+-- an element of its own
+unfoldable pub name_element : List ℕ → List ℕ
+name_element bytes = codes "<bdi>" ++ told_text bytes ++ codes "</bdi>"
 
 abbrev pub starts_with : List ℕ → List ℕ → Bool
 starts_with [] cs = true

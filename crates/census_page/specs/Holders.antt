@@ -1,19 +1,20 @@
 -- Which patterns have a code.
-use Rattle.std.specs.Prelude.{ℕ, Bool, ◌&&◌, if◌then◌else◌, Option, Some, None as Nothing, List, [], ◌∷◌, ◌++◌, codes}
+use Rattle.std.specs.Prelude.{ℕ, Bool, ◌&&◌, if◌then◌else◌, Option, Some, None as Nothing, List, [], ◌∷◌, filter}
 use Rattle.std.specs.Cmp.Lexicographic.{pointwise}
 use Rattle.std.specs.Bool.{nat_eq}
 use Rattle.std.specs.Borrow.{Bor}
-use Rattle.census_rows.specs.declared.kinds.Label.TheVariants as label
-use Rattle.census_rows.specs.declared.kinds.Value.{Value}
-use Rattle.census_rows.specs.declared.kinds.Value.TheVariants.{Number, Signed, Text}
+use Rattle.census_rows.specs.declared.row.Finding.{Finding}
+use Rattle.census_rows.specs.declared.row.Finding.TheVariants.{Ok}
 use Rattle.census_rows.specs.declared.row.Outcome.{Outcome}
 use Rattle.census_rows.specs.declared.row.Outcome.TheVariants.{Found, Bad}
 use Rattle.census_rows.specs.declared.row.Row.{Row}
 use Rattle.census_rows.specs.declared.row.Row.TheVariants.{Line, Part}
-use Rattle.census_rows.specs.Kinds.{said_of, value_at}
+use Rattle.census_rows.specs.Kinds.{said_of}
 use Rattle.census_page.specs.declared.holder.Holder.{Holder}
 use Rattle.census_page.specs.declared.holder.Naming.{Naming}
-use Rattle.census_page.specs.Escapes.{name_element}
+use Rattle.census_page.specs.declared.holder.Share.{Share}
+use Rattle.census_page.specs.declared.holder.Share.TheVariants.{Parts, Whole}
+use Rattle.census_page.specs.declared.speed.Way.{Way}
 
 -- the rule and the name of the pattern that has fallen apart last, after a row
 abbrev pub naming_in : Option Naming → Outcome → Bor (List ℕ) → Option Naming
@@ -25,24 +26,24 @@ naming_after naming (Line collection pattern outcome name) = naming_in naming ou
 naming_after naming _ = naming
 
 -- a pattern that has this code among those of its parts
-abbrev pub holder_by_part : Option Naming → Bor (List ℕ) → Option Holder
-holder_by_part Nothing code = Nothing
-holder_by_part (Some naming) code = Some (record { rule = naming.rule; code = code; name = naming.name })
+abbrev pub holder_by_part : Option Naming → Bor (List ℕ) → ℕ → Option Holder
+holder_by_part Nothing code count = Nothing
+holder_by_part (Some naming) code count = Some (record { rule = naming.rule; code = code; name = naming.name; share = Parts count })
 
-abbrev pub holder_by_code : Bor (List ℕ) → Bor (List ℕ) → Option Value → Option Holder
-holder_by_code rule name Nothing = Nothing
-holder_by_code rule name (Some (Number n)) = Nothing
-holder_by_code rule name (Some (Signed z)) = Nothing
-holder_by_code rule name (Some (Text code)) = Some (record { rule = rule; code = code; name = name })
+-- a pattern that recurs
+abbrev pub holder_by_code : Bor (List ℕ) → ℕ → Finding → Bor (List ℕ) → Option Holder
+holder_by_code rule population (Ok onset period dx dy code) name =
+    Some (record { rule = rule; code = code; name = name; share = Whole population onset (record { period = period; dx = dx; dy = dy }) })
+holder_by_code rule population _ name = Nothing
 
 -- what a row says of the code of a pattern
 abbrev pub holder_in : Outcome → Bor (List ℕ) → Option Holder
-holder_in (Found rule population finding) name = holder_by_code rule name (value_at label.Code (said_of finding).fields)
+holder_in (Found rule population finding) name = holder_by_code rule population finding name
 holder_in (Bad fault) name = Nothing
 
 abbrev pub holder_of : Option Naming → Row → Option Holder
 holder_of naming (Line collection pattern outcome name) = holder_in outcome name
-holder_of naming (Part collection pattern code count) = holder_by_part naming code
+holder_of naming (Part collection pattern code count) = holder_by_part naming code count
 holder_of naming _ = Nothing
 
 abbrev pub holder_before : Option Holder → List Holder → List Holder
@@ -58,10 +59,16 @@ holders_from naming (row ∷ rows) = holder_before (holder_of (naming_after nami
 abbrev pub has_code : List ℕ → List ℕ → Holder → Bool
 has_code rule code holder = pointwise nat_eq holder.code.now code && pointwise nat_eq holder.rule.now rule
 
-abbrev pub holder_item : List ℕ → List ℕ → Holder → List ℕ
-holder_item rule code holder = if has_code rule code holder then codes "<li>" ++ name_element holder.name.now ++ codes "</li>" else []
+-- those of the patterns that have this code under this rule
+abbrev pub having : List ℕ → List ℕ → List Holder → List Holder
+having rule code holders = filter (has_code rule code) holders
 
--- an item for each pattern that has this code under this rule
-abbrev pub holder_items : List ℕ → List ℕ → List Holder → List ℕ
-holder_items rule code [] = []
-holder_items rule code (holder ∷ holders) = holder_item rule code holder ++ holder_items rule code holders
+-- how far it moves, where it recurs
+abbrev pub way_in : Share → Option Way
+way_in (Whole population onset way) = Some way
+way_in (Parts count) = Nothing
+
+-- how far the first of these moves
+abbrev pub way_of : List Holder → Option Way
+way_of [] = Nothing
+way_of (holder ∷ holders) = way_in holder.share

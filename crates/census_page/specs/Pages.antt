@@ -1,19 +1,27 @@
 -- The text of a page.
-use Rattle.std.specs.Prelude.{ℕ, ◌+◌, ◌==◌, Bool, true, false, not, if◌then◌else◌, Option, Some, None as Nothing, List, [], ◌∷◌, ◌++◌, codes, decimal}
-use Rattle.census_rows.specs.declared.kinds.Label.TheVariants as label
-use Rattle.census_rows.specs.declared.kinds.Value.{Value}
-use Rattle.census_rows.specs.declared.kinds.Value.TheVariants.{Number}
-use Rattle.census_rows.specs.declared.row.Outcome.{Outcome}
-use Rattle.census_rows.specs.declared.row.Outcome.TheVariants.{Found, Bad}
+use Rattle.std.specs.Prelude.{ℕ, ◌+◌, Bool, true, false, not, if◌then◌else◌, Option, Some, None as Nothing, is_some, List, [], ◌∷◌, ◌++◌, codes, decimal, length, nat_le, take}
+use Rattle.std.specs.List.{count_by}
+use Rattle.life_model.specs.Generation.{Generation}
 use Rattle.census_rows.specs.declared.row.Row.{Row}
 use Rattle.census_rows.specs.declared.row.Row.TheVariants.{Open, Line, Code, Close}
-use Rattle.census_rows.specs.Kinds.{said_of, value_at, is_resolved}
+use Rattle.census_rows.specs.Kinds.{is_refused, is_resolved, is_unresolved}
 use Rattle.census_readback.specs.Grouped.{collections_of}
+use Rattle.census_readback.specs.Shapes.{any_outcome, is_line}
 use Rattle.census_page.specs.declared.holder.Holder.{Holder}
-use Rattle.census_page.specs.Escapes.{name_element}
-use Rattle.census_page.specs.Holders.{holder_items, holders_from}
-use Rattle.census_page.specs.Markup.{list_begin, list_end, page_begin, page_end, table_begin, table_end}
-use Rattle.census_page.specs.Pictures.{picture}
+use Rattle.census_page.specs.declared.kind.Kind.{Kind}
+use Rattle.census_page.specs.declared.kind.Kind.TheVariants.{StillLife, Oscillator, Spaceship, Other}
+use Rattle.census_page.specs.Escapes.{name_element, told_text}
+use Rattle.census_page.specs.Fates.{fate_row, recurs}
+use Rattle.census_page.specs.declared.speed.Way.{Way}
+use Rattle.census_page.specs.Holders.{having, holders_from, way_of}
+use Rattle.census_page.specs.Kinds.{class_of, is_kind, kind_of, object_words}
+use Rattle.census_page.specs.Lists.{holder_list}
+use Rattle.census_page.specs.Markup.{index_begin, index_end, list_begin, page_begin, page_end, page_style, table_begin, table_end}
+use Rattle.census_page.specs.Numbers.{grouped, labelled}
+use Rattle.census_page.specs.Options.{Options}
+use Rattle.census_page.specs.Pictures.{cells_told, picture, rle, spelled}
+
+-- # A collection
 
 -- the name of a collection
 abbrev pub collection_name : List ℕ → List ℕ
@@ -28,8 +36,8 @@ pub record PatternCounts : Type 0 where
 
 abbrev pub counts_text : PatternCounts → List ℕ
 counts_text counts =
-    codes "<p>" ++ decimal counts.patterns ++ codes " patterns: " ++ decimal counts.resolved ++ codes " resolved, "
-    ++ decimal counts.unresolved ++ codes " unresolved, " ++ decimal counts.refused ++ codes " refused</p>\n"
+    codes "<p>" ++ labelled (codes "Patterns: ") counts.patterns ++ labelled (codes ". Resolved: ") counts.resolved
+    ++ labelled (codes ", unresolved: ") counts.unresolved ++ labelled (codes ", refused: ") counts.refused ++ codes ".</p>\n"
 
 -- what a row says of its collection as a whole
 abbrev pub heading : Row → List ℕ
@@ -42,58 +50,58 @@ abbrev pub headings : List Row → List ℕ
 headings [] = []
 headings (row ∷ rows) = heading row ++ headings rows
 
--- a code with its picture and its rule
-abbrev pub object_cells : List ℕ → List ℕ → List ℕ
-object_cells rule code =
-    codes "<tr><td>" ++ picture code ++ codes "</td><td>" ++ name_element rule ++ codes "</td><td><code>" ++ name_element code ++ codes "</code></td>"
+-- # Its codes
+
+-- a code: beyond 60 bytes only the first 24, and all when they are asked for
+unfoldable pub code_element : List ℕ → List ℕ
+code_element code =
+    if nat_le (length code) 60 then codes "<code>" ++ told_text code ++ codes "</code>" else
+    codes "<details><summary><code>" ++ told_text (take 24 code) ++ codes "&hellip;</code></summary><code>" ++ told_text code ++ codes "</code></details>"
+
+-- the picture of a code
+abbrev pub picture_cell : List ℕ → Option Generation → List ℕ
+picture_cell code shape = codes "<tr class=\"" ++ class_of (kind_of code) ++ codes "\"><td>" ++ picture shape ++ codes "</td>"
+
+-- a code, and what it is in words
+unfoldable pub name_cell : List ℕ → Option Way → List ℕ
+name_cell code way = codes "<th scope=\"row\"><p>" ++ object_words code way ++ codes "</p><div>" ++ code_element code
+
+-- its rule, its RLE text and how many cells it has
+unfoldable pub rule_cells : List ℕ → Option Generation → List ℕ
+rule_cells rule shape =
+    codes "<small>" ++ told_text rule ++ codes "</small>" ++ rle rule shape ++ codes "</div></th><td>" ++ cells_told shape ++ codes "</td><td>"
+
+abbrev pub object_cells : List ℕ → List ℕ → Option Way → Option Generation → List ℕ
+object_cells rule code way shape = picture_cell code shape ++ name_cell code way ++ rule_cells rule shape
 
 -- the row of a code before the patterns that have it: the code, and how often it occurs
-abbrev pub front_cells : List ℕ → List ℕ → ℕ → List ℕ
-front_cells rule code count = object_cells rule code ++ (codes "<td>" ++ decimal count ++ codes "</td><td><ul>")
+abbrev pub front_cells : List ℕ → List ℕ → ℕ → Option Way → List ℕ
+front_cells rule code count way = object_cells rule code way (spelled code) ++ (grouped count ++ codes "</td><td>")
+
+-- the row of a code that these patterns have
+abbrev pub code_cells : List ℕ → List ℕ → ℕ → List Holder → List ℕ
+code_cells rule code count holders = front_cells rule code count (way_of holders) ++ (holder_list holders ++ codes "</td></tr>\n")
 
 -- the row of a table that tells of a code
 abbrev pub code_row : List Holder → Row → List ℕ
-code_row holders (Code collection rule code count) =
-    front_cells rule.now code.now count ++ (holder_items rule.now code.now holders ++ codes "</ul></td></tr>\n")
+code_row holders (Code collection rule code count) = code_cells rule.now code.now count (having rule.now code.now holders)
 code_row holders _ = []
 
 abbrev pub code_rows : List Holder → List Row → List ℕ
 code_rows holders [] = []
 code_rows holders (row ∷ rows) = code_row holders row ++ code_rows holders rows
 
--- why a pattern was refused
-abbrev pub fault_reason : ℕ → List ℕ
-fault_reason fault = if fault == 0 then codes "refused, could not be read" else codes "refused, fault " ++ decimal fault
-
--- how many cells an unresolved pattern has at first
-abbrev pub population_reason : ℕ → List ℕ
-population_reason population = codes "unresolved, " ++ decimal population ++ codes " cells at first"
-
--- in which generation it has too many, or else how many it has at first
-abbrev pub unresolved_reason : ℕ → Option Value → List ℕ
-unresolved_reason population (Some (Number generation)) = codes "unresolved, too many cells in generation " ++ decimal generation
-unresolved_reason population _ = population_reason population
-
--- why a pattern that isn't resolved has no code
-abbrev pub reason : Outcome → List ℕ
-reason (Found rule population finding) = unresolved_reason population (value_at label.Generation (said_of finding).fields)
-reason (Bad fault) = fault_reason fault
-
--- whether a pattern is unresolved or refused
-abbrev pub is_unresolved_or_refused : Outcome → Bool
-is_unresolved_or_refused outcome = not (is_resolved outcome)
-
--- an item for such a pattern
-abbrev pub stray_item : List ℕ → Outcome → List ℕ
-stray_item name outcome = if is_unresolved_or_refused outcome then codes "<li>" ++ name_element name ++ codes ": " ++ reason outcome ++ codes "</li>\n" else []
+-- # Its patterns that do not recur
 
 abbrev pub stray_row : Row → List ℕ
-stray_row (Line collection pattern outcome name) = stray_item name.now outcome
+stray_row (Line collection pattern outcome name) = fate_row name.now outcome
 stray_row _ = []
 
 abbrev pub stray_rows : List Row → List ℕ
 stray_rows [] = []
 stray_rows (row ∷ rows) = stray_row row ++ stray_rows rows
+
+-- # The whole of it
 
 -- a text between two others, and nothing where it is empty
 abbrev pub framed_text : List ℕ → List ℕ → List ℕ → List ℕ
@@ -104,19 +112,102 @@ abbrev pub code_table : List Row → List ℕ
 code_table rows = framed_text table_begin (code_rows (holders_from Nothing rows) rows) table_end
 
 abbrev pub stray_list : List Row → List ℕ
-stray_list rows = framed_text list_begin (stray_rows rows) list_end
+stray_list rows = framed_text list_begin (stray_rows rows) table_end
 
--- a collection
-abbrev pub section_text : List Row → List ℕ
-section_text rows = codes "<section>\n" ++ (headings rows ++ (code_table rows ++ (stray_list rows ++ codes "</section>\n")))
+-- a collection with its number in the page
+abbrev pub section_text : ℕ → List Row → List ℕ
+section_text number rows =
+    (codes "<section id=\"c" ++ decimal number ++ codes "\">\n") ++ (headings rows ++ (code_table rows ++ (stray_list rows ++ codes "</section>\n")))
 
-abbrev pub sections_text : List (List Row) → List ℕ
-sections_text [] = []
-sections_text (rows ∷ sections) = section_text rows ++ sections_text sections
+abbrev pub sections_text : ℕ → List (List Row) → List ℕ
+sections_text number [] = []
+sections_text number (rows ∷ sections) = section_text number rows ++ sections_text (number + 1) sections
+
+-- # What stands before the collections
+
+-- of which kind what a row tells of is, where the page has a row for it
+abbrev pub kind_shown : Row → Option Kind
+kind_shown (Code collection rule code count) = Some (kind_of code.now)
+kind_shown (Line collection pattern outcome name) = if recurs outcome then Nothing else Some Other
+kind_shown _ = Nothing
+
+abbrev pub is_shown_as : Kind → Row → Bool
+is_shown_as kind row = is_kind kind (kind_shown row)
+
+abbrev pub is_shown : Row → Bool
+is_shown row = is_some (kind_shown row)
+
+unfoldable pub number_cell : ℕ → List ℕ
+number_cell number = codes "<td>" ++ grouped number ++ codes "</td>"
+
+-- a link to the collection with this number
+unfoldable pub link_cell : ℕ → List ℕ → List ℕ
+link_cell number name = codes "<th scope=\"row\"><a href=\"#c" ++ decimal number ++ codes "\">" ++ name_element name ++ codes "</a></th>"
+
+-- what the table of all collections has of a row: a link to its collection, or the counts
+abbrev pub index_cells : ℕ → Row → List ℕ
+index_cells number (Open collection patterns name) = link_cell number name.now
+index_cells number (Close collection patterns resolved unresolved refused) =
+    number_cell patterns ++ number_cell resolved ++ number_cell unresolved ++ number_cell refused
+index_cells number _ = []
+
+abbrev pub all_index_cells : ℕ → List Row → List ℕ
+all_index_cells number [] = []
+all_index_cells number (row ∷ rows) = index_cells number row ++ all_index_cells number rows
+
+-- the row of a collection in that table
+abbrev pub index_row : ℕ → List Row → List ℕ
+index_row number rows =
+    codes "<tr>" ++ all_index_cells number rows ++ number_cell (count_by (is_shown_as StillLife) rows)
+    ++ number_cell (count_by (is_shown_as Oscillator) rows) ++ number_cell (count_by (is_shown_as Spaceship) rows) ++ codes "</tr>\n"
+
+abbrev pub index_rows : ℕ → List (List Row) → List ℕ
+index_rows number [] = []
+index_rows number (rows ∷ sections) = index_row number rows ++ index_rows (number + 1) sections
+
+-- a number under a word
+unfoldable pub total : List ℕ → ℕ → List ℕ
+total word number = codes "<div><dt>" ++ word ++ codes "</dt><dd>" ++ grouped number ++ codes "</dd></div>"
+
+-- how many collections and patterns there are, and what became of these
+unfoldable pub totals : ℕ → List Row → List ℕ
+totals collections rows =
+    codes "<dl>" ++ total (codes "Collections") collections ++ total (codes "Patterns") (count_by (is_line any_outcome) rows)
+    ++ total (codes "Resolved") (count_by (is_line is_resolved) rows) ++ total (codes "Unresolved") (count_by (is_line is_unresolved) rows)
+    ++ total (codes "Refused") (count_by (is_line is_refused) rows) ++ codes "</dl>\n"
+
+-- a note, where there is one
+abbrev pub note_text : List ℕ → List ℕ
+note_text [] = []
+note_text (byte ∷ bytes) = codes "<p>" ++ told_text (byte ∷ bytes) ++ codes "</p>\n"
+
+-- the page before the table of all collections
+abbrev pub front : Options → ℕ → List Row → List ℕ
+front options collections rows =
+    page_begin ++ told_text options.title ++ page_style ++ told_text options.title ++ codes "</h1>\n" ++ note_text options.note
+    ++ codes "</header>\n<main>\n" ++ totals collections rows
+
+-- one of the kinds of rows that can be chosen, with how many there are
+unfoldable pub choice : List ℕ → ℕ → List ℕ
+choice begin number = begin ++ codes " <small>" ++ grouped number ++ codes "</small></label>"
+
+-- the kinds of rows that can be chosen
+abbrev pub choices : List Row → List ℕ
+choices rows =
+    codes "<fieldset><legend>Show</legend>" ++ choice (codes "<label><input type=\"radio\" name=\"f\" id=\"fa\" checked>All") (count_by is_shown rows)
+    ++ choice (codes "<label><input type=\"radio\" name=\"f\" id=\"fs\">Still lifes") (count_by (is_shown_as StillLife) rows) ++ choice (codes "<label><input type=\"radio\" name=\"f\" id=\"fo\">Oscillators") (count_by (is_shown_as Oscillator) rows)
+    ++ choice (codes "<label><input type=\"radio\" name=\"f\" id=\"fq\">Spaceships") (count_by (is_shown_as Spaceship) rows) ++ choice (codes "<label><input type=\"radio\" name=\"f\" id=\"fu\">Others") (count_by (is_shown_as Other) rows)
+    ++ codes "</fieldset>\n"
+
+-- # The page
+
+abbrev pub body_text : List Row → List (List Row) → List ℕ
+body_text rows sections =
+    index_begin ++ (index_rows 1 sections ++ ((index_end ++ choices rows) ++ (sections_text 1 sections ++ page_end)))
 
 -- the page of reports
-abbrev pub page_of : List Row → List ℕ
-page_of rows = page_begin ++ (sections_text (collections_of [] rows) ++ page_end)
+abbrev pub page_of : Options → List Row → List ℕ
+page_of options rows = front options (length (collections_of [] rows)) rows ++ body_text rows (collections_of [] rows)
 
 -- how many `code` rows there are
 abbrev pub is_code : Row → Bool
@@ -132,7 +223,7 @@ abbrev pub sections_codes : List (List Row) → ℕ
 sections_codes [] = 0
 sections_codes (rows ∷ sections) = codes_in rows + sections_codes sections
 
--- the row tells of an unresolved or refused pattern
+-- the row tells of a pattern that does not recur
 abbrev pub is_stray : Row → Bool
-is_stray (Line collection pattern outcome name) = is_unresolved_or_refused outcome
+is_stray (Line collection pattern outcome name) = not (recurs outcome)
 is_stray _ = false

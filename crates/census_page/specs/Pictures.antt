@@ -1,13 +1,19 @@
--- Pictures of codes.
-use Rattle.std.specs.Prelude.{ℕ, ◌*◌, nat_le, ◌&&◌, if◌then◌else◌, Option, Some, None, List, [], ◌∷◌, ◌++◌, codes, decimal}
+-- Pictures of codes, and their RLE texts.
+use Rattle.std.specs.Prelude.{ℕ, ◌*◌, max, nat_le, Bool, ◌&&◌, if◌then◌else◌, Option, Some, None, Result, Ok, Err, List, [], ◌∷◌, ◌++◌, codes, decimal, length}
 use Rattle.std.specs.Fmt.{signed_decimal}
 use Rattle.life_model.specs.Box.{height, width}
 use Rattle.life_model.specs.Cell.{Cell}
 use Rattle.life_model.specs.Generation.{Generation, cells}
+use Rattle.life_model.specs.Rule.{Rule}
 use Rattle.life_model.specs.Symmetry.{normal}
+use Rattle.life_cells.specs.Rules.{rule_of}
+use Rattle.life_cells.specs.declared.rule.RuleFault.{RuleFault}
 use Rattle.life_shape.specs.Reading.{refusal, cells_spelled}
 use Rattle.life_shape.specs.TextOrder.{body_of}
 use Rattle.life_shape.specs.declared.reader.CodeFault.{CodeFault}
+use Rattle.life_text.specs.RleText.{rle_text}
+use Rattle.census_page.specs.Escapes.{escaped_text}
+use Rattle.census_page.specs.Numbers.{grouped}
 
 -- the square of a cell in the path of a picture: from (x, y) one to the right, one down, one to the left, and back
 abbrev pub cell_step : Cell → List ℕ
@@ -18,20 +24,59 @@ abbrev pub cell_steps : List Cell → List ℕ
 cell_steps [] = []
 cell_steps (cell ∷ others) = cell_step cell ++ cell_steps others
 
--- the beginning of a picture, as wide and high as this many cells
-abbrev pub canvas : ℕ → ℕ → List ℕ
-canvas wide high =
-    codes "<svg viewBox=\"0 0 " ++ decimal wide ++ codes " " ++ decimal high ++ codes "\" width=\"" ++ decimal (8 * wide) ++ codes "\" aria-hidden=\"true\"><path d=\""
+-- how many pixels wide and high a cell is, where the longer side has so many cells
+abbrev pub scale : ℕ → ℕ
+scale side = if nat_le side 16 then 8 else (if nat_le side 40 then 4 else (if nat_le side 80 then 2 else 1))
 
--- the picture of a set in normal form, where it is at most 200 cells wide and high
+unfoldable pub box_words : ℕ → ℕ → List ℕ
+box_words wide high = grouped wide ++ codes " by " ++ grouped high ++ codes " cells"
+
+-- the size of a picture in pixels, and in cells
+unfoldable pub sizes : ℕ → ℕ → ℕ → List ℕ
+sizes pixels wide high =
+    codes "width=\"" ++ decimal (pixels * wide) ++ codes "\" height=\"" ++ decimal (pixels * high) ++ codes "\" viewBox=\"0 0 " ++ decimal wide ++ codes " " ++ decimal high ++ codes "\">"
+
+-- the beginning of a picture, as wide and high as this many cells
+unfoldable pub canvas : ℕ → ℕ → List ℕ
+canvas wide high =
+    codes "<svg role=\"img\" " ++ sizes (scale (max wide high)) wide high ++ codes "<title>" ++ box_words wide high ++ codes "</title><path d=\""
+
+-- at most 200 cells wide and high
+abbrev pub is_small : Generation → Bool
+is_small G = nat_le (width G) 200 && nat_le (height G) 200
+
+-- the picture of a set in normal form, or in words what it is instead
 abbrev pub shape_picture : Generation → List ℕ
 shape_picture G =
-    if nat_le (width G) 200 && nat_le (height G) 200 then canvas (width G) (height G) ++ cell_steps (cells G) ++ codes "\"/></svg>" else []
+    if is_small G then canvas (width G) (height G) ++ cell_steps (cells G) ++ codes "\"/></svg>" else
+    codes "<i>" ++ box_words (width G) (height G) ++ codes ": too large to draw</i>"
 
-abbrev pub picture_unless : Option CodeFault → Generation → List ℕ
-picture_unless None G = shape_picture G
-picture_unless (Some fault) G = []
+abbrev pub spelled_unless : Option CodeFault → Generation → Option Generation
+spelled_unless None G = Some G
+spelled_unless (Some fault) G = None
 
--- the picture of what the body of a code spells, where it is a Wechsler text
-abbrev pub picture : List ℕ → List ℕ
-picture code = picture_unless (refusal (body_of code)) (normal (cells_spelled (body_of code)))
+-- what the body of a code spells, where it is a Wechsler text
+abbrev pub spelled : List ℕ → Option Generation
+spelled code = spelled_unless (refusal (body_of code)) (normal (cells_spelled (body_of code)))
+
+abbrev pub picture : Option Generation → List ℕ
+picture None = []
+picture (Some G) = shape_picture G
+
+-- how many cells it has
+abbrev pub cells_told : Option Generation → List ℕ
+cells_told None = []
+cells_told (Some G) = grouped (length (cells G))
+
+-- an RLE text that is shown when it is asked for
+abbrev pub hidden_text : List ℕ → List ℕ
+hidden_text text = codes "<details class=\"rle\"><summary>RLE</summary><pre>" ++ escaped_text text ++ codes "</pre></details>"
+
+abbrev pub rle_element : Result Rule RuleFault → Generation → List ℕ
+rle_element (Err fault) G = []
+rle_element (Ok rule) G = hidden_text (rle_text rule G)
+
+-- the RLE text of what has a picture
+abbrev pub rle : List ℕ → Option Generation → List ℕ
+rle rule None = []
+rle rule (Some G) = if is_small G then rle_element (rule_of rule) G else []

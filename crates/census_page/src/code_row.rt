@@ -1,63 +1,178 @@
 //! Rows of a table of codes.
-ghost use Rattle.std.specs.Prelude.{◌≡◌, ◌++◌, codes, decimal, IfOk, MatchResult, OnOk};
+ghost use Rattle.std.specs.Prelude.{◌≡◌, ◌++◌, codes, IfOk, MatchResult, OnOk};
 ghost use Rattle.gathered.specs.Telling.{TellsAfter, TellsFront, sheet};
 ghost use Rattle.census_readback.specs.Grouped.{rows_lent};
-ghost use Rattle.census_page.specs.Holders.{holder_items};
+ghost use Rattle.census_page.specs.Holders.{having};
+ghost use Rattle.census_page.specs.Numbers.{grouped};
 ghost use Rattle.census_page.specs.Order.{AreInOrder};
-ghost use Rattle.census_page.specs.Pages.{code_row, code_rows, front_cells, object_cells};
+ghost use Rattle.census_page.specs.Pages.{code_cells, code_element, code_row, code_rows, front_cells, name_cell, object_cells, picture_cell, rule_cells};
 
-use crate::escape::{push_number, push_told};
-use crate::holder::{Holder, put_holders};
-use crate::picture::push_picture;
+use crate::escape::push_text;
+use crate::holder::{Holder, having, way_of};
+use crate::kind::{class_of, kind_of, push_object_words};
+use crate::list::put_list;
+use crate::numbers::push_grouped;
+use crate::picture::{push_cell_count, push_picture, spelled};
+use crate::rle::push_rle;
+use crate::speed::Way;
 use census_rows::Row;
 use gathered::{Block, put};
+use life_shape::Shape;
 use std::alloc::{AllocError, Global};
 use std::io::Write;
 use watched::Watched;
 
-// Adds a code with its picture and its rule.
+// A code of so many bytes is shown whole.
+const SHOWN: usize = 60;
+
+// So many bytes of a longer code are shown at first.
+const BEGINNING: usize = 24;
+
+// Adds a code: beyond `SHOWN` bytes only the first, and all when they are asked for.
+#[tactic(auto, unfolding(crate::specs::Pages::code_element))]
+fn push_code(alloc: Global, text: &mut Vec<u8>, code: &[u8]) -> Result<(), AllocError>
+    ensures { OnOk result (text.new.items ≡ text.old.items ++ code_element code.now) }
+{
+    if code.len() <= SHOWN {
+        text.extend_from_slice(b"<code>")?;
+        push_text(alloc, text, code)?;
+        text.extend_from_slice(b"</code>")?;
+        return Ok(());
+    }
+    text.extend_from_slice(b"<details><summary><code>")?;
+    push_text(alloc, text, &code[..BEGINNING])?;
+    text.extend_from_slice(b"&hellip;</code></summary><code>")?;
+    push_text(alloc, text, code)?;
+    text.extend_from_slice(b"</code></details>")?;
+    Ok(())
+}
+
+// Adds the picture of a code.
+fn push_picture_cell(
+    text: &mut Vec<u8>,
+    code: &[u8],
+    shape: &Option<Shape>,
+) -> Result<(), AllocError>
+    ensures { OnOk result (text.new.items ≡ text.old.items ++ picture_cell code.now shape.now) }
+{
+    text.extend_from_slice(b"<tr class=\"")?;
+    text.extend_from_slice(class_of(kind_of(code)))?;
+    text.extend_from_slice(b"\"><td>")?;
+    push_picture(text, shape)?;
+    text.extend_from_slice(b"</td>")?;
+    Ok(())
+}
+
+// Adds a code, and what it is in words.
+#[tactic(auto, unfolding(crate::specs::Pages::name_cell))]
+fn push_name_cell(
+    alloc: Global,
+    text: &mut Vec<u8>,
+    code: &[u8],
+    way: &Option<Way>,
+) -> Result<(), AllocError>
+    ensures { OnOk result (text.new.items ≡ text.old.items ++ name_cell code.now way.now) }
+{
+    text.extend_from_slice(b"<th scope=\"row\"><p>")?;
+    push_object_words(alloc, text, code, way)?;
+    text.extend_from_slice(b"</p><div>")?;
+    push_code(alloc, text, code)?;
+    Ok(())
+}
+
+// Adds the rule of a code, its RLE text and how many cells it has.
+#[tactic(auto, unfolding(crate::specs::Pages::rule_cells))]
+fn push_rule_cells(
+    alloc: Global,
+    text: &mut Vec<u8>,
+    rule: &[u8],
+    shape: &Option<Shape>,
+) -> Result<(), AllocError>
+    ensures { OnOk result (text.new.items ≡ text.old.items ++ rule_cells rule.now shape.now) }
+{
+    text.extend_from_slice(b"<small>")?;
+    push_text(alloc, text, rule)?;
+    text.extend_from_slice(b"</small>")?;
+    push_rle(alloc, text, rule, shape)?;
+    text.extend_from_slice(b"</div></th><td>")?;
+    push_cell_count(text, shape)?;
+    text.extend_from_slice(b"</td><td>")?;
+    Ok(())
+}
+
+// Adds a code with its picture, what it is in words, its rule, its RLE text and how many cells it has.
 fn push_object(
     alloc: Global,
     text: &mut Vec<u8>,
     rule: &[u8],
     code: &[u8],
+    way: &Option<Way>,
+    shape: &Option<Shape>,
 ) -> Result<(), AllocError>
     ensures { OnOk result (text.new.items
-        ≡ text.old.items ++ object_cells rule.now code.now) }
+        ≡ text.old.items ++ object_cells rule.now code.now way.now shape.now) }
 {
-    text.extend_from_slice(b"<tr><td>")?;
-    push_picture(alloc, text, code)?;
-    text.extend_from_slice(b"</td><td>")?;
-    push_told(alloc, text, rule)?;
-    text.extend_from_slice(b"</td><td><code>")?;
-    push_told(alloc, text, code)?;
-    text.extend_from_slice(b"</code></td>")?;
+    push_picture_cell(text, code, shape)?;
+    push_name_cell(alloc, text, code, way)?;
+    push_rule_cells(alloc, text, rule, shape)?;
     Ok(())
 }
 
-// Adds how often a code occurs, and what stands before the patterns that have it.
+// Adds how often a code occurs.
 fn push_count(text: &mut Vec<u8>, count: u64) -> Result<(), AllocError>
     ensures { OnOk result (text.new.items ≡
-        text.old.items ++ (codes "<td>" ++ decimal count ++ codes "</td><td><ul>")) }
+        text.old.items ++ (grouped count ++ codes "</td><td>")) }
 {
-    text.extend_from_slice(b"<td>")?;
-    push_number(text, count)?;
-    text.extend_from_slice(b"</td><td><ul>")?;
+    push_grouped(text, count)?;
+    text.extend_from_slice(b"</td><td>")?;
     Ok(())
 }
 
 // What stands in the row of a code before the patterns that have it.
-fn front_cells(alloc: Global, rule: &[u8], code: &[u8], count: u64) -> Result<Vec<u8>, AllocError>
-    ensures { IfOk result (λ text. text.items ≡ front_cells rule.now code.now count) }
+fn front_cells(
+    alloc: Global,
+    rule: &[u8],
+    code: &[u8],
+    count: u64,
+    way: &Option<Way>,
+) -> Result<Vec<u8>, AllocError>
+    ensures { IfOk result (λ text. text.items ≡ front_cells rule.now code.now count way.now) }
 {
+    let shape = spelled(alloc, code)?;
     let mut text = Vec::new(alloc);
-    push_object(alloc, &mut text, rule, code)?;
+    push_object(alloc, &mut text, rule, code, way, &shape)?;
     push_count(&mut text, count)?;
     Ok(text)
 }
 
-// Tells the row of a code. For a writer that has failed no text is made.
+// Tells the row of a code that these patterns have. For a writer that has failed no text is made.
 fn put_code<W: Write>(
+    alloc: Global,
+    holders: &[Holder],
+    rule: &[u8],
+    code: &[u8],
+    count: u64,
+    block: &mut Block,
+    writer: &mut Watched<W>,
+) -> Result<(), AllocError>
+    ensures { MatchResult result
+        (λ _. TellsAfter (code_cells rule.now code.now count holders.now)
+        (sheet W.contents block.old writer.old) (sheet W.contents block.new writer.new))
+        (λ _. TellsFront (code_cells rule.now code.now count holders.now)
+        (sheet W.contents block.old writer.old) (sheet W.contents block.new writer.new)) }
+{
+    if writer.failed() {
+        return Ok(());
+    }
+    let front = front_cells(alloc, rule, code, count, &way_of(holders))?;
+    put(front.as_slice(), block, writer);
+    put_list(alloc, holders, block, writer)?;
+    put(b"</td></tr>\n", block, writer);
+    Ok(())
+}
+
+// Tells the row of a code that some of these patterns have.
+fn put_having<W: Write>(
     alloc: Global,
     holders: &[Holder],
     rule: &[u8],
@@ -68,21 +183,13 @@ fn put_code<W: Write>(
 ) -> Result<(), AllocError>
     requires { AreInOrder holders.now }
     ensures { MatchResult result
-        (λ _. TellsAfter (front_cells rule.now code.now count
-        ++ (holder_items rule.now code.now holders.now ++ codes "</ul></td></tr>\n"))
+        (λ _. TellsAfter (code_cells rule.now code.now count (having rule.now code.now holders.now))
         (sheet W.contents block.old writer.old) (sheet W.contents block.new writer.new))
-        (λ _. TellsFront (front_cells rule.now code.now count
-        ++ (holder_items rule.now code.now holders.now ++ codes "</ul></td></tr>\n"))
+        (λ _. TellsFront (code_cells rule.now code.now count (having rule.now code.now holders.now))
         (sheet W.contents block.old writer.old) (sheet W.contents block.new writer.new)) }
 {
-    if writer.failed() {
-        return Ok(());
-    }
-    let front = front_cells(alloc, rule, code, count)?;
-    put(front.as_slice(), block, writer);
-    put_holders(alloc, holders, rule, code, block, writer)?;
-    put(b"</ul></td></tr>\n", block, writer);
-    Ok(())
+    let here = having(holders, rule, code);
+    put_code(alloc, here, rule, code, count, block, writer)
 }
 
 // Tells the row of a table that tells of a code, or nothing where the report's row tells of none.
@@ -106,7 +213,7 @@ fn put_code_row<W: Write>(
             code,
             count,
             ..
-        } => put_code(alloc, holders, *rule, *code, *count, block, writer),
+        } => { put_having(alloc, holders, *rule, *code, *count, block, writer) }
         _ => Ok(()),
     }
 }

@@ -1,8 +1,7 @@
 //! Bytes in HTML, so that none of them is markup.
-ghost use Rattle.std.specs.Prelude.{◌≡◌, ◌++◌, List, ℕ, OnOk, decimal, true};
-ghost use Rattle.census_page.specs.Escapes.{escaped_text, escaped_byte, is_harmless, name_element};
+ghost use Rattle.std.specs.Prelude.{◌≡◌, ◌++◌, List, ℕ, OnOk, true};
+ghost use Rattle.census_page.specs.Escapes.{escaped_text, escaped_byte, is_harmless, name_element, told_text};
 
-use itoa::Buffer;
 use std::alloc::{AllocError, Global};
 
 // Adds a byte of a text.
@@ -31,25 +30,23 @@ pub fn push_escaped(text: &mut Vec<u8>, bytes: &[u8]) -> Result<(), AllocError>
     Ok(())
 }
 
-/// Appends a name, a rule or a code as an element of its own, whose direction of writing is told by
-/// its own characters and ends with it. What is not UTF-8 is told as U+FFFD. The only error is out
-/// of memory.
+/// Appends a text, with U+FFFD for what is not UTF-8. The only error is out of memory.
+pub fn push_text(alloc: Global, text: &mut Vec<u8>, bytes: &[u8]) -> Result<(), AllocError>
+    ensures { OnOk result (text.new.items ≡ text.old.items ++ told_text bytes.now) }
+{
+    let characters = String::from_utf8_lossy(alloc, bytes)?;
+    push_escaped(text, characters.as_bytes())
+}
+
+/// Appends a name as an element of its own, whose direction of writing is told by its own characters
+/// and ends with it. What is not UTF-8 is told as U+FFFD. The only error is out of memory.
+#[tactic(auto, unfolding(crate::specs::Escapes::name_element))]
 pub fn push_told(alloc: Global, text: &mut Vec<u8>, bytes: &[u8]) -> Result<(), AllocError>
     ensures { OnOk result (text.new.items ≡ text.old.items ++ name_element bytes.now) }
 {
-    let characters = String::from_utf8_lossy(alloc, bytes)?;
     text.extend_from_slice(b"<bdi>")?;
-    push_escaped(text, characters.as_bytes())?;
+    push_text(alloc, text, bytes)?;
     text.extend_from_slice(b"</bdi>")?;
-    Ok(())
-}
-
-/// Appends a number in decimal. The only error is out of memory.
-pub fn push_number(text: &mut Vec<u8>, number: u64) -> Result<(), AllocError>
-    ensures { OnOk result (text.new.items ≡ text.old.items ++ decimal number) }
-{
-    let mut buffer = Buffer::new();
-    text.extend_from_slice(buffer.format(number).as_bytes())?;
     Ok(())
 }
 

@@ -1,20 +1,31 @@
 //! Which patterns have a code.
-ghost use Rattle.std.specs.Prelude.{◌≡◌, ◌≤◌, ◌++◌, ℕ, List, codes, length, IfOk, MatchResult, None, OnOk, true, false};
+ghost use Rattle.std.specs.Prelude.{◌≡◌, ◌≤◌, ℕ, List, length, IfOk, None, OnOk, true, false};
 ghost use Rattle.std.specs.List.{All};
 ghost use Rattle.std.specs.List.Sorted.{IsPartitionPoint};
-ghost use Rattle.gathered.specs.Telling.{TellsAfter, TellsFront, sheet};
 ghost use Rattle.census_readback.specs.Grouped.{rows_lent};
-ghost use Rattle.census_page.specs.Holders.{has_code, holder_by_part, holder_in, holder_items, holder_of, holders_from, naming_after, naming_in};
-ghost use Rattle.census_page.specs.Escapes.{name_element};
+ghost use Rattle.census_page.specs.Holders.{has_code, holder_by_part, holder_in, holder_of, having, holders_from, naming_after, naming_in, way_of};
 ghost use Rattle.census_page.specs.Order.{AreInOrder, holder_key, is_before, key_cmp};
 
-use crate::escape::push_told;
-use census_rows::{Label, Outcome, Row, Value};
-use gathered::{Block, put};
+use crate::speed::Way;
+use census_rows::{Finding, Outcome, Row};
 use std::alloc::{AllocError, Global};
 use std::cmp::Ordering;
-use std::io::Write;
-use watched::Watched;
+
+/// What a pattern has to do with a code.
+#[derive(Clone, Copy)]
+pub enum Share {
+    /// It has the code: how many cells it has at first, from which generation on it recurs, and how
+    /// far it moves.
+    Whole {
+        population: u64,
+        onset: u64,
+        way: Way,
+    },
+    /// So many of its parts have the code.
+    Parts {
+        count: u64,
+    },
+}
 
 /// A pattern and a code that it has, or one of its parts.
 #[derive(Clone, Copy)]
@@ -22,6 +33,7 @@ pub struct Holder<'a> {
     pub rule: &'a [u8],
     pub code: &'a [u8],
     pub name: &'a [u8],
+    pub share: Share,
 }
 
 // The rule and the name of the pattern whose parts follow.
@@ -56,14 +68,15 @@ fn naming_after<'a>(naming: &Option<Naming<'a>>, row: &Row<'a>) -> Option<Naming
 }
 
 // A pattern that has this code among those of its parts.
-fn holder_by_part<'a>(naming: &Option<Naming<'a>>, code: &'a [u8]) -> Option<Holder<'a>>
-    ensures { result ≡ holder_by_part naming.now code.entry }
+fn holder_by_part<'a>(naming: &Option<Naming<'a>>, code: &'a [u8], count: u64) -> Option<Holder<'a>>
+    ensures { result ≡ holder_by_part naming.now code.entry count }
 {
     match naming {
         Some(naming) => Some(Holder {
             rule: naming.rule,
             code,
             name: naming.name,
+            share: Share::Parts { count },
         }),
         None => None,
     }
@@ -74,14 +87,30 @@ fn holder_in<'a>(outcome: &Outcome<'a>, name: &'a [u8]) -> Option<Holder<'a>>
     ensures { result ≡ holder_in outcome.now name.entry }
 {
     match outcome {
-        Outcome::Found { rule, .. } => match outcome.value(Label::Code) {
-            Some(Value::Text(code)) => Some(Holder {
-                rule: *rule,
+        Outcome::Found {
+            rule,
+            population,
+            finding: Finding::Ok {
+                onset,
+                period,
+                dx,
+                dy,
                 code,
-                name,
-            }),
-            _ => None,
-        },
+            },
+        } => Some(Holder {
+            rule: *rule,
+            code: *code,
+            name,
+            share: Share::Whole {
+                population: *population,
+                onset: *onset,
+                way: Way {
+                    period: *period,
+                    dx: *dx,
+                    dy: *dy,
+                },
+            },
+        }),
         _ => None,
     }
 }
@@ -92,7 +121,7 @@ fn holder_of<'a>(naming: &Option<Naming<'a>>, row: &Row<'a>) -> Option<Holder<'a
 {
     match row {
         Row::Line { outcome, name, .. } => holder_in(outcome, *name),
-        Row::Part { code, .. } => holder_by_part(naming, *code),
+        Row::Part { code, count, .. } => holder_by_part(naming, *code, *count),
         _ => None,
     }
 }
@@ -124,7 +153,7 @@ fn compared(holder: &Holder, rule: &[u8], code: &[u8]) -> Ordering
 /// and rule keep their order. The only error is out of memory.
 pub fn put_in_order(holders: &mut Vec<Holder>) -> Result<(), AllocError>
     ensures same { (rule code : List ℕ) →
-        holder_items rule code holders.new.items ≡ holder_items rule code holders.old.items }
+        having rule code holders.new.items ≡ having rule code holders.old.items }
     ensures ordered { OnOk result (AreInOrder holders.new.items) }
 {
     holders.sort_by_key(|holder| (holder.code, holder.rule))
@@ -147,62 +176,35 @@ fn has_code(holder: &Holder, rule: &[u8], code: &[u8]) -> bool
     holder.code == code && holder.rule == rule
 }
 
-// The list item of a pattern.
-fn item(alloc: Global, holder: &Holder) -> Result<Vec<u8>, AllocError>
-    ensures { IfOk result (λ text. text.items ≡
-        codes "<li>" ++ name_element holder.now.name.now ++ codes "</li>") }
-{
-    let mut text = Vec::new(alloc);
-    text.extend_from_slice(b"<li>")?;
-    push_told(alloc, &mut text, holder.name)?;
-    text.extend_from_slice(b"</li>")?;
-    Ok(text)
-}
-
-// Tells the names of the patterns that have this code under this rule, of which none comes before it.
-fn put_first<W: Write>(
-    alloc: Global,
-    holders: &[Holder],
-    rule: &[u8],
-    code: &[u8],
-    block: &mut Block,
-    writer: &mut Watched<W>,
-) -> Result<(), AllocError>
+// How many patterns from the first on have this code under this rule, of which none comes before it.
+fn count_having(holders: &[Holder], rule: &[u8], code: &[u8]) -> usize
     requires order { AreInOrder holders.now }
     requires from { All (λ h. is_before rule.now code.now h ≡ false) holders.now }
-    ensures { MatchResult result
-        (λ _. TellsAfter (holder_items rule.now code.now holders.now)
-        (sheet W.contents block.old writer.old) (sheet W.contents block.new writer.new))
-        (λ _. TellsFront (holder_items rule.now code.now holders.now)
-        (sheet W.contents block.old writer.old) (sheet W.contents block.new writer.new)) }
+    ensures bound { result ≤ length holders.now }
+    ensures place { IsPartitionPoint (λ h. has_code rule.now code.now h ≡ true)
+        (λ h. has_code rule.now code.now h ≡ false) holders.now result }
 {
-    for holder in holders {
-        if !has_code(holder, rule, code) {
-            return Ok(());
-        }
-        let text = item(alloc, holder)?;
-        put(text.as_slice(), block, writer);
-    }
-    Ok(())
+    holders.partition_point(|holder| has_code(holder, rule, code))
 }
 
-/// Tells the names of the patterns that have this code under this rule, in their order: a list item
-/// for each. Where memory is refused, a prefix was told.
-pub fn put_holders<W: Write>(
-    alloc: Global,
-    holders: &[Holder],
-    rule: &[u8],
-    code: &[u8],
-    block: &mut Block,
-    writer: &mut Watched<W>,
-) -> Result<(), AllocError>
+/// The patterns that have this code under this rule, in their order.
+pub fn having<'b, 'a>(holders: &'b [Holder<'a>], rule: &[u8], code: &[u8]) -> &'b [Holder<'a>]
     requires { AreInOrder holders.now }
-    ensures { MatchResult result
-        (λ _. TellsAfter (holder_items rule.now code.now holders.now)
-        (sheet W.contents block.old writer.old) (sheet W.contents block.new writer.new))
-        (λ _. TellsFront (holder_items rule.now code.now holders.now)
-        (sheet W.contents block.old writer.old) (sheet W.contents block.new writer.new)) }
+    ensures { result.now ≡ having rule.now code.now holders.now }
 {
-    let start = first_place(holders, rule, code);
-    put_first(alloc, &holders[start..], rule, code, block, writer)
+    let from = &holders[first_place(holders, rule, code)..];
+    &from[..count_having(from, rule, code)]
+}
+
+/// How far the first of some patterns moves, where it recurs.
+pub fn way_of(holders: &[Holder]) -> Option<Way>
+    ensures { result ≡ way_of holders.now }
+{
+    match holders.first() {
+        Some(holder) => match holder.share {
+            Share::Whole { way, .. } => Some(way),
+            Share::Parts { .. } => None,
+        },
+        None => None,
+    }
 }

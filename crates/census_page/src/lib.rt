@@ -5,15 +5,24 @@
 
 mod code_row;
 mod escape;
+mod fate;
+mod front;
+mod heading;
 mod holder;
+mod index;
+mod kind;
+mod list;
 mod markup;
+mod numbers;
+mod options;
 mod picture;
+mod rle;
+mod section;
+mod speed;
 mod stray;
+mod tally;
 mod whole_page;
 
-pub use code_row::put_code_rows;
-pub use escape::{an_escaped_text_has_no_markup, push_escaped, push_number, push_told};
-pub use holder::{Holder, holders, put_holders, put_in_order};
-pub use picture::{SIDE_LIMIT, push_picture};
-pub use stray::{is_unresolved_or_refused, push_stray};
+pub use escape::an_escaped_text_has_no_markup;
+pub use options::{PageOptions, default_options};
 pub use whole_page::{each_code_has_a_row, put_page};

@@ -1,37 +1,37 @@
-use Rattle.std.proofs.Common.{◌++◌, [], ap, ◌∙◌, refl, subst}
+use Rattle.std.proofs.Common.{◌≡◌, [], ap, ◌∙◌, length, MatchResult, refl, subst, sym}
 use Rattle.std.proofs.lemmas.Result.{err_from_is_err_and}
 use Rattle.gathered.specs.Telling.{TellsAfter, TellsFront, sheet}
-use Rattle.gathered.proofs.Telling.{tells_more}
-use Rattle.gathered.proofs.Fronts.{front_first, front_more, front_none}
+use Rattle.gathered.proofs.Fronts.{front_none, told_both}
 use Rattle.census_readback.specs.Grouped.{collections_of, sections_lent}
-use Rattle.census_page.specs.Markup.{page_begin, page_end}
-use Rattle.census_page.specs.Pages.{page_of, sections_text}
+use Rattle.census_page.specs.Options.{options_of}
+use Rattle.census_page.specs.Pages.{body_text, front, page_of}
+use Rattle.census_page.proofs.Lent.{length_lent}
 use Rattle.census_page.proofs.whole_page.put_page.Goals as goal
 
 pub returns-in_err-sections : goal.returns-in_err-sections
 returns-in_err-sections g c =
     let p = err_from_is_err_and c.from_residual.result c.from_residual.ensures.1 in
-    rw p.1 (front_none (page_of c.args.rows.now) (sheet g.W.Write.contents c.args.block.now c.args.writer.now))
+    rw p.1 (front_none (page_of (options_of c.args.options.now) c.args.rows.now) (sheet g.W.Write.contents c.args.block.now c.args.writer.now))
 
-pub returns-in_err-put_sections : goal.returns-in_err-put_sections
-returns-in_err-put_sections g c =
-    let p = err_from_is_err_and c.from_residual-in_err-put_sections.result c.from_residual-in_err-put_sections.ensures.1 in
-    let all = sections_text (collections_of [] c.args.rows.now) in
-    let a = sheet g.W.Write.contents c.args.block.now c.args.writer.now in
-    let b = sheet g.W.Write.contents c.put.new.block c.put.new.writer in
-    let d = sheet g.W.Write.contents c.put_sections.new.block c.put_sections.new.writer in
-    let same = ap (λ lists. sections_text (sections_lent lists)) c.as_slice.ensures.value ∙ ap sections_text c.in_ok-sections.ensures in
-    rw p.1
-    (front_more page_begin (all ++ page_end) a b d (subst (λ t. TellsAfter t a b) c.page_begin.ensures c.put.ensures)
-    (front_first (all ++ page_end) all page_end b d refl (subst (λ t. TellsFront t b d) same c.in_err-put_sections.ensures)))
+pub returns-in_err-front : goal.returns-in_err-front
+returns-in_err-front g c =
+    let p = err_from_is_err_and c.from_residual-in_err-front.result c.from_residual-in_err-front.ensures.1 in
+    rw p.1 (front_none (page_of (options_of c.args.options.now) c.args.rows.now) (sheet g.W.Write.contents c.args.block.now c.args.writer.now))
 
 pub returns : goal.returns
 returns g c =
-    let all = sections_text (collections_of [] c.args.rows.now) in
+    let rows = c.args.rows.now in
+    let lists = collections_of [] rows in
+    let options = options_of c.args.options.now in
     let a = sheet g.W.Write.contents c.args.block.now c.args.writer.now in
     let b = sheet g.W.Write.contents c.put.new.block c.put.new.writer in
-    let d = sheet g.W.Write.contents c.put_sections.new.block c.put_sections.new.writer in
-    let e = sheet g.W.Write.contents c.put-2.new.block c.put-2.new.writer in
-    let same = ap (λ lists. sections_text (sections_lent lists)) c.as_slice.ensures.value ∙ ap sections_text c.in_ok-sections.ensures in
-    tells_more page_begin (all ++ page_end) a b e (subst (λ t. TellsAfter t a b) c.page_begin.ensures c.put.ensures)
-    (tells_more all page_end b d e (subst (λ t. TellsAfter t b d) same c.in_ok-put_sections.ensures) (subst (λ t. TellsAfter t d e) c.page_end.ensures c.put-2.ensures))
+    let d = sheet g.W.Write.contents c.put_body.new.block c.put_body.new.writer in
+    let items = c.in_ok-sections.sections.items in
+    let count : length c.as_slice-lent.result.now ≡ length lists =
+    ap length c.as_slice-lent.ensures.value ∙ sym (length_lent items) ∙ ap length c.in_ok-sections.ensures in
+    let told =
+    subst (λ t. TellsAfter t a b) (c.as_slice.ensures.value ∙ c.in_ok-front.ensures ∙ ap (λ n. front options n rows) count) c.put.ensures in
+    let body =
+    subst (λ s. MatchResult c.put_body.result (λ _. TellsAfter (body_text rows s) b d) (λ _. TellsFront (body_text rows s) b d))
+    (ap sections_lent c.as_slice-lent.ensures.value ∙ c.in_ok-sections.ensures) c.put_body.ensures in
+    told_both c.put_body.result (page_of options rows) (front options (length lists) rows) (body_text rows lists) a b d refl told body

@@ -1,0 +1,14 @@
+use Rattle.std.proofs.Common.{codes}
+use Rattle.census_page.specs.Kinds.{object_words}
+use Rattle.census_page.specs.Pages.{code_element, name_cell}
+use Rattle.census_page.proofs.Appending.{four_parts}
+use Rattle.census_page.proofs.code_row.push_name_cell.Goals as goal
+
+pub returns : goal.returns
+unfolding name_cell
+returns c =
+    four_parts c.args.text.now.items _ _ _ _ (codes "<th scope=\"row\"><p>") (object_words c.args.code.now c.args.way.now) (codes "</p><div>") (code_element c.args.code.now)
+    c.in_ok-extend_from_slice.ensures.items
+    c.in_ok-push_object_words.ensures
+    c.in_ok-extend_from_slice-2.ensures.items
+    c.in_ok-push_code.ensures

@@ -1,0 +1,29 @@
+-- Lists of the patterns that have a code.
+use Rattle.std.specs.Prelude.{ℕ, List, [], ◌∷◌, ◌++◌, codes, drop, length, take}
+use Rattle.census_page.specs.Escapes.{name_element}
+use Rattle.census_page.specs.Numbers.{grouped, labelled}
+use Rattle.census_page.specs.declared.holder.Holder.{Holder}
+use Rattle.census_page.specs.declared.holder.Share.{Share}
+use Rattle.census_page.specs.declared.holder.Share.TheVariants.{Parts, Whole}
+
+-- the cells and the onset of a pattern that recurs, or how many of its parts have the code
+abbrev pub share_words : Share → List ℕ
+share_words (Whole population onset way) = labelled (codes "population ") population ++ labelled (codes ", onset ") onset
+share_words (Parts count) = labelled (codes "&times; ") count
+
+abbrev pub item : Holder → List ℕ
+item holder = codes "<li>" ++ name_element holder.name.now ++ codes " <small>" ++ share_words holder.share ++ codes "</small></li>"
+
+abbrev pub items : List Holder → List ℕ
+items [] = []
+items (holder ∷ holders) = item holder ++ items holders
+
+-- those that are shown when they are asked for
+abbrev pub more_items : List Holder → List ℕ
+more_items [] = []
+more_items (holder ∷ holders) =
+    (codes "<details><summary>" ++ grouped (length (holder ∷ holders)) ++ codes " more</summary><ul>") ++ (items (holder ∷ holders) ++ codes "</ul></details>")
+
+-- the first ten, and the others when they are asked for
+abbrev pub holder_list : List Holder → List ℕ
+holder_list holders = codes "<ul>" ++ (items (take 10 holders) ++ (codes "</ul>" ++ more_items (drop 10 holders)))

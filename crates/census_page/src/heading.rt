@@ -1,0 +1,102 @@
+//! What is told of a collection as a whole.
+ghost use Rattle.std.specs.Prelude.{◌≡◌, ◌++◌, MatchResult, OnOk};
+ghost use Rattle.gathered.specs.Telling.{TellsAfter, TellsFront, sheet};
+ghost use Rattle.census_readback.specs.Grouped.{rows_lent};
+ghost use Rattle.census_page.specs.Pages.{collection_name, counts_text, heading, headings};
+
+use crate::escape::push_told;
+use crate::numbers::push_labelled;
+use census_rows::Row;
+use gathered::{Block, put};
+use std::alloc::{AllocError, Global};
+use std::io::Write;
+use watched::Watched;
+
+// Adds the name of a collection.
+fn push_name(alloc: Global, text: &mut Vec<u8>, name: &[u8]) -> Result<(), AllocError>
+    ensures { OnOk result (text.new.items ≡ text.old.items ++ collection_name name.now) }
+{
+    text.extend_from_slice(b"<h2>")?;
+    push_told(alloc, text, name)?;
+    text.extend_from_slice(b"</h2>\n")?;
+    Ok(())
+}
+
+// Adds how many patterns are resolved and how many are not.
+fn push_counts(
+    text: &mut Vec<u8>,
+    patterns: u64,
+    resolved: u64,
+    unresolved: u64,
+    refused: u64,
+) -> Result<(), AllocError>
+    ensures { OnOk result (text.new.items ≡ text.old.items ++ counts_text (record {
+      patterns = patterns;
+      resolved = resolved;
+      unresolved = unresolved;
+      refused = refused;
+    })) }
+{
+    text.extend_from_slice(b"<p>")?;
+    push_labelled(text, b"Patterns: ", patterns)?;
+    push_labelled(text, b". Resolved: ", resolved)?;
+    push_labelled(text, b", unresolved: ", unresolved)?;
+    push_labelled(text, b", refused: ", refused)?;
+    text.extend_from_slice(b".</p>\n")?;
+    Ok(())
+}
+
+// Adds what a row says of its collection as a whole.
+fn push_heading(alloc: Global, text: &mut Vec<u8>, row: &Row) -> Result<(), AllocError>
+    ensures { OnOk result (text.new.items ≡ text.old.items ++ heading row.now) }
+{
+    match row {
+        Row::Open { name, .. } => push_name(alloc, text, *name),
+        Row::Close {
+            patterns,
+            resolved,
+            unresolved,
+            refused,
+            ..
+        } => push_counts(text, *patterns, *resolved, *unresolved, *refused),
+        _ => Ok(()),
+    }
+}
+
+// Tells what a row says of its collection as a whole.
+fn put_heading<W: Write>(
+    alloc: Global,
+    row: &Row,
+    block: &mut Block,
+    writer: &mut Watched<W>,
+) -> Result<(), AllocError>
+    ensures { MatchResult result
+        (λ _. TellsAfter (heading row.now)
+        (sheet W.contents block.old writer.old) (sheet W.contents block.new writer.new))
+        (λ _. TellsFront (heading row.now)
+        (sheet W.contents block.old writer.old) (sheet W.contents block.new writer.new)) }
+{
+    let mut text = Vec::new(alloc);
+    push_heading(alloc, &mut text, row)?;
+    put(text.as_slice(), block, writer);
+    Ok(())
+}
+
+/// Tells the name of a collection and its counts. Where memory is refused, a prefix was told.
+pub fn put_headings<W: Write>(
+    alloc: Global,
+    rows: &[&Row],
+    block: &mut Block,
+    writer: &mut Watched<W>,
+) -> Result<(), AllocError>
+    ensures { MatchResult result
+        (λ _. TellsAfter (headings (rows_lent rows.now))
+        (sheet W.contents block.old writer.old) (sheet W.contents block.new writer.new))
+        (λ _. TellsFront (headings (rows_lent rows.now))
+        (sheet W.contents block.old writer.old) (sheet W.contents block.new writer.new)) }
+{
+    for row in rows {
+        put_heading(alloc, *row, block, writer)?;
+    }
+    Ok(())
+}

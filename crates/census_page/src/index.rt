@@ -1,0 +1,113 @@
+//! The table of all collections.
+ghost use Rattle.std.specs.Prelude.{◌≡◌, ◌++◌, IfOk, MatchResult, OnOk};
+ghost use Rattle.gathered.specs.Telling.{TellsAfter, TellsFront, sheet};
+ghost use Rattle.census_readback.specs.Grouped.{rows_lent, sections_lent};
+ghost use Rattle.census_page.specs.Pages.{all_index_cells, index_cells, index_row, index_rows, link_cell, number_cell};
+
+use crate::escape::push_told;
+use crate::kind::Kind;
+use crate::numbers::{push_grouped, push_number};
+use crate::tally::count_lent;
+use census_rows::Row;
+use gathered::{Block, put};
+use std::alloc::{AllocError, Global};
+use std::io::Write;
+use watched::Watched;
+
+// Adds a cell with a number.
+#[tactic(auto, unfolding(crate::specs::Pages::number_cell))]
+fn push_cell(text: &mut Vec<u8>, number: u64) -> Result<(), AllocError>
+    ensures { OnOk result (text.new.items ≡ text.old.items ++ number_cell number) }
+{
+    text.extend_from_slice(b"<td>")?;
+    push_grouped(text, number)?;
+    text.extend_from_slice(b"</td>")?;
+    Ok(())
+}
+
+// Adds a link to a collection.
+#[tactic(auto, unfolding(crate::specs::Pages::link_cell))]
+fn push_link(alloc: Global, text: &mut Vec<u8>, number: u64, name: &[u8]) -> Result<(), AllocError>
+    ensures { OnOk result (text.new.items ≡ text.old.items ++ link_cell number name.now) }
+{
+    text.extend_from_slice(b"<th scope=\"row\"><a href=\"#c")?;
+    push_number(text, number)?;
+    text.extend_from_slice(b"\">")?;
+    push_told(alloc, text, name)?;
+    text.extend_from_slice(b"</a></th>")?;
+    Ok(())
+}
+
+// Adds what the table of all collections has of a row.
+fn push_cells(alloc: Global, text: &mut Vec<u8>, number: u64, row: &Row) -> Result<(), AllocError>
+    ensures { OnOk result (text.new.items ≡ text.old.items ++ index_cells number row.now) }
+{
+    match row {
+        Row::Open { name, .. } => push_link(alloc, text, number, *name)?,
+        Row::Close {
+            patterns,
+            resolved,
+            unresolved,
+            refused,
+            ..
+        } => {
+            push_cell(text, *patterns)?;
+            push_cell(text, *resolved)?;
+            push_cell(text, *unresolved)?;
+            push_cell(text, *refused)?;
+        }
+        _ => {}
+    }
+    Ok(())
+}
+
+// Adds what the table of all collections has of each row.
+fn push_all_cells(
+    alloc: Global,
+    text: &mut Vec<u8>,
+    number: u64,
+    rows: &[&Row],
+) -> Result<(), AllocError>
+    ensures { OnOk result (text.new.items
+        ≡ text.old.items ++ all_index_cells number (rows_lent rows.now)) }
+{
+    for row in rows {
+        push_cells(alloc, text, number, *row)?;
+    }
+    Ok(())
+}
+
+// The row of a collection.
+fn row_of(alloc: Global, number: u64, rows: &[&Row]) -> Result<Vec<u8>, AllocError>
+    ensures { IfOk result (λ text. text.items ≡ index_row number (rows_lent rows.now)) }
+{
+    let mut text = Vec::new(alloc);
+    text.extend_from_slice(b"<tr>")?;
+    push_all_cells(alloc, &mut text, number, rows)?;
+    push_cell(&mut text, count_lent(Kind::StillLife, rows))?;
+    push_cell(&mut text, count_lent(Kind::Oscillator, rows))?;
+    push_cell(&mut text, count_lent(Kind::Spaceship, rows))?;
+    text.extend_from_slice(b"</tr>\n")?;
+    Ok(text)
+}
+
+/// Tells a row for each collection, with a link to it, its counts, and how many of its codes are
+/// still lifes, oscillators and spaceships. Where memory is refused, a prefix was told.
+pub fn put_rows<W: Write>(
+    alloc: Global,
+    sections: &[Vec<&Row>],
+    block: &mut Block,
+    writer: &mut Watched<W>,
+) -> Result<(), AllocError>
+    ensures { MatchResult result
+        (λ _. TellsAfter (index_rows 1 (sections_lent sections.now))
+        (sheet W.contents block.old writer.old) (sheet W.contents block.new writer.new))
+        (λ _. TellsFront (index_rows 1 (sections_lent sections.now))
+        (sheet W.contents block.old writer.old) (sheet W.contents block.new writer.new)) }
+{
+    for index in 0..sections.len() {
+        let text = row_of(alloc, index as u64 + 1, sections[index].as_slice())?;
+        put(text.as_slice(), block, writer);
+    }
+    Ok(())
+}

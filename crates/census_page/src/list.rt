@@ -1,0 +1,129 @@
+//! Lists of the patterns that have a code.
+ghost use Rattle.std.specs.Prelude.{◌≡◌, ◌++◌, IfOk, MatchResult, OnOk, codes};
+ghost use Rattle.gathered.specs.Telling.{TellsAfter, TellsFront, sheet};
+ghost use Rattle.census_page.specs.Lists.{holder_list, item, items, more_items, share_words};
+ghost use Rattle.census_page.specs.Numbers.{grouped, labelled};
+
+use crate::escape::push_told;
+use crate::holder::{Holder, Share};
+use crate::numbers::{push_grouped, push_labelled};
+use gathered::{Block, put};
+use std::alloc::{AllocError, Global};
+use std::io::Write;
+use watched::Watched;
+
+// So many patterns of a list are shown at first.
+const SHOWN: usize = 10;
+
+// Adds the cells and the onset of a pattern that recurs.
+fn push_whole(text: &mut Vec<u8>, population: u64, onset: u64) -> Result<(), AllocError>
+    ensures { OnOk result (text.new.items ≡ text.old.items
+        ++ (labelled (codes "population ") population ++ labelled (codes ", onset ") onset)) }
+{
+    push_labelled(text, b"population ", population)?;
+    push_labelled(text, b", onset ", onset)?;
+    Ok(())
+}
+
+// Adds what a pattern has to do with a code.
+fn push_share(text: &mut Vec<u8>, share: Share) -> Result<(), AllocError>
+    ensures { OnOk result (text.new.items ≡ text.old.items ++ share_words share) }
+{
+    match share {
+        Share::Whole {
+            population,
+            onset,
+            ..
+        } => push_whole(text, population, onset),
+        Share::Parts { count } => push_labelled(text, b"&times; ", count),
+    }
+}
+
+// The item of a pattern.
+fn item(alloc: Global, holder: &Holder) -> Result<Vec<u8>, AllocError>
+    ensures { IfOk result (λ text. text.items ≡ item holder.now) }
+{
+    let mut text = Vec::new(alloc);
+    text.extend_from_slice(b"<li>")?;
+    push_told(alloc, &mut text, holder.name)?;
+    text.extend_from_slice(b" <small>")?;
+    push_share(&mut text, holder.share)?;
+    text.extend_from_slice(b"</small></li>")?;
+    Ok(text)
+}
+
+// Tells an item for each pattern.
+fn put_items<W: Write>(
+    alloc: Global,
+    holders: &[Holder],
+    block: &mut Block,
+    writer: &mut Watched<W>,
+) -> Result<(), AllocError>
+    ensures { MatchResult result
+        (λ _. TellsAfter (items holders.now)
+        (sheet W.contents block.old writer.old) (sheet W.contents block.new writer.new))
+        (λ _. TellsFront (items holders.now)
+        (sheet W.contents block.old writer.old) (sheet W.contents block.new writer.new)) }
+{
+    for holder in holders {
+        let text = item(alloc, holder)?;
+        put(text.as_slice(), block, writer);
+    }
+    Ok(())
+}
+
+// What stands before the items that are shown when they are asked for.
+fn more_front(alloc: Global, count: usize) -> Result<Vec<u8>, AllocError>
+    ensures { IfOk result (λ text. text.items ≡
+        codes "<details><summary>" ++ grouped count ++ codes " more</summary><ul>") }
+{
+    let mut text = Vec::new(alloc);
+    text.extend_from_slice(b"<details><summary>")?;
+    push_grouped(&mut text, count as u64)?;
+    text.extend_from_slice(b" more</summary><ul>")?;
+    Ok(text)
+}
+
+// Tells the items that are shown when they are asked for.
+fn put_more<W: Write>(
+    alloc: Global,
+    holders: &[Holder],
+    block: &mut Block,
+    writer: &mut Watched<W>,
+) -> Result<(), AllocError>
+    ensures { MatchResult result
+        (λ _. TellsAfter (more_items holders.now)
+        (sheet W.contents block.old writer.old) (sheet W.contents block.new writer.new))
+        (λ _. TellsFront (more_items holders.now)
+        (sheet W.contents block.old writer.old) (sheet W.contents block.new writer.new)) }
+{
+    if holders.is_empty() {
+        return Ok(());
+    }
+    let front = more_front(alloc, holders.len())?;
+    put(front.as_slice(), block, writer);
+    put_items(alloc, holders, block, writer)?;
+    put(b"</ul></details>", block, writer);
+    Ok(())
+}
+
+/// Tells a list of patterns: the first ten, and the others when they are asked for. Where memory is
+/// refused, a prefix was told.
+pub fn put_list<W: Write>(
+    alloc: Global,
+    holders: &[Holder],
+    block: &mut Block,
+    writer: &mut Watched<W>,
+) -> Result<(), AllocError>
+    ensures { MatchResult result
+        (λ _. TellsAfter (holder_list holders.now)
+        (sheet W.contents block.old writer.old) (sheet W.contents block.new writer.new))
+        (λ _. TellsFront (holder_list holders.now)
+        (sheet W.contents block.old writer.old) (sheet W.contents block.new writer.new)) }
+{
+    let (shown, others) = holders.split_at(holders.len().min(SHOWN));
+    put(b"<ul>", block, writer);
+    put_items(alloc, shown, block, writer)?;
+    put(b"</ul>", block, writer);
+    put_more(alloc, others, block, writer)
+}
