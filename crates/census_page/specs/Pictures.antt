@@ -1,5 +1,6 @@
 -- Pictures of codes, and their RLE texts.
-use Rattle.std.specs.Prelude.{ℕ, ◌*◌, max, nat_le, Bool, ◌&&◌, if◌then◌else◌, Option, Some, None, Result, Ok, Err, List, [], ◌∷◌, ◌++◌, codes, decimal, length}
+use Rattle.std.specs.Prelude.{ℕ, ◌+◌, ◌*◌, ◌+ℤ◌, pos, max, nat_le, Bool, ◌&&◌, if◌then◌else◌, Option, Some, None, Result, Ok, Err, List, [], ◌∷◌, ◌++◌, codes, decimal, length}
+use Rattle.std.specs.Ordering.{int_eq}
 use Rattle.std.specs.Fmt.{signed_decimal}
 use Rattle.life_model.specs.Box.{height, width}
 use Rattle.life_model.specs.Cell.{Cell}
@@ -15,14 +16,24 @@ use Rattle.life_text.specs.RleText.{rle_text}
 use Rattle.census_page.specs.Escapes.{escaped_text}
 use Rattle.census_page.specs.Numbers.{grouped}
 
--- the square of a cell in the path of a picture: from (x, y) one to the right, one down, one to the left, and back
-abbrev pub cell_step : Cell → List ℕ
-cell_step cell = codes "M" ++ signed_decimal cell.0 ++ codes " " ++ signed_decimal cell.1 ++ codes "h1v1h-1z"
+-- a stroke along so many cells of a row, from this one on
+abbrev pub stroke : Cell → ℕ → List ℕ
+stroke cell count = codes "M" ++ signed_decimal cell.0 ++ codes " " ++ signed_decimal cell.1 ++ codes "h" ++ decimal count
 
--- those of each cell
-abbrev pub cell_steps : List Cell → List ℕ
-cell_steps [] = []
-cell_steps (cell ∷ others) = cell_step cell ++ cell_steps others
+-- whether a cell stands right behind another in its row
+abbrev pub follows : Cell → Cell → Bool
+follows last cell = int_eq cell.1 last.1 && int_eq cell.0 (last.0 +ℤ pos 1)
+
+-- the strokes of cells in order, behind so many cells of a row, of which these are the first and the last
+abbrev pub strokes_behind : Cell → Cell → ℕ → List Cell → List ℕ
+strokes_behind first last count [] = stroke first count
+strokes_behind first last count (cell ∷ cells) =
+    if follows last cell then strokes_behind first cell (count + 1) cells else stroke first count ++ strokes_behind cell cell 1 cells
+
+-- the strokes of all cells, in order
+abbrev pub strokes : List Cell → List ℕ
+strokes [] = []
+strokes (cell ∷ cells) = strokes_behind cell cell 1 cells
 
 -- how many pixels wide and high a cell is, where the longer side has so many cells
 abbrev pub scale : ℕ → ℕ
@@ -31,15 +42,19 @@ scale side = if nat_le side 16 then 8 else (if nat_le side 40 then 4 else (if na
 unfoldable pub box_words : ℕ → ℕ → List ℕ
 box_words wide high = grouped wide ++ codes " by " ++ grouped high ++ codes " cells"
 
--- the size of a picture in pixels, and in cells
+-- the class of pictures whose cells are large enough for lines between them
+abbrev pub grid : ℕ → List ℕ
+grid pixels = if nat_le pixels 2 then [] else codes " class=\"g\""
+
+-- the size of a picture in pixels, and in cells, whose strokes run through the middle of rows
 unfoldable pub sizes : ℕ → ℕ → ℕ → List ℕ
 sizes pixels wide high =
-    codes "width=\"" ++ decimal (pixels * wide) ++ codes "\" height=\"" ++ decimal (pixels * high) ++ codes "\" viewBox=\"0 0 " ++ decimal wide ++ codes " " ++ decimal high ++ codes "\">"
+    codes "width=\"" ++ decimal (pixels * wide) ++ codes "\" height=\"" ++ decimal (pixels * high) ++ codes "\" viewBox=\"0 -.5 " ++ decimal wide ++ codes " " ++ decimal high ++ codes "\""
 
 -- the beginning of a picture, as wide and high as this many cells
 unfoldable pub canvas : ℕ → ℕ → List ℕ
 canvas wide high =
-    codes "<svg role=\"img\" " ++ sizes (scale (max wide high)) wide high ++ codes "<title>" ++ box_words wide high ++ codes "</title><path d=\""
+    codes "<svg role=\"img\" " ++ sizes (scale (max wide high)) wide high ++ grid (scale (max wide high)) ++ codes "><title>" ++ box_words wide high ++ codes "</title><path d=\""
 
 -- at most 200 cells wide and high
 abbrev pub is_small : Generation → Bool
@@ -48,7 +63,7 @@ is_small G = nat_le (width G) 200 && nat_le (height G) 200
 -- the picture of a set in normal form, or in words what it is instead
 abbrev pub shape_picture : Generation → List ℕ
 shape_picture G =
-    if is_small G then canvas (width G) (height G) ++ cell_steps (cells G) ++ codes "\"/></svg>" else
+    if is_small G then canvas (width G) (height G) ++ strokes (cells G) ++ codes "\"/></svg>" else
     codes "<i>" ++ box_words (width G) (height G) ++ codes ": too large to draw</i>"
 
 abbrev pub spelled_unless : Option CodeFault → Generation → Option Generation

@@ -20,6 +20,7 @@ mod rle;
 mod section;
 mod speed;
 mod stray;
+mod stroke;
 mod tally;
 mod whole_page;
 

@@ -54,7 +54,8 @@ code,small{unicode-bidi:isolate}
 .objects :is(th,td):nth-child(5){width:44%;padding-left:1.5rem}
 .patterns :is(th,td):nth-child(1){width:27%}
 .patterns :is(th,td):nth-child(3){padding-left:1.5rem}
-svg{display:block;max-width:100%;height:auto;fill:var(--cell);stroke:var(--bg);stroke-width:.1}
+svg{display:block;max-width:100%;height:auto;stroke:var(--cell)}
+.g{stroke-width:.9;stroke-dasharray:.9 .1}
 th>p{text-wrap:pretty}
 th>div{display:flex;flex-wrap:wrap;align-items:baseline;gap:0 .75rem}
 code,pre{font:.8125rem/1.4 ui-monospace,monospace;overflow-wrap:anywhere}

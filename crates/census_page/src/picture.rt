@@ -1,10 +1,10 @@
 //! Pictures of codes.
 ghost use Rattle.std.specs.Prelude.{◌≡◌, ◌++◌, ◌≤◌, IfOk, OnOk, codes, decimal};
 ghost use Rattle.life_model.specs.Generation.{cells};
-ghost use Rattle.census_page.specs.Pictures.{box_words, canvas, cell_step, cell_steps, cells_told, is_small, picture, scale, shape_picture, sizes, spelled};
+ghost use Rattle.census_page.specs.Pictures.{box_words, canvas, cells_told, grid, is_small, picture, scale, shape_picture, sizes, spelled};
 
 use crate::numbers::{push_grouped, push_number};
-use itoa::Buffer;
+use crate::stroke::push_strokes;
 use life_shape::{CodeFault, Shape, body_of, read_wechsler};
 use std::alloc::{AllocError, Global};
 
@@ -21,29 +21,6 @@ pub fn spelled(alloc: Global, code: &[u8]) -> Result<Option<Shape>, AllocError>
         Err(CodeFault::Memory) => Err(AllocError),
         Err(_) => Ok(None),
     }
-}
-
-// Adds the square of a cell: its upper left corner is (x, y), and its sides are 1.
-fn push_cell(text: &mut Vec<u8>, cell: (i32, i32)) -> Result<(), AllocError>
-    ensures { OnOk result (text.new.items ≡ text.old.items ++ cell_step cell) }
-{
-    let mut buffer = Buffer::new();
-    text.push(b'M')?;
-    text.extend_from_slice(buffer.format(cell.0).as_bytes())?;
-    text.push(b' ')?;
-    text.extend_from_slice(buffer.format(cell.1).as_bytes())?;
-    text.extend_from_slice(b"h1v1h-1z")?;
-    Ok(())
-}
-
-// Adds the square of each cell.
-fn push_cells(text: &mut Vec<u8>, cells: &[(i32, i32)]) -> Result<(), AllocError>
-    ensures { OnOk result (text.new.items ≡ text.old.items ++ cell_steps cells.now) }
-{
-    for cell in cells {
-        push_cell(text, *cell)?;
-    }
-    Ok(())
 }
 
 // How many pixels wide and high a cell is, where the longer side has so many cells.
@@ -81,6 +58,16 @@ fn push_side(text: &mut Vec<u8>, side: u64) -> Result<(), AllocError>
     push_number(text, side)
 }
 
+// Adds the class of pictures whose cells are large enough for lines between them.
+fn push_grid(text: &mut Vec<u8>, pixels: u64) -> Result<(), AllocError>
+    ensures { OnOk result (text.new.items ≡ text.old.items ++ grid pixels) }
+{
+    if pixels <= 2 {
+        return Ok(());
+    }
+    text.extend_from_slice(b" class=\"g\"")
+}
+
 // Adds the size of a picture in pixels, and in cells.
 #[tactic(auto, unfolding(crate::specs::Pictures::sizes))]
 fn push_sizes(text: &mut Vec<u8>, pixels: u64, width: u64, height: u64) -> Result<(), AllocError>
@@ -93,11 +80,11 @@ fn push_sizes(text: &mut Vec<u8>, pixels: u64, width: u64, height: u64) -> Resul
     push_side(text, pixels * width)?;
     text.extend_from_slice(b"\" height=\"")?;
     push_side(text, pixels * height)?;
-    text.extend_from_slice(b"\" viewBox=\"0 0 ")?;
+    text.extend_from_slice(b"\" viewBox=\"0 -.5 ")?;
     push_side(text, width)?;
     text.extend_from_slice(b" ")?;
     push_side(text, height)?;
-    text.extend_from_slice(b"\">")?;
+    text.extend_from_slice(b"\"")?;
     Ok(())
 }
 
@@ -108,14 +95,11 @@ fn push_canvas(text: &mut Vec<u8>, width: u32, height: u32) -> Result<(), AllocE
     requires height { height ≤ SIDE_LIMIT }
     ensures { OnOk result (text.new.items ≡ text.old.items ++ canvas width height) }
 {
+    let pixels = scale(width.max(height));
     text.extend_from_slice(b"<svg role=\"img\" ")?;
-    push_sizes(
-        text,
-        scale(width.max(height)),
-        u64::from(width),
-        u64::from(height),
-    )?;
-    text.extend_from_slice(b"<title>")?;
+    push_sizes(text, pixels, u64::from(width), u64::from(height))?;
+    push_grid(text, pixels)?;
+    text.extend_from_slice(b"><title>")?;
     push_box(text, width, height)?;
     text.extend_from_slice(b"</title><path d=\"")?;
     Ok(())
@@ -149,13 +133,13 @@ fn push_shape(text: &mut Vec<u8>, shape: &Shape) -> Result<(), AllocError>
         return push_too_large(text, width, height);
     }
     push_canvas(text, width, height)?;
-    push_cells(text, shape.list().as_slice())?;
+    push_strokes(text, shape.list().as_slice())?;
     text.extend_from_slice(b"\"/></svg>")?;
     Ok(())
 }
 
-/// Appends a picture of a shape, in SVG, with a square for each of its cells: that of the cell (x, y)
-/// has its upper left corner at (x, y), and y rises downwards. A shape that is wider or higher than
+/// Appends a picture of a shape, in SVG, with a stroke for each run of cells that stand side by side:
+/// that of the cell (x, y) begins at (x, y), and y rises downwards. A shape that is wider or higher than
 /// `SIDE_LIMIT` is told in words instead, and nothing is appended where there is no shape. The only
 /// error is out of memory.
 pub fn push_picture(text: &mut Vec<u8>, shape: &Option<Shape>) -> Result<(), AllocError>
