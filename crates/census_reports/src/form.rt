@@ -9,7 +9,7 @@ ghost use Rattle.census_verify.specs.Claims.{claims_in, claims_read};
 ghost use Rattle.census_reports.specs.Written.{FailsRows, WritesRows};
 
 use crate::error::ReportsError;
-use census_page::put_page;
+use census_page::{default_options, put_page};
 use census_rows::Row;
 use census_same::put_same;
 use census_table::{Format, Subject, put_listing, table_of};
@@ -26,7 +26,7 @@ pub enum Form<'a> {
     Merged,
     /// A table, as `table_of` makes it and `put_listing` tells it.
     Table { subject: Subject, format: Format },
-    /// Their codes, with pictures, as one HTML page, as `put_page` tells it.
+    /// Their codes, with pictures, as one HTML page, as `put_page` tells it with `default_options`.
     Page,
     /// Their patterns that are one object, as `put_same` tells them, which is what is looked for.
     Same { json: bool },
@@ -76,7 +76,7 @@ pub fn write_page<O: Write>(
         (sink O.contents output.new)) }
 {
     let mut block = Block::new(alloc);
-    let told = put_page(alloc, rows, &mut block, output);
+    let told = put_page(alloc, &default_options(), rows, &mut block, output);
     match send(&mut block, output) {
         Ok(()) => {
             told?;
