@@ -1,5 +1,6 @@
 -- What a code is in words.
 use Rattle.std.specs.Prelude.{ℕ, Bool, true, false, Option, Some, None as Nothing, List, ◌++◌, codes, drop, take, nat_eq, if◌then◌else◌}
+use Rattle.std.specs.Cmp.Lexicographic.{pointwise}
 use Rattle.std.specs.List.{prefix_len, starts_with}
 use Rattle.texts.specs.Bytes.{is_digit}
 use Rattle.census_page.specs.Numbers.{grouped_digits}
@@ -33,12 +34,16 @@ is_kind _ _ = false
 abbrev pub code_number : List ℕ → List ℕ
 code_number code = take (prefix_len is_digit (drop 2 code)) (drop 2 code)
 
+abbrev pub still_words : List ℕ → List ℕ
+still_words number =
+    if pointwise nat_eq number (codes "0") then codes "nothing: all cells die" else codes "still life of " ++ number ++ codes " cells"
+
 abbrev pub ship_words : Option Way → List ℕ → List ℕ
 ship_words Nothing number = codes "spaceship of period " ++ number
 ship_words (Some way) number = codes "spaceship " ++ speed way ++ codes ", period " ++ number
 
 abbrev pub kind_words : Kind → Option Way → List ℕ → List ℕ
-kind_words StillLife way number = codes "still life of " ++ number ++ codes " cells"
+kind_words StillLife way number = still_words number
 kind_words Oscillator way number = codes "oscillator of period " ++ number
 kind_words Spaceship way number = ship_words way number
 kind_words Other way number = codes "object"

@@ -1,5 +1,5 @@
 -- Pictures of codes, and their RLE texts.
-use Rattle.std.specs.Prelude.{ℕ, ◌+◌, ◌*◌, ◌+ℤ◌, pos, max, nat_le, Bool, ◌&&◌, if◌then◌else◌, Option, Some, None, Result, Ok, Err, List, [], ◌∷◌, ◌++◌, codes, decimal, length}
+use Rattle.std.specs.Prelude.{ℕ, ◌+◌, ◌*◌, ◌+ℤ◌, pos, max, nat_le, Bool, not, ◌&&◌, ◌==◌, if◌then◌else◌, Option, Some, None, Result, Ok, Err, List, [], ◌∷◌, ◌++◌, codes, decimal, length}
 use Rattle.std.specs.Ordering.{int_eq}
 use Rattle.std.specs.Fmt.{signed_decimal}
 use Rattle.life_model.specs.Box.{height, width}
@@ -56,15 +56,20 @@ unfoldable pub canvas : ℕ → ℕ → List ℕ
 canvas wide high =
     codes "<svg role=\"img\" " ++ sizes (scale (max wide high)) wide high ++ grid (scale (max wide high)) ++ codes "><title>" ++ box_words wide high ++ codes "</title><path d=\""
 
--- at most 200 cells wide and high
-abbrev pub is_small : Generation → Bool
-is_small G = nat_le (width G) 200 && nat_le (height G) 200
+-- it has cells, and is at most 200 wide and high
+abbrev pub has_picture : Generation → Bool
+has_picture G = not (width G == 0) && (nat_le (width G) 200 && nat_le (height G) 200)
+
+-- what stands in the place of the picture of what has none
+abbrev pub size_words : ℕ → ℕ → List ℕ
+size_words wide high =
+    if wide == 0 then codes "<i>no cells</i>" else codes "<i>" ++ box_words wide high ++ codes ": too large to draw</i>"
 
 -- the picture of a set in normal form, or in words what it is instead
 abbrev pub shape_picture : Generation → List ℕ
 shape_picture G =
-    if is_small G then canvas (width G) (height G) ++ strokes (cells G) ++ codes "\"/></svg>" else
-    codes "<i>" ++ box_words (width G) (height G) ++ codes ": too large to draw</i>"
+    if has_picture G then canvas (width G) (height G) ++ strokes (cells G) ++ codes "\"/></svg>" else
+    size_words (width G) (height G)
 
 abbrev pub spelled_unless : Option CodeFault → Generation → Option Generation
 spelled_unless None G = Some G
@@ -94,4 +99,4 @@ rle_element (Ok rule) G = hidden_text (rle_text rule G)
 -- the RLE text of what has a picture
 abbrev pub rle : List ℕ → Option Generation → List ℕ
 rle rule None = []
-rle rule (Some G) = if is_small G then rle_element (rule_of rule) G else []
+rle rule (Some G) = if has_picture G then rle_element (rule_of rule) G else []

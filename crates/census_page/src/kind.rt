@@ -1,8 +1,8 @@
 //! What a code is in words.
-ghost use Rattle.std.specs.Prelude.{◌≡◌, ◌≤◌, ◌++◌, OnOk, drop, length};
+ghost use Rattle.std.specs.Prelude.{◌≡◌, ◌≤◌, ◌++◌, OnOk, codes, drop, length};
 ghost use Rattle.std.specs.List.{prefix_len};
 ghost use Rattle.texts.specs.Bytes.{is_digit};
-ghost use Rattle.census_page.specs.Kinds.{class_of, code_number, is_kind, kind_of, kind_words, object_words, ship_words};
+ghost use Rattle.census_page.specs.Kinds.{class_of, code_number, is_kind, kind_of, kind_words, object_words, ship_words, still_words};
 
 use crate::numbers::push_grouped_digits;
 use crate::speed::{Way, push_speed};
@@ -101,6 +101,27 @@ fn push_numbered(text: &mut Vec<u8>, words: &[u8], number: &[u8]) -> Result<(), 
     Ok(())
 }
 
+// Adds what a still life of so many cells is, where it has any.
+fn push_living(text: &mut Vec<u8>, number: &[u8]) -> Result<(), AllocError>
+    ensures { OnOk result (text.new.items ≡
+        text.old.items ++ (codes "still life of " ++ number.now ++ codes " cells")) }
+{
+    text.extend_from_slice(b"still life of ")?;
+    text.extend_from_slice(number)?;
+    text.extend_from_slice(b" cells")?;
+    Ok(())
+}
+
+// Adds what a still life of so many cells is.
+fn push_still(text: &mut Vec<u8>, number: &[u8]) -> Result<(), AllocError>
+    ensures { OnOk result (text.new.items ≡ text.old.items ++ still_words number.now) }
+{
+    if number == b"0".as_slice() {
+        return text.extend_from_slice(b"nothing: all cells die");
+    }
+    push_living(text, number)
+}
+
 // Adds what a spaceship is that moves so, where that is known.
 fn push_ship(text: &mut Vec<u8>, way: &Option<Way>, number: &[u8]) -> Result<(), AllocError>
     ensures { OnOk result (text.new.items ≡ text.old.items ++ ship_words way.now number.now) }
@@ -125,12 +146,7 @@ fn push_kind(
     ensures { OnOk result (text.new.items ≡ text.old.items ++ kind_words kind way.now number.now) }
 {
     match kind {
-        Kind::StillLife => {
-            text.extend_from_slice(b"still life of ")?;
-            text.extend_from_slice(number)?;
-            text.extend_from_slice(b" cells")?;
-            Ok(())
-        }
+        Kind::StillLife => push_still(text, number),
         Kind::Oscillator => push_numbered(text, b"oscillator of period ", number),
         Kind::Spaceship => push_ship(text, way, number),
         Kind::Other => text.extend_from_slice(b"object"),

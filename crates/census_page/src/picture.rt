@@ -1,7 +1,7 @@
 //! Pictures of codes.
 ghost use Rattle.std.specs.Prelude.{◌≡◌, ◌++◌, ◌≤◌, IfOk, OnOk, codes, decimal};
 ghost use Rattle.life_model.specs.Generation.{cells};
-ghost use Rattle.census_page.specs.Pictures.{box_words, canvas, cells_told, grid, is_small, picture, scale, shape_picture, sizes, spelled};
+ghost use Rattle.census_page.specs.Pictures.{box_words, canvas, cells_told, grid, has_picture, picture, scale, shape_picture, size_words, sizes, spelled};
 
 use crate::numbers::{push_grouped, push_number};
 use crate::stroke::push_strokes;
@@ -105,11 +105,21 @@ fn push_canvas(text: &mut Vec<u8>, width: u32, height: u32) -> Result<(), AllocE
     Ok(())
 }
 
-/// Whether a shape is at most `SIDE_LIMIT` cells wide and high.
-pub fn is_small(shape: &Shape) -> bool
-    ensures { result ≡ is_small shape.now }
+/// Whether a shape has cells, and is at most `SIDE_LIMIT` cells wide and high.
+pub fn has_picture(shape: &Shape) -> bool
+    ensures { result ≡ has_picture shape.now }
 {
-    shape.width() <= SIDE_LIMIT && shape.height() <= SIDE_LIMIT
+    shape.width() != 0 && (shape.width() <= SIDE_LIMIT && shape.height() <= SIDE_LIMIT)
+}
+
+// Adds what stands in the place of the picture of what has none.
+fn push_size(text: &mut Vec<u8>, width: u32, height: u32) -> Result<(), AllocError>
+    ensures { OnOk result (text.new.items ≡ text.old.items ++ size_words width height) }
+{
+    if width == 0 {
+        return text.extend_from_slice(b"<i>no cells</i>");
+    }
+    push_too_large(text, width, height)
 }
 
 // Adds that a shape is too large for a picture.
@@ -129,8 +139,8 @@ fn push_shape(text: &mut Vec<u8>, shape: &Shape) -> Result<(), AllocError>
 {
     let width = shape.width();
     let height = shape.height();
-    if width > SIDE_LIMIT || height > SIDE_LIMIT {
-        return push_too_large(text, width, height);
+    if width == 0 || (width > SIDE_LIMIT || height > SIDE_LIMIT) {
+        return push_size(text, width, height);
     }
     push_canvas(text, width, height)?;
     push_strokes(text, shape.list().as_slice())?;

@@ -4,7 +4,7 @@ ghost use Rattle.census_page.specs.Pictures.{hidden_text, rle, rle_element};
 ghost use Rattle.life_text.specs.RleText.{rle_text};
 
 use crate::escape::push_escaped;
-use crate::picture::is_small;
+use crate::picture::has_picture;
 use life_cells::{Rule, RuleFault};
 use life_shape::Shape;
 use life_text::write_rle;
@@ -55,7 +55,7 @@ pub fn push_rle(
     ensures { OnOk result (text.new.items ≡ text.old.items ++ rle rule.now shape.now) }
 {
     match shape {
-        Some(shape) if is_small(shape) => push_element(alloc, text, &Rule::parse(rule), shape),
+        Some(shape) if has_picture(shape) => push_element(alloc, text, &Rule::parse(rule), shape),
         _ => Ok(()),
     }
 }
