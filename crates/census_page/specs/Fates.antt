@@ -29,9 +29,13 @@ abbrev pub fault_words : ℕ → Option RleFault → List ℕ
 fault_words number (Some fault) = escaped_text (sentence_of fault)
 fault_words number Nothing = if number == 0 then codes "the file can&#39;t be read" else codes "fault " ++ decimal number
 
+-- what makes a word one of several
+abbrev pub plural : ℕ → List ℕ
+plural number = if number == 1 then [] else codes "s"
+
 abbrev pub finding_words : Finding → List ℕ
 finding_words (Ok onset period dx dy code) = []
-finding_words (Ash onset objects) = grouped objects ++ labelled (codes " objects from generation ") onset ++ codes " on"
+finding_words (Ash onset objects) = grouped objects ++ codes " object" ++ plural objects ++ labelled (codes " from generation ") onset ++ codes " on"
 finding_words Unresolved = codes "unresolved within the bound"
 finding_words (Large generation) = labelled (codes "unresolved: at generation ") generation ++ codes " it has more cells than the limit"
 

@@ -1,6 +1,6 @@
 //! What becomes of patterns that do not recur.
 ghost use Rattle.std.specs.Prelude.{◌≡◌, ◌++◌, OnOk, decimal};
-ghost use Rattle.census_page.specs.Fates.{fate_cells, fate_row, fault_of, fault_words, finding_words, found_cells, recurs, refused_cells};
+ghost use Rattle.census_page.specs.Fates.{fate_cells, fate_row, fault_of, fault_words, finding_words, found_cells, plural, recurs, refused_cells};
 ghost use Rattle.census_rows.specs.declared.row.Finding.TheVariants.{Ash, Large};
 
 use crate::escape::{push_escaped, push_text, push_told};
@@ -49,12 +49,24 @@ fn push_fault(text: &mut Vec<u8>, number: u64, fault: &Option<RleFault>) -> Resu
     }
 }
 
+// Adds what makes a word one of several.
+fn push_plural(text: &mut Vec<u8>, number: u64) -> Result<(), AllocError>
+    ensures { OnOk result (text.new.items ≡ text.old.items ++ plural number) }
+{
+    if number == 1 {
+        return Ok(());
+    }
+    text.extend_from_slice(b"s")
+}
+
 // Adds that a pattern has fallen apart.
 fn push_ash(text: &mut Vec<u8>, onset: u64, objects: u64) -> Result<(), AllocError>
     ensures { OnOk result (text.new.items ≡ text.old.items ++ finding_words (Ash onset objects)) }
 {
     push_grouped(text, objects)?;
-    push_labelled(text, b" objects from generation ", onset)?;
+    text.extend_from_slice(b" object")?;
+    push_plural(text, objects)?;
+    push_labelled(text, b" from generation ", onset)?;
     text.extend_from_slice(b" on")?;
     Ok(())
 }

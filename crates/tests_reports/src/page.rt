@@ -115,7 +115,7 @@ const BODY: &str = "<body>
 <thead><tr><th scope=\"col\">Pattern</th><th scope=\"col\">Cells</th><th scope=\"col\">What becomes of it</th></tr></thead>
 <tbody>
 <tr class=\"u\"><th scope=\"row\"><bdi>lt&amp;lt;</bdi> <small>B3/S23</small></th><td>13</td><td>3 objects from generation 9 on</td></tr>
-<tr class=\"u\"><th scope=\"row\"><bdi>one</bdi> <small>B3/S23</small></th><td>4</td><td>1 objects from generation 9 on</td></tr>
+<tr class=\"u\"><th scope=\"row\"><bdi>one</bdi> <small>B3/S23</small></th><td>4</td><td>1 object from generation 9 on</td></tr>
 </tbody>
 </table>
 </section>
