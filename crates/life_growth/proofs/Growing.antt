@@ -1,5 +1,5 @@
 -- What becomes of an engine: its core, and what has left it, which grows beyond every bound.
-use Rattle.std.proofs.Common.{◌≡◌, ◌≢◌, ℕ, zero, suc, ◌+◌, ◌-◌, ◌*◌, ◌≤◌, Bool, true, false, ◌||◌, List, [], ◌++◌, sym, refl, ap, subst, ◌∙◌, arith}
+use Rattle.std.proofs.Common.{◌≡◌, ◌≢◌, ℕ, zero, suc, ◌+◌, ◌-◌, ◌*◌, ◌<◌, ◌≤◌, Bool, true, false, ◌||◌, List, [], ◌++◌, sym, refl, ap, subst, ◌∙◌, arith}
 use Rattle.life_model.specs.Rule.{Rule}
 use Rattle.life_model.specs.Generation.{Generation, contains, empty, size}
 use Rattle.life_model.specs.Evolution.{next, generation}
@@ -12,6 +12,7 @@ use Rattle.life_objects.proofs.Alone.{next-union}
 use Rattle.life_objects.proofs.Ashes.{AreApartForEver-later}
 use Rattle.life_objects.proofs.Times.{AreApartForEver-swap, generation-empty}
 use Rattle.life_objects.proofs.Unions.{contains-union, in_empty, union-comm, union-empty}
+use Rattle.life_objects.specs.Piece.{LivesThrough}
 use Rattle.life_growth.specs.Engine.{Way}
 use Rattle.life_growth.specs.Onward.{accumulated}
 use Rattle.life_growth.specs.Population.{HasNoBound}
@@ -156,6 +157,24 @@ module _ (R : Rule) where
         let e : suc at + (way.period - 1) ≡ on.emitting.0 + suc k * way.period = omega arith in
         subst (IsLarge (suc k)) e
         (IsLarge-kept (suc k) (suc at) (way.period - 1) (IsLarge-more k at (large k) (emitting_lives k)))
+
+    -- from the step after one in which something leaves for good, what has left always has a cell
+    large_since : (e : ℕ) → LivesThrough R b (way.left e) → (n : ℕ) → e < n → IsLarge 1 n
+    large_since e lives n after =
+        subst (IsLarge 1) (let at : suc e + (n - suc e) ≡ n = omega arith in at)
+        (IsLarge-kept 1 (suc e) (n - suc e)
+        (IsLarge-more 0 e (λ m. omega arith) (lives_on R b (way.left e) (on.settles e) lives)))
+
+    -- so all of it has more cells than its core, whatever both become
+    pub more_than_core : (e : ℕ) → LivesThrough R b (way.left e) → (n : ℕ) → e < n → (m : ℕ) →
+        size (generation R (way.core n) m) < size (generation R (way.core 0) (n + m))
+    more_than_core e lives n after m =
+        let all : size (generation R (way.core 0) (n + m))
+        ≡ size (generation R (way.core n) m) + size (generation R (debris n) m) =
+        ap size (sym (generation-add R (way.core 0) n m)) ∙ ap (λ H. size (generation R H m)) (becomes n)
+        ∙ size-union_ever R (way.core n) (debris n) m (core_apart n) in
+        let some : 1 ≤ size (generation R (debris n) m) = large_since e lives n after m in
+        omega arith
 
     pub first_has_no_bound : HasNoBound R (way.core 0)
     first_has_no_bound k =

@@ -4,6 +4,7 @@ pub mod Bounds
 pub mod Settling
 pub mod Endless
 pub mod Growing
+pub mod Outgrowing
 pub mod OneWay
 pub mod Alike
 pub mod Emitting

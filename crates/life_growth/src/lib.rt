@@ -7,7 +7,7 @@ ghost use Rattle.std.specs.List.{AllPairs, AllZip};
 ghost use Rattle.std.specs.List.Sorted.{IsPermutation};
 ghost use Rattle.life_model.specs.Cell.{Cell, opposite, origin, plus};
 ghost use Rattle.life_model.specs.Evolution.{generation, next};
-ghost use Rattle.life_model.specs.Generation.{Generation, empty};
+ghost use Rattle.life_model.specs.Generation.{Generation, empty, size};
 ghost use Rattle.life_model.specs.Recurrence.{RecursBy};
 ghost use Rattle.life_model.specs.Rule.{Rule};
 ghost use Rattle.life_model.specs.Symmetry.{translate_of};
@@ -101,6 +101,12 @@ pub fn engines_grow_beyond_every_bound()
     ensures engine { (R : Rule) (b : ℕ) (E : Generation) (way : Way) → IsEngine R b E way →
         HasNoBound R E }
     ensures otherwise { (R : Rule) (b : ℕ) (P : Generation) → FallsApart R b P → HasBound R P }
+{}
+
+/// An engine has more cells a period later, whichever generation one looks at.
+pub fn engines_outgrow_themselves()
+    ensures { (R : Rule) (b n : ℕ) (E : Generation) (way : Way) → IsEngine R b E way →
+        size (generation R E n) < size (generation R E (n + way.period)) }
 {}
 
 /// An engine goes one way, whatever the bounds: with the same cores, the same that leaves, the same period and the same
