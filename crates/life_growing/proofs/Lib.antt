@@ -14,3 +14,5 @@ pub mod GoingPlaced
 pub mod GoingMeetings
 pub mod GoingAway
 pub mod GoingThings
+pub mod Counted
+pub mod Refusing

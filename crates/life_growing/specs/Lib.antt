@@ -3,3 +3,4 @@ pub mod Places
 pub mod Growths
 pub mod Picking
 pub mod Meeting
+pub mod Populations

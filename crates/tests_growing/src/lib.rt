@@ -5,3 +5,5 @@
 mod growths;
 #[cfg(test)]
 mod patterns;
+#[cfg(test)]
+mod refusals;

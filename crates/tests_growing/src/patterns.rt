@@ -20,6 +20,34 @@ pub const GLIDERS: &[(i32, i32)] = &[
     (37, 36),
 ];
 
+/// The acorn, which goes on for 5206 generations.
+pub const ACORN: &[(i32, i32)] = &[
+    (501, 500),
+    (503, 501),
+    (500, 502),
+    (501, 502),
+    (504, 502),
+    (505, 502),
+    (506, 502),
+];
+
+/// The R-pentomino, and two blocks far from it.
+pub const PENTOMINO_AND_BLOCKS: &[(i32, i32)] = &[
+    (501, 500),
+    (502, 500),
+    (500, 501),
+    (501, 501),
+    (501, 502),
+    (300, 500),
+    (301, 500),
+    (300, 501),
+    (301, 501),
+    (700, 500),
+    (701, 500),
+    (700, 501),
+    (701, 501),
+];
+
 /// Gosper's gun.
 pub const GUN: &[(i32, i32)] = &[
     (64, 40),

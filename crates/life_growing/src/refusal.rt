@@ -1,0 +1,127 @@
+//! Whether the classes of a plane's cells show that these don't grow.
+ghost use Rattle.std.specs.Prelude.{◌≡◌, ℕ, ◌+◌, ◌<◌, ◌≤◌, All, IfOk, List};
+ghost use Rattle.std.specs.Bool.{OnTrue};
+ghost use Rattle.life_model.specs.Cell.{Cell};
+ghost use Rattle.life_model.specs.Generation.{Generation};
+ghost use Rattle.life_model.specs.Generation as generations;
+ghost use Rattle.life_model.specs.Recurrence.{RecursBy};
+ghost use Rattle.life_cells.specs.Limits.{IsWithin};
+ghost use Rattle.life_ash.specs.Parts.{ash_age_limit};
+ghost use Rattle.life_growth.specs.Engine.{IsEngineWithin};
+ghost use Rattle.life_growth.specs.Growth.{IsGrowth};
+ghost use Rattle.life_orbit.specs.Kept.{orbit_age_limit};
+ghost use Rattle.life_growing.specs.Populations.{ArePopulations, FallsBack};
+
+use life_cells::{CellList, Rule};
+use life_classes::classes_of;
+use life_orbit::Orbit;
+use life_plane::Plane;
+use life_things::WAY_LIMIT;
+use std::alloc::{AllocError, Global};
+
+/// What comes again within so many generations is found first, since much of what doesn't grow does so.
+const SOON: u32 = 64;
+
+/// The population of some cells of this age, and those of so many later generations.
+fn populations<P: Plane>(
+    alloc: Global,
+    rule: &Rule,
+    cells: &CellList,
+    age: u32,
+    length: u32,
+) -> Result<Vec<u64>, AllocError>
+    requires age { age + length ≤ ash_age_limit }
+    requires within { All (IsWithin age) (generations.cells cells.now) }
+    ensures { IfOk result (λ counts. ArePopulations rule.now cells.now (length + 1) counts.items) }
+{
+    let mut plane = P::at_age(alloc, cells, age)?;
+    let mut counts = Vec::new(alloc);
+    counts.push(plane.population())?;
+    for _ in 0..length {
+        plane.step(rule)?;
+        counts.push(plane.population())?;
+    }
+    Ok(counts)
+}
+
+/// Whether some of the numbers is no less than the one so many places later.
+fn falls_back(counts: &[u64], places: usize) -> bool
+    ensures { OnTrue result (FallsBack counts.now places) }
+{
+    for n in places..counts.len() {
+        if counts[n] <= counts[n - places] {
+            return true;
+        }
+    }
+    false
+}
+
+/// Whether for each number of places up to the bound some of the numbers is no less than the one so many places later.
+fn keep_falling_back(counts: &[u64], bound: usize) -> bool
+    ensures { OnTrue result ((places : ℕ) → 1 ≤ places → places ≤ bound → FallsBack counts.now places) }
+{
+    for before in 0..bound {
+        if !falls_back(counts, before + 1) {
+            return false;
+        }
+    }
+    true
+}
+
+/// Whether cells are seen to come again soon.
+fn come_again_soon(alloc: Global, rule: &Rule, cells: &CellList) -> Result<bool, AllocError>
+    requires { All (IsWithin orbit_age_limit) (generations.cells cells.now) }
+    ensures { IfOk result (λ do_so. OnTrue do_so
+        ((p : ℕ) × (d : Cell) × RecursBy rule.now cells.now p d)) }
+{
+    match Orbit::of(alloc, rule, cells, SOON)? {
+        Some(_) => Ok(true),
+        None => Ok(false),
+    }
+}
+
+/// Whether cells of this age show that they are no engine within the bound: they come again soon, or, whatever the period
+/// were, there is a generation in which they have no fewer cells than a period later.
+fn are_no_engine<P: Plane>(
+    alloc: Global,
+    rule: &Rule,
+    cells: &CellList,
+    age: u32,
+    bound: u32,
+) -> Result<bool, AllocError>
+    requires bound { 1 ≤ bound × bound ≤ WAY_LIMIT }
+    requires age { (age + bound) + bound ≤ ash_age_limit }
+    requires within { All (IsWithin age) (generations.cells cells.now) }
+    ensures { IfOk result (λ no. OnTrue no (IsEngineWithin rule.now bound cells.now → ⊥)) }
+{
+    if come_again_soon(alloc, rule, cells)? {
+        return Ok(true);
+    }
+    let counts = populations::<P>(alloc, rule, cells, age, bound + bound)?;
+    Ok(keep_falling_back(counts.as_slice(), bound as usize))
+}
+
+/// Whether the classes of a plane's cells show that these don't grow within the bound: none of them is an engine. That it
+/// answers no tells nothing.
+///
+/// It makes about three times as many generations as the bound, and holds one of them at a time.
+pub fn cannot_grow<P: Plane>(
+    alloc: Global,
+    plane: &P,
+    rule: &Rule,
+    bound: u32,
+) -> Result<bool, AllocError>
+    requires bound { 1 ≤ bound × bound ≤ WAY_LIMIT }
+    requires age { (P.steps_made plane.now + bound) + bound ≤ ash_age_limit }
+    ensures { IfOk result (λ cannot. OnTrue cannot ((Es : List Generation) (S : Generation) →
+        IsGrowth rule.now bound (P.members plane.now) Es S → ⊥)) }
+{
+    let age = plane.age();
+    let classes = classes_of(alloc, plane, rule, bound)?;
+    for class in classes.as_slice() {
+        if !are_no_engine::<P>(alloc, rule, &class.first, age, bound)? {
+            return Ok(false);
+        }
+    }
+    Ok(true)
+}
