@@ -69,7 +69,7 @@ module _ (R : Rule) where
 
   -- ---- one object has one code
 
-  turned_recurs : (P : Generation) (n : ℕ) (d : Cell) (m : Orientation) → RecursBy R P n d →
+  pub turned_recurs : (P : Generation) (n : ℕ) (d : Cell) (m : Orientation) → RecursBy R P n d →
       RecursBy R (image_under P m) n (turn m d)
   turned_recurs P n d m r = record {
     later = r.later;
@@ -77,7 +77,7 @@ module _ (R : Rule) where
   }
 
   -- what comes again so in the one does so in the other
-  recurs_across : (P Q : Generation) → AreOneObject R P Q → (n : ℕ) (e : Cell) → RecursBy R Q n e → (p : ℕ) (d : Cell) →
+  pub recurs_across : (P Q : Generation) → AreOneObject R P Q → (n : ℕ) (e : Cell) → RecursBy R Q n e → (p : ℕ) (d : Cell) →
       RecursBy R P p d → (f : Cell) × RecursBy R Q p f
   recurs_across P Q one n e back p d r =
       let A = generation R P one.first_phase in

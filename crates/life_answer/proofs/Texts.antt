@@ -1,11 +1,12 @@
 -- What is found of a text.
-use Rattle.std.proofs.Common.{◌≡◌, ℕ, ◌≤◌, Bool, true, false, List, [], ◌∷◌, ◌++◌, Option, Some, None, Result, Ok, Err, cond, is_some, codes, ap, subst, sym, arith, ◌∙◌, ◌≢◌, IfOk, IsOk, OnErr, OnOk, refl}
+use Rattle.std.proofs.Common.{◌≡◌, ℕ, ◌≤◌, Bool, true, false, List, [], ◌∷◌, ◌++◌, Option, Some, None, Result, Ok, Err, cond, is_some, codes, ap, subst, sym, arith, ◌∙◌, ◌≢◌, IfOk, IsOk, OnErr, OnOk, refl, inl, inr}
 use Rattle.std.specs.Option.{option_or}
 use Rattle.std.specs.List.{list_all}
 use Rattle.texts.specs.Bytes.{is_blank, after_one_of}
 use Rattle.life_cells.specs.Rules.{life}
 use Rattle.life_model.specs.Rule.{Rule}
 use Rattle.life_model.specs.Generation.{Generation}
+use Rattle.life_model.specs.Recurrence.{Recurrence}
 use Rattle.life_cells.specs.declared.rule.RuleFault.{RuleFault}
 use Rattle.life_cells.specs.declared.rule.RuleFault.TheVariants.{NotLifeLike, HasB0}
 use Rattle.life_text.specs.declared.rle.RleFault.{RleFault}
@@ -16,16 +17,17 @@ use Rattle.life_text.specs.Rle.{Meaning, Token, reading, refusal, fault_of, with
 use Rattle.life_text.specs.Picture.{Picture, picture_of}
 use Rattle.life_answer.specs.declared.finding.Finding.{Finding}
 use Rattle.life_answer.specs.declared.finding.Outcome.{Outcome}
-use Rattle.life_answer.specs.declared.finding.Outcome.TheVariants.{Ash}
+use Rattle.life_answer.specs.declared.finding.Outcome.TheVariants.{Ash, Grows, Large, Unresolved}
 use Rattle.life_answer.specs.declared.finding.Answer.{Answer}
 use Rattle.life_answer.specs.declared.finding.Answer.TheVariants.{Found, Refused}
 use Rattle.life_answer.specs.declared.part.Part.{Part}
-use Rattle.life_answer.specs.Answers.{outcome_of, fault_number}
-use Rattle.life_answer.specs.Limited.{first_past, outcome_unless_large, unless_large}
+use Rattle.life_answer.specs.declared.tale.Engines.{Engines}
+use Rattle.life_answer.specs.Answers.{outcome_of, fault_number, recurrence_outcome}
+use Rattle.life_answer.specs.Limited.{first_past, unless_large}
 use Rattle.life_answer.specs.Questions.{answer_to, answer_to_question, finding_to}
 use Rattle.life_answer.specs.declared.question.Question.{Question}
 use Rattle.life_answer.specs.declared.question.Question.TheVariants.{Settles}
-use Rattle.life_answer.proofs.Findings.{outcome-no_ash}
+use Rattle.life_answer.proofs.Findings.{outcome-no_ash, settled_or_not}
 
 pub answer-found : (q : Question) (text : List ℕ) (pattern : Picture) → picture_of (reading text) ≡ Ok pattern → answer_to_question q text ≡ Found pattern.rule (finding_to q pattern.rule pattern.cells)
 unfolding answer_to_question
@@ -135,30 +137,61 @@ unfolding answer_to_question
 answer-numbered q text number e =
     numbered_by q (reading text) number (with_body-numbered (header_rule text) (rle.body_tokens text) (line_rule-numbered (rle.header_line text))) e
 
--- ---- no ash
+-- ---- neither ash nor growth
 
 same_finding : (r s : Rule) (f g : Finding) → Found r f ≡ Found s g → f ≡ g
 same_finding r s f g e = cc
 
-large_no_ash : (found : Outcome) (o : Option ℕ) (onset : ℕ) (parts : List Part) → (found ≡ Ash onset parts → ⊥)
-    → unless_large found o ≡ Ash onset parts → ⊥
-large_no_ash found None onset parts none e = none e
-large_no_ash found (Some n) onset parts none e = cc
+settled_no_growth : (R : Rule) (G : Generation) (r : Recurrence) (lines : List Engines) → recurrence_outcome R G r ≡ Grows lines → ⊥
+settled_no_growth R G r lines e = cc
 
-limited_no_ash : (cells : Option ℕ) (R : Rule) (G : Generation) (b : ℕ) (onset : ℕ) (parts : List Part)
-    → outcome_unless_large cells R G b (outcome_of R G b) ≡ Ash onset parts → ⊥
-limited_no_ash cells R G b onset parts e =
-    large_no_ash (outcome_of R G b) (first_past cells R G b) onset parts (outcome-no_ash R G b onset parts) e
+outcome-no_growth : (R : Rule) (G : Generation) (b : ℕ) (lines : List Engines) → outcome_of R G b ≡ Grows lines → ⊥
+outcome-no_growth R G b lines e =
+    elim (settled_or_not R G b) [
+      | inl found ↦ settled_no_growth R G found.recurrence lines (sym found.found ∙ e)
+      | inr not ↦ (let apart : Unresolved ≡ Grows lines = sym not.found ∙ e in cc)
+    ]
 
-no_ash_by : (b : ℕ) (cells : Option ℕ) (r : Result Picture RleFault) (rule : Rule) (finding : Finding) (onset : ℕ) (parts : List Part)
-    → answer_to (Settles b cells) r ≡ Found rule finding → finding.outcome ≡ Ash onset parts → ⊥
-no_ash_by b cells (Ok pattern) rule finding onset parts e ash =
-    limited_no_ash cells pattern.rule pattern.cells b onset parts
-    (ap (λ (f : Finding). f.outcome) (same_finding pattern.rule rule _ _ e) ∙ ash)
-no_ash_by b cells (Err fault) rule finding onset parts e ash = cc
+-- what is found neither of a set within b nor where a generation is too large
+record IsElse (b : ℕ) (other : Outcome) : Type 0 where
+  settled : (R : Rule) (G : Generation) → outcome_of R G b ≡ other → ⊥
+  large : (n : ℕ) → Large n ≡ other → ⊥
+
+module _ (b : ℕ) (other : Outcome) (apart : IsElse b other) where
+  large_else : (R : Rule) (G : Generation) (o : Option ℕ) → unless_large (outcome_of R G b) o ≡ other → ⊥
+  large_else R G None e = apart.settled R G e
+  large_else R G (Some n) e = apart.large n e
+
+  else_by : (cells : Option ℕ) (r : Result Picture RleFault) (rule : Rule) (finding : Finding) →
+      answer_to (Settles b cells) r ≡ Found rule finding → finding.outcome ≡ other → ⊥
+  else_by cells (Ok pattern) rule finding e same =
+      large_else pattern.rule pattern.cells (first_past cells pattern.rule pattern.cells b)
+      (ap (λ (f : Finding). f.outcome) (same_finding pattern.rule rule _ _ e) ∙ same)
+  else_by cells (Err fault) rule finding e same = cc
+
+  answer-else : (text : List ℕ) (cells : Option ℕ) (rule : Rule) (finding : Finding) →
+      answer_to_question (Settles b cells) text ≡ Found rule finding → finding.outcome ≡ other → ⊥
+  unfolding answer_to_question
+  answer-else text cells rule finding e same = else_by cells (picture_of (reading text)) rule finding e same
+
+large_no_ash : (onset : ℕ) (parts : List Part) (n : ℕ) → Large n ≡ Ash onset parts → ⊥
+large_no_ash onset parts n e = cc
+
+large_no_growth : (lines : List Engines) (n : ℕ) → Large n ≡ Grows lines → ⊥
+large_no_growth lines n e = cc
 
 -- where the question is which generation comes again, no answer is an ash
 pub answer-no_ash : (text : List ℕ) (b : ℕ) (cells : Option ℕ) (rule : Rule) (finding : Finding) (onset : ℕ) (parts : List Part)
     → answer_to_question (Settles b cells) text ≡ Found rule finding → finding.outcome ≡ Ash onset parts → ⊥
-unfolding answer_to_question
-answer-no_ash text b cells rule finding onset parts e ash = no_ash_by b cells (picture_of (reading text)) rule finding onset parts e ash
+answer-no_ash text b cells rule finding onset parts e ash =
+    answer-else b (Ash onset parts)
+    (record { settled = λ R G same. outcome-no_ash R G b onset parts same; large = large_no_ash onset parts }) text cells rule
+    finding e ash
+
+-- nor that it grows
+pub answer-no_growth : (text : List ℕ) (b : ℕ) (cells : Option ℕ) (rule : Rule) (finding : Finding) (lines : List Engines)
+    → answer_to_question (Settles b cells) text ≡ Found rule finding → finding.outcome ≡ Grows lines → ⊥
+answer-no_growth text b cells rule finding lines e grows =
+    answer-else b (Grows lines)
+    (record { settled = λ R G same. outcome-no_growth R G b lines same; large = large_no_growth lines }) text cells rule
+    finding e grows

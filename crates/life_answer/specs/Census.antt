@@ -9,8 +9,9 @@ use Rattle.life_answer.specs.Counted.{code_bound, counted_of}
 use Rattle.life_answer.specs.Parts.{counted_codes}
 use Rattle.life_answer.specs.Recurrence.{first_from}
 use Rattle.life_answer.specs.declared.part.Part.{Part}
+use Rattle.life_answer.specs.declared.tale.Engines.{Engines}
 use Rattle.life_answer.specs.declared.finding.Outcome.{Outcome}
-use Rattle.life_answer.specs.declared.finding.Outcome.TheVariants.{Ash, Recurs, Unresolved}
+use Rattle.life_answer.specs.declared.finding.Outcome.TheVariants.{Ash, Grows, Recurs, Unresolved}
 
 -- the code that was found, or no byte
 abbrev pub code_found : Outcome → List ℕ
@@ -21,6 +22,11 @@ code_found _ = []
 abbrev pub parts_found : Outcome → List Part
 parts_found (Ash onset parts) = parts
 parts_found _ = []
+
+-- the engines that were found, or none
+abbrev pub engines_found : Outcome → List Engines
+engines_found (Grows engines) = engines
+engines_found _ = []
 
 -- the code that is found of a part alone
 abbrev pub part_code : Rule → ℕ → Generation → List ℕ

@@ -5,4 +5,10 @@ pub mod Parts
 pub mod Counted
 pub mod Census
 pub mod Limited
+pub mod Tales
+pub mod CountedTales
+pub mod Told
+pub mod Ranges
+pub mod Growing
+pub mod Rising
 pub mod Questions

@@ -1,8 +1,9 @@
 -- What is found of an RLE text, whatever is asked.
-use Rattle.std.specs.Prelude.{◌≤◌, ℕ, ◌*◌, List, Result, Ok, Err}
+use Rattle.std.specs.Prelude.{◌≤◌, ℕ, ◌*◌, min, List, Result, Ok, Err}
 use Rattle.std.specs.Coded.{Coded}
 use Rattle.life_model.specs.Rule.{Rule}
 use Rattle.life_model.specs.Generation.{Generation}
+use Rattle.life_model.specs.Evolution.{generation}
 use Rattle.life_objects.specs.Limits.{objects_bound_limit}
 use Rattle.life_text.specs.declared.rle.RleFault.{RleFault}
 use Rattle.life_text.specs.Rle.{reading}
@@ -16,12 +17,14 @@ use Rattle.life_answer.specs.declared.question.Question.{Question}
 use Rattle.life_answer.specs.declared.question.Question.TheVariants.{Objects, Settles}
 use Rattle.life_answer.specs.Answers.{fault_number, finding_with, outcome_of}
 use Rattle.life_answer.specs.Census.{census_of}
+use Rattle.life_answer.specs.Growing.{allowed_bound, growing_or}
 use Rattle.life_answer.specs.Limited.{outcome_unless_large}
+use Rattle.life_answer.specs.Told.{growth_told}
 
 -- the bound within which is asked
 abbrev pub bound_of : Question → ℕ
 bound_of (Settles bound cells) = bound
-bound_of (Objects bound cells near) = bound
+bound_of (Objects bound cells near horizon) = bound
 
 -- the greatest bound within which it is answered as what a pattern settles
 abbrev pub settles_bound_limit : ℕ
@@ -30,16 +33,29 @@ settles_bound_limit = 1000000
 -- the greatest bound within which such a question is answered
 abbrev pub greatest_bound : Question → ℕ
 greatest_bound (Settles bound cells) = settles_bound_limit
-greatest_bound (Objects bound cells near) = objects_bound_limit
+greatest_bound (Objects bound cells near horizon) = objects_bound_limit
 
--- the bound is one within which is answered
+-- the most generations within which growth is looked for
+abbrev pub growth_horizon_limit : ℕ
+growth_horizon_limit = 10000
+
+-- growth, where it is looked for, is so within some generations, and not too many
+abbrev pub HasHorizon : Question → Type 0
+HasHorizon (Settles bound cells) = Unit {0}
+HasHorizon (Objects bound cells near horizon) = (1 ≤ horizon) × (horizon ≤ growth_horizon_limit)
+
+-- the bound is one within which is answered, and so is the horizon
 abbrev pub IsAnswered : Question → Type 0
-IsAnswered question = (1 ≤ bound_of question) × (bound_of question ≤ greatest_bound question)
+IsAnswered question = (1 ≤ bound_of question) × (bound_of question ≤ greatest_bound question) × HasHorizon question
 
--- what becomes of a set
+-- What becomes of a set. Where objects are asked for it may grow: as its generation c does, c being the greatest up to the
+-- bound such that no generation up to 4 * c has more cells than allowed.
 abbrev pub outcome_to : Question → Rule → Generation → Outcome
 outcome_to (Settles bound cells) R G = outcome_unless_large cells R G bound (outcome_of R G bound)
-outcome_to (Objects bound cells near) R G = outcome_unless_large cells R G (3 * bound) (census_of near R G bound)
+outcome_to (Objects bound cells near horizon) R G =
+    let c = allowed_bound cells R G bound in
+    growing_or (growth_told near R (min horizon c) (generation R G c))
+    (outcome_unless_large cells R G (3 * bound) (census_of near R G bound))
 
 -- what is found of a set
 abbrev pub finding_to : Question → Rule → Generation → Finding

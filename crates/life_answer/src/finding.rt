@@ -1,10 +1,12 @@
 //! What is found of a pattern and of a text.
 ghost use Rattle.std.specs.Prelude.{◌≡◌};
-ghost use Rattle.life_answer.specs.Census.{parts_found};
+ghost use Rattle.life_answer.specs.Census.{engines_found, parts_found};
 
 use crate::code::Code;
+use crate::engine_list::EngineList;
 use crate::part::Part;
 use crate::parts::Parts;
+use crate::tale::Engines;
 use life_cells::Rule;
 
 /// What is found of a pattern within a bound.
@@ -46,6 +48,11 @@ pub enum Outcome {
         /// The objects.
         parts: Parts,
     },
+    /// It grows for ever.
+    Grows {
+        /// The engines by which it grows.
+        engines: EngineList,
+    },
 }
 
 impl Outcome {
@@ -55,6 +62,16 @@ impl Outcome {
     {
         match self {
             Outcome::Ash { parts, .. } => parts.as_slice(),
+            _ => &[],
+        }
+    }
+
+    /// The engines by which it grows, those of which the same is told together, or none.
+    pub fn engines(&self) -> &[Engines]
+        ensures { result.now ≡ engines_found self.now }
+    {
+        match self {
+            Outcome::Grows { engines } => engines.as_slice(),
             _ => &[],
         }
     }

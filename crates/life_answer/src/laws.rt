@@ -13,9 +13,10 @@ ghost use Rattle.life_answer.specs.Answers.{fault_number, finding_of};
 ghost use Rattle.life_answer.specs.Apgcode.{code_of};
 ghost use Rattle.life_answer.specs.Census.{ash_onset, census_of};
 ghost use Rattle.life_answer.specs.declared.finding.Finding.{Finding};
-ghost use Rattle.life_answer.specs.declared.finding.Outcome.TheVariants.{Ash, Recurs, Unresolved};
+ghost use Rattle.life_answer.specs.declared.finding.Outcome.TheVariants.{Ash, Grows, Recurs, Unresolved};
 ghost use Rattle.life_answer.specs.declared.finding.Answer.TheVariants.{Found, Refused};
 ghost use Rattle.life_answer.specs.declared.part.Part.{Part};
+ghost use Rattle.life_answer.specs.declared.tale.Engines.{Engines};
 ghost use Rattle.life_answer.specs.Limited.{StaysWithin, first_past};
 ghost use Rattle.life_answer.specs.Parts.{counted_codes, objects_in};
 ghost use Rattle.life_answer.specs.Questions.{answer_to_question, finding_to};
@@ -69,12 +70,15 @@ pub fn a_text_is_found_or_refused()
         (1 ≤ number) × (number ≤ 10) }
 {}
 
-/// Where it is asked which generation comes again, no answer is that a pattern has fallen apart.
+/// Where it is asked which generation comes again, no answer is that a pattern has fallen apart, and none that it grows.
 pub fn what_comes_again_is_no_ash()
-    ensures { (text : List ℕ) (b : ℕ) (cells : Option ℕ) (rule : Rule) (finding : Finding)
+    ensures ash { (text : List ℕ) (b : ℕ) (cells : Option ℕ) (rule : Rule) (finding : Finding)
         (onset : ℕ) (parts : List Part) →
         answer_to_question (AsksSettling b cells) text ≡ Found rule finding →
         finding.outcome ≡ Ash onset parts → ⊥ }
+    ensures growth { (text : List ℕ) (b : ℕ) (cells : Option ℕ) (rule : Rule) (finding : Finding)
+        (lines : List Engines) → answer_to_question (AsksSettling b cells) text ≡ Found rule finding →
+        finding.outcome ≡ Grows lines → ⊥ }
 {}
 
 /// Where it is found that a pattern has fallen apart within a bound, the onset that is found is that of its ash, and no other

@@ -1,0 +1,171 @@
+//! The laws of what is told of growth: that it is right, and that it hangs neither on the bound nor on the generation that
+//! is looked at. Where what is near one another counts as one object they hold, and where independent parts are counted,
+//! if not said otherwise.
+
+ghost use Rattle.std.specs.Prelude.{◌≡◌, ◌↔◌, ℕ, ◌+◌, ◌*◌, ◌≤◌, Bool, Option, None, Some, List, Contains, count_by, length, true};
+ghost use Rattle.std.specs.List.{All, AllPairs};
+ghost use Rattle.std.specs.List.Sorted.{IsPermutation};
+ghost use Rattle.std.specs.declared.cmp.Ordering.TheVariants.{Less};
+ghost use Rattle.life_model.specs.Evolution.{generation};
+ghost use Rattle.life_model.specs.Generation.{Generation};
+ghost use Rattle.life_model.specs.Rule.{Rule};
+ghost use Rattle.life_objects.specs.Ash.{HasFallenApart};
+ghost use Rattle.life_objects.specs.Kinds.{AreAlike};
+ghost use Rattle.life_growth.specs.Engine.{Emits, IsEngine, IsEngineWithin, Way};
+ghost use Rattle.life_growth.specs.Growth.{IsGrowth};
+ghost use Rattle.life_growth.specs.Told.{AreToldAlike};
+ghost use Rattle.life_answer.specs.Census.{census_of, counted_parts};
+ghost use Rattle.life_answer.specs.Counted.{counted_of};
+ghost use Rattle.life_answer.specs.CountedTales.{counted_tales, engines_in, same_tale, tale_cmp};
+ghost use Rattle.life_answer.specs.Limited.{StaysWithin, outcome_unless_large};
+ghost use Rattle.life_answer.specs.Questions.{outcome_to};
+ghost use Rattle.life_answer.specs.Ranges.{IsInRange};
+ghost use Rattle.life_answer.specs.Rising.{number_of, risen};
+ghost use Rattle.life_answer.specs.Tales.{tale_of};
+ghost use Rattle.life_answer.specs.Told.{growth_told, told_of_engines};
+ghost use Rattle.life_answer.specs.declared.finding.Outcome.TheVariants.{Ash, Grows};
+ghost use Rattle.life_answer.specs.declared.part.Part.{Part};
+ghost use Rattle.life_answer.specs.declared.question.Question.TheVariants.{Objects};
+ghost use Rattle.life_answer.specs.declared.tale.Engines.{Engines};
+ghost use Rattle.life_answer.specs.declared.tale.Tale.{Tale};
+
+/// What is told of an engine is the period and the displacement of its way, and what it emits in a period, counted as the
+/// objects of ash are.
+pub fn tales_are_right()
+    ensures { (near : Bool) (R : Rule) (b : ℕ) (E : Generation) (way : Way) (objects : List Generation) →
+        IsEngine R b E way → Emits R b way objects → tale_of near R b E ≡ record {
+          period = way.period;
+          dx = way.displacement.0;
+          dy = way.displacement.1;
+          emits = counted_parts near R b objects;
+        } }
+{}
+
+/// The same is told of two engines that go alike and emit alike, whatever the bounds. And of two engines of which the same
+/// is told the periods and displacements are the same, and what counts of what they emit is alike. So where what is near one
+/// another counts as one object, the engines are told alike exactly where their tales are one; independent parts alone don't
+/// tell the objects that are emitted.
+pub fn tales_tell_engines()
+    ensures one { (near : Bool) (R : Rule) (b c : ℕ) (E F : Generation) → AreToldAlike R b c E F →
+        tale_of near R b E ≡ tale_of near R c F }
+    ensures alike { (R : Rule) (b c : ℕ) (E F : Generation) → IsEngineWithin R b E → IsEngineWithin R c F →
+        tale_of true R b E ≡ tale_of true R c F → AreToldAlike R b c E F }
+    ensures parts { (near : Bool) (R : Rule) (b c : ℕ) (E F : Generation) (way other : Way) →
+        IsEngine R b E way → IsEngine R c F other → tale_of near R b E ≡ tale_of near R c F →
+        (way.period ≡ other.period) × (way.displacement ≡ other.displacement) ×
+        ((Ps Qs : List Generation) → Emits R b way Ps → Emits R c other Qs →
+        AreAlike R (counted_of near R b Ps) (counted_of near R c Qs)) }
+{}
+
+/// Tales are counted: a line has a tale and how often it is told, which is at least once; each tale has a line; the lines
+/// rise in the order of tales; their numbers add up to the number of tales; and the order in which these come has no say.
+pub fn tales_are_counted()
+    ensures number { (ts : List Tale) (line : Engines) → Contains (counted_tales ts) line →
+        (1 ≤ line.count) × (line.count ≡ count_by (same_tale line.tale) ts) }
+    ensures each { (ts : List Tale) (t : Tale) → Contains ts t →
+        Contains (counted_tales ts) (record { tale = t; count = count_by (same_tale t) ts }) }
+    ensures same { (s t : Tale) → (same_tale s t ≡ true) ↔ (s ≡ t) }
+    ensures order { (ts : List Tale) →
+        AllPairs (λ line next. tale_cmp line.tale next.tale ≡ Less) (counted_tales ts) }
+    ensures all { (ts : List Tale) → engines_in (counted_tales ts) ≡ length ts }
+    ensures any_order { (ts us : List Tale) → IsPermutation ts us → counted_tales ts ≡ counted_tales us }
+{}
+
+/// What is told is what there is: of a set that grows its engines, counted by what is told of each, and nothing of a set
+/// that doesn't.
+pub fn what_is_told_is_right()
+    ensures grows { (near : Bool) (R : Rule) (b : ℕ) (G S : Generation) (Es : List Generation) → IsGrowth R b G Es S →
+        growth_told near R b G ≡ Some (told_of_engines near R b Es) }
+    ensures otherwise { (near : Bool) (R : Rule) (b : ℕ) (G : Generation) →
+        ((S : Generation) (Es : List Generation) → IsGrowth R b G Es S → ⊥) → growth_told near R b G ≡ None }
+{}
+
+/// Only what is so is told: growth of what grows, and that there is none of what doesn't.
+pub fn nothing_else_is_told()
+    ensures grows { (near : Bool) (R : Rule) (b : ℕ) (G : Generation) (told : List Engines) →
+        growth_told near R b G ≡ Some told →
+        (Es : List Generation) × (S : Generation) × IsGrowth R b G Es S × (told ≡ told_of_engines near R b Es) }
+    ensures no_growth { (near : Bool) (R : Rule) (b : ℕ) (G S : Generation) (Es : List Generation) →
+        growth_told near R b G ≡ None → IsGrowth R b G Es S → ⊥ }
+{}
+
+/// What is told hangs neither on the bound nor on the generation that is looked at: within each greater bound, and of each
+/// later generation, the same is told; and of two generations of a pattern, within two bounds, the same is told wherever
+/// something is.
+pub fn what_is_told_lasts()
+    ensures bound { (near : Bool) (R : Rule) (b c : ℕ) (G : Generation) (told : List Engines) → b ≤ c →
+        growth_told near R b G ≡ Some told → growth_told near R c G ≡ Some told }
+    ensures later { (near : Bool) (R : Rule) (b c m n : ℕ) (G : Generation) (told : List Engines) → b ≤ c → m ≤ n →
+        growth_told near R b (generation R G m) ≡ Some told → growth_told near R c (generation R G n) ≡ Some told }
+    ensures phase { (near : Bool) (R : Rule) (b c m n : ℕ) (G : Generation) (told others : List Engines) →
+        growth_told near R b (generation R G m) ≡ Some told → growth_told near R c (generation R G n) ≡ Some others →
+        told ≡ others }
+{}
+
+/// What is seen sooner is told: where some generation grows, within some number of generations that is no more than the
+/// horizon, and neither is more than some c up to the bound such that no generation up to four times c has more cells than
+/// allowed, the answer is that the pattern grows, by these engines.
+pub fn what_is_seen_sooner_is_told()
+    ensures { (near : Bool) (limit : Option ℕ) (R : Rule) (b horizon c g h : ℕ) (G S : Generation) (Es : List Generation) →
+        IsGrowth R h (generation R G g) Es S → g ≤ c → h ≤ c → h ≤ horizon → c ≤ b → StaysWithin limit R G (4 * c) →
+        outcome_to (Objects b limit near horizon) R G ≡ Grows (told_of_engines near R h Es) }
+{}
+
+/// Only of what grows it is answered that it does, and else the answer is what was found before anything was told of growth.
+/// What is answered of growth is answered within each greater bound and each greater horizon; and of a pattern there is one
+/// such answer, whatever the bound, the horizon and the limit on cells.
+pub fn what_is_answered_is_right()
+    ensures only { (near : Bool) (limit : Option ℕ) (R : Rule) (b horizon : ℕ) (G : Generation) (told : List Engines) →
+        outcome_to (Objects b limit near horizon) R G ≡ Grows told →
+        (c : ℕ) × (1 ≤ c) × (c ≤ b) × StaysWithin limit R G (4 * c) × (h : ℕ) × (1 ≤ h) × (h ≤ c) × (h ≤ horizon)
+        × (Es : List Generation) × (S : Generation) × IsGrowth R h (generation R G c) Es S
+        × (told ≡ told_of_engines near R h Es) }
+    ensures otherwise { (near : Bool) (limit : Option ℕ) (R : Rule) (b horizon : ℕ) (G : Generation) →
+        ((c h : ℕ) (S : Generation) (Es : List Generation) → h ≤ c → h ≤ horizon → c ≤ b → StaysWithin limit R G (4 * c) →
+        IsGrowth R h (generation R G c) Es S → ⊥) →
+        outcome_to (Objects b limit near horizon) R G
+        ≡ outcome_unless_large limit R G (3 * b) (census_of near R G b) }
+    ensures lasts { (near : Bool) (limit : Option ℕ) (R : Rule) (b c horizon further : ℕ) (G : Generation)
+        (told : List Engines) → b ≤ c → horizon ≤ further →
+        outcome_to (Objects b limit near horizon) R G ≡ Grows told →
+        outcome_to (Objects c limit near further) R G ≡ Grows told }
+    ensures one { (near : Bool) (limit other : Option ℕ) (R : Rule) (b c horizon further : ℕ) (G : Generation)
+        (told others : List Engines) → outcome_to (Objects b limit near horizon) R G ≡ Grows told →
+        outcome_to (Objects c other near further) R G ≡ Grows others → told ≡ others }
+{}
+
+/// What is told is in range: some engines, each of which comes again within the bound or the horizon, has moved by no more cells
+/// than it took generations, and emits something.
+pub fn what_is_told_is_in_range()
+    ensures told { (near : Bool) (R : Rule) (b : ℕ) (G : Generation) (told : List Engines) →
+        growth_told near R b G ≡ Some told → (1 ≤ engines_in told) × All (IsInRange b) told }
+    ensures answered { (near : Bool) (limit : Option ℕ) (R : Rule) (b horizon : ℕ) (G : Generation) (told : List Engines) →
+        outcome_to (Objects b limit near horizon) R G ≡ Grows told →
+        (1 ≤ engines_in told) × All (IsInRange horizon) told }
+{}
+
+/// No pattern falls apart and grows, whatever the bounds and from whichever of its generations it is looked at. So the answer
+/// of what falls apart within the bound is what was found before anything was told of growth.
+pub fn what_is_ash_never_grows()
+    ensures told { (near close : Bool) (R : Rule) (b c m n onset : ℕ) (G : Generation) (parts : List Part)
+        (told : List Engines) → census_of near R (generation R G m) b ≡ Ash onset parts →
+        growth_told close R c (generation R G n) ≡ Some told → ⊥ }
+    ensures answered { (near close : Bool) (limit : Option ℕ) (R : Rule) (b c onset horizon : ℕ) (G : Generation)
+        (parts : List Part) (told : List Engines) → census_of near R G b ≡ Ash onset parts →
+        outcome_to (Objects c limit close horizon) R G ≡ Grows told → ⊥ }
+    ensures found { (near : Bool) (limit : Option ℕ) (R : Rule) (b onset horizon : ℕ) (G : Generation) (parts : List Part) →
+        census_of near R G b ≡ Ash onset parts → outcome_to (Objects b limit near horizon) R G
+        ≡ outcome_unless_large limit R G (3 * b) (census_of near R G b) }
+{}
+
+/// What is told of growth is true for ever. Over some generations that are so many periods of each engine, the number of
+/// objects with a code that a growing pattern's debris has fallen apart into rises by exactly what the lines tell: for
+/// each line as many engines as it says, and for each of these, in each of its periods, as many such objects as it emits.
+pub fn what_is_told_goes_on()
+    ensures { (near : Bool) (R : Rule) (b m n : ℕ) (G S T U : Generation) (Es Fs Hs parts others : List Generation)
+        (code : List ℕ) → IsGrowth R b G Es S → IsGrowth R b (generation R G n) Fs T →
+        IsGrowth R b (generation R G (n + m)) Hs U → HasFallenApart R b T parts → HasFallenApart R b U others →
+        ((E : Generation) → Contains Es E → (k : ℕ) × (m ≡ k * (tale_of near R b E).period)) →
+        number_of code (counted_parts near R b others)
+        ≡ number_of code (counted_parts near R b parts) + risen code m (told_of_engines near R b Es) }
+{}

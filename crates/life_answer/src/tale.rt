@@ -1,0 +1,71 @@
+//! What is told of engines.
+ghost use Rattle.std.specs.Prelude.{◌≡◌};
+ghost use Rattle.std.specs.Cmp.Lexicographic.{slice_cmp};
+ghost use Rattle.life_answer.specs.CountedTales.{part_cmp, tale_cmp};
+
+use crate::part::Part;
+use crate::parts::Parts;
+use life_shape::shorter;
+use std::cmp::Ordering;
+
+/// What is told of an engine.
+#[derive(Drop)]
+pub struct Tale {
+    /// After how many generations it comes again.
+    pub period: u32,
+    /// How far to the right it then stands.
+    pub dx: i32,
+    /// How far down it then stands.
+    pub dy: i32,
+    /// What it emits in that time, object by object.
+    pub emits: Parts,
+}
+
+/// Engines of which the same is told.
+#[derive(Drop)]
+pub struct Engines {
+    /// What is told of each.
+    pub tale: Tale,
+    /// How many engines they are.
+    pub count: u64,
+}
+
+/// The order of parts: by code, and then by number.
+fn part_order(part: &Part, other: &Part) -> Ordering
+    ensures { result ≡ part_cmp part.now other.now }
+{
+    shorter(part.code.as_slice(), other.code.as_slice()).then(part.count.cmp(&other.count))
+}
+
+/// The order of lists of parts: entry by entry, and a list that ends is before one that goes on.
+fn parts_order(parts: &[Part], others: &[Part]) -> Ordering
+    ensures { result ≡ slice_cmp part_cmp parts.now others.now }
+{
+    for n in 0..parts.len() {
+        if n == others.len() {
+            return Ordering::Greater;
+        }
+        match part_order(&parts[n], &others[n]) {
+            Ordering::Equal => {}
+            order => return order,
+        }
+    }
+    if parts.len() < others.len() {
+        return Ordering::Less;
+    }
+    Ordering::Equal
+}
+
+impl Tale {
+    /// The order of what is told: by period, by how far to the right and by how far down, and then by what is emitted.
+    pub fn order(&self, other: &Tale) -> Ordering
+        ensures { result ≡ tale_cmp self.now other.now }
+    {
+        let emits = parts_order(self.emits.as_slice(), other.emits.as_slice());
+        let moved = self
+            .dx
+            .cmp(&other.dx)
+            .then(self.dy.cmp(&other.dy).then(emits));
+        self.period.cmp(&other.period).then(moved)
+    }
+}

@@ -1,8 +1,0 @@
-mod Orders
-mod Tallies
-mod Permuted
-mod Codes
-mod Tales
-mod Told
-mod Reported
-mod Rising
