@@ -1,9 +1,7 @@
 -- What several sets count as, one after another.
 use Rattle.std.proofs.Common.{◌≡◌, ℕ, Bool, Some, List, [], ◌∷◌, ◌++◌, map, refl, sym, ap, subst, ◌∙◌}
-use Rattle.std.specs.List.{All}
-use Rattle.std.proofs.lemmas.List.{append-nil, map-append}
+use Rattle.std.proofs.lemmas.List.{map-append}
 use Rattle.std.proofs.lemmas.List.Elements.{All-pop}
-use Rattle.std.proofs.lemmas.List.Sums.{fold-append}
 use Rattle.std.proofs.lemmas.Grind.{flat_map-append}
 use Rattle.life_model.specs.Cell.{origin}
 use Rattle.life_model.specs.Evolution.{generation}
@@ -14,7 +12,7 @@ use Rattle.life_objects.specs.Ash.{IsObject}
 use Rattle.life_objects.specs.Union.{generations}
 use Rattle.life_answer.specs.Census.{counted_parts, part_code}
 use Rattle.life_answer.specs.Counted.{code_bound, counted_of}
-use Rattle.life_answer.specs.Parts.{counted_codes, with_code, with_codes}
+use Rattle.life_answer.specs.Parts.{counted_codes, with_codes}
 use Rattle.life_answer.specs.declared.part.Part.{Part}
 use Rattle.life_answer.proofs.CountedSets.{codes_as, codes_of_each}
 use Rattle.life_answer.proofs.Tallying.{counted_after}

@@ -1,5 +1,5 @@
 -- What an object counts as in a later generation, within a bound, is what the set that becomes it counts as.
-use Rattle.std.proofs.Common.{◌≡◌, ◌≢◌, ℕ, ◌+◌, ◌*◌, ◌≤◌, Bool, true, false, cond, List, [], ◌∷◌, map, refl, sym, ap, subst, ◌∙◌, arith}
+use Rattle.std.proofs.Common.{◌≡◌, ◌≢◌, ℕ, ◌*◌, ◌≤◌, Bool, true, false, cond, List, [], ◌∷◌, map, refl, sym, subst, ◌∙◌, arith}
 use Rattle.std.specs.List.{All, Contains}
 use Rattle.std.specs.List.Sorted.{IsPermutation}
 use Rattle.std.specs.Cmp.{both_ways}
@@ -9,7 +9,7 @@ use Rattle.life_model.specs.Cell.{Cell}
 use Rattle.life_model.specs.Rule.{Rule}
 use Rattle.life_model.specs.Generation.{Generation, empty}
 use Rattle.life_model.specs.Evolution.{generation}
-use Rattle.life_model.specs.Recurrence.{AreOneObject, RecursBy}
+use Rattle.life_model.specs.Recurrence.{RecursBy}
 use Rattle.life_model.proofs.Objects.{AreOneObject-swap}
 use Rattle.life_model.proofs.Recurrences.{generation-zero}
 use Rattle.life_objects.specs.Ash.{IsObject, RecursWithin}
@@ -23,13 +23,11 @@ use Rattle.life_parts.specs.Parts.{AreIndependentParts}
 use Rattle.life_parts.proofs.Lists.{later_parts, part_recurs}
 use Rattle.life_independent.specs.Independent.{independent_parts_of}
 use Rattle.life_independent.proofs.Finest.{same_but_order}
-use Rattle.life_answer.specs.Apgcode.{code_of}
 use Rattle.life_answer.specs.Census.{part_code}
-use Rattle.life_answer.specs.Counted.{all_come_again, code_bound, counted_as, parts_or_whole}
+use Rattle.life_answer.specs.Counted.{all_come_again, code_bound}
 use Rattle.life_answer.proofs.CountedSets.{codes_as, come_again_by, come_again_tells}
 use Rattle.life_answer.proofs.PartCodes.{one_code, wider_code}
 use Rattle.life_orbit.specs.Course.{Course, IsCourse}
-use Rattle.life_apart.specs.Sets.{IsCourseBy}
 use Rattle.life_census.specs.Courses.{course_code}
 use Rattle.life_census.proofs.PartCodes.{code_alone}
 

@@ -10,7 +10,7 @@ use Rattle.life_objects.specs.Union.{generations}
 use Rattle.life_objects.proofs.Ashes.{IsAsh-until}
 use Rattle.life_decided.proofs.Deciding.{none_if_no_ash}
 use Rattle.life_decided.proofs.Lasting.{parts_found}
-use Rattle.life_answer.specs.Census.{ash_onset, census_found, census_of}
+use Rattle.life_answer.specs.Census.{ash_onset, census_found, census_of, counted_parts}
 use Rattle.life_answer.specs.declared.finding.Outcome.TheVariants.{Ash, Unresolved}
 use Rattle.life_answer.specs.declared.part.Part.{Part}
 use Rattle.life_answer.proofs.CountedSets.{counted_in_any_order}
@@ -37,6 +37,14 @@ module _ (near : Bool) (R : Rule) (b : ℕ) (G : Generation) where
       census_of near R G b ≡ Ash onset parts
   census_some age onset os parts by_then of counted ash first =
       census_later (b - age) onset os parts of counted (IsAsh-until R b age b G (sets_of os) by_then ash) first
+
+  -- where an earlier generation is ash
+  pub census_is_ash : (age : ℕ) (sets : List Generation) → age ≤ b → IsAsh R b (generation R G age) sets →
+      (onset : ℕ) × (parts : List Part) × (census_of near R G b ≡ Ash onset parts)
+  unfolding census_of
+  census_is_ash age sets by_then ash =
+      let found = parts_found R b (generation R G b) (generations R sets (b - age)) (IsAsh-until R b age b G sets by_then ash) in
+      (ash_onset R G b, counted_parts near R b found.0, ap (census_found near R b (ash_onset R G b)) found.1)
 
   pub census_none : ((parts : List Generation) → HasFallenApart R b G parts → ⊥) → census_of near R G b ≡ Unresolved
   unfolding census_of

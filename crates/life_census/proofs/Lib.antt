@@ -5,3 +5,7 @@ pub mod CountedOrbits
 pub mod LaterParts
 pub mod PartsFound
 pub mod MovedCodes
+pub mod SmallEnough
+pub mod Taken
+pub mod Emissions
+pub mod OneByOne

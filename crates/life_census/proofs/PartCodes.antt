@@ -1,8 +1,6 @@
 -- The codes of the parts of ash, whatever finds them.
-use Rattle.std.proofs.Common.{◌≡◌, ◌≢◌, ℕ, ◌+◌, ◌<◌, ◌≤◌, List, [], ◌∷◌, length, map, take, get_or}
+use Rattle.std.proofs.Common.{◌≡◌, ◌≢◌, ℕ, ◌+◌, ◌≤◌}
 use Rattle.std.proofs.Common.{sym, ap, subst, ◌∙◌, arith}
-use Rattle.std.proofs.lemmas.List.{map_more}
-use Rattle.std.proofs.lemmas.List.Sums.{fold-append}
 use Rattle.life_model.specs.Cell.{Cell}
 use Rattle.life_model.specs.Generation.{empty}
 use Rattle.life_model.specs.Evolution.{generation}
@@ -10,7 +8,6 @@ use Rattle.life_model.specs.Recurrence.{Recurrence, RecursBy, Settles}
 use Rattle.life_model.specs.Symmetry.{translate_of}
 use Rattle.life_model.proofs.Recurrences.{generation-zero}
 use Rattle.life_answer.specs.Apgcode.{code_of}
-use Rattle.life_answer.specs.Parts.{counted_codes, with_code}
 use Rattle.life_answer.proofs.Findings.{outcome-settled}
 use Rattle.life_orbit.specs.Course.{Course, IsCourse}
 use Rattle.life_answer.specs.Census.{code_found, part_code}

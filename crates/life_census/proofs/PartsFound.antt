@@ -1,9 +1,8 @@
 -- The codes that are made of an orbit's set are those of what it counts as.
-use Rattle.std.proofs.Common.{◌≡◌, ◌≢◌, ℕ, ◌≤◌, Bool, true, false, cond, List, [], ◌∷◌, length, map, inl, inr, refl, sym, ap, subst, ◌∙◌, arith}
+use Rattle.std.proofs.Common.{◌≡◌, ◌≢◌, ℕ, Bool, false, cond, List, [], ◌∷◌, map, inl, inr, refl, sym, ap, subst, ◌∙◌, arith}
 use Rattle.std.specs.List.{All}
 use Rattle.std.proofs.lemmas.Bool.{cases_Bool}
 use Rattle.std.proofs.lemmas.List.Elements.{All-head, All-map, All-tail, All-weaker}
-use Rattle.life_model.specs.Cell.{Cell}
 use Rattle.life_model.specs.Rule.{Rule}
 use Rattle.life_model.specs.Generation.{Generation, empty}
 use Rattle.life_objects.specs.Ash.{RecursWithin}
@@ -14,11 +13,11 @@ use Rattle.life_independent.proofs.Finest.{are_the_parts}
 use Rattle.life_answer.specs.Census.{part_code}
 use Rattle.life_answer.specs.Counted.{all_come_again}
 use Rattle.life_answer.proofs.CountedSets.{come_again_by, come_again_tells}
-use Rattle.life_apart.specs.Sets.{IsCourseBy, sets_of}
+use Rattle.life_apart.specs.Sets.{sets_of}
 use Rattle.life_orbit.specs.Course.{Course, IsCourse}
 use Rattle.life_split.specs.Courses.{IsCourseWithin}
 use Rattle.life_census.specs.Courses.{course_code}
-use Rattle.life_census.proofs.CountedParts.{HasCodes, codes_by_parts}
+use Rattle.life_census.proofs.CountedParts.{HasCodes}
 use Rattle.life_census.proofs.PartCodes.{code_alone}
 
 course_within : (R : Rule) (b : ℕ) (o : Course) → IsCourseWithin R b o → RecursWithin R b o.set

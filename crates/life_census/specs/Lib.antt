@@ -1,2 +1,4 @@
 pub mod Courses
 pub mod Counted
+pub mod Emitted
+pub mod Grown

@@ -10,6 +10,7 @@ use life_board::Board;
 use life_orbit::BOUND_LIMIT;
 use life_plane::Plane;
 use life_text::read_rle;
+use life_things::WAY_LIMIT;
 use std::alloc::{AllocError, Global};
 
 /// The objects that the pattern of an RLE text falls apart into within the bound, over planes of one kind.
@@ -19,16 +20,18 @@ fn answer_on<P: Plane>(
     bound: u32,
     limit: Option<u32>,
     near: bool,
+    horizon: u32,
 ) -> Result<Answer, AllocError>
-    requires { 1 ≤ bound × bound ≤ BOUND_LIMIT }
+    requires bound { 1 ≤ bound × bound ≤ BOUND_LIMIT }
+    requires horizon { 1 ≤ horizon × horizon ≤ WAY_LIMIT }
     ensures answer { IfOk result
-        (λ answer. answer ≡ answer_to_question (Objects bound limit near) text.now) }
+        (λ answer. answer ≡ answer_to_question (Objects bound limit near horizon) text.now) }
     ensures memory { OnErr result (IsOk (header_rule text.now)) }
 {
     match read_rle(alloc, text) {
         Ok(pattern) => {
             let rule = pattern.rule();
-            let finding = census::<P>(alloc, &rule, pattern.cells(), bound, limit, near)?;
+            let finding = census::<P>(alloc, &rule, pattern.cells(), bound, limit, near, horizon)?;
             Ok(Answer::Found { rule, finding })
         }
         Err(fault) => refused(fault),
@@ -36,22 +39,25 @@ fn answer_on<P: Plane>(
 }
 
 /// What is found of an RLE text within the bound: the rule and what the objects of the pattern that it means count as, by
-/// codes, where it falls apart; or the number of its fault. The bound is 1 to 100,000 generations. With a limit
-/// no generation from 0 to three times the bound may have more cells. What is near one another counts as one object where
-/// that is asked for; else the independent parts of each object count.
+/// codes, where it falls apart, or the engines by which it grows within the horizon; or the number of its fault. The bound is
+/// 1 to 100,000 generations, and the horizon 1 to 10,000. With a limit no generation from 0 to three times the bound may
+/// have more cells. What is near one another counts as one object where that is asked for; else the independent parts of
+/// each object count.
 ///
-/// It may look at generations past the bound, up to three times the bound.
+/// It may look at generations past the bound, up to four times the bound.
 pub fn answer(
     alloc: Global,
     text: &[u8],
     bound: u32,
     limit: Option<u32>,
     near: bool,
+    horizon: u32,
 ) -> Result<Answer, AllocError>
-    requires { 1 ≤ bound × bound ≤ BOUND_LIMIT }
+    requires bound { 1 ≤ bound × bound ≤ BOUND_LIMIT }
+    requires horizon { 1 ≤ horizon × horizon ≤ WAY_LIMIT }
     ensures answer { IfOk result
-        (λ answer. answer ≡ answer_to_question (Objects bound limit near) text.now) }
+        (λ answer. answer ≡ answer_to_question (Objects bound limit near horizon) text.now) }
     ensures memory { OnErr result (IsOk (header_rule text.now)) }
 {
-    answer_on::<Board>(alloc, text, bound, limit, near)
+    answer_on::<Board>(alloc, text, bound, limit, near, horizon)
 }

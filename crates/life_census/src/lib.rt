@@ -1,17 +1,25 @@
-//! The census of a pattern: the objects that it falls apart into, or the independent parts of these, counted by codes.
+//! The census of a pattern: the objects that it falls apart into, or the independent parts of these, counted by codes, or the
+//! engines by which it grows.
 //!
 //! Tested in `tests_objects`.
 #![tactic(auto)]
 
+mod allowed;
 mod answering;
 mod code;
 mod counted;
+mod emitted;
+mod field;
+mod growing;
 mod known_set;
 mod known_sets;
 mod parts;
 mod pattern;
+mod telling;
 
 pub use answering::answer;
 pub use code::code_of;
+pub use growing::growth_within;
 pub use parts::parts_of;
 pub use pattern::census;
+pub use telling::told;

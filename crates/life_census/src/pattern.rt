@@ -1,22 +1,27 @@
 //! The census of patterns.
-ghost use Rattle.std.specs.Prelude.{◌≡◌, ℕ, ◌≤◌, All, IfOk};
+ghost use Rattle.std.specs.Prelude.{◌≡◌, ℕ, ◌≤◌, All, IfOk, min};
 ghost use Rattle.life_model.specs.Evolution.{generation};
 ghost use Rattle.life_model.specs.Generation as generations;
 ghost use Rattle.life_cells.specs.Limits.{IsWithin};
 ghost use Rattle.life_objects.specs.Ash.{IsAsh};
 ghost use Rattle.life_answer.specs.Census.{census_of};
+ghost use Rattle.life_answer.specs.Growing.{allowed_bound, growing_or};
 ghost use Rattle.life_answer.specs.Questions.{finding_to};
+ghost use Rattle.life_answer.specs.Told.{growth_told};
 ghost use Rattle.life_answer.specs.declared.question.Question.TheVariants.{Objects};
 ghost use Rattle.life_apart.specs.Sets.{IsCourseBy, sets_of};
 ghost use Rattle.life_onset.specs.Moments.{IsMomentOf};
 
+use crate::growing::growth_within;
 use crate::parts::parts_of;
-use life_answer::{Finding, Outcome};
+use crate::telling::told;
+use life_answer::{EngineList, Finding, Outcome};
 use life_ash::{Ash, Fate, fate};
 use life_cells::{CellList, Rule};
 use life_onset::{Trail, onset};
 use life_orbit::BOUND_LIMIT;
 use life_plane::Plane;
+use life_things::WAY_LIMIT;
 use std::alloc::{AllocError, Global};
 
 /// What becomes of a pattern of which the generation of this age is this ash, and of which some generations are on a trail: the
@@ -47,9 +52,45 @@ fn outcome_of_ash<P: Plane>(
     })
 }
 
+/// By which engines a pattern grows, if it does, where it is looked at within the greatest bound up to which it is small enough.
+fn engines_within<P: Plane>(
+    alloc: Global,
+    rule: &Rule,
+    cells: &CellList,
+    bound: u32,
+    limit: Option<u32>,
+    near: bool,
+    horizon: u32,
+) -> Result<Option<EngineList>, AllocError>
+    requires bound { 1 ≤ bound × bound ≤ BOUND_LIMIT }
+    requires horizon { 1 ≤ horizon × horizon ≤ WAY_LIMIT }
+    requires fits { All (IsWithin 0) (generations.cells cells.now) }
+    ensures { IfOk result (λ found. found ≡ growth_told near rule.now
+        (min horizon (allowed_bound limit rule.now cells.now bound))
+        (generation rule.now cells.now (allowed_bound limit rule.now cells.now bound))) }
+{
+    match growth_within::<P>(alloc, rule, cells, bound, limit, horizon)? {
+        Some(growth) => Ok(Some(told(alloc, &growth, near)?)),
+        None => Ok(None),
+    }
+}
+
+/// That a pattern grows by these engines, or else another outcome.
+fn growing_or(engines: Option<EngineList>, outcome: Outcome) -> Outcome
+    ensures { result ≡ growing_or engines outcome }
+{
+    match engines {
+        Some(engines) => Outcome::Grows { engines },
+        None => outcome,
+    }
+}
+
 /// What a pattern falls apart into within the bound, counted by codes, and the first generation that is ash: `Ash` exactly
-/// where it does, else `Unresolved`. But `Large`, with the first such generation, where some generation from 0 to three times
-/// the bound has more cells than it may have. The bound is 1 to 100,000 generations. What is near one another counts as one
+/// where it does. Else the engines by which it grows, counted by what is told of each, and with the codes of what it emits:
+/// `Grows` exactly where it does so within the horizon, as it is seen within the greatest bound, up to this one, such that no
+/// generation up to four times that bound has more cells than it may have. Else `Large`, with the first such generation,
+/// where some generation from 0 to three times the bound has more cells than it may have; and that goes before `Ash`. Else
+/// `Unresolved`. The bound is 1 to 100,000 generations, and the horizon 1 to 10,000. What is near one another counts as one
 /// object where that is asked for; else the independent parts of each object count.
 pub fn census<P: Plane>(
     alloc: Global,
@@ -58,18 +99,27 @@ pub fn census<P: Plane>(
     bound: u32,
     limit: Option<u32>,
     near: bool,
+    horizon: u32,
 ) -> Result<Finding, AllocError>
     requires bound { 1 ≤ bound × bound ≤ BOUND_LIMIT }
+    requires horizon { 1 ≤ horizon × horizon ≤ WAY_LIMIT }
     requires fits { All (IsWithin 0) (generations.cells cells.now) }
-    ensures { IfOk result (λ found. found ≡ finding_to (Objects bound limit near) rule.now cells.now) }
+    ensures { IfOk result
+        (λ found. found ≡ finding_to (Objects bound limit near horizon) rule.now cells.now) }
 {
     let population = cells.len() as u64;
     let outcome = match fate::<P>(alloc, rule, cells, bound, limit)? {
         Fate::Ash { ash, age, trail } => {
             outcome_of_ash::<P>(alloc, rule, cells, &ash, age, &trail, near)?
         }
-        Fate::Unresolved => Outcome::Unresolved,
-        Fate::Large { generation } => Outcome::Large { generation },
+        Fate::Unresolved => {
+            let engines = engines_within::<P>(alloc, rule, cells, bound, limit, near, horizon)?;
+            growing_or(engines, Outcome::Unresolved)
+        }
+        Fate::Large { generation } => {
+            let engines = engines_within::<P>(alloc, rule, cells, bound, limit, near, horizon)?;
+            growing_or(engines, Outcome::Large { generation })
+        }
     };
     Ok(Finding {
         population,

@@ -7,6 +7,9 @@ use std::alloc::{AllocError, Global};
 use std::process::Abort;
 use std::test::Fail;
 
+// Within how many generations growth is looked for: fewer than the period of the gun, which so is neither ash nor growth.
+const HORIZON: u32 = 10;
+
 // A glider that goes away from a block.
 const APART: &[(i32, i32)] = &[
     (41, 40),
@@ -269,7 +272,7 @@ fn have_their_ash_under(
         let list = CellList::of(alloc, cells)?;
         assert!(rt; list.fits());
         assert!(rt; 1 <= *bound && *bound <= 100_000);
-        let found = census::<ListPlane>(alloc, rule, &list, *bound, None, near)?;
+        let found = census::<ListPlane>(alloc, rule, &list, *bound, None, near, HORIZON)?;
         assert!(rt; is_found(&found, *expected));
     }
     Ok(())
@@ -383,7 +386,15 @@ fn blocks_in_a_grid_have_their_ash(rt: HostRuntime) -> Result<(), Fail> {
             let list = CellList::of(rt.alloc(), cells)?;
             assert!(rt; list.fits());
             assert!(rt; 1 <= *bound && *bound <= 100_000);
-            let found = census::<ListPlane>(rt.alloc(), &Rule::life(), &list, *bound, None, true)?;
+            let found = census::<ListPlane>(
+                rt.alloc(),
+                &Rule::life(),
+                &list,
+                *bound,
+                None,
+                true,
+                HORIZON,
+            )?;
             assert!(rt; is_found(&found, *expected));
         }
     }

@@ -14,6 +14,12 @@ const LIGHT: &[u8] = b"x = 23, y = 23\n4bo$4bo$4bo2$3o3b3o2$4bo$4bo$4bo12$21bo$2
 // A methuselah, which takes 5,206 generations to fall apart.
 const ACORN: &[u8] = b"x = 7, y = 3, rule = B3/S23\nbo$3bo$2o2b3o!";
 
+// Gosper's gun.
+const GUN: &[u8] = b"x = 36, y = 9, rule = B3/S23
+24bo$22bobo$12b2o6b2o12b2o$11bo3bo4b2o12b2o$2o8bo5bo3b2o$2o8bo3bob2o4b
+obo$10bo5bo7bo$11bo3bo$12b2o!
+";
+
 /// A text, the bound, and the block, whether or not what is near is one object.
 type Case = (&'static [u8], u32, &'static str);
 
@@ -47,6 +53,12 @@ const BLOCKS: &[Case] = &[
         ACORN,
         10,
         "rule B3/S23\npopulation 7\nbox 7 3\nunresolved 10\n",
+    ),
+    // A gun.
+    (
+        GUN,
+        100,
+        "rule B3/S23\npopulation 36\nbox 36 9\nengines 1\nengine 1 30 0 0 1\nemits 1 xq4_153 1\n",
     ),
     // No cell.
     (

@@ -12,13 +12,13 @@ on_err (Err error) h = h
 
 pub returns-in_ok-finding-in-Ok-clause-answer : goal.returns-in_ok-finding-in-Ok-clause-answer
 returns-in_ok-finding-in-Ok-clause-answer g c =
-    let found = c.in_ok-finding-in-Ok.ensures ∙ (λ i. finding_to (Objects c.args.bound c.args.limit c.args.near) (c.rule-rule.ensures i) (c.cells.ensures.cells i)) in
+    let found = c.in_ok-finding-in-Ok.ensures ∙ (λ i. finding_to (Objects c.args.bound c.args.limit c.args.near c.args.horizon) (c.rule-rule.ensures i) (c.cells.ensures.cells i)) in
     (λ i. Found (c.rule-rule.ensures i) (found i))
-    ∙ sym (answer-found (Objects c.args.bound c.args.limit c.args.near) c.args.text.now c.in-Ok.pattern c.in-Ok.ensures.found)
+    ∙ sym (answer-found (Objects c.args.bound c.args.limit c.args.near c.args.horizon) c.args.text.now c.in-Ok.pattern c.in-Ok.ensures.found)
 
 pub returns-in-Err-clause-answer : goal.returns-in-Err-clause-answer
 returns-in-Err-clause-answer g c =
-    refused-answer c.refused.result (Objects c.args.bound c.args.limit c.args.near) c.args.text.now c.in-Err.fault c.refused.ensures.answer c.refused.ensures.fault c.in-Err.ensures.refused
+    refused-answer c.refused.result (Objects c.args.bound c.args.limit c.args.near c.args.horizon) c.args.text.now c.in-Err.fault c.refused.ensures.answer c.refused.ensures.fault c.in-Err.ensures.refused
 
 pub returns-in-Err-clause-memory : goal.returns-in-Err-clause-memory
 returns-in-Err-clause-memory g c = memory_of c.refused.result c.args.text.now c.in-Err.fault c.refused.ensures.memory c.in-Err.ensures.memory

@@ -1,8 +1,7 @@
-use Rattle.std.proofs.Common.{sym, ap, subst, ◌∙◌}
+use Rattle.std.proofs.Common.{sym, subst}
 use Rattle.std.proofs.lemmas.List.Elements.{All-same}
 use Rattle.life_model.specs.Evolution.{generation}
 use Rattle.life_objects.specs.Ash.{IsAsh}
-use Rattle.life_answer.specs.declared.finding.Outcome.TheVariants.{Ash}
 use Rattle.life_apart.specs.Sets.{IsCourseBy, sets_of}
 use Rattle.life_census.proofs.LaterParts.{census_some}
 use Rattle.life_census.proofs.pattern.outcome_of_ash.Goals as goal

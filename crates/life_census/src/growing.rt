@@ -1,0 +1,108 @@
+//! Whether a pattern grows within a bound.
+ghost use Rattle.std.specs.Prelude.{◌≡◌, ℕ, ◌*◌, ◌+◌, ◌≤◌, All, IfNone, IfOk, IfSome, List};
+ghost use Rattle.life_model.specs.Evolution.{generation};
+ghost use Rattle.life_model.specs.Generation.{Generation};
+ghost use Rattle.life_model.specs.Generation as generations;
+ghost use Rattle.life_cells.specs.Limits.{IsWithin};
+ghost use Rattle.life_ash.specs.Parts.{ash_age_limit};
+ghost use Rattle.life_answer.specs.Growing.{allowed_bound};
+ghost use Rattle.life_growth.specs.Growth.{IsGrowth};
+ghost use Rattle.life_census.specs.Grown.{IsGrownWithin, IsSeenWithin, NeverGrows, NeverGrowsThen};
+
+use crate::allowed::allowed_bound;
+use life_cells::{CellList, Rule};
+use life_growing::{Growth, growth_of};
+use life_orbit::BOUND_LIMIT;
+use life_plane::Plane;
+use life_things::WAY_LIMIT;
+use std::alloc::{AllocError, Global};
+
+/// How many generations the first film has that is looked at. Each further one has twice as many as the one before it.
+const FIRST_LENGTH: u32 = 32;
+
+/// The plane of a generation of a pattern.
+fn plane_at<P: Plane>(
+    alloc: Global,
+    rule: &Rule,
+    cells: &CellList,
+    age: u32,
+) -> Result<P, AllocError>
+    requires age { age ≤ BOUND_LIMIT }
+    requires fits { All (IsWithin 0) (generations.cells cells.now) }
+    ensures cells { IfOk result (λ plane. P.members plane ≡ generation rule.now cells.now age) }
+    ensures age { IfOk result (λ plane. P.steps_made plane ≡ age) }
+{
+    let mut plane = P::from_cells(alloc, cells)?;
+    'steps: for _ in 0..age {
+        plane.step(rule)?;
+    }
+    Ok(plane)
+}
+
+/// The growth of a plane's cells that a short film shows, if one does, each within as many generations as the film has, and
+/// these fewer than the horizon.
+fn growth_soon<P: Plane>(
+    alloc: Global,
+    plane: &P,
+    rule: &Rule,
+    horizon: u32,
+) -> Result<Option<Growth>, AllocError>
+    requires horizon { horizon ≤ WAY_LIMIT }
+    requires age { P.steps_made plane.now + 4 * horizon ≤ ash_age_limit }
+    ensures { IfOk result (λ found. IfSome found (IsSeenWithin rule.now horizon (P.members plane.now))) }
+{
+    let mut length = FIRST_LENGTH;
+    'films: while length < horizon {
+        if let Some(growth) = growth_of(alloc, plane, rule, length, length)? {
+            return Ok(Some(growth));
+        }
+        length *= 2;
+    }
+    Ok(None)
+}
+
+/// The growth of a plane's cells within the horizon, if there is one. Short films are looked at first, and the last one, which
+/// has twice as many generations as the horizon, tells exactly.
+fn growth_up_to<P: Plane>(
+    alloc: Global,
+    plane: &P,
+    rule: &Rule,
+    horizon: u32,
+) -> Result<Option<Growth>, AllocError>
+    requires horizon { 1 ≤ horizon × horizon ≤ WAY_LIMIT }
+    requires age { P.steps_made plane.now + 4 * horizon ≤ ash_age_limit }
+    ensures some { IfOk result (λ found. IfSome found (IsSeenWithin rule.now horizon (P.members plane.now))) }
+    ensures none { IfOk result (λ found. IfNone found (NeverGrows rule.now horizon (P.members plane.now))) }
+{
+    if let Some(growth) = growth_soon(alloc, plane, rule, horizon)? {
+        return Ok(Some(growth));
+    }
+    growth_of(alloc, plane, rule, 2 * horizon, horizon)
+}
+
+/// The growth of a pattern, looked for within the horizon in the generation of the greatest bound up to which it is small
+/// enough: no generation up to four times that bound may have more cells than the limit. The bound is 1 to 100,000
+/// generations, and the horizon 1 to 10,000, of which no more than that bound count.
+pub fn growth_within<P: Plane>(
+    alloc: Global,
+    rule: &Rule,
+    cells: &CellList,
+    bound: u32,
+    limit: Option<u32>,
+    horizon: u32,
+) -> Result<Option<Growth>, AllocError>
+    requires bound { 1 ≤ bound × bound ≤ BOUND_LIMIT }
+    requires horizon { 1 ≤ horizon × horizon ≤ WAY_LIMIT }
+    requires fits { All (IsWithin 0) (generations.cells cells.now) }
+    ensures some { IfOk result (λ found. IfSome found
+        (IsGrownWithin rule.now cells.now (allowed_bound limit rule.now cells.now bound) horizon)) }
+    ensures none { IfOk result (λ found. IfNone found
+        (NeverGrowsThen rule.now cells.now (allowed_bound limit rule.now cells.now bound) horizon)) }
+{
+    let allowed = allowed_bound::<P>(alloc, rule, cells, bound, limit)?;
+    if allowed == 0 {
+        return Ok(None);
+    }
+    let plane: P = plane_at(alloc, rule, cells, allowed)?;
+    growth_up_to(alloc, &plane, rule, horizon.min(allowed))
+}
