@@ -14,7 +14,7 @@ use Rattle.census_rows.proofs.Texts.{text-append}
 use Rattle.census_format.specs.Objects.{object, objects, outcome_objects, part_objects}
 use Rattle.census_format.proofs.Tallies.{objects-append}
 
-take_more : {A : Type 0} (xs : List A) (i : ℕ) (x : A) → slice_get xs i ≡ Some x → take (i + 1) xs ≡ take i xs ++ x ∷ []
+pub take_more : {A : Type 0} (xs : List A) (i : ℕ) (x : A) → slice_get xs i ≡ Some x → take (i + 1) xs ≡ take i xs ++ x ∷ []
 take_more [] i x at = absurd (cc)
 take_more (y ∷ ys) zero x at =
     let same : y ≡ x = cc in

@@ -5,9 +5,9 @@ use Rattle.census_bundle.specs.declared.bundle.Entry.{Entry}
 use Rattle.census_bundle.specs.Tickets.{ticket}
 use Rattle.census_format.specs.Heads.{line_with_head, line_head, line_tail}
 use Rattle.census_format.specs.Found.{outcome_of}
-use Rattle.census_format.specs.Lines.{answer_to_entry, part_rows, pattern_rows}
+use Rattle.census_format.specs.Lines.{answer_to_entry, pattern_rows, rows_behind}
 use Rattle.census_rows.specs.Lines.{fields_text, outcome_fields, text_of}
-use Rattle.census_rows.proofs.Behind.{behind-append}
+use Rattle.census_rows.proofs.FieldTexts.{behind-append}
 use Rattle.life_answer.specs.declared.question.Question.{Question}
 
 -- a word and fields, and then one more field
@@ -23,4 +23,4 @@ pub headed_line : (question : Question) (c i : ℕ) (e : Entry)
 unfolding line_head line_tail pattern_rows
 headed_line question c i e =
     let found = answer_to_entry question e in
-    ap (λ text. (text ++ codes "\n") ++ text_of (part_rows c i found)) (one_more (codes "line") e.name (decimal c ∷ decimal i ∷ outcome_fields (outcome_of found)))
+    ap (λ text. (text ++ codes "\n") ++ text_of (rows_behind c i found)) (one_more (codes "line") e.name (decimal c ∷ decimal i ∷ outcome_fields (outcome_of found)))

@@ -2,6 +2,7 @@ pub mod Fields
 pub mod Lost
 pub mod Owning
 pub mod AshParts
+pub mod EngineRows
 pub mod Tallies
 pub mod ObjectCounts
 pub mod PartCounts

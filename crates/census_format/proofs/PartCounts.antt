@@ -1,5 +1,5 @@
 -- The counts of a closing count the objects that patterns fall apart into.
-use Rattle.std.proofs.Common.{◌≡◌, ℕ, zero, suc, ◌+◌, ◌*◌, ◌<◌, ◌≤◌, Bool, true, false, cond, ◌||◌, List, [], ◌∷◌, ◌++◌, Option, Some, None, length, map, get_or, replicate, Ok, Err, Result, refl, sym, ap, ◌∙◌, arith, zero-add, ℤ}
+use Rattle.std.proofs.Common.{◌≡◌, ℕ, zero, suc, ◌+◌, ◌*◌, ◌<◌, ◌≤◌, min, Bool, true, false, cond, ◌||◌, List, [], ◌∷◌, ◌++◌, Option, Some, None, length, map, get_or, replicate, Ok, Err, Result, refl, sym, ap, ◌∙◌, arith, zero-add, ℤ}
 use Rattle.std.proofs.lemmas.Bool.{false≢true, or_right}
 use Rattle.std.proofs.lemmas.List.Elements.{All-map}
 use Rattle.std.proofs.lemmas.List.Folds.{sum_by-replicate}
@@ -7,15 +7,20 @@ use Rattle.std.proofs.lemmas.List.Sums.{sum_by-append, sum_by-cons}
 use Rattle.std.specs.List.{All, list_any, count_by}
 use Rattle.census_bundle.specs.declared.bundle.Entry.{Entry}
 use Rattle.life_answer.specs.Census.{census_found, census_of, parts_found}
+use Rattle.life_answer.specs.Growing.{allowed_bound}
 use Rattle.life_answer.specs.Limited.{first_past, unless_large}
 use Rattle.life_answer.specs.Questions.{answer_to, answer_to_question}
+use Rattle.life_answer.specs.Told.{growth_told}
 use Rattle.life_answer.specs.declared.finding.Answer.{Answer}
 use Rattle.life_answer.specs.declared.finding.Answer.TheVariants.{Found, Refused}
 use Rattle.life_answer.specs.declared.finding.Finding.{Finding}
 use Rattle.life_answer.specs.declared.finding.Outcome.{Outcome}
-use Rattle.life_answer.specs.declared.finding.Outcome.TheVariants.{Recurs, Ash}
+use Rattle.life_answer.specs.declared.finding.Outcome.TheVariants.{Recurs, Ash, Grows}
 use Rattle.life_answer.specs.declared.part.Part.{Part}
 use Rattle.life_answer.specs.declared.question.Question.TheVariants as question
+use Rattle.life_answer.specs.declared.tale.Engines.{Engines}
+use Rattle.life_answer.proofs.Growing.{growing-else}
+use Rattle.life_model.specs.Evolution.{generation}
 use Rattle.life_model.specs.Generation.{Generation}
 use Rattle.life_model.specs.Rule.{Rule}
 use Rattle.life_text.specs.declared.rle.RleFault.{RleFault}
@@ -43,20 +48,29 @@ module _ (onset period : ℕ) (dx dy : ℤ) (code : List ℕ) where
   large_apart found None apart e = apart e
   large_apart found (Some n) apart e = cc
 
+  recurs_no_growth : (lines : List Engines) → Recurs onset period dx dy code ≡ Grows lines → ⊥
+  recurs_no_growth lines e = cc
+
   same_finding : (r s : Rule) (f g : Finding) → Found r f ≡ Found s g → f ≡ g
   same_finding r s f g e = cc
 
-  answer_apart : (bound : ℕ) (most : Option ℕ) (near : Bool) (rule : Rule) (finding : Finding) (r : Result Picture RleFault) → answer_to (question.Objects bound most near) r ≡ Found rule finding
+  answer_apart : (bound : ℕ) (most : Option ℕ) (near : Bool) (horizon : ℕ) (rule : Rule) (finding : Finding) (r : Result Picture RleFault) → answer_to (question.Objects bound most near horizon) r ≡ Found rule finding
       → finding.outcome ≡ Recurs onset period dx dy code → ⊥
-  answer_apart bound most near rule finding (Ok pattern) e recurs =
-      large_apart _ (first_past most pattern.rule pattern.cells (3 * bound)) (census_of-apart near pattern.rule pattern.cells bound)
-      (ap (λ (f : Finding). f.outcome) (same_finding pattern.rule rule _ _ e) ∙ recurs)
-  answer_apart bound most near rule finding (Err fault) e recurs = cc
+  answer_apart bound most near horizon rule finding (Ok pattern) e recurs =
+      let R = pattern.rule in
+      let G = pattern.cells in
+      let past = first_past most R G (3 * bound) in
+      let c : ℕ = allowed_bound most R G bound in
+      large_apart (census_of near R G bound) past (census_of-apart near R G bound)
+      (growing-else (growth_told near R (min horizon c) (generation R G c)) (unless_large (census_of near R G bound) past)
+      (Recurs onset period dx dy code)
+      (ap (λ (f : Finding). f.outcome) (same_finding R rule _ _ e) ∙ recurs) recurs_no_growth)
+  answer_apart bound most near horizon rule finding (Err fault) e recurs = cc
 
-  no_recurrence : (bound : ℕ) (most : Option ℕ) (near : Bool) (text : List ℕ) (rule : Rule) (finding : Finding) → answer_to_question (question.Objects bound most near) text ≡ Found rule finding
+  no_recurrence : (bound : ℕ) (most : Option ℕ) (near : Bool) (horizon : ℕ) (text : List ℕ) (rule : Rule) (finding : Finding) → answer_to_question (question.Objects bound most near horizon) text ≡ Found rule finding
       → finding.outcome ≡ Recurs onset period dx dy code → ⊥
   unfolding answer_to_question
-  no_recurrence bound most near text rule finding e recurs = answer_apart bound most near rule finding (picture_of (reading text)) e recurs
+  no_recurrence bound most near horizon text rule finding e recurs = answer_apart bound most near horizon rule finding (picture_of (reading text)) e recurs
 
 -- ---- the objects with a rule and a code
 
@@ -84,23 +98,23 @@ count_outcome k rule (Ash onset parts) rest apart =
     count_append (same_object k) (part_objects rule parts) rest ∙ ap (λ n. n + count_by (same_object k) rest) (count_parts k rule parts)
 count_outcome k rule _ rest apart = sym (zero-add (count_by (same_object k) rest))
 
-module _ (bound : ℕ) (most : Option ℕ) (near : Bool) where
+module _ (bound : ℕ) (most : Option ℕ) (near : Bool) (horizon : ℕ) where
   abbrev answer_in : Entry → Answer
-  answer_in e = answer_to_entry (question.Objects bound most near) e
+  answer_in e = answer_to_entry (question.Objects bound most near horizon) e
 
   abbrev all_objects : List Entry → List Object
-  all_objects es = objects (answers (question.Objects bound most near) es)
+  all_objects es = objects (answers (question.Objects bound most near horizon) es)
 
   count_answer : (k : Object) (e : Entry) (a : Answer) (rest : List Answer) → answer_in e ≡ a → count_by (same_object k) (objects (a ∷ rest)) ≡ fallen_as k a + count_by (same_object k) (objects rest)
   count_answer k e (Found rule finding) rest is =
       count_outcome k rule finding.outcome (objects rest)
-      (λ onset period dx dy code recurs. no_recurrence onset period dx dy code bound most near e.text rule finding (found_answer (question.Objects bound most near) e rule finding is) recurs)
+      (λ onset period dx dy code recurs. no_recurrence onset period dx dy code bound most near horizon e.text rule finding (found_answer (question.Objects bound most near horizon) e rule finding is) recurs)
   count_answer k e (Refused number) rest is = sym (zero-add (count_by (same_object k) (objects rest)))
 
-  count_all : (k : Object) (es : List Entry) → count_by (same_object k) (all_objects es) ≡ all_fallen_as bound most near es k
+  count_all : (k : Object) (es : List Entry) → count_by (same_object k) (all_objects es) ≡ all_fallen_as bound most near horizon es k
   count_all k [] = refl
   count_all k (e ∷ es) =
-      count_answer k e (answer_in e) (answers (question.Objects bound most near) es) refl
+      count_answer k e (answer_in e) (answers (question.Objects bound most near horizon) es) refl
       ∙ ap (λ n. fallen_as k (answer_in e) + n) (count_all k es)
       ∙ sym (sum_by-cons (λ (x : Entry). fallen_as k (answer_in x)) e es)
 
@@ -129,21 +143,21 @@ any_where k ks some =
       | false ↦ λ none. let zero_of = count_none same_object one_object same_itself k ks none in absurd (omega (arith, zero_of, some))
     ] refl
 
-each_line : (bound : ℕ) (most : Option ℕ) (near : Bool) (es : List Entry) → All (CountsParts bound most near es) (tally same_object (objects (answers (question.Objects bound most near) es)))
-each_line bound most near es =
-    let ks = objects (answers (question.Objects bound most near) es) in
-    All-map (CountsParts bound most near es) (λ k. (k, count_by (same_object k) ks)) (distinct_elements same_object ks) (λ i d lt.
+each_line : (bound : ℕ) (most : Option ℕ) (near : Bool) (horizon : ℕ) (es : List Entry) → All (CountsParts bound most near horizon es) (tally same_object (objects (answers (question.Objects bound most near horizon) es)))
+each_line bound most near horizon es =
+    let ks = objects (answers (question.Objects bound most near horizon) es) in
+    All-map (CountsParts bound most near horizon es) (λ k. (k, count_by (same_object k) ks)) (distinct_elements same_object ks) (λ i d lt.
     let k = get_or (distinct_elements same_object ks) i d in
     let any : list_any (same_object k) ks ≡ true = sym (any_distinct same_object one_object same_itself k ks) ∙ any_at (same_object k) (distinct_elements same_object ks) i d lt (same_itself k) in
-    record { count = count_all bound most near k es; some = some_where (same_object k) ks any })
+    record { count = count_all bound most near horizon k es; some = some_where (same_object k) ks any })
 
-each_object : (bound : ℕ) (most : Option ℕ) (near : Bool) (es : List Entry) (k : Object) → 1 ≤ all_fallen_as bound most near es k
-    → count_by (λ line. same_object k line.0) (tally same_object (objects (answers (question.Objects bound most near) es))) ≡ 1
-each_object bound most near es k some =
-    let ks = objects (answers (question.Objects bound most near) es) in
-    let all = count_all bound most near k es in
+each_object : (bound : ℕ) (most : Option ℕ) (near : Bool) (horizon : ℕ) (es : List Entry) (k : Object) → 1 ≤ all_fallen_as bound most near horizon es k
+    → count_by (λ line. same_object k line.0) (tally same_object (objects (answers (question.Objects bound most near horizon) es))) ≡ 1
+each_object bound most near horizon es k some =
+    let ks = objects (answers (question.Objects bound most near horizon) es) in
+    let all = count_all bound most near horizon k es in
     count_map (λ x. (x, count_by (same_object x) ks)) (λ line. same_object k line.0) (distinct_elements same_object ks)
     ∙ count_distinct same_object one_object same_itself k ks (any_where k ks (omega (arith, all, some)))
 
 pub codes_count_parts : CodesCountParts
-codes_count_parts bound most near es = (each_line bound most near es, each_object bound most near es)
+codes_count_parts bound most near horizon es = (each_line bound most near horizon es, each_object bound most near horizon es)

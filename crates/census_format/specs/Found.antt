@@ -4,7 +4,8 @@ use Rattle.std.specs.Borrow.{Bor}
 use Rattle.life_answer.specs.declared.finding.Answer.{Answer}
 use Rattle.life_answer.specs.declared.finding.Answer.TheVariants.{Found, Refused}
 use Rattle.life_answer.specs.declared.finding.Outcome.{Outcome}
-use Rattle.life_answer.specs.declared.finding.Outcome.TheVariants.{Recurs, Unresolved, Large, Ash}
+use Rattle.life_answer.specs.declared.finding.Outcome.TheVariants.{Recurs, Unresolved, Large, Ash, Grows}
+use Rattle.life_answer.specs.CountedTales.{engines_in}
 use Rattle.life_answer.specs.Parts.{objects_in}
 use Rattle.life_cells.specs.Rules.{rule_text}
 use Rattle.census_rows.specs.declared.kinds.Class.{Class}
@@ -24,6 +25,7 @@ finding_of (Recurs onset period dx dy code) = finding.Ok onset period dx dy (len
 finding_of (Ash onset parts) = finding.Ash onset (objects_in parts)
 finding_of Unresolved = finding.Unresolved
 finding_of (Large generation) = finding.Large generation
+finding_of (Grows engines) = finding.Grows (engines_in engines)
 
 -- with the rule and the population of generation 0; where the text is refused, the number of its fault, or 0
 abbrev pub outcome_of : Answer → rows.Outcome

@@ -5,15 +5,15 @@ use Rattle.census_bundle.specs.declared.ticket.Ticket.{Ticket}
 use Rattle.census_rows.specs.Lines.{fields_text, outcome_fields, text_of}
 use Rattle.life_answer.specs.declared.finding.Answer.{Answer}
 use Rattle.census_format.specs.Found.{outcome_of}
-use Rattle.census_format.specs.Lines.{part_rows}
+use Rattle.census_format.specs.Lines.{rows_behind}
 
 -- the line of a pattern of which this was found, as far as its name
 unfoldable pub line_head : Ticket → Answer → List ℕ
 line_head t found = codes "line" ++ fields_text (decimal t.folder ∷ decimal t.number ∷ outcome_fields (outcome_of found))
 
--- the `part` lines of a pattern of which this was found
+-- the lines behind that of a pattern of which this was found
 unfoldable pub line_tail : Ticket → Answer → List ℕ
-line_tail t found = text_of (part_rows t.folder t.number found)
+line_tail t found = text_of (rows_behind t.folder t.number found)
 
 -- the lines that begin with a head, before the name of a pattern, and end with a tail
 abbrev pub line_with_head : List ℕ → Entry → List ℕ → List ℕ

@@ -22,18 +22,18 @@ fallen_as k (Found rule finding) = parts_as k rule (parts_found finding.outcome)
 fallen_as k (Refused number) = 0
 
 -- how many objects with this rule and code are counted of these patterns in all
-abbrev pub all_fallen_as : (bound : ℕ) (most : Option ℕ) (near : Bool) → List Entry → Object → ℕ
-all_fallen_as bound most near es k = sum_by (λ (e : Entry). fallen_as k (answer_to_entry (question.Objects bound most near) e)) es
+abbrev pub all_fallen_as : (bound : ℕ) (most : Option ℕ) (near : Bool) (horizon : ℕ) → List Entry → Object → ℕ
+all_fallen_as bound most near horizon es k = sum_by (λ (e : Entry). fallen_as k (answer_to_entry (question.Objects bound most near horizon) e)) es
 
 -- The line with this rule and code and this number counts the objects that have them, of which there are some.
-pub record CountsParts (bound : ℕ) (most : Option ℕ) (near : Bool) (es : List Entry) (line : Object × ℕ) : Type 0 where
-  pub count : line.1 ≡ all_fallen_as bound most near es line.0
+pub record CountsParts (bound : ℕ) (most : Option ℕ) (near : Bool) (horizon : ℕ) (es : List Entry) (line : Object × ℕ) : Type 0 where
+  pub count : line.1 ≡ all_fallen_as bound most near horizon es line.0
   pub some : 1 ≤ line.1
 
 -- Each `code` line of a collection counts the objects that have its rule and code, and each rule and code that an object
 -- has stand in one line, whether what is near one another is one object or not.
 abbrev pub CodesCountParts : Type 0
 CodesCountParts =
-    (bound : ℕ) (most : Option ℕ) (near : Bool) (es : List Entry)
-    → All (CountsParts bound most near es) (tally same_object (objects (answers (question.Objects bound most near) es)))
-    × ((k : Object) → 1 ≤ all_fallen_as bound most near es k → count_by (λ line. same_object k line.0) (tally same_object (objects (answers (question.Objects bound most near) es))) ≡ 1)
+    (bound : ℕ) (most : Option ℕ) (near : Bool) (horizon : ℕ) (es : List Entry)
+    → All (CountsParts bound most near horizon es) (tally same_object (objects (answers (question.Objects bound most near horizon) es)))
+    × ((k : Object) → 1 ≤ all_fallen_as bound most near horizon es k → count_by (λ line. same_object k line.0) (tally same_object (objects (answers (question.Objects bound most near horizon) es))) ≡ 1)

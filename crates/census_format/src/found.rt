@@ -36,6 +36,9 @@ pub(crate) fn finding_of<'a>(outcome: &'a Outcome) -> Finding<'a>
         Outcome::Large { generation } => Finding::Large {
             generation: u64::from(*generation),
         },
+        Outcome::Grows { engines } => Finding::Grows {
+            engines: engines.count(),
+        },
     }
 }
 

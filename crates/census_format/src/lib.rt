@@ -5,12 +5,14 @@
 
 mod closing;
 mod codes;
+mod engines;
 mod found;
 mod lines;
 mod parts;
+mod tail;
 
 pub use closing::push_closing;
 pub use codes::{codes_count_objects, codes_count_parts};
 pub use found::class_of;
 pub use lines::{push_end, push_head, push_open, push_pattern};
-pub use parts::push_tail;
+pub use tail::push_tail;

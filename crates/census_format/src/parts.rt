@@ -1,12 +1,11 @@
 //! The objects of a pattern that has fallen apart, and its `part` lines.
 ghost use Rattle.std.specs.Prelude.{◌≡◌, ◌++◌, OnOk, map};
-ghost use Rattle.census_format.specs.Heads.{line_tail};
 ghost use Rattle.census_format.specs.Lines.{part_row};
 ghost use Rattle.census_rows.specs.Lines.{line_of, text_of};
 
 use census_bundle::Ticket;
 use census_rows::{push_count, push_field};
-use life_answer::{Answer, Part};
+use life_answer::Part;
 use std::alloc::AllocError;
 
 // The line of those parts that are one object.
@@ -23,8 +22,12 @@ fn push_part(text: &mut Vec<u8>, ticket: Ticket, part: &Part) -> Result<(), Allo
     Ok(())
 }
 
-// The lines of all parts.
-fn push_parts(text: &mut Vec<u8>, ticket: Ticket, parts: &[Part]) -> Result<(), AllocError>
+/// The lines of all parts.
+pub(crate) fn push_parts(
+    text: &mut Vec<u8>,
+    ticket: Ticket,
+    parts: &[Part],
+) -> Result<(), AllocError>
     ensures { OnOk result
         (text.new.items ≡
         text.old.items ++ text_of (map (part_row ticket.folder ticket.number) parts.now)) }
@@ -33,16 +36,4 @@ fn push_parts(text: &mut Vec<u8>, ticket: Ticket, parts: &[Part]) -> Result<(), 
         push_part(text, ticket, part)?;
     }
     Ok(())
-}
-
-/// The `part` lines of a pattern of which this was found.
-#[tactic(auto, unfolding(crate::specs::Heads::line_tail))]
-pub fn push_tail(text: &mut Vec<u8>, ticket: Ticket, answer: &Answer) -> Result<(), AllocError>
-    ensures { OnOk result
-        (text.new.items ≡ text.old.items ++ line_tail ticket answer.now) }
-{
-    match answer {
-        Answer::Found { finding, .. } => push_parts(text, ticket, finding.outcome.parts()),
-        Answer::Refused(_) => Ok(()),
-    }
 }

@@ -6,7 +6,7 @@ use Rattle.census_rows.specs.declared.row.Outcome.{Outcome}
 use Rattle.census_rows.specs.declared.row.Outcome.TheVariants.{Found, Bad}
 use Rattle.census_rows.specs.Kinds.{said, said_of, texts_of}
 use Rattle.census_rows.specs.Lines.{fields_text, outcome_fields, HasNoBlank, EndsField}
-use Rattle.census_rows.proofs.Behind.{ends-behind}
+use Rattle.census_rows.proofs.FieldTexts.{ends-behind}
 use Rattle.census_rows.proofs.Blanks.{one-field}
 
 -- letters are no blanks
@@ -15,6 +15,8 @@ found-plain (finding.Ok onset period dx dy code) = (λ e. omega arith, (λ e. om
 found-plain (finding.Ash onset objects) = (λ e. omega arith, (λ e. omega arith, (λ e. omega arith, tt)))
 found-plain finding.Unresolved = (λ e. omega arith, (λ e. omega arith, (λ e. omega arith, (λ e. omega arith, tt))))
 found-plain (finding.Large generation) =
+    (λ e. omega arith, (λ e. omega arith, (λ e. omega arith, (λ e. omega arith, (λ e. omega arith, tt)))))
+found-plain (finding.Grows engines) =
     (λ e. omega arith, (λ e. omega arith, (λ e. omega arith, (λ e. omega arith, (λ e. omega arith, tt)))))
 
 pub word-plain : (o : Outcome) → HasNoBlank (said o).word
@@ -31,6 +33,7 @@ found-not-bad (finding.Ok onset period dx dy code) e = let no : 111 ≡ 98 = ap 
 found-not-bad (finding.Ash onset objects) e = let no : 97 ≡ 98 = ap first e in omega (arith, no)
 found-not-bad finding.Unresolved e = let no : 110 ≡ 98 = ap first e in omega (arith, no)
 found-not-bad (finding.Large generation) e = let no : 108 ≡ 98 = ap first e in omega (arith, no)
+found-not-bad (finding.Grows engines) e = let no : 103 ≡ 98 = ap first e in omega (arith, no)
 
 -- a text of an outcome begins with its first word, and goes on with its other fields
 pub first-word : (o : Outcome) (found rest after : List ℕ) → HasNoBlank found → EndsField rest → EndsField after

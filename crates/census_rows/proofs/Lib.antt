@@ -1,4 +1,4 @@
-pub mod Behind
+pub mod FieldTexts
 pub mod Blanks
 pub mod FirstWords
 pub mod Told

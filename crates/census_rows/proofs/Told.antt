@@ -6,7 +6,7 @@ use Rattle.gathered.proofs.Telling.{tells_more, tells_none}
 use Rattle.census_rows.specs.declared.kinds.Field.{Field}
 use Rattle.census_rows.specs.Kinds.{present, texts_of, value_text}
 use Rattle.census_rows.specs.Lines.{fields_text}
-use Rattle.census_rows.proofs.Behind.{behind-append}
+use Rattle.census_rows.proofs.FieldTexts.{behind-append}
 
 pub field_told : (field : List ℕ) (a b c : Sheet) → TellsAfter (32 ∷ []) a b → TellsAfter field b c → TellsAfter (32 ∷ field) a c
 field_told field a b c p q = tells_more (32 ∷ []) field a b c p q

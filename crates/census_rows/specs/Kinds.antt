@@ -3,6 +3,8 @@ use Rattle.std.specs.Prelude.{ℕ, ℤ, Bool, true, false, Option, Some, None as
 use Rattle.std.specs.Borrow.{Bor}
 use Rattle.std.specs.Fmt.{signed_decimal}
 use Rattle.std.specs.Bool.{nat_eq}
+use Rattle.census_rows.specs.declared.kinds.Behind.{Behind}
+use Rattle.census_rows.specs.declared.kinds.Behind.TheVariants as behind
 use Rattle.census_rows.specs.declared.kinds.Class.{Class}
 use Rattle.census_rows.specs.declared.kinds.Class.TheVariants.{Resolved, Unresolved, Refused}
 use Rattle.census_rows.specs.declared.kinds.Field.{Field}
@@ -15,12 +17,12 @@ use Rattle.census_rows.specs.declared.row.Finding.TheVariants as finding
 use Rattle.census_rows.specs.declared.row.Outcome.{Outcome}
 use Rattle.census_rows.specs.declared.row.Outcome.TheVariants.{Found, Bad}
 
--- what a `line` line says of a pattern: a word, the fields after it, how it counts, and whether `part` lines follow it
+-- what a `line` line says of a pattern: a word, the fields after it, how it counts, and which lines stand behind it
 pub record Said : Type 0 where
   pub word : List ℕ
   pub fields : List Field
   pub class : Class
-  pub has_parts : Bool
+  pub behind : Behind
 
 -- fields with a number, a signed number and a text
 abbrev pub number : Label → ℕ → Field
@@ -38,23 +40,25 @@ said_of (finding.Ok onset period dx dy code) = record {
   word = codes "ok";
   fields = number label.Onset onset ∷ number label.Period period ∷ signed label.Dx dx ∷ signed label.Dy dy ∷ text label.Code code ∷ [];
   class = Resolved;
-  has_parts = false;
+  behind = behind.Nothing;
 }
 said_of (finding.Ash onset objects) = record {
   word = codes "ash";
   fields = number label.Onset onset ∷ number label.Objects objects ∷ [];
   class = Resolved;
-  has_parts = true;
+  behind = behind.Parts;
 }
-said_of finding.Unresolved = record { word = codes "none"; fields = []; class = Unresolved; has_parts = false }
+said_of finding.Unresolved = record { word = codes "none"; fields = []; class = Unresolved; behind = behind.Nothing }
 said_of (finding.Large generation) =
-    record { word = codes "large"; fields = number label.Generation generation ∷ []; class = Unresolved; has_parts = false }
+    record { word = codes "large"; fields = number label.Generation generation ∷ []; class = Unresolved; behind = behind.Nothing }
+said_of (finding.Grows engines) =
+    record { word = codes "grows"; fields = number label.Engines engines ∷ []; class = Resolved; behind = behind.Engines }
 
 -- what an outcome says
 abbrev pub said : Outcome → Said
 said (Found rule population found) =
     record (said_of found) { fields = text label.Rule rule ∷ number label.Population population ∷ (said_of found).fields }
-said (Bad fault) = record { word = codes "bad"; fields = number label.Fault fault ∷ []; class = Refused; has_parts = false }
+said (Bad fault) = record { word = codes "bad"; fields = number label.Fault fault ∷ []; class = Refused; behind = behind.Nothing }
 
 abbrev pub same_class : Class → Class → Bool
 same_class Resolved Resolved = true
@@ -62,11 +66,11 @@ same_class Unresolved Unresolved = true
 same_class Refused Refused = true
 same_class _ _ = false
 
--- it comes again or has fallen apart
+-- it comes again, has fallen apart or grows for ever
 abbrev pub is_resolved : Outcome → Bool
 is_resolved outcome = same_class (said outcome).class Resolved
 
--- it does neither within the bound, or has too many cells
+-- it does none of these within the bound, or has too many cells
 abbrev pub is_unresolved : Outcome → Bool
 is_unresolved outcome = same_class (said outcome).class Unresolved
 
@@ -92,6 +96,7 @@ label_number label.Code = 6
 label_number label.Objects = 7
 label_number label.Generation = 8
 label_number label.Fault = 9
+label_number label.Engines = 10
 
 -- what the field with a label has, where there is one
 abbrev pub value_at : Label → List Field → Option Value

@@ -1,12 +1,13 @@
 -- The lines of a report, by themselves.
 use Rattle.std.specs.Prelude.{ℕ, Bool, true, false, FitsSigned, List, [], ◌∷◌, ◌++◌, ◌≡◌, ◌≢◌, ◌<◌, ◌^◌, ⊤, length, codes, decimal}
 use Rattle.std.specs.Int.{w64}
+use Rattle.std.specs.Fmt.{signed_decimal}
 use Rattle.census_rows.specs.declared.kinds.Field.{Field}
 use Rattle.census_rows.specs.declared.kinds.Value.{Value}
 use Rattle.census_rows.specs.declared.kinds.Value.TheVariants.{Number, Signed, Text}
 use Rattle.census_rows.specs.declared.row.Outcome.{Outcome}
 use Rattle.census_rows.specs.declared.row.Row.{Row}
-use Rattle.census_rows.specs.declared.row.Row.TheVariants.{Open, Line, Part, Code, Close, End}
+use Rattle.census_rows.specs.declared.row.Row.TheVariants.{Open, Line, Part, Engine, Emits, Code, Close, End}
 use Rattle.census_rows.specs.Kinds.{Said, said, texts_of}
 
 -- the fields, each with a blank before it
@@ -32,6 +33,10 @@ abbrev pub spelling : Row → Spelling
 spelling (Open collection patterns name) = spelled (codes "open") collection (decimal patterns ∷ name.now ∷ [])
 spelling (Line collection pattern outcome name) = spelled (codes "line") collection (decimal pattern ∷ (outcome_fields outcome ++ name.now ∷ []))
 spelling (Part collection pattern code count) = spelled (codes "part") collection (decimal pattern ∷ code.now ∷ decimal count ∷ [])
+spelling (Engine collection pattern number period dx dy count) =
+    spelled (codes "engine") collection (decimal pattern ∷ decimal number ∷ decimal period ∷ signed_decimal dx ∷ signed_decimal dy ∷ decimal count ∷ [])
+spelling (Emits collection pattern engine code count) =
+    spelled (codes "emits") collection (decimal pattern ∷ decimal engine ∷ code.now ∷ decimal count ∷ [])
 spelling (Code collection rule code count) = spelled (codes "code") collection (rule.now ∷ code.now ∷ decimal count ∷ [])
 spelling (Close collection patterns resolved unresolved refused) =
     spelled (codes "close") collection (decimal patterns ∷ decimal resolved ∷ decimal unresolved ∷ decimal refused ∷ [])
@@ -58,9 +63,17 @@ abbrev pub describes_collection : Row → Bool
 describes_collection (Open collection patterns name) = true
 describes_collection (Line collection pattern outcome name) = false
 describes_collection (Part collection pattern code count) = false
+describes_collection (Engine collection pattern number period dx dy count) = false
+describes_collection (Emits collection pattern engine code count) = false
 describes_collection (Code collection rule code count) = true
 describes_collection (Close collection patterns resolved unresolved refused) = true
 describes_collection (End collections patterns) = false
+
+-- whether a row tells of growth: of engines of a pattern, or of what they emit
+abbrev pub describes_growth : Row → Bool
+describes_growth (Engine collection pattern number period dx dy count) = true
+describes_growth (Emits collection pattern engine code count) = true
+describes_growth _ = false
 
 -- no byte is a blank
 abbrev pub HasNoBlank : List ℕ → Type 0
@@ -100,7 +113,7 @@ SameFields _ _ = ⊥
 
 -- the same word with the same fields, which counts alike
 abbrev pub SameSaid : Said → Said → Type 0
-SameSaid s t = (s.word ≡ t.word) × (s.class ≡ t.class) × (s.has_parts ≡ t.has_parts) × SameFields s.fields t.fields
+SameSaid s t = (s.word ≡ t.word) × (s.class ≡ t.class) × (s.behind ≡ t.behind) × SameFields s.fields t.fields
 
 -- what can be found: rule and code are words, and the numbers fit 64 bits
 abbrev pub IsOutcome : Outcome → Type 0
@@ -115,6 +128,10 @@ abbrev pub IsRow : Row → Type 0
 IsRow (Open collection patterns name) = (collection < 2 ^ 64) × (patterns < 2 ^ 64)
 IsRow (Line collection pattern outcome name) = (collection < 2 ^ 64) × (pattern < 2 ^ 64) × IsOutcome outcome
 IsRow (Part collection pattern code count) = (collection < 2 ^ 64) × (pattern < 2 ^ 64) × IsWord code.now × (count < 2 ^ 64)
+IsRow (Engine collection pattern number period dx dy count) =
+    (collection < 2 ^ 64) × (pattern < 2 ^ 64) × (number < 2 ^ 64) × (period < 2 ^ 64) × FitsSigned w64 dx × FitsSigned w64 dy × (count < 2 ^ 64)
+IsRow (Emits collection pattern engine code count) =
+    (collection < 2 ^ 64) × (pattern < 2 ^ 64) × (engine < 2 ^ 64) × IsWord code.now × (count < 2 ^ 64)
 IsRow (Code collection rule code count) = (collection < 2 ^ 64) × IsWord rule.now × IsWord code.now × (count < 2 ^ 64)
 IsRow (Close collection patterns resolved unresolved refused) =
     (collection < 2 ^ 64) × (patterns < 2 ^ 64) × (resolved < 2 ^ 64) × (unresolved < 2 ^ 64) × (refused < 2 ^ 64)
@@ -128,6 +145,10 @@ SameRow (Line collection pattern outcome name) (Line collection2 pattern2 outcom
     (collection ≡ collection2) × (pattern ≡ pattern2) × SameOutcome outcome outcome2 × (name.now ≡ name2.now)
 SameRow (Part collection pattern code count) (Part collection2 pattern2 code2 count2) =
     (collection ≡ collection2) × (pattern ≡ pattern2) × (code.now ≡ code2.now) × (count ≡ count2)
+SameRow (Engine collection pattern number period dx dy count) (Engine collection2 pattern2 number2 period2 dx2 dy2 count2) =
+    (collection ≡ collection2) × (pattern ≡ pattern2) × (number ≡ number2) × (period ≡ period2) × (dx ≡ dx2) × (dy ≡ dy2) × (count ≡ count2)
+SameRow (Emits collection pattern engine code count) (Emits collection2 pattern2 engine2 code2 count2) =
+    (collection ≡ collection2) × (pattern ≡ pattern2) × (engine ≡ engine2) × (code.now ≡ code2.now) × (count ≡ count2)
 SameRow (Code collection rule code count) (Code collection2 rule2 code2 count2) =
     (collection ≡ collection2) × (rule.now ≡ rule2.now) × (code.now ≡ code2.now) × (count ≡ count2)
 SameRow (Close collection patterns resolved unresolved refused) (Close collection2 patterns2 resolved2 unresolved2 refused2) =

@@ -7,12 +7,23 @@ use crate::row::{Finding, Outcome};
 /// How a pattern counts in the line that closes its collection.
 #[derive(Clone, Copy, Debug, PartialEq, Eq)]
 pub enum Class {
-    /// It comes again or has fallen apart.
+    /// It comes again, has fallen apart or grows for ever.
     Resolved,
-    /// It does neither within the bound, or has too many cells.
+    /// It does none of these within the bound, or has too many cells.
     Unresolved,
     /// It is lost, or its text has a fault.
     Refused,
+}
+
+/// Which lines stand behind a `line` line.
+#[derive(Clone, Copy, Debug, PartialEq, Eq)]
+pub enum Behind {
+    /// None.
+    Nothing,
+    /// `part` lines.
+    Parts,
+    /// `engine` lines, each with its `emits` lines behind it.
+    Engines,
 }
 
 /// What a field tells, and so in which column of a table it stands, if in any.
@@ -38,6 +49,8 @@ pub enum Label {
     Generation,
     /// The number of its text's fault.
     Fault,
+    /// How many engines it has.
+    Engines,
 }
 
 /// What a field has.
@@ -58,14 +71,14 @@ pub struct Field<'a> {
     pub value: Value<'a>,
 }
 
-/// What a kind says: its word, its fields after rule and population, how it counts, and whether
-/// `part` lines follow it.
+/// What a kind says: its word, its fields after rule and population, how it counts, and which lines
+/// stand behind it.
 #[derive(Clone, Copy)]
 pub struct Said<'a> {
     pub word: &'static [u8],
     pub fields: [Option<Field<'a>>; 5],
     pub class: Class,
-    pub has_parts: bool,
+    pub behind: Behind,
 }
 
 #[inline(always)]
@@ -105,7 +118,7 @@ impl<'a> Finding<'a> {
         ensures word { result.word.now ≡ (said_of self.now).word }
         ensures fields { present result.fields ≡ (said_of self.now).fields }
         ensures class { result.class ≡ (said_of self.now).class }
-        ensures has_parts { result.has_parts ≡ (said_of self.now).has_parts }
+        ensures behind { result.behind ≡ (said_of self.now).behind }
     {
         match self {
             Finding::Ok {
@@ -124,7 +137,7 @@ impl<'a> Finding<'a> {
                     text(Label::Code, *code),
                 ],
                 class: Class::Resolved,
-                has_parts: false,
+                behind: Behind::Nothing,
             },
             Finding::Ash { onset, objects } => Said {
                 word: b"ash",
@@ -136,13 +149,13 @@ impl<'a> Finding<'a> {
                     None,
                 ],
                 class: Class::Resolved,
-                has_parts: true,
+                behind: Behind::Parts,
             },
             Finding::Unresolved => Said {
                 word: b"none",
                 fields: [None, None, None, None, None],
                 class: Class::Unresolved,
-                has_parts: false,
+                behind: Behind::Nothing,
             },
             Finding::Large { generation } => Said {
                 word: b"large",
@@ -154,7 +167,13 @@ impl<'a> Finding<'a> {
                     None,
                 ],
                 class: Class::Unresolved,
-                has_parts: false,
+                behind: Behind::Nothing,
+            },
+            Finding::Grows { engines } => Said {
+                word: b"grows",
+                fields: [number(Label::Engines, *engines), None, None, None, None],
+                class: Class::Resolved,
+                behind: Behind::Engines,
             },
         }
     }
@@ -251,13 +270,13 @@ impl<'a> Outcome<'a> {
         }
     }
 
-    /// Whether `part` lines may follow it.
-    pub fn has_parts(&self) -> bool
-        ensures { result ≡ (said self.now).has_parts }
+    /// Which lines stand behind it.
+    pub fn behind(&self) -> Behind
+        ensures { result ≡ (said self.now).behind }
     {
         match self {
-            Outcome::Found { finding, .. } => finding.said().has_parts,
-            Outcome::Bad { .. } => false,
+            Outcome::Found { finding, .. } => finding.said().behind,
+            Outcome::Bad { .. } => Behind::Nothing,
         }
     }
 }

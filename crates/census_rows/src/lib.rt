@@ -11,7 +11,7 @@ mod read;
 mod row;
 mod write;
 
-pub use kinds::{Class, Label, Value};
+pub use kinds::{Behind, Class, Label, Value};
 pub use push::{push_count, push_field, push_finding};
 pub use read::read_row;
 pub use row::{Finding, Outcome, Row};

@@ -1,5 +1,5 @@
 //! Lines read.
-ghost use Rattle.std.specs.Prelude.{◌≡◌, ◌==◌, ◌++◌, ◌∷◌, [], ◌<◌, ◌^◌, ℕ, ℤ, List, length, drop, position, true, IsTrue, IfSome, MatchOption, decimal, FitsSigned};
+ghost use Rattle.std.specs.Prelude.{◌≡◌, ◌==◌, ◌++◌, ◌∷◌, [], ◌<◌, ◌^◌, ℕ, ℤ, List, length, drop, position, true, IsTrue, IfSome, MatchOption, codes, decimal, FitsSigned};
 ghost use Rattle.std.specs.Fmt.{signed_decimal};
 ghost use Rattle.std.specs.Int.{w64};
 ghost use Rattle.census_rows.specs.declared.row.Finding.{Finding};
@@ -205,9 +205,49 @@ impl<'a> Fields<'a> {
             Finding::Large {
                 generation: self.number(),
             }
+        } else if are_same(word, b"grows") {
+            Finding::Grows {
+                engines: self.number(),
+            }
         } else {
             self.whole = false;
             Finding::Unresolved
+        }
+    }
+
+    // The row after the word `engine`.
+    fn engine(&mut self) -> Row<'a>
+        ensures sound { self.new.whole ≡ true → (self.old.whole ≡ true) × IsRow result
+            × (codes "engine" ++ self.old.rest.now ≡ row_text result ++ self.new.rest.now) }
+        ensures all { (row : Row) → self.old.whole ≡ true → IsRow row
+            → EndsField self.old.rest.now → codes "engine" ++ self.old.rest.now ≡ row_text row
+            → (self.new.whole ≡ true) × SameRow result row × (self.new.rest.now ≡ []) }
+    {
+        Row::Engine {
+            collection: self.number(),
+            pattern: self.number(),
+            number: self.number(),
+            period: self.number(),
+            dx: self.signed(),
+            dy: self.signed(),
+            count: self.number(),
+        }
+    }
+
+    // The row after the word `emits`.
+    fn emits(&mut self) -> Row<'a>
+        ensures sound { self.new.whole ≡ true → (self.old.whole ≡ true) × IsRow result
+            × (codes "emits" ++ self.old.rest.now ≡ row_text result ++ self.new.rest.now) }
+        ensures all { (row : Row) → self.old.whole ≡ true → IsRow row
+            → EndsField self.old.rest.now → codes "emits" ++ self.old.rest.now ≡ row_text row
+            → (self.new.whole ≡ true) × SameRow result row × (self.new.rest.now ≡ []) }
+    {
+        Row::Emits {
+            collection: self.number(),
+            pattern: self.number(),
+            engine: self.number(),
+            code: self.word(),
+            count: self.number(),
         }
     }
 
@@ -280,6 +320,10 @@ impl<'a> Fields<'a> {
                 collections: self.number(),
                 patterns: self.number(),
             }
+        } else if are_same(kind, b"engine") {
+            self.engine()
+        } else if are_same(kind, b"emits") {
+            self.emits()
         } else {
             self.row_of_collection(kind)
         }

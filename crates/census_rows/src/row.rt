@@ -17,11 +17,15 @@ pub enum Finding<'a> {
         onset: u64,
         objects: u64,
     },
-    /// It does neither within the bound.
+    /// It does none of these within the bound.
     Unresolved,
     /// A generation has more cells than are allowed.
     Large {
         generation: u64,
+    },
+    /// It grows for ever, by so many engines.
+    Grows {
+        engines: u64,
     },
 }
 
@@ -60,6 +64,25 @@ pub enum Row<'a> {
     Part {
         collection: u64,
         pattern: u64,
+        code: &'a [u8],
+        count: u64,
+    },
+    /// Engines of a pattern of which the same is told: after how many generations each comes again,
+    /// how far to the right and down it then stands, and how many they are.
+    Engine {
+        collection: u64,
+        pattern: u64,
+        number: u64,
+        period: u64,
+        dx: i64,
+        dy: i64,
+        count: u64,
+    },
+    /// How many parts of what an engine emits in a period are one object.
+    Emits {
+        collection: u64,
+        pattern: u64,
+        engine: u64,
         code: &'a [u8],
         count: u64,
     },

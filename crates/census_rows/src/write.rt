@@ -3,7 +3,7 @@ ghost use Rattle.std.specs.Prelude.{◌≡◌, ◌∷◌, ◌++◌, [], decimal,
 ghost use Rattle.std.specs.Fmt.{signed_decimal};
 ghost use Rattle.gathered.specs.Telling.{TellsAfter, sheet};
 ghost use Rattle.census_rows.specs.Kinds.{present, said_of, texts_of, value_text};
-ghost use Rattle.census_rows.specs.Lines.{describes_collection, fields_text, outcome_fields, row_text};
+ghost use Rattle.census_rows.specs.Lines.{describes_collection, describes_growth, fields_text, outcome_fields, row_text};
 
 use crate::fields::{put_field, put_number};
 use crate::kinds::{Field, Value};
@@ -112,6 +112,44 @@ fn put_start<W: Write>(
     put_number(second, block, writer);
 }
 
+// A line that tells of growth; of another row nothing.
+fn put_of_growth<W: Write>(row: &Row, block: &mut Block, writer: &mut Watched<W>)
+    ensures { TellsAfter (if describes_growth row.now then row_text row.now else [])
+        (sheet W.contents block.old writer.old) (sheet W.contents block.new writer.new) }
+{
+    match row {
+        Row::Engine {
+            collection,
+            pattern,
+            number,
+            period,
+            dx,
+            dy,
+            count,
+        } => {
+            put_start(b"engine", *collection, *pattern, block, writer);
+            put_number(*number, block, writer);
+            put_number(*period, block, writer);
+            put_signed(dx, block, writer);
+            put_signed(dy, block, writer);
+            put_number(*count, block, writer);
+        }
+        Row::Emits {
+            collection,
+            pattern,
+            engine,
+            code,
+            count,
+        } => {
+            put_start(b"emits", *collection, *pattern, block, writer);
+            put_number(*engine, block, writer);
+            put_field(*code, block, writer);
+            put_number(*count, block, writer);
+        }
+        _ => {}
+    }
+}
+
 // A line that describes a collection; of another row nothing.
 fn put_of_collection<W: Write>(row: &Row, block: &mut Block, writer: &mut Watched<W>)
     ensures { TellsAfter (if describes_collection row.now then row_text row.now else [])
@@ -184,6 +222,8 @@ pub fn put_row<W: Write>(row: &Row, block: &mut Block, writer: &mut Watched<W>)
             collections,
             patterns,
         } => put_start(b"end", *collections, *patterns, block, writer),
+        Row::Engine { .. } => put_of_growth(row, block, writer),
+        Row::Emits { .. } => put_of_growth(row, block, writer),
         _ => put_of_collection(row, block, writer),
     }
 }

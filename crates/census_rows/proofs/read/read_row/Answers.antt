@@ -2,7 +2,7 @@ use Rattle.std.proofs.Common.{◌≡◌, ◌++◌, List, ℕ, [], ap, sym, ◌�
 use Rattle.std.proofs.lemmas.List.{append-nil}
 use Rattle.std.proofs.lemmas.Bool.{eqb-true}
 use Rattle.census_rows.specs.Lines.{row_text}
-use Rattle.census_rows.proofs.Behind.{none-left}
+use Rattle.census_rows.proofs.FieldTexts.{none-left}
 use Rattle.census_rows.proofs.read.read_row.Goals as goal
 
 pub returns-then-is_empty-clause-sound : goal.returns-then-is_empty-clause-sound

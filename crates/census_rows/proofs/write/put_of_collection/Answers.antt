@@ -3,7 +3,7 @@ use Rattle.std.specs.Prelude.{if◌then◌else◌}
 use Rattle.gathered.specs.Telling.{TellsAfter, sheet}
 use Rattle.gathered.proofs.Telling.{tells_more, tells_none}
 use Rattle.census_rows.specs.declared.row.Row.{Row}
-use Rattle.census_rows.specs.declared.row.Row.TheVariants.{Open, Line, Part, Code, Close, End}
+use Rattle.census_rows.specs.declared.row.Row.TheVariants.{Open, Line, Part, Engine, Emits, Code, Close, End}
 use Rattle.census_rows.specs.Lines.{describes_collection, fields_text, row_text}
 use Rattle.census_rows.proofs.Told.{field_last, field_then, fields_behind}
 use Rattle.census_rows.proofs.write.put_of_collection.Goals as goal
@@ -43,6 +43,8 @@ none-told : (row : Row) → ((c n : ℕ) (name : Bor (List ℕ)) → row ≡ Ope
 none-told (Open c n name) not_open not_code not_close = absurd (not_open c n name refl)
 none-told (Line c i outcome name) not_open not_code not_close = refl
 none-told (Part c i word k) not_open not_code not_close = refl
+none-told (Engine c i e p x y k) not_open not_code not_close = refl
+none-told (Emits c i e word k) not_open not_code not_close = refl
 none-told (Code c rule word k) not_open not_code not_close = absurd (not_code c rule word k refl)
 none-told (Close c n a b d) not_open not_code not_close = absurd (not_close c n a b d refl)
 none-told (End n k) not_open not_code not_close = refl

@@ -5,7 +5,7 @@ use Rattle.census_rows.specs.declared.row.Finding.{Finding}
 use Rattle.census_rows.specs.declared.row.Finding.TheVariants as finding
 use Rattle.census_rows.specs.Kinds.{said_of, texts_of}
 use Rattle.census_rows.specs.Lines.{AreFields, SameSaid, EndsField, fields_text}
-use Rattle.census_rows.proofs.Behind.{more-fields, first-field}
+use Rattle.census_rows.proofs.FieldTexts.{more-fields, first-field}
 use Rattle.census_rows.proofs.read.Fields.finding.Goals as goal
 
 pub returns-then-are_same-clause-sound : goal.returns-then-are_same-clause-sound
@@ -51,6 +51,7 @@ read-ok c (finding.Ok onset period dx dy code) after whole is ends told begins =
 read-ok c (finding.Ash onset objects) after whole is ends told begins = absurd (cc (told, c.are_same.ensures.yes c.if-are_same.true))
 read-ok c finding.Unresolved after whole is ends told begins = absurd (cc (told, c.are_same.ensures.yes c.if-are_same.true))
 read-ok c (finding.Large generation) after whole is ends told begins = absurd (cc (told, c.are_same.ensures.yes c.if-are_same.true))
+read-ok c (finding.Grows engines) after whole is ends told begins = absurd (cc (told, c.are_same.ensures.yes c.if-are_same.true))
 
 pub returns-then-are_same-clause-all : goal.returns-then-are_same-clause-all
 returns-then-are_same-clause-all c = λ f after whole is ends told begins. read-ok c f after whole is ends told begins

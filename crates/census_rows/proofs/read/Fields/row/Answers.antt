@@ -1,37 +1,49 @@
 use Rattle.std.proofs.Common.{◌≡◌, ◌++◌, ◌∷◌, ◌∙◌, Bor, List, ℕ, [], IsTrue, ap, codes, decimal, refl, sym, true, arith}
 use Rattle.std.proofs.lemmas.List.{append-nil}
+use Rattle.std.specs.Fmt.{signed_decimal}
 use Rattle.census_rows.specs.declared.row.Outcome.{Outcome}
 use Rattle.census_rows.specs.declared.row.Row.{Row}
-use Rattle.census_rows.specs.declared.row.Row.TheVariants.{Open, Line, Part, Code, Close, End}
+use Rattle.census_rows.specs.declared.row.Row.TheVariants.{Open, Line, Part, Engine, Emits, Code, Close, End}
 use Rattle.census_rows.specs.Lines.{IsRow, SameRow, describes_collection, fields_text, row_text, HasNoBlank, EndsField, outcome_fields}
-use Rattle.census_rows.proofs.Behind.{behind-append, behind-one, fields-then}
+use Rattle.census_rows.proofs.FieldTexts.{behind-append, behind-one, fields-then}
 use Rattle.census_rows.proofs.Blanks.{four, one-field}
 use Rattle.census_rows.proofs.read.Fields.row.Goals as goal
 
--- a row that begins with none of three words describes a collection
+-- a row that begins with none of five words describes a collection
 kinds : (row : Row) (kind rest : List ℕ) → HasNoBlank kind → EndsField rest → kind ++ rest ≡ row_text row
-    → (kind ≡ codes "line" → ⊥) → (kind ≡ codes "part" → ⊥) → (kind ≡ codes "end" → ⊥) → IsTrue (describes_collection row)
-kinds (Open collection patterns name) kind rest plain ends e is_line is_part is_end = refl
-kinds (Line collection pattern outcome name) kind rest plain ends e is_line is_part is_end =
+    → (kind ≡ codes "line" → ⊥) → (kind ≡ codes "part" → ⊥) → (kind ≡ codes "end" → ⊥)
+    → (kind ≡ codes "engine" → ⊥) → (kind ≡ codes "emits" → ⊥) → IsTrue (describes_collection row)
+kinds (Open collection patterns name) kind rest plain ends e is_line is_part is_end is_engine is_emits = refl
+kinds (Line collection pattern outcome name) kind rest plain ends e is_line is_part is_end is_engine is_emits =
     absurd (is_line (one-field kind (codes "line") rest
     (fields_text (decimal collection ∷ decimal pattern ∷ (outcome_fields outcome ++ name.now ∷ []))) plain
     (four 108 105 110 101 (λ e. omega arith) (λ e. omega arith) (λ e. omega arith) (λ e. omega arith)) ends refl e).0)
-kinds (Part collection pattern word count) kind rest plain ends e is_line is_part is_end =
+kinds (Part collection pattern word count) kind rest plain ends e is_line is_part is_end is_engine is_emits =
     absurd (is_part (one-field kind (codes "part") rest (fields_text (decimal collection ∷ decimal pattern ∷ word.now ∷ decimal count ∷ [])) plain
     (four 112 97 114 116 (λ e. omega arith) (λ e. omega arith) (λ e. omega arith) (λ e. omega arith)) ends refl e).0)
-kinds (Code collection rule word count) kind rest plain ends e is_line is_part is_end = refl
-kinds (Close collection patterns resolved unresolved refused) kind rest plain ends e is_line is_part is_end = refl
-kinds (End collections patterns) kind rest plain ends e is_line is_part is_end =
+kinds (Engine collection pattern number period dx dy count) kind rest plain ends e is_line is_part is_end is_engine is_emits =
+    absurd (is_engine (one-field kind (codes "engine") rest
+    (fields_text (decimal collection ∷ decimal pattern ∷ decimal number ∷ decimal period ∷ signed_decimal dx ∷ signed_decimal dy ∷ decimal count ∷ [])) plain
+    ((λ e. omega arith), ((λ e. omega arith), four 103 105 110 101 (λ e. omega arith) (λ e. omega arith) (λ e. omega arith) (λ e. omega arith))) ends refl e).0)
+kinds (Emits collection pattern engine word count) kind rest plain ends e is_line is_part is_end is_engine is_emits =
+    absurd (is_emits (one-field kind (codes "emits") rest
+    (fields_text (decimal collection ∷ decimal pattern ∷ decimal engine ∷ word.now ∷ decimal count ∷ [])) plain
+    ((λ e. omega arith), four 109 105 116 115 (λ e. omega arith) (λ e. omega arith) (λ e. omega arith) (λ e. omega arith)) ends refl e).0)
+kinds (Code collection rule word count) kind rest plain ends e is_line is_part is_end is_engine is_emits = refl
+kinds (Close collection patterns resolved unresolved refused) kind rest plain ends e is_line is_part is_end is_engine is_emits = refl
+kinds (End collections patterns) kind rest plain ends e is_line is_part is_end is_engine is_emits =
     absurd (is_end (one-field kind (codes "end") rest (fields_text (decimal collections ∷ decimal patterns ∷ [])) plain
     ((λ e. omega arith), ((λ e. omega arith), ((λ e. omega arith), tt))) ends refl e).0)
 
-pub returns-else-are_same-3-clause-all : goal.returns-else-are_same-3-clause-all
-returns-else-are_same-3-clause-all c = λ row whole is plain ends e.
+pub returns-else-are_same-5-clause-all : goal.returns-else-are_same-5-clause-all
+returns-else-are_same-5-clause-all c = λ row whole is plain ends e.
     c.row_of_collection.ensures.all row whole is
     (kinds row c.args.kind.now c.args.self.now.rest.now plain ends e
     (λ h. cc (c.are_same.ensures.no h, c.if-are_same.false))
     (λ h. cc (c.are_same-else-are_same.ensures.no h, c.if-are_same-2.false))
-    (λ h. cc (c.are_same-else-are_same-2.ensures.no h, c.if-are_same-3.false))) plain ends e
+    (λ h. cc (c.are_same-else-are_same-2.ensures.no h, c.if-are_same-3.false))
+    (λ h. cc (c.are_same-else-are_same-3.ensures.no h, c.if-are_same-4.false))
+    (λ h. cc (c.are_same-else-are_same-4.ensures.no h, c.if-are_same-5.false))) plain ends e
 
 -- the first byte of a word
 abbrev first : List ℕ → ℕ
@@ -54,6 +66,16 @@ line-read (Part c i code k) kind rest is plain ends e Q h =
     let same = (one-field kind (codes "part") rest (fields_text (decimal c ∷ decimal i ∷ code.now ∷ decimal k ∷ [])) plain
     (four 112 97 114 116 (λ e. omega arith) (λ e. omega arith) (λ e. omega arith) (λ e. omega arith)) ends refl e).0 in
     let no : 108 ≡ 112 = ap first (sym is ∙ same) in
+    absurd (omega (arith, no))
+line-read (Engine c i m p x y k) kind rest is plain ends e Q h =
+    let same = (one-field kind (codes "engine") rest (fields_text (decimal c ∷ decimal i ∷ decimal m ∷ decimal p ∷ signed_decimal x ∷ signed_decimal y ∷ decimal k ∷ [])) plain
+    ((λ e. omega arith), ((λ e. omega arith), four 103 105 110 101 (λ e. omega arith) (λ e. omega arith) (λ e. omega arith) (λ e. omega arith))) ends refl e).0 in
+    let no : 108 ≡ 101 = ap first (sym is ∙ same) in
+    absurd (omega (arith, no))
+line-read (Emits c i m code k) kind rest is plain ends e Q h =
+    let same = (one-field kind (codes "emits") rest (fields_text (decimal c ∷ decimal i ∷ decimal m ∷ code.now ∷ decimal k ∷ [])) plain
+    ((λ e. omega arith), four 109 105 116 115 (λ e. omega arith) (λ e. omega arith) (λ e. omega arith) (λ e. omega arith)) ends refl e).0 in
+    let no : 108 ≡ 101 = ap first (sym is ∙ same) in
     absurd (omega (arith, no))
 line-read (Code c rule code k) kind rest is plain ends e Q h =
     let same = (one-field kind (codes "code") rest (fields_text (decimal c ∷ rule.now ∷ code.now ∷ decimal k ∷ [])) plain

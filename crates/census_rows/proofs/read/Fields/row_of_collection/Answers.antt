@@ -1,6 +1,6 @@
 use Rattle.std.proofs.Common.{◌≡◌, ◌++◌, ◌∷◌, List, ℕ, [], IsTrue, codes, decimal, refl, arith}
 use Rattle.census_rows.specs.declared.row.Row.{Row}
-use Rattle.census_rows.specs.declared.row.Row.TheVariants.{Open, Line, Part, Code, Close, End}
+use Rattle.census_rows.specs.declared.row.Row.TheVariants.{Open, Line, Part, Engine, Emits, Code, Close, End}
 use Rattle.census_rows.specs.Lines.{describes_collection, fields_text, row_text, HasNoBlank, EndsField}
 use Rattle.census_rows.proofs.Blanks.{four, one-field}
 use Rattle.census_rows.proofs.read.Fields.row_of_collection.Goals as goal
@@ -13,6 +13,8 @@ kinds (Open collection patterns name) kind rest is plain ends e is_open is_code 
     (four 111 112 101 110 (λ e. omega arith) (λ e. omega arith) (λ e. omega arith) (λ e. omega arith)) ends refl e).0
 kinds (Line collection pattern outcome name) kind rest is plain ends e is_open is_code is_close = cc
 kinds (Part collection pattern word count) kind rest is plain ends e is_open is_code is_close = cc
+kinds (Engine collection pattern number period dx dy count) kind rest is plain ends e is_open is_code is_close = cc
+kinds (Emits collection pattern engine word count) kind rest is plain ends e is_open is_code is_close = cc
 kinds (Code collection rule word count) kind rest is plain ends e is_open is_code is_close =
     is_code (one-field kind (codes "code") rest (fields_text (decimal collection ∷ rule.now ∷ word.now ∷ decimal count ∷ [])) plain
     (four 99 111 100 101 (λ e. omega arith) (λ e. omega arith) (λ e. omega arith) (λ e. omega arith)) ends refl e).0
