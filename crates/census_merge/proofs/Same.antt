@@ -1,11 +1,11 @@
 -- Rows that say the same are told alike.
-use Rattle.std.proofs.Common.{◌≡◌, ℕ, ◌+◌, List, [], ◌∷◌, ◌++◌, codes, decimal, ap, ◌∙◌, refl}
+use Rattle.std.proofs.Common.{◌≡◌, ℕ, ℤ, ◌+◌, List, [], ◌∷◌, ◌++◌, codes, decimal, ap, ◌∙◌, refl}
 use Rattle.std.specs.Fmt.{signed_decimal}
 use Rattle.census_rows.specs.declared.kinds.Field.{Field}
 use Rattle.census_rows.specs.declared.kinds.Value.{Value}
 use Rattle.census_rows.specs.declared.kinds.Value.TheVariants.{Number, Signed, Text}
 use Rattle.census_rows.specs.declared.row.Row.{Row}
-use Rattle.census_rows.specs.declared.row.Row.TheVariants.{Open, Line, Part, Code, Close, End}
+use Rattle.census_rows.specs.declared.row.Row.TheVariants.{Open, Line, Part, Engine, Emits, Code, Close, End}
 use Rattle.census_rows.specs.Kinds.{Said, said, texts_of, value_text}
 use Rattle.census_rows.specs.Lines.{SameFields, SameRow, SameSaid, SameValue, line_of, outcome_fields, spelled, spelling_text}
 use Rattle.census_readback.specs.Steps.{collection_of}
@@ -42,6 +42,17 @@ line-same n (Line c i o name) (Line c2 i2 o2 name2) h =
 line-same n (Part c i code k) (Part c2 i2 code2 k2) h =
     ap (λ m. told (codes "part") (n + m) (decimal i ∷ code.now ∷ decimal k ∷ [])) h.0 ∙ ap (λ m. told (codes "part") (n + c2) (decimal m ∷ code.now ∷ decimal k ∷ [])) h.1
     ∙ ap (λ w. told (codes "part") (n + c2) (decimal i2 ∷ w ∷ decimal k ∷ [])) h.2 ∙ ap (λ m. told (codes "part") (n + c2) (decimal i2 ∷ code2.now ∷ decimal m ∷ [])) h.3
+line-same n (Engine c i e p x y k) (Engine c2 i2 e2 p2 x2 y2 k2) h =
+    let engine : ℕ → ℕ → ℕ → ℕ → ℤ → ℤ → ℕ → List ℕ = λ c i e p x y k.
+    told (codes "engine") (n + c) (decimal i ∷ decimal e ∷ decimal p ∷ signed_decimal x ∷ signed_decimal y ∷ decimal k ∷ []) in
+    ap (λ m. engine m i e p x y k) h.0 ∙ ap (λ m. engine c2 m e p x y k) h.1 ∙ ap (λ m. engine c2 i2 m p x y k) h.2
+    ∙ ap (λ m. engine c2 i2 e2 m x y k) h.3 ∙ ap (λ z. engine c2 i2 e2 p2 z y k) h.4 ∙ ap (λ z. engine c2 i2 e2 p2 x2 z k) h.5
+    ∙ ap (λ m. engine c2 i2 e2 p2 x2 y2 m) h.6
+line-same n (Emits c i e code k) (Emits c2 i2 e2 code2 k2) h =
+    let emits : ℕ → ℕ → ℕ → List ℕ → ℕ → List ℕ = λ c i e code k.
+    told (codes "emits") (n + c) (decimal i ∷ decimal e ∷ code ∷ decimal k ∷ []) in
+    ap (λ m. emits m i e code.now k) h.0 ∙ ap (λ m. emits c2 m e code.now k) h.1 ∙ ap (λ m. emits c2 i2 m code.now k) h.2
+    ∙ ap (λ w. emits c2 i2 e2 w k) h.3 ∙ ap (λ m. emits c2 i2 e2 code2.now m) h.4
 line-same n (Code c rule code k) (Code c2 rule2 code2 k2) h =
     ap (λ m. told (codes "code") (n + m) (rule.now ∷ code.now ∷ decimal k ∷ [])) h.0 ∙ ap (λ w. told (codes "code") (n + c2) (w ∷ code.now ∷ decimal k ∷ [])) h.1
     ∙ ap (λ w. told (codes "code") (n + c2) (rule2.now ∷ w ∷ decimal k ∷ [])) h.2 ∙ ap (λ m. told (codes "code") (n + c2) (rule2.now ∷ code2.now ∷ decimal m ∷ [])) h.3
@@ -58,6 +69,8 @@ pub ends-same : (r q : Row) → SameRow r q → sums_of r ≡ sums_of q
 ends-same (Open c k name) (Open c2 k2 name2) h = refl
 ends-same (Line c i o name) (Line c2 i2 o2 name2) h = refl
 ends-same (Part c i code k) (Part c2 i2 code2 k2) h = refl
+ends-same (Engine c i e p x y k) (Engine c2 i2 e2 p2 x2 y2 k2) h = refl
+ends-same (Emits c i e code k) (Emits c2 i2 e2 code2 k2) h = refl
 ends-same (Code c rule code k) (Code c2 rule2 code2 k2) h = refl
 ends-same (Close c k a b d) (Close c2 k2 a2 b2 d2) h = refl
 ends-same (End k p) (End k2 p2) h =
@@ -68,6 +81,8 @@ pub collection-same : (r q : Row) → SameRow r q → collection_of r ≡ collec
 collection-same (Open c k name) (Open c2 k2 name2) h = h.0
 collection-same (Line c i o name) (Line c2 i2 o2 name2) h = h.0
 collection-same (Part c i code k) (Part c2 i2 code2 k2) h = h.0
+collection-same (Engine c i e p x y k) (Engine c2 i2 e2 p2 x2 y2 k2) h = h.0
+collection-same (Emits c i e code k) (Emits c2 i2 e2 code2 k2) h = h.0
 collection-same (Code c rule code k) (Code c2 rule2 code2 k2) h = h.0
 collection-same (Close c k a b d) (Close c2 k2 a2 b2 d2) h = h.0
 collection-same (End k p) (End k2 p2) h = refl

@@ -4,7 +4,7 @@ use Rattle.gathered.specs.Telling.{Sheet, TellsAfter}
 use Rattle.gathered.proofs.Telling.{tells_failed, tells_more, tells_none}
 use Rattle.std.specs.List.{starts_with}
 use Rattle.census_rows.specs.declared.row.Row.{Row}
-use Rattle.census_rows.specs.declared.row.Row.TheVariants.{Open, Line, Part, Code, Close, End}
+use Rattle.census_rows.specs.declared.row.Row.TheVariants.{Open, Line, Part, Engine, Emits, Code, Close, End}
 use Rattle.census_rows.specs.Lines.{SameRow, line_of, row_text, text_of}
 use Rattle.census_readback.specs.Limits.{count_limit}
 use Rattle.census_readback.specs.Steps.{collection_of}
@@ -287,6 +287,8 @@ pub no-end : (text : List ℕ) (row : Row) (after : List ℕ) → starts_with na
 no-end text (Open c k name) after h e = refl
 no-end text (Line c i o name) after h e = refl
 no-end text (Part c i code k) after h e = refl
+no-end text (Engine c i m p x y k) after h e = refl
+no-end text (Emits c i m code k) after h e = refl
 no-end text (Code c rule code k) after h e = refl
 no-end text (Close c k a b d) after h e = refl
 no-end text (End k p) after h e = absurd (let f : starts_with nat_eq (line_of (End k p) ++ after) (codes "e") ≡ false = ap (λ t. starts_with nat_eq t (codes "e")) (sym e) ∙ h in cc)

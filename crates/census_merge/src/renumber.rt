@@ -15,6 +15,8 @@ pub fn renumbered_row<'a>(before: u64, mut row: Row<'a>) -> Row<'a>
         Row::Open { collection, .. } => *collection = collection.saturating_add(before),
         Row::Line { collection, .. } => *collection = collection.saturating_add(before),
         Row::Part { collection, .. } => *collection = collection.saturating_add(before),
+        Row::Engine { collection, .. } => *collection = collection.saturating_add(before),
+        Row::Emits { collection, .. } => *collection = collection.saturating_add(before),
         Row::Code { collection, .. } => *collection = collection.saturating_add(before),
         Row::Close { collection, .. } => *collection = collection.saturating_add(before),
         Row::End { .. } => {}

@@ -1,11 +1,13 @@
 -- Rows that say the same may stand in the same places.
-use Rattle.std.proofs.Common.{◌≡◌, ℕ, Bool, true, false, not, ◌+◌, ◌-◌, ◌&&◌, ◌||◌, ◌==◌, nat_eq, nat_lt, nat_le, Option, Some, None as Nothing, List, [], ◌∷◌, ap, ◌∙◌, refl, subst}
+use Rattle.std.proofs.Common.{◌≡◌, ℕ, ℤ, Bool, true, false, not, ◌+◌, ◌-◌, ◌^◌, ◌&&◌, ◌||◌, ◌==◌, nat_eq, nat_lt, nat_le, Option, Some, None as Nothing, List, [], ◌∷◌, ap, ◌∙◌, refl, subst}
 use Rattle.std.specs.Prelude.{if◌then◌else◌, ⊤}
 use Rattle.census_bundle.specs.Names.{is_name}
+use Rattle.census_rows.specs.declared.kinds.Behind as rows
+use Rattle.census_rows.specs.declared.kinds.Behind.TheVariants as behind
 use Rattle.census_rows.specs.declared.kinds.Class.{Class}
 use Rattle.census_rows.specs.declared.row.Outcome.{Outcome}
 use Rattle.census_rows.specs.declared.row.Row.{Row}
-use Rattle.census_rows.specs.declared.row.Row.TheVariants.{Open, Line, Part, Code, Close, End}
+use Rattle.census_rows.specs.declared.row.Row.TheVariants.{Open, Line, Part, Engine, Emits, Code, Close, End}
 use Rattle.census_rows.specs.declared.kinds.Field.{Field}
 use Rattle.census_rows.specs.declared.kinds.Label.{Label}
 use Rattle.census_rows.specs.declared.kinds.Label.TheVariants as label
@@ -15,14 +17,16 @@ use Rattle.census_rows.specs.Kinds.{Said, label_number, said, value_at}
 use Rattle.census_rows.specs.Lines.{SameFields, SameOutcome, SameRow, SameSaid, SameValue}
 use Rattle.census_readback.specs.Codes.{is_code, is_code_after}
 use Rattle.life_model.specs.Cell.{origin, same_cell}
-use Rattle.census_readback.specs.Lawful.{has_lawful_code, has_lawful_rule, is_lawful, is_moved, number_in, passes, signed_in, text_in}
+use Rattle.census_readback.specs.Lawful.{has_lawful_code, has_lawful_engines, has_lawful_rule, is_lawful, is_moved, is_way, number_in, passes, signed_in, tells_some, text_in}
+use Rattle.census_readback.specs.Engines.{after_engine, no_engine}
+use Rattle.census_readback.specs.declared.engines.Way.{Way}
 use Rattle.census_readback.specs.Rules.{is_rule}
-use Rattle.census_readback.specs.Told.{Told, has_code, is_some, line_told, part_told, told_after, told_next}
+use Rattle.census_readback.specs.Told.{Told, emits_told, engine_told, has_code, has_rows, is_some, is_told, line_told, part_told, to_tell, told_after, told_next}
 use Rattle.census_readback.specs.declared.place.Place.{Place}
 use Rattle.census_readback.specs.declared.place.Place.TheVariants.{Before, Within, Behind}
 use Rattle.census_readback.specs.declared.place.Tally.{Tally}
 use Rattle.census_readback.specs.Counts.{Counts, bytes_of, line_counted, with_code}
-use Rattle.census_readback.specs.Sections.{counted, with_line, with_part, with_told, tells_next, next_within, first_place, place_after}
+use Rattle.census_readback.specs.Sections.{counted, may_stand, with_line, with_part, with_told, tells_next, next_within, first_place, place_after}
 use Rattle.census_readback.specs.Steps.{Reading, collection_of, patterns_opened, place_at, gone_on, section_step, end_step, step, first_stray}
 use Rattle.census_readback.specs.Texts.{SameRows}
 use Rattle.census_readback.specs.Limits.{count_limit}
@@ -69,6 +73,11 @@ signed-same (Some (Signed z)) (Some (Signed y)) h = h
 signed-same (Some (Text bytes)) (Some (Text others)) h = refl
 signed-same a b h = absurd h
 
+some-same : (a b : Option Value) → SameValues a b → tells_some a ≡ tells_some b
+some-same Nothing Nothing h = refl
+some-same (Some value) (Some other) h = ap (λ n. nat_lt 0 n) (number-same (Some value) (Some other) h)
+some-same a b h = absurd h
+
 module _ (fields others : List Field) (h : SameFields fields others) where
   texts : (l : Label) → text_in (value_at l fields) ≡ text_in (value_at l others)
   texts l = text-same (value_at l fields) (value_at l others) (at-same l fields others h)
@@ -85,14 +94,16 @@ counted-same k s u h =
 
 line-same : (t : Tally) (o p : Outcome) → SameOutcome o p → with_line t o ≡ with_line t p
 line-same t o p h =
-    ap (λ (class : Class). record (counted t class) { read = t.read + 1; ash = (said o).has_parts; counts = line_counted t.counts (said o) }) h.1
-    ∙ ap (λ (parts : Bool). record (counted t (said p).class) { read = t.read + 1; ash = parts; counts = line_counted t.counts (said o) }) h.2
-    ∙ ap (λ (counts : Counts). record (counted t (said p).class) { read = t.read + 1; ash = (said p).has_parts; counts = counts }) (counted-same t.counts (said o) (said p) h)
+    ap (λ (class : Class). record (counted t class) { read = t.read + 1; behind = (said o).behind; counts = line_counted t.counts (said o) }) h.1
+    ∙ ap (λ (kind : rows.Behind). record (counted t (said p).class) { read = t.read + 1; behind = kind; counts = line_counted t.counts (said o) }) h.2
+    ∙ ap (λ (counts : Counts). record (counted t (said p).class) { read = t.read + 1; behind = (said p).behind; counts = counts }) (counted-same t.counts (said o) (said p) h)
 
 first-same : (r q : Row) → SameRow r q → first_place r ≡ first_place q
 first-same (Open c n name) (Open c2 n2 name2) h = ap (λ k. first_place (Open c k name)) h.1
 first-same (Line c i o name) (Line c2 i2 o2 name2) h = refl
 first-same (Part c i code k) (Part c2 i2 code2 k2) h = refl
+first-same (Engine c i e p x y k) (Engine c2 i2 e2 p2 x2 y2 k2) h = refl
+first-same (Emits c i e code k) (Emits c2 i2 e2 code2 k2) h = refl
 first-same (Code c rule code k) (Code c2 rule2 code2 k2) h = refl
 first-same (Close c n a b d) (Close c2 n2 a2 b2 d2) h = refl
 first-same (End n k) (End n2 k2) h = refl
@@ -105,8 +116,10 @@ within-same t (Line c i o name) (Line c2 i2 o2 name2) h =
     ∙ ap (λ (u : Tally). if nat_lt t.read t.patterns && (i2 == t.read + 1) then Some (Within u) else Nothing) (line-same t o o2 h.2)
 within-same t (Part c i code k) (Part c2 i2 code2 k2) h =
     ap (λ m. next_within t (Part c m code k)) h.1
-    ∙ ap (λ w. if t.ash && (i2 == t.read) then Some (Within (with_part t w k)) else Nothing) h.2
-    ∙ ap (λ m. if t.ash && (i2 == t.read) then Some (Within (with_part t code2.now m)) else Nothing) h.3
+    ∙ ap (λ w. if may_stand t behind.Parts i2 then Some (Within (with_part t w k)) else Nothing) h.2
+    ∙ ap (λ m. if may_stand t behind.Parts i2 then Some (Within (with_part t code2.now m)) else Nothing) h.3
+within-same t (Engine c i e p x y k) (Engine c2 i2 e2 p2 x2 y2 k2) h = ap (λ m. next_within t (Engine c m e p x y k)) h.1
+within-same t (Emits c i e code k) (Emits c2 i2 e2 code2 k2) h = ap (λ m. next_within t (Emits c m e code k)) h.1
 within-same t (Code c rule code k) (Code c2 rule2 code2 k2) h =
     ap (λ w. if (t.read == t.patterns) && tells_next t w code.now k then Some (Within (with_told t)) else Nothing) h.1
     ∙ ap (λ w. if (t.read == t.patterns) && tells_next t rule2.now w k then Some (Within (with_told t)) else Nothing) h.2
@@ -126,6 +139,8 @@ collection-same : (r q : Row) → SameRow r q → collection_of r ≡ collection
 collection-same (Open c n name) (Open c2 n2 name2) h = h.0
 collection-same (Line c i o name) (Line c2 i2 o2 name2) h = h.0
 collection-same (Part c i code k) (Part c2 i2 code2 k2) h = h.0
+collection-same (Engine c i e p x y k) (Engine c2 i2 e2 p2 x2 y2 k2) h = h.0
+collection-same (Emits c i e code k) (Emits c2 i2 e2 code2 k2) h = h.0
 collection-same (Code c rule code k) (Code c2 rule2 code2 k2) h = h.0
 collection-same (Close c n a b d) (Close c2 n2 a2 b2 d2) h = h.0
 collection-same (End n k) (End n2 k2) h = refl
@@ -135,6 +150,8 @@ opened-same : (r q : Row) → SameRow r q → patterns_opened r ≡ patterns_ope
 opened-same (Open c n name) (Open c2 n2 name2) h = h.1
 opened-same (Line c i o name) (Line c2 i2 o2 name2) h = refl
 opened-same (Part c i code k) (Part c2 i2 code2 k2) h = refl
+opened-same (Engine c i e p x y k) (Engine c2 i2 e2 p2 x2 y2 k2) h = refl
+opened-same (Emits c i e code k) (Emits c2 i2 e2 code2 k2) h = refl
 opened-same (Code c rule code k) (Code c2 rule2 code2 k2) h = refl
 opened-same (Close c n a b d) (Close c2 n2 a2 b2 d2) h = refl
 opened-same (End n k) (End n2 k2) h = refl
@@ -151,6 +168,8 @@ step-same : (s : Reading) (r q : Row) → SameRow r q → step s r ≡ step s q
 step-same s (Open c n name) (Open c2 n2 name2) h = section-same s (Open c n name) (Open c2 n2 name2) h
 step-same s (Line c i o name) (Line c2 i2 o2 name2) h = section-same s (Line c i o name) (Line c2 i2 o2 name2) h
 step-same s (Part c i code k) (Part c2 i2 code2 k2) h = section-same s (Part c i code k) (Part c2 i2 code2 k2) h
+step-same s (Engine c i e p x y k) (Engine c2 i2 e2 p2 x2 y2 k2) h = section-same s (Engine c i e p x y k) (Engine c2 i2 e2 p2 x2 y2 k2) h
+step-same s (Emits c i e code k) (Emits c2 i2 e2 code2 k2) h = section-same s (Emits c i e code k) (Emits c2 i2 e2 code2 k2) h
 step-same s (Code c rule code k) (Code c2 rule2 code2 k2) h = section-same s (Code c rule code k) (Code c2 rule2 code2 k2) h
 step-same s (Close c n a b d) (Close c2 n2 a2 b2 d2) h = section-same s (Close c n a b d) (Close c2 n2 a2 b2 d2) h
 step-same s (End n k) (End n2 k2) h = ap (λ m. end_step s m k) h.0 ∙ ap (λ m. end_step s n2 m) h.1
@@ -172,10 +191,20 @@ code-same fields others h =
 lawful-same : (r q : Row) → SameRow r q → is_lawful r ≡ is_lawful q
 lawful-same (Open c n name) (Open c2 n2 name2) h = ap is_name h.2
 lawful-same (Line c i o name) (Line c2 i2 o2 name2) h =
-    ap (λ rule. passes is_rule rule && (has_lawful_code (said o).fields && is_name name.now)) (texts (said o).fields (said o2).fields h.2.3 label.Rule)
-    ∙ ap (λ b. has_lawful_rule (said o2).fields && (b && is_name name.now)) (code-same (said o).fields (said o2).fields h.2.3)
-    ∙ ap (λ w. has_lawful_rule (said o2).fields && (has_lawful_code (said o2).fields && is_name w)) h.3
+    let fs = (said o).fields in
+    let gs = (said o2).fields in
+    ap (λ rule. passes is_rule rule && (has_lawful_code fs && (has_lawful_engines fs && is_name name.now))) (texts fs gs h.2.3 label.Rule)
+    ∙ ap (λ b. has_lawful_rule gs && (b && (has_lawful_engines fs && is_name name.now))) (code-same fs gs h.2.3)
+    ∙ ap (λ b. has_lawful_rule gs && (has_lawful_code gs && (b && is_name name.now))) (some-same (value_at label.Engines fs) (value_at label.Engines gs) (at-same label.Engines fs gs h.2.3))
+    ∙ ap (λ w. has_lawful_rule gs && (has_lawful_code gs && (has_lawful_engines gs && is_name w))) h.3
 lawful-same (Part c i code k) (Part c2 i2 code2 k2) h = ap (λ w. is_code w && nat_lt 0 k) h.2 ∙ ap (λ m. is_code code2.now && nat_lt 0 m) h.3
+lawful-same (Engine c i e p x y k) (Engine c2 i2 e2 p2 x2 y2 k2) h =
+    ap (λ m. is_way m x y && nat_lt 0 k) h.3 ∙ ap (λ z. is_way p2 z y && nat_lt 0 k) h.4 ∙ ap (λ z. is_way p2 x2 z && nat_lt 0 k) h.5
+    ∙ ap (λ m. is_way p2 x2 y2 && nat_lt 0 m) h.6
+lawful-same (Emits c i e code k) (Emits c2 i2 e2 code2 k2) h =
+    ap (λ m. nat_lt 0 m && (is_code code.now && (nat_lt 0 k && nat_lt k (2 ^ 32)))) h.2
+    ∙ ap (λ w. nat_lt 0 e2 && (is_code w && (nat_lt 0 k && nat_lt k (2 ^ 32)))) h.3
+    ∙ ap (λ m. nat_lt 0 e2 && (is_code code2.now && (nat_lt 0 m && nat_lt m (2 ^ 32)))) h.4
 lawful-same (Code c rule code k) (Code c2 rule2 code2 k2) h =
     ap (λ w. is_rule w && (is_code code.now && nat_lt 0 k)) h.1 ∙ ap (λ w. is_rule rule2.now && (is_code w && nat_lt 0 k)) h.2
     ∙ ap (λ m. is_rule rule2.now && (is_code code2.now && nat_lt 0 m)) h.3
@@ -183,19 +212,35 @@ lawful-same (Close c n a b d) (Close c2 n2 a2 b2 d2) h = refl
 lawful-same (End n k) (End n2 k2) h = refl
 lawful-same r q h = absurd h
 
+tell-same : (kind : rows.Behind) (s u : Said) → SameSaid s u → to_tell kind s ≡ to_tell kind u
+tell-same behind.Nothing s u h = refl
+tell-same behind.Parts s u h = numbers s.fields u.fields h.3 label.Objects
+tell-same behind.Engines s u h = numbers s.fields u.fields h.3 label.Engines
+
 line-told-same : (t : Told) (c : ℕ) (s u : Said) → SameSaid s u → line_told t c s ≡ line_told t c u
 line-told-same t c s u h =
-    let told : Bool → Bool → ℕ → Option Told = λ code parts objects.
-    if (t.left == 0) && not ((t.recurs || code) && (t.falls_apart || parts)) then Some (record { recurs = t.recurs || code; falls_apart = t.falls_apart || parts; collection = c; left = objects; last = [] }) else Nothing in
-    ap (λ text. told (is_some text) s.has_parts (number_in (value_at label.Objects s.fields))) (texts s.fields u.fields h.3 label.Code)
-    ∙ ap (λ parts. told (has_code u) parts (number_in (value_at label.Objects s.fields))) h.2
-    ∙ ap (told (has_code u) u.has_parts) (numbers s.fields u.fields h.3 label.Objects)
+    let told : Bool → rows.Behind → ℕ → Option Told = λ code kind left.
+    if is_told t && not ((t.recurs || code) && (t.parted || has_rows kind)) then Some (record { recurs = t.recurs || code; parted = t.parted || has_rows kind; collection = c; left = left; last = []; engine = no_engine }) else Nothing in
+    ap (λ text. told (is_some text) s.behind (to_tell s.behind s)) (texts s.fields u.fields h.3 label.Code)
+    ∙ ap (λ kind. told (has_code u) kind (to_tell kind s)) h.2
+    ∙ ap (told (has_code u) u.behind) (tell-same u.behind s u h)
 
 told-same : (t : Told) (r q : Row) → SameRow r q → told_next t r ≡ told_next t q
 told-same t (Open c n name) (Open c2 n2 name2) h = refl
 told-same t (Line c i o name) (Line c2 i2 o2 name2) h = ap (λ k. line_told t k (said o)) h.0 ∙ line-told-same t c2 (said o) (said o2) h.2
 told-same t (Part c i code k) (Part c2 i2 code2 k2) h =
     ap (λ m. part_told t m code.now k) h.0 ∙ ap (λ w. part_told t c2 w k) h.2 ∙ ap (λ m. part_told t c2 code2.now m) h.3
+told-same t (Engine c i e p x y k) (Engine c2 i2 e2 p2 x2 y2 k2) h =
+    let way : ℕ → ℤ → ℤ → Way = λ p x y. record { period = p; dx = x; dy = y } in
+    ap (λ m. engine_told t m k (after_engine t.engine e (way p x y))) h.0
+    ∙ ap (λ m. engine_told t c2 k (after_engine t.engine m (way p x y))) h.2
+    ∙ ap (λ m. engine_told t c2 k (after_engine t.engine e2 (way m x y))) h.3
+    ∙ ap (λ z. engine_told t c2 k (after_engine t.engine e2 (way p2 z y))) h.4
+    ∙ ap (λ z. engine_told t c2 k (after_engine t.engine e2 (way p2 x2 z))) h.5
+    ∙ ap (λ m. engine_told t c2 m (after_engine t.engine e2 (way p2 x2 y2))) h.6
+told-same t (Emits c i e code k) (Emits c2 i2 e2 code2 k2) h =
+    ap (λ m. emits_told t m e code.now k) h.0 ∙ ap (λ m. emits_told t c2 m code.now k) h.2
+    ∙ ap (λ w. emits_told t c2 e2 w k) h.3 ∙ ap (λ m. emits_told t c2 e2 code2.now m) h.4
 told-same t (Code c rule code k) (Code c2 rule2 code2 k2) h = refl
 told-same t (Close c n a b d) (Close c2 n2 a2 b2 d2) h = refl
 told-same t (End n k) (End n2 k2) h = refl

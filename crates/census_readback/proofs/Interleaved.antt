@@ -5,7 +5,7 @@ use Rattle.std.specs.List.{list_all}
 use Rattle.std.proofs.lemmas.Bool.{eqb-true, eq-eqb, ltb-true, lt-ltb, leb-true, le-leb}
 use Rattle.std.proofs.lemmas.List.{append-nil}
 use Rattle.census_rows.specs.declared.row.Row.{Row}
-use Rattle.census_rows.specs.declared.row.Row.TheVariants.{Open, Line, Part, Code, Close, End}
+use Rattle.census_rows.specs.declared.row.Row.TheVariants.{Open, Line, Part, Engine, Emits, Code, Close, End}
 use Rattle.census_readback.specs.declared.place.Place.{Place}
 use Rattle.census_readback.specs.declared.place.Place.TheVariants.{Before, Within, Behind}
 use Rattle.census_readback.specs.Sections.{place_after}
@@ -77,6 +77,8 @@ section-is-step : (s : Reading) (r : Row) → 0 < collection_of r → step s r �
 section-is-step s (Open c n name) h = refl
 section-is-step s (Line c i o name) h = refl
 section-is-step s (Part c i code k) h = refl
+section-is-step s (Engine c i e p x y k) h = refl
+section-is-step s (Emits c i e code k) h = refl
 section-is-step s (Code c rule code k) h = refl
 section-is-step s (Close c n a b d) h = refl
 section-is-step s (End n k) h = absurd (omega arith)
@@ -209,6 +211,16 @@ found v s n seen (Part c i code k ∷ rows) kept told none h =
     let g = going s st.reading seen (Part c i code k) kept st.goes in
     carried st.reading s.ended seen (Part c i code k) rows
     (found st.told st.reading (n + 1) (seen ++ Part c i code k ∷ []) rows g.0 (told-more nothing_told v st.told seen (Part c i code k) told st.tells) (λ e. absurd (cc (e, g.1))) st.others) g.1
+found v s n seen (Engine c i m p x y k ∷ rows) kept told none h =
+    let st = stepped v s n (Engine c i m p x y k) rows h in
+    let g = going s st.reading seen (Engine c i m p x y k) kept st.goes in
+    carried st.reading s.ended seen (Engine c i m p x y k) rows
+    (found st.told st.reading (n + 1) (seen ++ Engine c i m p x y k ∷ []) rows g.0 (told-more nothing_told v st.told seen (Engine c i m p x y k) told st.tells) (λ e. absurd (cc (e, g.1))) st.others) g.1
+found v s n seen (Emits c i m code k ∷ rows) kept told none h =
+    let st = stepped v s n (Emits c i m code k) rows h in
+    let g = going s st.reading seen (Emits c i m code k) kept st.goes in
+    carried st.reading s.ended seen (Emits c i m code k) rows
+    (found st.told st.reading (n + 1) (seen ++ Emits c i m code k ∷ []) rows g.0 (told-more nothing_told v st.told seen (Emits c i m code k) told st.tells) (λ e. absurd (cc (e, g.1))) st.others) g.1
 found v s n seen (Code c rule code k ∷ rows) kept told none h =
     let st = stepped v s n (Code c rule code k) rows h in
     let g = going s st.reading seen (Code c rule code k) kept st.goes in

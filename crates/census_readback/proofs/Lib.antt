@@ -11,5 +11,6 @@ pub mod Sorted
 pub mod Cutting
 pub mod Telling
 pub mod Tallied
+pub mod Compared
 pub mod Counted
 pub mod Walks

@@ -2,17 +2,19 @@
 use Rattle.std.proofs.Common.{◌≡◌, ℕ, ◌+◌, ◌<◌, ◌≤◌, Bool, true, false, ◌&&◌, eqb, ltb, leb, Option, Some, None as Nothing, List, [], ◌∷◌, ◌++◌, drop, length, ap, ◌∙◌, sym, refl, arith, subst}
 use Rattle.std.specs.Prelude.{if◌then◌else◌}
 use Rattle.std.proofs.lemmas.Bool.{eqb-true, eq-eqb, ltb-true, lt-ltb, leb-true, le-leb}
+use Rattle.census_rows.specs.declared.kinds.Behind as rows
+use Rattle.census_rows.specs.declared.kinds.Behind.TheVariants as behind
 use Rattle.census_rows.specs.declared.kinds.Class.{Class}
 use Rattle.census_rows.specs.declared.kinds.Class.TheVariants.{Resolved, Unresolved, Refused}
 use Rattle.census_rows.specs.declared.row.Outcome.{Outcome}
 use Rattle.census_rows.specs.declared.row.Row.{Row}
-use Rattle.census_rows.specs.declared.row.Row.TheVariants.{Open, Line, Part, Code, Close, End}
+use Rattle.census_rows.specs.declared.row.Row.TheVariants.{Open, Line, Part, Engine, Emits, Code, Close, End}
 use Rattle.census_rows.specs.Kinds.{said, same_class, is_resolved, is_unresolved, is_refused}
 use Rattle.census_readback.specs.declared.place.Place.{Place}
 use Rattle.census_readback.specs.declared.place.Place.TheVariants.{Before, Within, Behind}
 use Rattle.census_readback.specs.declared.place.Tally.{Tally}
 use Rattle.census_readback.specs.Counts.{Counts, counted_by, counts_told, line_counted, nothing_counted, object}
-use Rattle.census_readback.specs.Sections.{counted, with_line, with_part, with_told, tells_next, closes}
+use Rattle.census_readback.specs.Sections.{counted, may_stand, same_behind, with_line, with_part, with_told, tells_next, closes}
 use Rattle.census_readback.specs.Runs.{run}
 use Rattle.census_readback.specs.Steps.{patterns_opened}
 use Rattle.census_readback.specs.Shapes.{lines_that, any_outcome, AreLines, AreCodes, IsOpenRow, IsSection}
@@ -33,42 +35,42 @@ pub record Good (t : Tally) : Type 0 where
   pub few : t.patterns ≤ count_limit
 
 -- a tally with one more line
-record Grown (t u : Tally) (class : Class) (parts : Bool) : Type 0 where
+record Grown (t u : Tally) (class : Class) (kind : rows.Behind) : Type 0 where
   good : Good u
   read : u.read ≡ t.read + 1
-  ash : u.ash ≡ parts
+  behind : u.behind ≡ kind
   told : u.told ≡ t.told
   patterns : u.patterns ≡ t.patterns
   resolved : u.resolved ≡ t.resolved + one (same_class class Resolved)
   unresolved : u.unresolved ≡ t.unresolved + one (same_class class Unresolved)
   refused : u.refused ≡ t.refused + one (same_class class Refused)
 
-grown-by : (t : Tally) (class : Class) (parts : Bool) (counts : Counts) → Good t → t.read < t.patterns
-    → Grown t (record (counted t class) { read = t.read + 1; ash = parts; counts = counts }) class parts
-grown-by t Resolved parts counts g less = record {
+grown-by : (t : Tally) (class : Class) (kind : rows.Behind) (counts : Counts) → Good t → t.read < t.patterns
+    → Grown t (record (counted t class) { read = t.read + 1; behind = kind; counts = counts }) class kind
+grown-by t Resolved kind counts g less = record {
   good = record { sum = omega arith; within = omega arith; few = omega arith };
   read = refl;
-  ash = refl;
+  behind = refl;
   told = refl;
   patterns = refl;
   resolved = omega arith;
   unresolved = omega arith;
   refused = omega arith;
 }
-grown-by t Unresolved parts counts g less = record {
+grown-by t Unresolved kind counts g less = record {
   good = record { sum = omega arith; within = omega arith; few = omega arith };
   read = refl;
-  ash = refl;
+  behind = refl;
   told = refl;
   patterns = refl;
   resolved = omega arith;
   unresolved = omega arith;
   refused = omega arith;
 }
-grown-by t Refused parts counts g less = record {
+grown-by t Refused kind counts g less = record {
   good = record { sum = omega arith; within = omega arith; few = omega arith };
   read = refl;
-  ash = refl;
+  behind = refl;
   told = refl;
   patterns = refl;
   resolved = omega arith;
@@ -76,8 +78,8 @@ grown-by t Refused parts counts g less = record {
   refused = omega arith;
 }
 
-grown : (t : Tally) (o : Outcome) → Good t → t.read < t.patterns → Grown t (with_line t o) (said o).class (said o).has_parts
-grown t o g less = grown-by t (said o).class (said o).has_parts (line_counted t.counts (said o)) g less
+grown : (t : Tally) (o : Outcome) → Good t → t.read < t.patterns → Grown t (with_line t o) (said o).class (said o).behind
+grown t o g less = grown-by t (said o).class (said o).behind (line_counted t.counts (said o)) g less
 
 -- what may follow within a section
 record Rest (t : Tally) (rows : List Row) : Type 0 where
@@ -89,7 +91,7 @@ record Rest (t : Tally) (rows : List Row) : Type 0 where
   unresolved : ℕ
   refused : ℕ
   whole : rows ≡ lines ++ (codes ++ Close collection n resolved unresolved refused ∷ [])
-  ordered : AreLines t.read t.ash lines
+  ordered : AreLines t.read t.behind lines
   counts : AreCodes codes
   tallied : counts_told codes ≡ drop t.told (counted_by t.counts lines).sums
   all : t.read + lines_that any_outcome lines ≡ t.patterns
@@ -110,11 +112,13 @@ nothing-behind [] h = refl
 nothing-behind (row ∷ rows) h = absurd (cc)
 
 -- where no line follows, nor a part of the last, none stands there
-no-lines : (last : ℕ) (lines : List Row) → AreLines last false lines → lines_that any_outcome lines ≡ 0 → lines ≡ []
+no-lines : (last : ℕ) (lines : List Row) → AreLines last behind.Nothing lines → lines_that any_outcome lines ≡ 0 → lines ≡ []
 no-lines last [] are none = refl
 no-lines last (Open c n name ∷ lines) are none = absurd are
 no-lines last (Line c i o name ∷ lines) are none = absurd (omega arith)
 no-lines last (Part c i code k ∷ lines) are none = absurd (cc (are.0))
+no-lines last (Engine c i e p x y k ∷ lines) are none = absurd (cc (are.0))
+no-lines last (Emits c i e code k ∷ lines) are none = absurd (cc (are.0))
 no-lines last (Code c rule code k ∷ lines) are none = absurd are
 no-lines last (Close c n a b d ∷ lines) are none = absurd are
 no-lines last (End n k ∷ lines) are none = absurd are
@@ -139,7 +143,7 @@ within-sound t (Line c i o name ∷ rows) g h =
       unresolved = r.unresolved;
       refused = r.refused;
       whole = ap (λ x. Line c i o name ∷ x) r.whole;
-      ordered = (number, subst (λ a. AreLines (t.read + 1) a r.lines) w.ash (subst (λ m. AreLines m u.ash r.lines) w.read r.ordered));
+      ordered = (number, subst (λ a. AreLines (t.read + 1) a r.lines) w.behind (subst (λ m. AreLines m u.behind r.lines) w.read r.ordered));
       counts = r.counts;
       tallied = r.tallied ∙ ap (λ n. drop n (counted_by (line_counted t.counts (said o)) r.lines).sums) w.told;
       all = omega (arith, r.all, w.read, w.patterns);
@@ -150,8 +154,8 @@ within-sound t (Line c i o name ∷ rows) g h =
     }
 within-sound t (Part c i code m ∷ rows) g h =
     let u = with_part t code.now m in
-    let k = passed (t.ash && eqb i t.read) (Within u) rows h in
-    let b = and-both t.ash (eqb i t.read) k.0 in
+    let k = passed (may_stand t behind.Parts i) (Within u) rows h in
+    let b = and-both (same_behind t.behind behind.Parts) (eqb i t.read) k.0 in
     let good : Good u = record { sum = g.sum; within = g.within; few = g.few } in
     let r = within-sound u rows good k.1 in
     record {
@@ -163,6 +167,50 @@ within-sound t (Part c i code m ∷ rows) g h =
       unresolved = r.unresolved;
       refused = r.refused;
       whole = ap (λ x. Part c i code m ∷ x) r.whole;
+      ordered = (b.0, eqb-true _ _ b.1, r.ordered);
+      counts = r.counts;
+      tallied = r.tallied;
+      all = omega (arith, r.all);
+      patterns-are = r.patterns-are;
+      resolved-are = omega (arith, r.resolved-are);
+      unresolved-are = omega (arith, r.unresolved-are);
+      refused-are = omega (arith, r.refused-are);
+    }
+within-sound t (Engine c i e p x y m ∷ rows) g h =
+    let k = passed (may_stand t behind.Engines i) (Within t) rows h in
+    let b = and-both (same_behind t.behind behind.Engines) (eqb i t.read) k.0 in
+    let r = within-sound t rows g k.1 in
+    record {
+      lines = Engine c i e p x y m ∷ r.lines;
+      codes = r.codes;
+      collection = r.collection;
+      n = r.n;
+      resolved = r.resolved;
+      unresolved = r.unresolved;
+      refused = r.refused;
+      whole = ap (λ rest. Engine c i e p x y m ∷ rest) r.whole;
+      ordered = (b.0, eqb-true _ _ b.1, r.ordered);
+      counts = r.counts;
+      tallied = r.tallied;
+      all = omega (arith, r.all);
+      patterns-are = r.patterns-are;
+      resolved-are = omega (arith, r.resolved-are);
+      unresolved-are = omega (arith, r.unresolved-are);
+      refused-are = omega (arith, r.refused-are);
+    }
+within-sound t (Emits c i e code m ∷ rows) g h =
+    let k = passed (may_stand t behind.Engines i) (Within t) rows h in
+    let b = and-both (same_behind t.behind behind.Engines) (eqb i t.read) k.0 in
+    let r = within-sound t rows g k.1 in
+    record {
+      lines = Emits c i e code m ∷ r.lines;
+      codes = r.codes;
+      collection = r.collection;
+      n = r.n;
+      resolved = r.resolved;
+      unresolved = r.unresolved;
+      refused = r.refused;
+      whole = ap (λ x. Emits c i e code m ∷ x) r.whole;
       ordered = (b.0, eqb-true _ _ b.1, r.ordered);
       counts = r.counts;
       tallied = r.tallied;
@@ -235,7 +283,7 @@ within-sound t (End n k ∷ rows) g h = absurd (cc)
 pub section-sound : (rows : List Row) → run Before rows ≡ Some Behind → IsSection rows
 section-sound [] h = absurd (cc)
 section-sound (Open c n name ∷ rows) h =
-    let t : Tally = record { patterns = n; read = 0; resolved = 0; unresolved = 0; refused = 0; ash = false; counts = nothing_counted; told = 0 } in
+    let t : Tally = record { patterns = n; read = 0; resolved = 0; unresolved = 0; refused = 0; behind = behind.Nothing; counts = nothing_counted; told = 0 } in
     let k = passed (leb n count_limit) (Within t) rows h in
     let few : n ≤ count_limit = leb-true _ _ k.0 in
     let good : Good t = record { sum = refl; within = omega arith; few = few } in
@@ -261,6 +309,8 @@ section-sound (Open c n name ∷ rows) h =
     }
 section-sound (Line c i o name ∷ rows) h = absurd (cc)
 section-sound (Part c i code k ∷ rows) h = absurd (cc)
+section-sound (Engine c i e p x y k ∷ rows) h = absurd (cc)
+section-sound (Emits c i e code k ∷ rows) h = absurd (cc)
 section-sound (Code c rule code k ∷ rows) h = absurd (cc)
 section-sound (Close c n a b d ∷ rows) h = absurd (cc)
 section-sound (End n k ∷ rows) h = absurd (cc)
@@ -284,6 +334,8 @@ codes-complete t [] c n a b d counts most tallied e1 e2 e3 e4 e5 =
 codes-complete t (Open c2 n2 name ∷ codes) c n a b d counts most tallied e1 e2 e3 e4 e5 = absurd counts
 codes-complete t (Line c2 i o name ∷ codes) c n a b d counts most tallied e1 e2 e3 e4 e5 = absurd counts
 codes-complete t (Part c2 i code k ∷ codes) c n a b d counts most tallied e1 e2 e3 e4 e5 = absurd counts
+codes-complete t (Engine c2 i e p x y k ∷ codes) c n a b d counts most tallied e1 e2 e3 e4 e5 = absurd counts
+codes-complete t (Emits c2 i e code k ∷ codes) c n a b d counts most tallied e1 e2 e3 e4 e5 = absurd counts
 codes-complete t (Code c2 rule code k ∷ codes) c n a b d counts most tallied e1 e2 e3 e4 e5 =
     let u = with_told t in
     let next = next-drops t.counts.sums t.told (object rule.now code.now) k (counts_told codes) (sym tallied) in
@@ -292,7 +344,7 @@ codes-complete t (Code c2 rule code k ∷ codes) c n a b d counts most tallied e
 codes-complete t (Close c2 n2 a2 b2 d2 ∷ codes) c n a b d counts most tallied e1 e2 e3 e4 e5 = absurd counts
 codes-complete t (End n2 k ∷ codes) c n a b d counts most tallied e1 e2 e3 e4 e5 = absurd counts
 
-within-complete : (t : Tally) (lines codes : List Row) (c n a b d : ℕ) → Good t → AreLines t.read t.ash lines → AreCodes codes
+within-complete : (t : Tally) (lines codes : List Row) (c n a b d : ℕ) → Good t → AreLines t.read t.behind lines → AreCodes codes
     → t.told ≡ 0 → counts_told codes ≡ drop t.told (counted_by t.counts lines).sums → t.read + lines_that any_outcome lines ≡ t.patterns → n ≡ t.patterns → a ≡ t.resolved + lines_that is_resolved lines
     → b ≡ t.unresolved + lines_that is_unresolved lines → d ≡ t.refused + lines_that is_refused lines
     → run (Within t) (lines ++ (codes ++ Close c n a b d ∷ [])) ≡ Some Behind
@@ -303,7 +355,7 @@ within-complete t (Line c2 i o name ∷ lines) codes c n a b d g are counts zero
     let u = with_line t o in
     let less : t.read < t.patterns = omega arith in
     let w = grown t o g less in
-    let more : AreLines u.read u.ash lines = subst (λ m. AreLines m u.ash lines) (sym w.read) (subst (λ x. AreLines (t.read + 1) x lines) (sym w.ash) are.1) in
+    let more : AreLines u.read u.behind lines = subst (λ m. AreLines m u.behind lines) (sym w.read) (subst (λ x. AreLines (t.read + 1) x lines) (sym w.behind) are.1) in
     pass (ltb t.read t.patterns && eqb i (t.read + 1)) (Within u) (lines ++ (codes ++ Close c n a b d ∷ []))
     (both-and _ _ (lt-ltb _ _ less) (eq-eqb _ _ are.0))
     ∙ within-complete u lines codes c n a b d w.good more counts (w.told ∙ zero)
@@ -312,17 +364,23 @@ within-complete t (Line c2 i o name ∷ lines) codes c n a b d g are counts zero
 within-complete t (Part c2 i code k ∷ lines) codes c n a b d g are counts zero tallied e1 e2 e3 e4 e5 =
     let u = with_part t code.now k in
     let good : Good u = record { sum = g.sum; within = g.within; few = g.few } in
-    pass (t.ash && eqb i t.read) (Within u) (lines ++ (codes ++ Close c n a b d ∷ [])) (both-and _ _ are.0 (eq-eqb _ _ are.1))
+    pass (may_stand t behind.Parts i) (Within u) (lines ++ (codes ++ Close c n a b d ∷ [])) (both-and _ _ are.0 (eq-eqb _ _ are.1))
     ∙ within-complete u lines codes c n a b d good are.2 counts zero tallied (omega arith) e2 (omega arith) (omega arith) (omega arith)
+within-complete t (Engine c2 i e p x y k ∷ lines) codes c n a b d g are counts zero tallied e1 e2 e3 e4 e5 =
+    pass (may_stand t behind.Engines i) (Within t) (lines ++ (codes ++ Close c n a b d ∷ [])) (both-and _ _ are.0 (eq-eqb _ _ are.1))
+    ∙ within-complete t lines codes c n a b d g are.2 counts zero tallied (omega arith) e2 (omega arith) (omega arith) (omega arith)
+within-complete t (Emits c2 i e code k ∷ lines) codes c n a b d g are counts zero tallied e1 e2 e3 e4 e5 =
+    pass (may_stand t behind.Engines i) (Within t) (lines ++ (codes ++ Close c n a b d ∷ [])) (both-and _ _ are.0 (eq-eqb _ _ are.1))
+    ∙ within-complete t lines codes c n a b d g are.2 counts zero tallied (omega arith) e2 (omega arith) (omega arith) (omega arith)
 within-complete t (Code c2 rule code k ∷ lines) codes c n a b d g are counts zero tallied e1 e2 e3 e4 e5 = absurd are
 within-complete t (Close c2 n2 a2 b2 d2 ∷ lines) codes c n a b d g are counts zero tallied e1 e2 e3 e4 e5 = absurd are
 within-complete t (End n2 k ∷ lines) codes c n a b d g are counts zero tallied e1 e2 e3 e4 e5 = absurd are
 
-opens-complete : (first : Row) (lines codes : List Row) (c : ℕ) → IsOpenRow first → patterns_opened first ≡ lines_that any_outcome lines → AreLines 0 false lines → AreCodes codes
+opens-complete : (first : Row) (lines codes : List Row) (c : ℕ) → IsOpenRow first → patterns_opened first ≡ lines_that any_outcome lines → AreLines 0 behind.Nothing lines → AreCodes codes
     → counts_told codes ≡ (counted_by nothing_counted lines).sums → lines_that any_outcome lines ≤ count_limit
     → run Before (first ∷ (lines ++ (codes ++ Close c (lines_that any_outcome lines) (lines_that is_resolved lines) (lines_that is_unresolved lines) (lines_that is_refused lines) ∷ []))) ≡ Some Behind
 opens-complete (Open c2 n name) lines codes c is all ordered counts tallied few =
-    let t : Tally = record { patterns = n; read = 0; resolved = 0; unresolved = 0; refused = 0; ash = false; counts = nothing_counted; told = 0 } in
+    let t : Tally = record { patterns = n; read = 0; resolved = 0; unresolved = 0; refused = 0; behind = behind.Nothing; counts = nothing_counted; told = 0 } in
     let m = lines_that any_outcome lines in
     let small : n ≤ count_limit = omega arith in
     let good : Good t = record { sum = refl; within = omega arith; few = small } in
@@ -332,6 +390,8 @@ opens-complete (Open c2 n name) lines codes c is all ordered counts tallied few 
     (omega arith) (sym all) (omega arith) (omega arith) (omega arith)
 opens-complete (Line c2 i o name) lines codes c is all ordered counts tallied few = absurd is
 opens-complete (Part c2 i code k) lines codes c is all ordered counts tallied few = absurd is
+opens-complete (Engine c2 i e p x y k) lines codes c is all ordered counts tallied few = absurd is
+opens-complete (Emits c2 i e code k) lines codes c is all ordered counts tallied few = absurd is
 opens-complete (Code c2 rule code k) lines codes c is all ordered counts tallied few = absurd is
 opens-complete (Close c2 n a b d) lines codes c is all ordered counts tallied few = absurd is
 opens-complete (End n k) lines codes c is all ordered counts tallied few = absurd is

@@ -1,9 +1,9 @@
 -- What several rows tell, one after the other.
-use Rattle.std.proofs.Common.{◌≡◌, Bool, true, false, ◌==◌, Option, Some, None as Nothing, ℕ, List, [], ◌∷◌, ◌++◌, ap, ◌∙◌, refl}
+use Rattle.std.proofs.Common.{◌≡◌, Bool, true, false, Option, Some, None as Nothing, ℕ, List, [], ◌∷◌, ◌++◌, ap, ◌∙◌, refl}
 use Rattle.std.specs.Prelude.{if◌then◌else◌}
 use Rattle.census_rows.specs.declared.row.Row.{Row}
 use Rattle.census_rows.specs.declared.row.Row.TheVariants.{End}
-use Rattle.census_readback.specs.Told.{Told, nothing_told, told_after, told_by}
+use Rattle.census_readback.specs.Told.{Told, is_told, nothing_told, told_after, told_by}
 
 abbrev pub and_then : Option Told → (Told → Option Told) → Option Told
 and_then o go = elim o as (λ _. Option Told) [ Nothing ↦ Nothing | Some u ↦ go u ]
@@ -46,4 +46,4 @@ begun false u h = absurd (cc)
 
 -- behind an `end` row all begins anew
 pub told-end : (v u : Told) (n k : ℕ) → told_after v (End n k) ≡ Some u → u ≡ nothing_told
-told-end v u n k h = begun (v.left == 0) u h
+told-end v u n k h = begun (is_told v) u h

@@ -9,6 +9,7 @@ pub mod Limits
 pub mod Rules
 pub mod Codes
 pub mod Lawful
+pub mod Engines
 pub mod Told
 pub mod Counts
 pub mod ObjectCode

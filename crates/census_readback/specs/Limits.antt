@@ -4,3 +4,7 @@ use Rattle.std.specs.Prelude.{ℕ}
 -- the most collections of a report, and the most patterns of a collection
 abbrev pub count_limit : ℕ
 count_limit = 65535
+
+-- the most generations after which an engine comes again
+abbrev pub period_limit : ℕ
+period_limit = 10000

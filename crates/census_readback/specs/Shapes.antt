@@ -1,9 +1,12 @@
 -- The shape of a report.
 use Rattle.std.specs.Prelude.{ℕ, ◌+◌, ◌<◌, ◌≤◌, ◌^◌, ◌≡◌, ◌==◌, if◌then◌else◌, Bool, true, false, Some, List, [], ◌∷◌, ◌++◌, length, ⊤}
+use Rattle.census_rows.specs.declared.kinds.Behind.{Behind}
+use Rattle.census_rows.specs.declared.kinds.Behind.TheVariants as behind
 use Rattle.census_rows.specs.declared.row.Outcome.{Outcome}
 use Rattle.census_rows.specs.declared.row.Row.{Row}
-use Rattle.census_rows.specs.declared.row.Row.TheVariants.{Open, Line, Part, Code, Close, End}
+use Rattle.census_rows.specs.declared.row.Row.TheVariants.{Open, Line, Part, Engine, Emits, Code, Close, End}
 use Rattle.census_rows.specs.Kinds.{is_refused, is_resolved, is_unresolved, said}
+use Rattle.census_readback.specs.Sections.{same_behind}
 use Rattle.census_readback.specs.Steps.{collection_of, patterns_opened}
 use Rattle.census_readback.specs.Counts.{counted_by, counts_told, nothing_counted}
 use Rattle.census_readback.specs.Limits.{count_limit}
@@ -22,13 +25,17 @@ lines_that kind (row ∷ rows) = (if is_line kind row then 1 else 0) + lines_tha
 abbrev pub any_outcome : Outcome → Bool
 any_outcome outcome = true
 
--- The `line` lines of the patterns after this one, in order, each with its `part` lines after it. These may follow this
--- pattern too where it has parts.
-abbrev pub AreLines : ℕ → Bool → List Row → Type 0
-AreLines last ash [] = ⊤
-AreLines last ash (Line collection pattern outcome name ∷ rows) = (pattern ≡ last + 1) × AreLines (last + 1) (said outcome).has_parts rows
-AreLines last ash (Part collection pattern code count ∷ rows) = (ash ≡ true) × (pattern ≡ last) × AreLines last ash rows
-AreLines last ash _ = ⊥
+-- The `line` lines of the patterns after this one, in order, each with the lines that stand behind it. Lines of one kind may
+-- stand behind this pattern's line too.
+abbrev pub AreLines : ℕ → Behind → List Row → Type 0
+AreLines last kind [] = ⊤
+AreLines last kind (Line collection pattern outcome name ∷ rows) = (pattern ≡ last + 1) × AreLines (last + 1) (said outcome).behind rows
+AreLines last kind (Part collection pattern code count ∷ rows) = (same_behind kind behind.Parts ≡ true) × (pattern ≡ last) × AreLines last kind rows
+AreLines last kind (Engine collection pattern number period dx dy count ∷ rows) =
+    (same_behind kind behind.Engines ≡ true) × (pattern ≡ last) × AreLines last kind rows
+AreLines last kind (Emits collection pattern engine code count ∷ rows) =
+    (same_behind kind behind.Engines ≡ true) × (pattern ≡ last) × AreLines last kind rows
+AreLines last kind _ = ⊥
 
 abbrev pub IsOpenRow : Row → Type 0
 IsOpenRow (Open collection patterns name) = ⊤
@@ -40,7 +47,7 @@ AreCodes (Code collection rule code count ∷ rows) = AreCodes rows
 AreCodes _ = ⊥
 
 -- The rows of a collection: `open`, the lines of its patterns, the `code` lines of the objects that these count, and
--- `close`, which has the numbers of all lines, of `ok` and `ash`, of `none` and `large`, and of `bad` lines.
+-- `close`, which has the numbers of all lines, of `ok`, `ash` and `grows`, of `none` and `large`, and of `bad` lines.
 pub record IsSection (rows : List Row) : Type 0 where
   pub first : Row
   pub lines : List Row
@@ -49,7 +56,7 @@ pub record IsSection (rows : List Row) : Type 0 where
   pub whole : rows ≡ first ∷ (lines ++ (codes ++ Close collection (lines_that any_outcome lines) (lines_that is_resolved lines) (lines_that is_unresolved lines) (lines_that is_refused lines) ∷ []))
   pub opens : IsOpenRow first
   pub all : patterns_opened first ≡ lines_that any_outcome lines
-  pub ordered : AreLines 0 false lines
+  pub ordered : AreLines 0 behind.Nothing lines
   pub counts : AreCodes codes
   pub tallied : counts_told codes ≡ (counted_by nothing_counted lines).sums
   pub few : lines_that any_outcome lines ≤ count_limit
@@ -70,7 +77,8 @@ patterns_in [] = 0
 patterns_in (row ∷ rows) = patterns_opened row + patterns_in rows
 
 -- The rows of a report: those of its collections' sections, interleaved in any way that keeps each section's order, and
--- then `end`. Each is lawful by itself, the `part` rows behind a line tell all its objects, and no report has codes and objects.
+-- then `end`. Each is lawful by itself, the rows behind a line tell all its objects or engines, and no report has codes of
+-- patterns, and objects or engines.
 pub record IsWholeReport (rows : List Row) : Type 0 where
   pub body : List Row
   pub collections : ℕ

@@ -2,7 +2,7 @@
 use Rattle.std.specs.Prelude.{◌≡◌, ℕ, ◌+◌, ◌-◌, ◌^◌, Bool, true, false, ◌&&◌, ◌==◌, nat_lt, nat_le, if◌then◌else◌, Option, Some, None as Nothing, List, [], ◌∷◌, ◌++◌, length, replicate, slice_index_or, slice_set}
 use Rattle.std.specs.List.{list_all}
 use Rattle.census_rows.specs.declared.row.Row.{Row}
-use Rattle.census_rows.specs.declared.row.Row.TheVariants.{Open, Line, Part, Code, Close, End}
+use Rattle.census_rows.specs.declared.row.Row.TheVariants.{Open, Line, Part, Engine, Emits, Code, Close, End}
 use Rattle.census_readback.specs.declared.place.Place.{Place}
 use Rattle.census_readback.specs.declared.place.Place.TheVariants.{Before, Within, Behind}
 use Rattle.census_readback.specs.declared.progress.Progress.{Progress}
@@ -15,6 +15,8 @@ abbrev pub collection_of : Row → ℕ
 collection_of (Open collection patterns name) = collection
 collection_of (Line collection pattern outcome name) = collection
 collection_of (Part collection pattern code count) = collection
+collection_of (Engine collection pattern number period dx dy count) = collection
+collection_of (Emits collection pattern engine code count) = collection
 collection_of (Code collection rule code count) = collection
 collection_of (Close collection patterns resolved unresolved refused) = collection
 collection_of (End collections patterns) = 0
@@ -82,6 +84,8 @@ abbrev pub step : Reading → Row → Option Reading
 step s (Open collection patterns name) = section_step s (Open collection patterns name)
 step s (Line collection pattern outcome name) = section_step s (Line collection pattern outcome name)
 step s (Part collection pattern code count) = section_step s (Part collection pattern code count)
+step s (Engine collection pattern number period dx dy count) = section_step s (Engine collection pattern number period dx dy count)
+step s (Emits collection pattern engine code count) = section_step s (Emits collection pattern engine code count)
 step s (Code collection rule code count) = section_step s (Code collection rule code count)
 step s (Close collection patterns resolved unresolved refused) = section_step s (Close collection patterns resolved unresolved refused)
 step s (End collections patterns) = end_step s collections patterns

@@ -1,30 +1,42 @@
 -- What the rows of a report tell together.
 use Rattle.std.specs.Prelude.{ℕ, ◌-◌, Bool, false, true, not, ◌&&◌, ◌||◌, ◌==◌, nat_le, if◌then◌else◌, Option, Some, None as Nothing, List, [], ◌∷◌}
+use Rattle.std.specs.Option.{option_map}
 use Rattle.std.specs.declared.cmp.Ordering.{Ordering}
 use Rattle.std.specs.declared.cmp.Ordering.TheVariants.{Less, Equal, Greater}
 use Rattle.census_rows.specs.Kinds.{Said, said, value_at}
+use Rattle.census_rows.specs.declared.kinds.Behind.{Behind}
+use Rattle.census_rows.specs.declared.kinds.Behind.TheVariants as behind
 use Rattle.census_rows.specs.declared.kinds.Label.TheVariants as label
 use Rattle.census_rows.specs.declared.row.Row.{Row}
-use Rattle.census_rows.specs.declared.row.Row.TheVariants.{Open, Line, Part, Code, Close, End}
+use Rattle.census_rows.specs.declared.row.Row.TheVariants.{Open, Line, Part, Engine, Emits, Code, Close, End}
+use Rattle.census_readback.specs.Engines.{LastEngine, after_emits, after_engine, engine_of, no_engine}
 use Rattle.census_readback.specs.Lawful.{is_lawful, number_in, text_in}
 use Rattle.census_readback.specs.declared.told as rust
 use Rattle.life_shape.specs.TextOrder.{shorter_cmp}
 
--- whether a line has told a code, and whether one has told how many objects there are; the collection of the last line, how
--- many of its objects no `part` row has told, and the last code that one has
+-- whether a line has told a code, and whether one has told how many objects or engines there are; the collection of the last
+-- line, how many of its objects or engines no row behind it has told, the last code that one has, and the last engine
 pub record Told : Type 0 where
   pub recurs : Bool
-  pub falls_apart : Bool
+  pub parted : Bool
   pub collection : ℕ
   pub left : ℕ
   pub last : List ℕ
+  pub engine : LastEngine
 
 abbrev pub told_of : rust.Told.Told → Told
-told_of told = record { recurs = told.recurs; falls_apart = told.falls_apart; collection = told.collection; left = told.left; last = told.last.now }
+told_of told = record {
+  recurs = told.recurs;
+  parted = told.parted;
+  collection = told.collection;
+  left = told.left;
+  last = told.last.now;
+  engine = engine_of told.engine;
+}
 
 -- before any row
 abbrev pub nothing_told : Told
-nothing_told = record { recurs = false; falls_apart = false; collection = 0; left = 0; last = [] }
+nothing_told = record { recurs = false; parted = false; collection = 0; left = 0; last = []; engine = no_engine }
 
 abbrev pub is_some : Option (List ℕ) → Bool
 is_some Nothing = false
@@ -34,13 +46,29 @@ is_some (Some text) = true
 abbrev pub has_code : Said → Bool
 has_code told = is_some (text_in (value_at label.Code told.fields))
 
--- after a `line` row: no report has codes and objects, and those of the line before are told
+-- rows stand behind it
+abbrev pub has_rows : Behind → Bool
+has_rows behind.Nothing = false
+has_rows behind.Parts = true
+has_rows behind.Engines = true
+
+-- how many objects or engines the rows behind it are to tell
+abbrev pub to_tell : Behind → Said → ℕ
+to_tell behind.Nothing what = 0
+to_tell behind.Parts what = number_in (value_at label.Objects what.fields)
+to_tell behind.Engines what = number_in (value_at label.Engines what.fields)
+
+-- all objects or engines of the last line are told
+abbrev pub is_told : Told → Bool
+is_told t = (t.left == 0) && t.engine.rises
+
+-- after a `line` row: no report has codes of patterns, and objects or engines; and those of the line before are told
 abbrev pub line_told : Told → ℕ → Said → Option Told
 line_told t collection what =
     let recurs = t.recurs || has_code what in
-    let falls_apart = t.falls_apart || what.has_parts in
-    if (t.left == 0) && not (recurs && falls_apart)
-    then Some (record { recurs = recurs; falls_apart = falls_apart; collection = collection; left = number_in (value_at label.Objects what.fields); last = [] })
+    let parted = t.parted || has_rows what.behind in
+    if is_told t && not (recurs && parted)
+    then Some (record { recurs = recurs; parted = parted; collection = collection; left = to_tell what.behind what; last = []; engine = no_engine })
     else Nothing
 
 abbrev pub is_less : Ordering → Bool
@@ -53,18 +81,37 @@ abbrev pub part_told : Told → ℕ → List ℕ → ℕ → Option Told
 part_told t collection code count =
     if (collection == t.collection) && (nat_le count t.left && is_less (shorter_cmp t.last code)) then Some (record t { left = t.left - count; last = code }) else Nothing
 
+abbrev pub with_engine : Told → ℕ → List ℕ → LastEngine → Told
+with_engine t left last engine = record t { left = left; last = last; engine = engine }
+
+-- after an `engine` row: it stands behind its line, and so many engines are left
+abbrev pub engine_told : Told → ℕ → ℕ → Option LastEngine → Option Told
+engine_told t collection count engine =
+    if (collection == t.collection) && nat_le count t.left
+    then option_map (with_engine t (t.left - count) []) engine
+    else Nothing
+
+-- after an `emits` row: it stands behind its engine, and its code behind the one before it
+abbrev pub emits_told : Told → ℕ → ℕ → List ℕ → ℕ → Option Told
+emits_told t collection engine code count =
+    if (collection == t.collection) && ((engine == t.engine.number) && is_less (shorter_cmp t.last code))
+    then option_map (with_engine t t.left code) (after_emits t.engine (record { code = code; count = count }))
+    else Nothing
+
 -- after a row of another kind
 abbrev pub told_so_far : Told → Option Told
-told_so_far t = if t.left == 0 then Some t else Nothing
+told_so_far t = if is_told t then Some (record t { engine = no_engine }) else Nothing
 
 -- what is told after a row
 abbrev pub told_next : Told → Row → Option Told
 told_next t (Open collection patterns name) = told_so_far t
 told_next t (Line collection pattern outcome name) = line_told t collection (said outcome)
 told_next t (Part collection pattern code count) = part_told t collection code.now count
+told_next t (Engine collection pattern number period dx dy count) = engine_told t collection count (after_engine t.engine number (record { period = period; dx = dx; dy = dy }))
+told_next t (Emits collection pattern engine code count) = emits_told t collection engine code.now count
 told_next t (Code collection rule code count) = told_so_far t
 told_next t (Close collection patterns resolved unresolved refused) = told_so_far t
-told_next t (End collections patterns) = if t.left == 0 then Some nothing_told else Nothing
+told_next t (End collections patterns) = if is_told t then Some nothing_told else Nothing
 
 -- after a row that is lawful by itself
 abbrev pub told_after : Told → Row → Option Told

@@ -2,9 +2,10 @@
 ghost use Rattle.std.specs.Prelude.{◌≡◌};
 ghost use Rattle.std.specs.Option.{option_copied};
 ghost use Rattle.census_rows.specs.Kinds.{said, value_at};
-ghost use Rattle.census_readback.specs.Lawful.{has_lawful_code, has_lawful_rule, is_lawful, is_moved, number_in, signed_in, text_in};
+ghost use Rattle.census_readback.specs.Lawful.{has_lawful_code, has_lawful_engines, has_lawful_rule, is_lawful, is_moved, is_way, number_in, signed_in, text_in};
 
 use crate::code::{is_code, is_code_after};
+use crate::limits::{EMITTED_LIMIT, PERIOD_LIMIT};
 use crate::names::is_name;
 use crate::rules::is_rule;
 use census_rows::{Label, Outcome, Row, Value};
@@ -66,17 +67,56 @@ fn has_lawful_code(outcome: &Outcome) -> bool
     }
 }
 
+// Whether the number of engines, where there is one, is 1 at least.
+fn has_lawful_engines(outcome: &Outcome) -> bool
+    ensures { result ≡ has_lawful_engines (said outcome.now).fields }
+{
+    match outcome.value(Label::Engines) {
+        Some(Value::Number(number)) => 0 < number,
+        Some(_) => false,
+        None => true,
+    }
+}
+
+// Whether an engine may come again after so many generations, and have moved so far: by a cell in
+// each at most.
+fn is_way(period: u64, dx: i64, dy: i64) -> bool
+    ensures { result ≡ is_way period dx dy }
+{
+    0 < period
+        && period <= PERIOD_LIMIT
+        && dx.unsigned_abs() <= period
+        && dy.unsigned_abs() <= period
+}
+
 /// Whether a row's name is lawful, its rule is one as it is printed, its code begins as one, and it
-/// counts something where it counts objects.
+/// counts something where it counts objects or engines. An engine moves by a cell in a generation at
+/// most.
 pub fn is_lawful(row: &Row) -> bool
     ensures { result ≡ is_lawful row.now }
 {
     match row {
         Row::Open { name, .. } => is_name(*name),
         Row::Line { outcome, name, .. } => {
-            has_lawful_rule(outcome) && has_lawful_code(outcome) && is_name(*name)
+            has_lawful_rule(outcome)
+                && has_lawful_code(outcome)
+                && has_lawful_engines(outcome)
+                && is_name(*name)
         }
         Row::Part { code, count, .. } => is_code(*code) && 0 < *count,
+        Row::Engine {
+            period,
+            dx,
+            dy,
+            count,
+            ..
+        } => is_way(*period, *dx, *dy) && 0 < *count,
+        Row::Emits {
+            engine,
+            code,
+            count,
+            ..
+        } => 0 < *engine && is_code(*code) && 0 < *count && *count < EMITTED_LIMIT,
         Row::Code {
             rule,
             code,

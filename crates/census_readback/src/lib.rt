@@ -5,6 +5,7 @@
 
 mod code;
 mod counts;
+mod engines;
 mod lawful;
 mod limits;
 mod lines;

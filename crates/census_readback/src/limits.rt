@@ -1,7 +1,13 @@
-//! How large a report may be.
+//! How large a report and its numbers may be.
 
 /// The most collections of a report, and the most patterns of a collection.
 pub const COUNT_LIMIT: u64 = 65_535;
+
+/// The most generations after which an engine comes again.
+pub const PERIOD_LIMIT: u64 = 10_000;
+
+/// What counts of `emits` lines are below.
+pub const EMITTED_LIMIT: u64 = 1 << 32;
 
 /// The most bytes of a name.
 pub const NAME_LIMIT: usize = 255;

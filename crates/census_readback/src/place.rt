@@ -1,10 +1,10 @@
 //! How far the section of a collection is read.
 ghost use Rattle.std.specs.Prelude.{◌≡◌, ◌<◌, ◌^◌, IfOk, IsTrue};
-ghost use Rattle.census_readback.specs.Sections.{closes, counted, place_after, first_place, next_within, tells_next, with_line, with_part, with_told};
+ghost use Rattle.census_readback.specs.Sections.{closes, counted, place_after, first_place, may_stand, next_within, same_behind, tells_next, with_line, with_part, with_told};
 
 use crate::counts::Counts;
 use crate::limits::COUNT_LIMIT;
-use census_rows::{Class, Outcome, Row};
+use census_rows::{Behind, Class, Outcome, Row};
 use std::alloc::{AllocError, Global};
 
 // What was read between the `open` and the `close` line.
@@ -17,8 +17,8 @@ pub struct Tally<'a> {
     pub resolved: u64,
     pub unresolved: u64,
     pub refused: u64,
-    // `part` lines of the last pattern may follow.
-    pub ash: bool,
+    // Which lines may stand behind that of the last pattern.
+    pub behind: Behind,
     // The objects that the lines count.
     pub counts: Counts<'a>,
     // How many of them `code` lines have told.
@@ -60,9 +60,27 @@ fn with_line<'a>(mut tally: Tally<'a>, outcome: &Outcome<'a>) -> Result<Tally<'a
     tally.counts.line(outcome)?;
     Ok(Tally {
         read: tally.read + 1,
-        ash: outcome.has_parts(),
+        behind: outcome.behind(),
         ..counted(tally, outcome.class())
     })
+}
+
+fn same_behind(one: Behind, other: Behind) -> bool
+    ensures { result ≡ same_behind one other }
+{
+    match (one, other) {
+        (Behind::Nothing, Behind::Nothing) => true,
+        (Behind::Parts, Behind::Parts) => true,
+        (Behind::Engines, Behind::Engines) => true,
+        _ => false,
+    }
+}
+
+// Whether lines of this kind may stand behind the line of the last pattern.
+fn may_stand(tally: &Tally, kind: Behind, pattern: u64) -> bool
+    ensures { result ≡ may_stand tally.now kind pattern }
+{
+    same_behind(tally.behind, kind) && pattern == tally.read
 }
 
 // With so many objects of the last pattern.
@@ -87,7 +105,7 @@ fn with_told<'a>(tally: Tally<'a>) -> Tally<'a>
     ensures { result ≡ with_told tally.entry }
 {
     Tally {
-        ash: false,
+        behind: Behind::Nothing,
         told: tally.told + 1,
         ..tally
     }
@@ -127,9 +145,11 @@ fn next_within<'a>(tally: Tally<'a>, row: &Row<'a>) -> Result<Option<Place<'a>>,
             code,
             count,
             ..
-        } if tally.ash && *pattern == tally.read => {
+        } if may_stand(&tally, Behind::Parts, *pattern) => {
             Ok(Some(Place::Within(with_part(tally, *code, *count)?)))
         }
+        Row::Engine { pattern, .. } | Row::Emits { pattern, .. }
+            if may_stand(&tally, Behind::Engines, *pattern) => { Ok(Some(Place::Within(tally))) }
         Row::Code {
             rule,
             code,
@@ -162,7 +182,7 @@ fn first_place<'a>(alloc: Global, row: &Row<'a>) -> Option<Place<'a>>
             resolved: 0,
             unresolved: 0,
             refused: 0,
-            ash: false,
+            behind: Behind::Nothing,
             counts: Counts::nothing(alloc),
             told: 0,
         })),

@@ -28,6 +28,8 @@ pub fn collection_of(row: &Row) -> u64
         Row::Open { collection, .. } => *collection,
         Row::Line { collection, .. } => *collection,
         Row::Part { collection, .. } => *collection,
+        Row::Engine { collection, .. } => *collection,
+        Row::Emits { collection, .. } => *collection,
         Row::Code { collection, .. } => *collection,
         Row::Close { collection, .. } => *collection,
         Row::End { .. } => 0,

@@ -3,11 +3,19 @@
 //! A report is the sections of its collections, which have the numbers from 1 on, interleaved line
 //! by line in any way that keeps each section's order, and then its `end` line. Several reports may
 //! stand one after the other. A section is its `open` line, the lines of its patterns in order, the
-//! `part` lines of an `ash` line right behind it, its `code` lines, and its `close` line. Numbers of
-//! collections and patterns are at most 65,535. Names are lawful, rules are as they are printed, codes
-//! begin as codes, that of an `ok` line as its period and displacement say, the `part` lines tell
-//! all objects of their line in the order of codes, and no report has `ok` and `ash` lines. The
-//! `code` lines of a collection are what its lines count: for each rule and code that `ok` and `part`
+//! `part` lines of an `ash` line and the `engine` lines of a `grows` line right behind it, the
+//! `emits` lines of an `engine` line right behind that, its `code` lines, and its `close` line.
+//! Numbers of collections and patterns are at most 65,535. Names are lawful, rules are as they are
+//! printed, codes begin as codes, that of an `ok` line as its period and displacement say, the `part`
+//! lines tell all objects of their line in the order of codes, and no report has `ok` lines and `ash`
+//! or `grows` lines.
+//!
+//! The `engine` lines tell all engines of their line, one at least, and count from 1. Their periods
+//! are 1 to 10,000, and they move by a cell in a generation at most. Each has `emits` lines, in the
+//! order of codes, with numbers from 1 and below 2^32. They are in the order of periods, of how far
+//! they move to the right and down, and of what they emit, entry by entry; no two tell the same.
+//!
+//! The `code` lines of a collection are what its lines count: for each rule and code that `ok` and `part`
 //! lines have, in the order of first appearance, one line with the number of these `ok` lines and the
 //! sum of the counts of these `part` lines. What follows the `_` of a code is not looked at.
 ghost use Rattle.std.specs.Prelude.{◌≡◌, ◌⊎◌, ℕ, List, None, Some, IfOk, IsFalse, IsTrue, MatchOption, MatchResult};
@@ -22,6 +30,7 @@ use crate::progress::Progress;
 use crate::told::Told;
 use census_rows::Row;
 use std::alloc::{AllocError, Global};
+use std::mem::replace;
 
 // Takes a row, where it may stand here and tells what a report tells here.
 fn take<'a>(
@@ -38,7 +47,8 @@ fn take<'a>(
         → (told_after (told_of told.old) row.now ≡ None)
         ⊎ (step (reading_of progress.old) row.now ≡ None)) }
 {
-    let Some(more) = told.after(row) else {
+    let before = replace(told, Told::nothing(alloc));
+    let Some(more) = before.after(alloc, row)? else {
         return Ok(false);
     };
     if !progress.take(alloc, row)? {
@@ -67,7 +77,7 @@ pub fn fault_of(alloc: Global, text: &[u8]) -> Result<Option<usize>, AllocError>
         → IfOk result (λ fault. fault ≡ None) }
 {
     let mut progress = Progress::start(alloc);
-    let mut told = Told::nothing();
+    let mut told = Told::nothing(alloc);
     let mut rest = text;
     let mut number = 1;
     while let Some(first) = first_row(rest) {

@@ -1,27 +1,33 @@
 //! What the rows of a report tell together.
-ghost use Rattle.std.specs.Prelude.{◌≡◌};
+ghost use Rattle.std.specs.Prelude.{◌≡◌, IfOk, IsTrue};
 ghost use Rattle.std.specs.Option.{option_map};
 ghost use Rattle.census_rows.specs.Kinds.{said};
-ghost use Rattle.census_readback.specs.Told.{has_code, is_less, line_told, nothing_told, part_told, told_after, told_next, told_of, told_so_far};
+ghost use Rattle.census_rows.specs.Lines.{describes_growth};
+ghost use Rattle.census_readback.specs.Engines.{after_engine};
+ghost use Rattle.census_readback.specs.Told.{emits_told, engine_told, has_code, has_rows, is_less, is_told, line_told, nothing_told, part_told, to_tell, told_after, told_next, told_of, told_so_far};
 
+use crate::engines::{Emitted, LastEngine, Way};
 use crate::lawful::{is_lawful, number_at, text_at};
-use census_rows::{Label, Outcome, Row};
+use census_rows::{Behind, Label, Outcome, Row};
 use life_shape::shorter;
+use std::alloc::{AllocError, Global};
 use std::cmp::Ordering;
 
 // What was told.
-#[derive(Clone, Copy)]
+#[derive(Drop)]
 pub struct Told<'a> {
     // Whether a line has told a code.
     pub recurs: bool,
-    // Whether a line has told how many objects there are.
-    pub falls_apart: bool,
+    // Whether a line has told how many objects or engines there are.
+    pub parted: bool,
     // The collection of the last line.
     pub collection: u64,
-    // How many of its objects no `part` row has told.
+    // How many of its objects or engines no row behind it has told.
     pub left: u64,
-    // The last code that one has, or no byte.
+    // The last code that such a row has, or no byte.
     pub last: &'a [u8],
+    // The last engine.
+    pub engine: LastEngine<'a>,
 }
 
 fn has_code(outcome: &Outcome) -> bool
@@ -30,6 +36,27 @@ fn has_code(outcome: &Outcome) -> bool
     match text_at(outcome, Label::Code) {
         Some(_) => true,
         None => false,
+    }
+}
+
+fn has_rows(behind: Behind) -> bool
+    ensures { result ≡ has_rows behind }
+{
+    match behind {
+        Behind::Nothing => false,
+        Behind::Parts => true,
+        Behind::Engines => true,
+    }
+}
+
+// How many objects or engines the rows behind a line are to tell.
+fn to_tell(outcome: &Outcome) -> u64
+    ensures { result ≡ to_tell (said outcome.now).behind (said outcome.now) }
+{
+    match outcome.behind() {
+        Behind::Nothing => 0,
+        Behind::Parts => number_at(outcome, Label::Objects),
+        Behind::Engines => number_at(outcome, Label::Engines),
     }
 }
 
@@ -45,32 +72,41 @@ fn is_less(order: Ordering) -> bool
 
 impl<'a> Told<'a> {
     // Before any row.
-    pub fn nothing() -> Self
+    pub fn nothing(alloc: Global) -> Self
         ensures { told_of result ≡ nothing_told }
     {
         Told {
             recurs: false,
-            falls_apart: false,
+            parted: false,
             collection: 0,
             left: 0,
             last: &[],
+            engine: LastEngine::none(alloc),
         }
     }
 
+    // Whether all objects or engines of the last line are told.
+    fn is_told(&self) -> bool
+        ensures { result ≡ is_told (told_of self.now) }
+    {
+        self.left == 0 && self.engine.rises
+    }
+
     // After a `line` row.
-    fn line(self, collection: u64, outcome: &Outcome) -> Option<Told<'a>>
+    fn line(self, alloc: Global, collection: u64, outcome: &Outcome) -> Option<Told<'a>>
         ensures { option_map told_of result ≡
             line_told (told_of self.entry) collection (said outcome.now) }
     {
         let recurs = self.recurs || has_code(outcome);
-        let falls_apart = self.falls_apart || outcome.has_parts();
-        if self.left == 0 && !(recurs && falls_apart) {
+        let parted = self.parted || has_rows(outcome.behind());
+        if self.is_told() && !(recurs && parted) {
             Some(Told {
                 recurs,
-                falls_apart,
+                parted,
                 collection,
-                left: number_at(outcome, Label::Objects),
+                left: to_tell(outcome),
                 last: &[],
+                engine: LastEngine::none(alloc),
             })
         } else {
             None
@@ -95,45 +131,150 @@ impl<'a> Told<'a> {
         }
     }
 
-    // After a row of another kind.
-    fn so_far(self) -> Option<Told<'a>>
-        ensures { option_map told_of result ≡ told_so_far (told_of self.entry) }
+    // After an `engine` row.
+    fn engine(
+        self,
+        alloc: Global,
+        collection: u64,
+        number: u64,
+        way: Way,
+        count: u64,
+    ) -> Option<Told<'a>>
+        ensures { option_map told_of result ≡ engine_told (told_of self.entry) collection count
+            (after_engine (told_of self.entry).engine number way) }
     {
-        if self.left == 0 { Some(self) } else { None }
+        if collection != self.collection || self.left < count {
+            return None;
+        }
+        let engine = self.engine.after_engine(alloc, number, way)?;
+        Some(Told {
+            left: self.left - count,
+            last: &[],
+            engine,
+            ..self
+        })
     }
 
-    fn next(self, row: &Row<'a>) -> Option<Told<'a>>
-        ensures { option_map told_of result ≡ told_next (told_of self.entry) row.now }
+    // After an `emits` row.
+    fn emits(
+        self,
+        collection: u64,
+        engine: u64,
+        emitted: Emitted<'a>,
+    ) -> Result<Option<Told<'a>>, AllocError>
+        ensures { IfOk result (λ after. option_map told_of after ≡
+            emits_told (told_of self.entry) collection engine emitted.entry.code.now emitted.entry.count) }
+    {
+        if collection != self.collection
+            || engine != self.engine.number
+            || !is_less(shorter(self.last, emitted.code))
+        {
+            return Ok(None);
+        }
+        let Some(engine) = self.engine.after_emits(emitted)? else {
+            return Ok(None);
+        };
+        Ok(Some(Told {
+            last: emitted.code,
+            engine,
+            ..self
+        }))
+    }
+
+    // After a row of another kind.
+    fn so_far(self, alloc: Global) -> Option<Told<'a>>
+        ensures { option_map told_of result ≡ told_so_far (told_of self.entry) }
+    {
+        if self.is_told() {
+            Some(Told {
+                engine: LastEngine::none(alloc),
+                ..self
+            })
+        } else {
+            None
+        }
+    }
+
+    // After a row that tells of growth.
+    fn growth(self, alloc: Global, row: &Row<'a>) -> Result<Option<Told<'a>>, AllocError>
+        requires { IsTrue (describes_growth row.now) }
+        ensures { IfOk result (λ after. option_map told_of after ≡
+            told_next (told_of self.entry) row.now) }
+    {
+        match row {
+            Row::Engine {
+                collection,
+                number,
+                period,
+                dx,
+                dy,
+                count,
+                ..
+            } => {
+                let way = Way {
+                    period: *period,
+                    dx: *dx,
+                    dy: *dy,
+                };
+                Ok(self.engine(alloc, *collection, *number, way, *count))
+            }
+            Row::Emits {
+                collection,
+                engine,
+                code,
+                count,
+                ..
+            } => {
+                let emitted = Emitted {
+                    code: *code,
+                    count: *count,
+                };
+                self.emits(*collection, *engine, emitted)
+            }
+            _ => Ok(None),
+        }
+    }
+
+    fn next(self, alloc: Global, row: &Row<'a>) -> Result<Option<Told<'a>>, AllocError>
+        ensures { IfOk result (λ after. option_map told_of after ≡
+            told_next (told_of self.entry) row.now) }
     {
         match row {
             Row::Line {
                 collection,
                 outcome,
                 ..
-            } => self.line(*collection, outcome),
+            } => Ok(self.line(alloc, *collection, outcome)),
             Row::Part {
                 collection,
                 code,
                 count,
                 ..
-            } => self.part(*collection, *code, *count),
+            } => Ok(self.part(*collection, *code, *count)),
+            Row::Engine { .. } => self.growth(alloc, row),
+            Row::Emits { .. } => self.growth(alloc, row),
             Row::End { .. } => {
-                if self.left == 0 {
-                    Some(Told::nothing())
+                if self.is_told() {
+                    Ok(Some(Told::nothing(alloc)))
                 } else {
-                    None
+                    Ok(None)
                 }
             }
-            Row::Open { .. } => self.so_far(),
-            Row::Code { .. } => self.so_far(),
-            Row::Close { .. } => self.so_far(),
+            Row::Open { .. } => Ok(self.so_far(alloc)),
+            Row::Code { .. } => Ok(self.so_far(alloc)),
+            Row::Close { .. } => Ok(self.so_far(alloc)),
         }
     }
 
     // After this row, where it is lawful and fits what was told.
-    pub fn after(self, row: &Row<'a>) -> Option<Told<'a>>
-        ensures { option_map told_of result ≡ told_after (told_of self.entry) row.now }
+    pub fn after(self, alloc: Global, row: &Row<'a>) -> Result<Option<Told<'a>>, AllocError>
+        ensures { IfOk result (λ after. option_map told_of after ≡
+            told_after (told_of self.entry) row.now) }
     {
-        if is_lawful(row) { self.next(row) } else { None }
+        if is_lawful(row) {
+            self.next(alloc, row)
+        } else {
+            Ok(None)
+        }
     }
 }

@@ -4,7 +4,7 @@ use Rattle.std.specs.Borrow.{Bor}
 use Rattle.std.proofs.lemmas.Bool.{cases_Bool}
 use Rattle.std.proofs.lemmas.List.{append-nil, length-append}
 use Rattle.census_rows.specs.declared.row.Row.{Row}
-use Rattle.census_rows.specs.declared.row.Row.TheVariants.{Open, Line, Part, Code, Close, End}
+use Rattle.census_rows.specs.declared.row.Row.TheVariants.{Open, Line, Part, Engine, Emits, Code, Close, End}
 use Rattle.census_readback.specs.Steps.{collection_of}
 use Rattle.census_readback.specs.Shapes.{AreOfCollections, AreReports, AreWhole, IsOpenRow, IsSection, any_outcome, all_rows, lines_that, patterns_in, rows_of}
 use Rattle.census_readback.specs.Grouped.{collections_of, end_of, sections_of}
@@ -25,6 +25,8 @@ under-size m n k title [] = refl
 under-size m n k title (Open c p name ∷ rows) = under-size m n k title rows ∙ zero-plus (lines_that any_outcome rows)
 under-size m n k title (Line c i o name ∷ rows) = ap (λ x. suc x) (under-size m n k title rows) ∙ one-plus (lines_that any_outcome rows)
 under-size m n k title (Part c i code p ∷ rows) = under-size m n k title rows ∙ zero-plus (lines_that any_outcome rows)
+under-size m n k title (Engine c i e q x y p ∷ rows) = under-size m n k title rows ∙ zero-plus (lines_that any_outcome rows)
+under-size m n k title (Emits c i e code p ∷ rows) = under-size m n k title rows ∙ zero-plus (lines_that any_outcome rows)
 under-size m n k title (Code c rule code p ∷ rows) = under-size m n k title rows ∙ zero-plus (lines_that any_outcome rows)
 under-size m n k title (Close c p a b d ∷ rows) = under-size m n k title rows ∙ zero-plus (lines_that any_outcome rows)
 under-size m n k title (End c p ∷ rows) = under-size m n k title rows ∙ zero-plus (lines_that any_outcome rows)
@@ -33,6 +35,8 @@ opened-size : (m : ℕ) (first : Row) (rows : List Row) → IsOpenRow first → 
 opened-size m (Open c n name) rows h = under-size m c n name rows ∙ zero-plus (lines_that any_outcome rows)
 opened-size m (Line c i o name) rows h = absurd h
 opened-size m (Part c i code k) rows h = absurd h
+opened-size m (Engine c i e p x y k) rows h = absurd h
+opened-size m (Emits c i e code k) rows h = absurd h
 opened-size m (Code c rule code k) rows h = absurd h
 opened-size m (Close c n a b d) rows h = absurd h
 opened-size m (End n k) rows h = absurd h
@@ -103,6 +107,8 @@ no-end : (r : Row) → 0 < collection_of r → end_of r ≡ Nothing
 no-end (Open c n name) h = refl
 no-end (Line c i o name) h = refl
 no-end (Part c i code k) h = refl
+no-end (Engine c i e p x y k) h = refl
+no-end (Emits c i e code k) h = refl
 no-end (Code c rule code k) h = refl
 no-end (Close c n a b d) h = refl
 no-end (End n k) h = absurd (omega arith)

@@ -13,7 +13,7 @@ use Rattle.census_table.specs.Contents.{Content, Member, nothing, count, shift, 
 
 -- all columns, in their order
 abbrev pub columns : List Column
-columns = column.Collection ∷ column.CollectionName ∷ column.Pattern ∷ column.Name ∷ column.Status ∷ column.Rule ∷ column.Population ∷ column.Onset ∷ column.Period ∷ column.Dx ∷ column.Dy ∷ column.Code ∷ column.Fault ∷ column.CollectionNameHex ∷ column.NameHex ∷ column.Objects ∷ column.Generation ∷ []
+columns = column.Collection ∷ column.CollectionName ∷ column.Pattern ∷ column.Name ∷ column.Status ∷ column.Rule ∷ column.Population ∷ column.Onset ∷ column.Period ∷ column.Dx ∷ column.Dy ∷ column.Code ∷ column.Fault ∷ column.CollectionNameHex ∷ column.NameHex ∷ column.Objects ∷ column.Generation ∷ column.Engines ∷ []
 
 -- what a column is called
 abbrev pub name_of : Column → List ℕ
@@ -34,6 +34,7 @@ name_of column.CollectionNameHex = codes "collection_name_hex"
 name_of column.NameHex = codes "name_hex"
 name_of column.Objects = codes "objects"
 name_of column.Generation = codes "generation"
+name_of column.Engines = codes "engines"
 
 abbrev pub value_content : Value → Content
 value_content (Number n) = count n
@@ -67,6 +68,7 @@ content_in_column column.CollectionNameHex entry = hex entry.collection_name.now
 content_in_column column.NameHex entry = hex entry.name.now
 content_in_column column.Objects entry = field_content entry.outcome label.Objects
 content_in_column column.Generation entry = field_content entry.outcome label.Generation
+content_in_column column.Engines entry = field_content entry.outcome label.Engines
 
 -- the row of a pattern
 abbrev pub pattern_row : Entry → List Member

@@ -3,7 +3,7 @@ use Rattle.std.specs.Prelude.{ℕ, ◌+◌, Option, Some, None, List, [], ◌∷
 use Rattle.std.specs.Borrow.{Bor}
 use Rattle.census_rows.specs.declared.row.Outcome.{Outcome}
 use Rattle.census_rows.specs.declared.row.Row.{Row}
-use Rattle.census_rows.specs.declared.row.Row.TheVariants.{Open, Line, Part, Code, Close, End}
+use Rattle.census_rows.specs.declared.row.Row.TheVariants.{Open, Line, Part, Engine, Emits, Code, Close, End}
 use Rattle.census_readback.specs.Grouped.{collections_of}
 use Rattle.census_table.specs.declared.entry.Entry.{Entry}
 
@@ -13,6 +13,8 @@ entry_for number (Open collection patterns title) pattern outcome name =
     Some (record { collection = number; collection_name = title; pattern = pattern; name = name; outcome = outcome })
 entry_for number (Line collection other found title) pattern outcome name = None
 entry_for number (Part collection other code count) pattern outcome name = None
+entry_for number (Engine collection other index period dx dy count) pattern outcome name = None
+entry_for number (Emits collection other engine code count) pattern outcome name = None
 entry_for number (Code collection rule code count) pattern outcome name = None
 entry_for number (Close collection patterns resolved unresolved refused) pattern outcome name = None
 entry_for number (End collections patterns) pattern outcome name = None

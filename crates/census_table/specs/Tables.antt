@@ -6,8 +6,10 @@ use Rattle.csv.specs.Writing.{default_writer, row_text}
 use Rattle.serde_json.specs.Data.{Members, no_members, object, put}
 use Rattle.serde_json.specs.Written.{compact_text}
 use Rattle.census_rows.specs.Kinds.{said}
+use Rattle.census_rows.specs.declared.kinds.Behind.TheVariants as behind
 use Rattle.census_rows.specs.declared.row.Row.{Row}
 use Rattle.census_readback.specs.Grouped.{sections_lent}
+use Rattle.census_readback.specs.Sections.{same_behind}
 use Rattle.census_table.specs.Columns.{columns, name_of, pattern_row}
 use Rattle.census_table.specs.Contents.{Member, content_bytes, content_data}
 use Rattle.census_table.specs.Entries.{all_entries, entries_of}
@@ -45,7 +47,7 @@ listing_of (table.Objects columns objects) = object_listing columns.now objects.
 
 -- the object is one of several that a pattern has fallen apart into
 abbrev pub is_part : Object → Bool
-is_part o = (said o.first.outcome).has_parts
+is_part o = same_behind (said o.first.outcome).behind behind.Parts
 
 -- a row for each pattern, for each `part` row, or for each rule and code
 abbrev pub IsListingOf : Subject → List Row → Listing → Type 0

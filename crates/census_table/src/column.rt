@@ -19,7 +19,7 @@ pub enum Column {
     Pattern,
     /// The pattern's name.
     Name,
-    /// `ok`, `ash`, `none`, `large` or `bad`.
+    /// `ok`, `ash`, `grows`, `none`, `large` or `bad`.
     Status,
     /// Its rule, unless it is `bad`.
     Rule,
@@ -45,6 +45,8 @@ pub enum Column {
     Objects,
     /// The first generation with too many cells, where it is `large`.
     Generation,
+    /// How many engines it has, where it is `grows`.
+    Engines,
 }
 
 // What a row has of a field.
@@ -70,7 +72,7 @@ fn field_cell<'a>(outcome: &Outcome<'a>, label: Label) -> Cell<'a>
 
 impl Column {
     /// All columns, in their order.
-    pub const ALL: [Column; 17] = [
+    pub const ALL: [Column; 18] = [
         Column::Collection,
         Column::CollectionName,
         Column::Pattern,
@@ -88,6 +90,7 @@ impl Column {
         Column::NameHex,
         Column::Objects,
         Column::Generation,
+        Column::Engines,
     ];
 
     /// What the column is called: lowercase letters and `_`.
@@ -112,6 +115,7 @@ impl Column {
             Column::NameHex => "name_hex",
             Column::Objects => "objects",
             Column::Generation => "generation",
+            Column::Engines => "engines",
         }
     }
 
@@ -137,6 +141,7 @@ impl Column {
             Column::NameHex => Cell::Hex(entry.name),
             Column::Objects => field_cell(&entry.outcome, Label::Objects),
             Column::Generation => field_cell(&entry.outcome, Label::Generation),
+            Column::Engines => field_cell(&entry.outcome, Label::Engines),
         }
     }
 }

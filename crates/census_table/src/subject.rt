@@ -10,7 +10,7 @@ use crate::counting::kinds;
 use crate::object::{Object, objects};
 use crate::object_column::ObjectColumn;
 use census_readback::collections;
-use census_rows::Row;
+use census_rows::{Behind, Row};
 use std::alloc::{AllocError, Global};
 
 /// What a table has a row for each of.
@@ -37,13 +37,23 @@ pub enum Table<'a> {
     },
 }
 
+// Whether an object is one of several that a pattern has fallen apart into.
+fn is_part(object: &Object) -> bool
+    ensures { result ≡ is_part object.now }
+{
+    match object.first.outcome.behind() {
+        Behind::Parts => true,
+        _ => false,
+    }
+}
+
 // The objects that are parts.
 fn parts<'a>(alloc: Global, objects: &[Object<'a>]) -> Result<Vec<Object<'a>>, AllocError>
     ensures { IfOk result (λ parts. parts.items ≡ filter is_part objects.now) }
 {
     let mut parts = Vec::new(alloc);
     for object in objects {
-        if object.first.outcome.has_parts() {
+        if is_part(object) {
             parts.push(*object)?;
         }
     }

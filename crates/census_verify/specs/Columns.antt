@@ -9,7 +9,7 @@ use Rattle.census_table.specs.declared.column.Column.TheVariants as column
 
 -- those that a claim may have
 abbrev pub claimable : List Column
-claimable = column.Name ∷ column.CollectionName ∷ column.Status ∷ column.Rule ∷ column.Population ∷ column.Onset ∷ column.Period ∷ column.Dx ∷ column.Dy ∷ column.Code ∷ column.Objects ∷ []
+claimable = column.Name ∷ column.CollectionName ∷ column.Status ∷ column.Rule ∷ column.Population ∷ column.Onset ∷ column.Period ∷ column.Dx ∷ column.Dy ∷ column.Code ∷ column.Objects ∷ column.Engines ∷ []
 
 -- the one that is called so, where there is one
 abbrev pub column_of : List ℕ → Option Column
@@ -39,6 +39,7 @@ has_form (Some column.Population) cell = is_number cell
 has_form (Some column.Onset) cell = is_number cell
 has_form (Some column.Period) cell = is_number cell
 has_form (Some column.Objects) cell = is_number cell
+has_form (Some column.Engines) cell = is_number cell
 has_form (Some column.Dx) cell = is_signed cell
 has_form (Some column.Dy) cell = is_signed cell
 has_form _ cell = true

@@ -1,14 +1,16 @@
 //! The columns of claims.
-ghost use Rattle.std.specs.Prelude.{◌≡◌};
+ghost use Rattle.std.specs.Prelude.{◌≡◌, find, nat_eq};
 ghost use Rattle.std.specs.Char.{is_ascii_digit};
+ghost use Rattle.std.specs.Cmp.Lexicographic.{pointwise};
 ghost use Rattle.std.specs.List.{list_all};
+ghost use Rattle.census_table.specs.Columns.{name_of};
 ghost use Rattle.census_verify.specs.Columns.{claimable, column_of, fits, has_form, is_name, is_number, is_signed};
 ghost use Rattle.census_verify.specs.Numbers.{NumbersMayBeClaimed};
 
 use census_table::Column;
 
 // Those that a claim may have.
-const CLAIMABLE: [Column; 11] = [
+const CLAIMABLE: [Column; 12] = [
     Column::Name,
     Column::CollectionName,
     Column::Status,
@@ -20,18 +22,26 @@ const CLAIMABLE: [Column; 11] = [
     Column::Dy,
     Column::Code,
     Column::Objects,
+    Column::Engines,
 ];
 
-/// The column that is called so, where a claim may have it.
-pub fn column_of(title: &[u8]) -> Option<Column>
-    ensures { result ≡ column_of title.now }
+// The one of these columns that is called so.
+fn column_in(columns: &[Column], title: &[u8]) -> Option<Column>
+    ensures { result ≡ find (λ column. pointwise nat_eq title.now (name_of column)) columns.now }
 {
-    for column in &CLAIMABLE {
+    for column in columns {
         if title == column.name().as_bytes() {
             return Some(*column);
         }
     }
     None
+}
+
+/// The column that is called so, where a claim may have it.
+pub fn column_of(title: &[u8]) -> Option<Column>
+    ensures { result ≡ column_of title.now }
+{
+    column_in(&CLAIMABLE, title)
 }
 
 /// Whether it has the names of patterns.
@@ -77,9 +87,9 @@ fn has_form(column: &Option<Column>, cell: &[u8]) -> bool
     ensures { result ≡ has_form column.now cell.now }
 {
     match column {
-        Some(Column::Population | Column::Onset | Column::Period | Column::Objects) => {
-            is_number(cell)
-        }
+        Some(
+            Column::Population | Column::Onset | Column::Period | Column::Objects | Column::Engines,
+        ) => is_number(cell),
         Some(Column::Dx | Column::Dy) => is_signed(cell),
         _ => true,
     }

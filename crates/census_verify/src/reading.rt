@@ -163,9 +163,9 @@ fn read_rows(alloc: Global, text: &[u8]) -> Result<Result<Claims, usize>, AllocE
 /// A cell may stand in quotes, rows end with LF or CR LF, and the last one with the text too.
 ///
 /// The first row is the header. It has a column `name`, and the others may have the names that tables of patterns
-/// have: `collection_name`, `status`, `rule`, `population`, `onset`, `period`, `dx`, `dy`, `code` and `objects`. What
-/// stands in other columns is passed over, an empty cell claims nothing, and where several columns are called `name` or
-/// `collection_name`, the last one counts. Numbers are written as tables have them.
+/// have: `collection_name`, `status`, `rule`, `population`, `onset`, `period`, `dx`, `dy`, `code`, `objects` and
+/// `engines`. What stands in other columns is passed over, an empty cell claims nothing, and where several columns are
+/// called `name` or `collection_name`, the last one counts. Numbers are written as tables have them.
 ///
 /// `Err` has the number, from 1, of the line on which the first row begins that is no row of such a text, has more or
 /// fewer cells than the header, or has what is no number in a column of numbers; the header, where it has no column

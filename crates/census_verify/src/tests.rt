@@ -22,34 +22,39 @@ code 2 B36/S23 xs4_33 1
 code 2 B36/S23 xp2_7 1
 close 2 2 2 0 0
 end 2 6
-open 1 1 third
+open 1 2 third
 line 1 1 ash B3/S23 13 9 3 rest
 part 1 1 xs4_33 2
 part 1 1 xq4_153 1
+line 1 2 grows B3/S23 72 2 guns
+engine 1 2 1 30 0 0 2
+emits 1 2 1 xq4_153 1
 code 1 B3/S23 xs4_33 2
 code 1 B3/S23 xq4_153 1
-close 1 1 1 0 0
-end 1 1
+close 1 2 2 0 0
+end 1 2
 ";
 
 const TRUE: &[u8] =
-    b"name,collection_name,status,rule,population,onset,period,dx,dy,code,objects,who
-blinker.rle,,ok,B3/S23,3,0,2,0,0,xp2_7,,
-glider,first,ok,B3/S23,5,0,4,1,1,xq4_153,,\"found\r\nearly\"
-glider,second,,,4,,,,,xs4_33,,
-\"r pentomino\",first,none,,5,,,,,,,
-\"\"\"a,b\"\"\",,bad,,,,,,,,,
-=1+1,second,,,,,,,,,,
-rest,third,ash,,13,9,,,,,3,";
+    b"name,collection_name,status,rule,population,onset,period,dx,dy,code,objects,engines,who
+blinker.rle,,ok,B3/S23,3,0,2,0,0,xp2_7,,,
+glider,first,ok,B3/S23,5,0,4,1,1,xq4_153,,,\"found\r\nearly\"
+glider,second,,,4,,,,,xs4_33,,,
+\"r pentomino\",first,none,,5,,,,,,,,
+\"\"\"a,b\"\"\",,bad,,,,,,,,,,
+=1+1,second,,,,,,,,,,,
+rest,third,ash,,13,9,,,,,3,,
+guns,third,grows,,72,,,,,,,2,";
 
-const WRONG: &[u8] = b"\xef\xbb\xbfname,code,population,collection_name,dx\r
-blinker.rle,xp2_7,4,,\r
-glider,,5,,\r
-glider,xq4_153,,second,-1\r
-nothing,,,,\r
-glider,,,third,\r
-\"two\nlines\",,,,\r
-r pentomino,xs4_33,99999999999999999999999,,\r
+const WRONG: &[u8] = b"\xef\xbb\xbfname,code,population,collection_name,dx,engines\r
+blinker.rle,xp2_7,4,,,\r
+glider,,5,,,\r
+glider,xq4_153,,second,-1,\r
+nothing,,,,,\r
+glider,,,third,,\r
+\"two\nlines\",,,,,\r
+r pentomino,xs4_33,99999999999999999999999,,,1\r
+guns,,,,,3\r
 ";
 
 const TOLD: &[u8] = b"wrong blinker.rle population 4 3
@@ -61,13 +66,15 @@ missing glider
 missing two\\x0alines
 wrong r pentomino code xs4_33 -
 wrong r pentomino population 99999999999999999999999 5
+wrong r pentomino engines 1 -
+wrong guns engines 3 2
 unclaimed first/\"a,b\"
 unclaimed second/=1+1
 unclaimed third/rest
 ";
 
 // Texts, and the lines of their faults.
-const FAULTS: [(&[u8], usize); 14] = [
+const FAULTS: [(&[u8], usize); 15] = [
     (b"", 1),
     (b"\n", 1),
     (b"code\nxs4_33\n", 1),
@@ -82,6 +89,7 @@ const FAULTS: [(&[u8], usize); 14] = [
     (b"name\na,b\n", 2),
     (b"name,code\n\"x\ny\",1\nz\n", 4),
     (b"name,code\na,b\n\n", 3),
+    (b"name,engines\na,1\nb,01", 3),
 ];
 
 // Texts, and how many claims they have.

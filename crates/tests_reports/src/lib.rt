@@ -7,11 +7,15 @@ mod files;
 #[cfg(test)]
 mod gathering;
 #[cfg(test)]
+mod growth;
+#[cfg(test)]
 mod lines;
 #[cfg(test)]
 mod merging;
 #[cfg(test)]
 mod page;
+#[cfg(test)]
+mod page_growth;
 #[cfg(test)]
 mod readback;
 #[cfg(test)]

@@ -48,7 +48,7 @@ end 3 4
 ";
 
 // The merged report, or nothing where there is none.
-fn merged(alloc: Global, text: &[u8]) -> Result<Vec<u8>, AllocError> {
+pub fn merged(alloc: Global, text: &[u8]) -> Result<Vec<u8>, AllocError> {
     if fault_of(alloc, text)?.is_some() || count(Counted::nothing(), text).is_err() {
         return Ok(Vec::new(alloc));
     }

@@ -121,7 +121,7 @@ const BODY: &str = "<body>
 </section>
 </main>
 <footer>
-<p>Cells: of the phase that is drawn, which is the one that the code describes. Population: of the first generation. Onset: the generation from which a pattern recurs. Unresolved: nothing was found within the bound. Refused: the text means no pattern.</p>
+<p>Cells: of the phase that is drawn, which is the one that the code describes. Population: of the first generation. Onset: the generation from which a pattern recurs. Guns, rakes and puffers: how far they move, to the right and down, and what they emit is told of one period. Unresolved: nothing was found within the bound. Refused: the text means no pattern.</p>
 </footer>
 </body>
 </html>
@@ -160,12 +160,12 @@ fn page_with(alloc: Global, options: &PageOptions, report: &[u8]) -> Result<Vec<
 }
 
 // The page of a report of which nothing else is asked.
-fn page_of(alloc: Global, report: &[u8]) -> Result<Vec<u8>, AllocError> {
+pub fn page_of(alloc: Global, report: &[u8]) -> Result<Vec<u8>, AllocError> {
     page_with(alloc, &default_options(), report)
 }
 
 // Whether the text is in UTF-8 and has this part.
-fn has(text: &[u8], part: &str) -> bool {
+pub fn has(text: &[u8], part: &str) -> bool {
     match str::from_utf8(text) {
         Ok(text) => text.contains(part),
         Err(_) => false,

@@ -36,7 +36,7 @@ end 0 0
 ";
 
 // The line of the fault, or 0.
-fn fault(alloc: Global, text: &[u8]) -> Result<usize, AllocError> {
+pub fn fault(alloc: Global, text: &[u8]) -> Result<usize, AllocError> {
     match read_report(alloc, text)? {
         Ok(_) => Ok(0),
         Err(line) => Ok(line),
