@@ -3,7 +3,7 @@ use Rattle.std.proofs.Common.{◌≡◌, ℕ, zero, suc, ◌+◌, ◌<◌, ◌�
 use Rattle.std.proofs.lemmas.Bool.{cases_Bool}
 use Rattle.std.proofs.lemmas.List.{append-nil}
 use Rattle.census_rows.specs.declared.row.Row.{Row}
-use Rattle.census_rows.specs.declared.row.Row.TheVariants.{Open, Line, Part, Code, Close, End}
+use Rattle.census_rows.specs.declared.row.Row.TheVariants.{Open, Line, Part, Engine, Emits, Code, Close, End}
 use Rattle.census_readback.specs.Steps.{collection_of}
 use Rattle.census_readback.specs.Shapes.{AreOfCollections, AreReports, AreWhole, all_rows, patterns_in, rows_of}
 use Rattle.census_readback.specs.Grouped.{collections_of, end_of, sections_of}
@@ -71,6 +71,8 @@ no-end : (r : Row) → 0 < collection_of r → end_of r ≡ Nothing
 no-end (Open c n name) h = refl
 no-end (Line c i o name) h = refl
 no-end (Part c i code k) h = refl
+no-end (Engine c i e p x y k) h = refl
+no-end (Emits c i e code k) h = refl
 no-end (Code c rule code k) h = refl
 no-end (Close c n a b d) h = refl
 no-end (End n k) h = absurd (omega arith)

@@ -1,7 +1,5 @@
-pub mod Appending
+pub mod Behind
 pub mod Counts
-pub mod Divisors
-pub mod Escaping
 pub mod Lent
 pub mod Listing
 pub mod Numbered

@@ -1,8 +1,8 @@
 -- Lists of patterns, cut where the first of them end.
 use Rattle.std.proofs.Common.{◌≡◌, ℕ, zero, suc, min, true, false, List, [], ◌∷◌, ◌++◌, codes, length, take, drop, refl, sym, ap, ap₂, ◌∙◌, arith, true≢false}
 use Rattle.std.specs.Prelude.{◌==◌}
+use Rattle.census_page_pieces.specs.Numbers.{grouped}
 use Rattle.census_page.specs.Lists.{holder_list, items, more_items}
-use Rattle.census_page.specs.Numbers.{grouped}
 use Rattle.census_page.specs.declared.holder.Holder.{Holder}
 
 take-min : (n : ℕ) (xs : List Holder) → take (min (length xs) n) xs ≡ take n xs

@@ -119,8 +119,8 @@ order-drop n hs order k d low small =
     ∙ order (n + k) d (omega arith) within
 
 -- the rest of a list is taken whole
-pub rest-whole : (n : ℕ) (hs : List Holder) → take (length hs - n) (drop n hs) ≡ drop n hs
-rest-whole n hs = take_all (length hs - n) (drop n hs) (omega (arith, length-drop n hs))
+pub rest-whole : {X : Type 0} (n : ℕ) (xs : List X) → take (length xs - n) (drop n xs) ≡ drop n xs
+rest-whole n xs = take_all (length xs - n) (drop n xs) (omega (arith, length-drop n xs))
 
 -- what `partition_point` asks
 pub before-parted : (rule code : List ℕ) (hs : List Holder) → AreInOrder hs → IsPartitionedBy (is_before rule code) hs

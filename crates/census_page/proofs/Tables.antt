@@ -1,14 +1,16 @@
 -- A table of codes of patterns that are put in order, and where there is none.
 use Rattle.std.proofs.Common.{◌≡◌, Bor, ℕ, Bool, true, false, not, ◌||◌, if◌then◌else◌, true≢false, sym, List, [], ◌∷◌, ◌++◌, codes, refl, ap, ap₂}
 use Rattle.std.specs.Prelude.{None}
-use Rattle.std.specs.List.{list_any}
+use Rattle.std.specs.List.{list_any, take_while}
 use Rattle.census_rows.specs.declared.row.Outcome.{Outcome}
 use Rattle.census_rows.specs.declared.row.Row.{Row}
-use Rattle.census_rows.specs.declared.row.Row.TheVariants.{Open, Line, Part, Code, Close, End}
-use Rattle.census_page.specs.Escapes.{name_element}
-use Rattle.census_page.specs.Fates.{fate_cells, recurs}
+use Rattle.census_rows.specs.declared.row.Row.TheVariants.{Open, Line, Part, Engine, Emits, Code, Close, End}
+use Rattle.census_rows.specs.Lines.{describes_growth}
+use Rattle.census_page_pieces.specs.Escapes.{name_element}
+use Rattle.census_page_pieces.specs.Fates.{fate_cells, recurs}
+use Rattle.census_page_pieces.specs.Growth.{growth_text}
+use Rattle.census_page_pieces.specs.Markup.{list_begin, table_begin, table_end}
 use Rattle.census_page.specs.Holders.{having, holders_from}
-use Rattle.census_page.specs.Markup.{list_begin, table_begin, table_end}
 use Rattle.census_page.specs.Pages.{code_cells, code_row, code_rows, code_table, framed_text, is_code, is_stray, stray_list, stray_rows}
 use Rattle.census_page.specs.declared.holder.Holder.{Holder}
 
@@ -17,6 +19,8 @@ module _ (old new : List Holder) (same : (rule code : List ℕ) → having rule 
   same-row (Open collection patterns name) = refl
   same-row (Line collection pattern outcome name) = refl
   same-row (Part collection pattern code count) = refl
+  same-row (Engine collection pattern number period dx dy count) = refl
+  same-row (Emits collection pattern engine code count) = refl
   same-row (Code collection rule code count) = ap (code_cells rule.now code.now count) (same rule.now code.now)
   same-row (Close collection patterns resolved unresolved refused) = refl
   same-row (End collections patterns) = refl
@@ -30,6 +34,8 @@ pub no-row : (holders : List Holder) (row : Row) → ((collection : ℕ) (rule c
 no-row holders (Open collection patterns name) other = refl
 no-row holders (Line collection pattern outcome name) other = refl
 no-row holders (Part collection pattern code count) other = refl
+no-row holders (Engine collection pattern number period dx dy count) other = refl
+no-row holders (Emits collection pattern engine code count) other = refl
 no-row holders (Code collection rule code count) other = absurd (other collection rule code count refl)
 no-row holders (Close collection patterns resolved unresolved refused) other = refl
 no-row holders (End collections patterns) other = refl
@@ -42,6 +48,8 @@ table-some holders [] some = absurd (true≢false (sym some))
 table-some holders (Open collection patterns name ∷ rows) some = table-some holders rows some
 table-some holders (Line collection pattern outcome name ∷ rows) some = table-some holders rows some
 table-some holders (Part collection pattern code count ∷ rows) some = table-some holders rows some
+table-some holders (Engine collection pattern number period dx dy count ∷ rows) some = table-some holders rows some
+table-some holders (Emits collection pattern engine code count ∷ rows) some = table-some holders rows some
 table-some holders (Code collection rule code count ∷ rows) some = refl
 table-some holders (Close collection patterns resolved unresolved refused ∷ rows) some = table-some holders rows some
 table-some holders (End collections patterns ∷ rows) some = table-some holders rows some
@@ -51,6 +59,8 @@ no-table holders [] none = refl
 no-table holders (Open collection patterns name ∷ rows) none = no-table holders rows none
 no-table holders (Line collection pattern outcome name ∷ rows) none = no-table holders rows none
 no-table holders (Part collection pattern code count ∷ rows) none = no-table holders rows none
+no-table holders (Engine collection pattern number period dx dy count ∷ rows) none = no-table holders rows none
+no-table holders (Emits collection pattern engine code count ∷ rows) none = no-table holders rows none
 no-table holders (Code collection rule code count ∷ rows) none = absurd (true≢false none)
 no-table holders (Close collection patterns resolved unresolved refused ∷ rows) none = no-table holders rows none
 no-table holders (End collections patterns ∷ rows) none = no-table holders rows none
@@ -63,27 +73,29 @@ table-none rows = no-table (holders_from None rows) rows
 
 -- # A table where any row tells of a pattern that does not recur, and none elsewhere
 
-abbrev row_unless : Bool → List ℕ → Outcome → List ℕ
-row_unless recurring name outcome =
-    if recurring then [] else codes "<tr class=\"u\"><th scope=\"row\">" ++ name_element name ++ fate_cells outcome ++ codes "</td></tr>\n"
+abbrev row_unless : Bool → List ℕ → Outcome → List Row → List ℕ
+row_unless recurring name outcome growth =
+    if recurring then [] else codes "<tr class=\"u\"><th scope=\"row\">" ++ name_element name ++ fate_cells outcome ++ growth_text growth ++ codes "</td></tr>\n"
 
-some-row : (b some : Bool) (name rest : List ℕ) (outcome : Outcome) → (not b || some) ≡ true
+some-row : (b some : Bool) (name rest : List ℕ) (outcome : Outcome) (growth : List Row) → (not b || some) ≡ true
     → (some ≡ true → framed_text list_begin rest table_end ≡ list_begin ++ (rest ++ table_end))
-    → framed_text list_begin (row_unless b name outcome ++ rest) table_end ≡ list_begin ++ ((row_unless b name outcome ++ rest) ++ table_end)
-some-row true some name rest outcome is others = others is
-some-row false some name rest outcome is others = refl
+    → framed_text list_begin (row_unless b name outcome growth ++ rest) table_end ≡ list_begin ++ ((row_unless b name outcome growth ++ rest) ++ table_end)
+some-row true some name rest outcome growth is others = others is
+some-row false some name rest outcome growth is others = refl
 
-no-stray : (b some : Bool) (name rest : List ℕ) (outcome : Outcome) → (not b || some) ≡ false → (some ≡ false → framed_text list_begin rest table_end ≡ [])
-    → framed_text list_begin (row_unless b name outcome ++ rest) table_end ≡ []
-no-stray true some name rest outcome none others = others none
-no-stray false some name rest outcome none others = absurd (true≢false none)
+no-stray : (b some : Bool) (name rest : List ℕ) (outcome : Outcome) (growth : List Row) → (not b || some) ≡ false → (some ≡ false → framed_text list_begin rest table_end ≡ [])
+    → framed_text list_begin (row_unless b name outcome growth ++ rest) table_end ≡ []
+no-stray true some name rest outcome growth none others = others none
+no-stray false some name rest outcome growth none others = absurd (true≢false none)
 
 pub list-is : (rows : List Row) → list_any is_stray rows ≡ true → stray_list rows ≡ list_begin ++ (stray_rows rows ++ table_end)
 list-is [] some = absurd (true≢false (sym some))
 list-is (Open collection patterns name ∷ rows) some = list-is rows some
 list-is (Line collection pattern outcome name ∷ rows) some =
-    some-row (recurs outcome) (list_any is_stray rows) name.now (stray_rows rows) outcome some (list-is rows)
+    some-row (recurs outcome) (list_any is_stray rows) name.now (stray_rows rows) outcome (take_while describes_growth rows) some (list-is rows)
 list-is (Part collection pattern code count ∷ rows) some = list-is rows some
+list-is (Engine collection pattern number period dx dy count ∷ rows) some = list-is rows some
+list-is (Emits collection pattern engine code count ∷ rows) some = list-is rows some
 list-is (Code collection rule code count ∷ rows) some = list-is rows some
 list-is (Close collection patterns resolved unresolved refused ∷ rows) some = list-is rows some
 list-is (End collections patterns ∷ rows) some = list-is rows some
@@ -92,8 +104,10 @@ pub list-none : (rows : List Row) → list_any is_stray rows ≡ false → stray
 list-none [] none = refl
 list-none (Open collection patterns name ∷ rows) none = list-none rows none
 list-none (Line collection pattern outcome name ∷ rows) none =
-    no-stray (recurs outcome) (list_any is_stray rows) name.now (stray_rows rows) outcome none (list-none rows)
+    no-stray (recurs outcome) (list_any is_stray rows) name.now (stray_rows rows) outcome (take_while describes_growth rows) none (list-none rows)
 list-none (Part collection pattern code count ∷ rows) none = list-none rows none
+list-none (Engine collection pattern number period dx dy count ∷ rows) none = list-none rows none
+list-none (Emits collection pattern engine code count ∷ rows) none = list-none rows none
 list-none (Code collection rule code count ∷ rows) none = list-none rows none
 list-none (Close collection patterns resolved unresolved refused ∷ rows) none = list-none rows none
 list-none (End collections patterns ∷ rows) none = list-none rows none

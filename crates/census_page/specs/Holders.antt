@@ -3,6 +3,8 @@ use Rattle.std.specs.Prelude.{ℕ, Bool, ◌&&◌, if◌then◌else◌, Option, 
 use Rattle.std.specs.Cmp.Lexicographic.{pointwise}
 use Rattle.std.specs.Bool.{nat_eq}
 use Rattle.std.specs.Borrow.{Bor}
+use Rattle.census_readback.specs.Sections.{same_behind}
+use Rattle.census_rows.specs.declared.kinds.Behind.TheVariants as behind
 use Rattle.census_rows.specs.declared.row.Finding.{Finding}
 use Rattle.census_rows.specs.declared.row.Finding.TheVariants.{Ok}
 use Rattle.census_rows.specs.declared.row.Outcome.{Outcome}
@@ -10,15 +12,15 @@ use Rattle.census_rows.specs.declared.row.Outcome.TheVariants.{Found, Bad}
 use Rattle.census_rows.specs.declared.row.Row.{Row}
 use Rattle.census_rows.specs.declared.row.Row.TheVariants.{Line, Part}
 use Rattle.census_rows.specs.Kinds.{said_of}
+use Rattle.census_page_pieces.specs.declared.speed.Way.{Way}
 use Rattle.census_page.specs.declared.holder.Holder.{Holder}
 use Rattle.census_page.specs.declared.holder.Naming.{Naming}
 use Rattle.census_page.specs.declared.holder.Share.{Share}
 use Rattle.census_page.specs.declared.holder.Share.TheVariants.{Parts, Whole}
-use Rattle.census_page.specs.declared.speed.Way.{Way}
 
 -- the rule and the name of the pattern that has fallen apart last, after a row
 abbrev pub naming_in : Option Naming → Outcome → Bor (List ℕ) → Option Naming
-naming_in naming (Found rule population finding) name = if (said_of finding).has_parts then Some (record { rule = rule; name = name }) else naming
+naming_in naming (Found rule population finding) name = if same_behind (said_of finding).behind behind.Parts then Some (record { rule = rule; name = name }) else naming
 naming_in naming (Bad fault) name = naming
 
 abbrev pub naming_after : Option Naming → Row → Option Naming

@@ -1,12 +1,5 @@
-pub mod Escapes
-pub mod Fates
 pub mod Holders
-pub mod Kinds
 pub mod Lists
-pub mod Markup
-pub mod Numbers
 pub mod Options
 pub mod Order
 pub mod Pages
-pub mod Pictures
-pub mod Speeds

@@ -1,7 +1,7 @@
 -- Lists of the patterns that have a code.
 use Rattle.std.specs.Prelude.{ℕ, List, [], ◌∷◌, ◌++◌, codes, drop, length, take}
-use Rattle.census_page.specs.Escapes.{name_element}
-use Rattle.census_page.specs.Numbers.{grouped, labelled}
+use Rattle.census_page_pieces.specs.Escapes.{name_element}
+use Rattle.census_page_pieces.specs.Numbers.{grouped, labelled}
 use Rattle.census_page.specs.declared.holder.Holder.{Holder}
 use Rattle.census_page.specs.declared.holder.Share.{Share}
 use Rattle.census_page.specs.declared.holder.Share.TheVariants.{Parts, Whole}

@@ -1,25 +1,26 @@
 -- The text of a page.
-use Rattle.std.specs.Prelude.{ℕ, ◌+◌, Bool, true, false, not, if◌then◌else◌, Option, Some, None as Nothing, is_some, List, [], ◌∷◌, ◌++◌, codes, decimal, length, nat_le, take}
-use Rattle.std.specs.List.{count_by}
+use Rattle.std.specs.Prelude.{ℕ, ◌+◌, Bool, true, false, not, if◌then◌else◌, Option, Some, None as Nothing, is_some, List, [], ◌∷◌, ◌++◌, codes, decimal, length}
+use Rattle.std.specs.List.{count_by, take_while}
 use Rattle.life_model.specs.Generation.{Generation}
 use Rattle.census_rows.specs.declared.row.Row.{Row}
 use Rattle.census_rows.specs.declared.row.Row.TheVariants.{Open, Line, Code, Close}
 use Rattle.census_rows.specs.Kinds.{is_refused, is_resolved, is_unresolved}
+use Rattle.census_rows.specs.Lines.{describes_growth}
 use Rattle.census_readback.specs.Grouped.{collections_of}
 use Rattle.census_readback.specs.Shapes.{any_outcome, is_line}
+use Rattle.census_page_pieces.specs.declared.kind.Kind.{Kind}
+use Rattle.census_page_pieces.specs.declared.kind.Kind.TheVariants.{StillLife, Oscillator, Spaceship, Other}
+use Rattle.census_page_pieces.specs.Escapes.{code_element, name_element, told_text}
+use Rattle.census_page_pieces.specs.Fates.{fate_row, recurs}
+use Rattle.census_page_pieces.specs.declared.speed.Way.{Way}
+use Rattle.census_page_pieces.specs.Kinds.{class_of, is_kind, kind_of, object_words}
+use Rattle.census_page_pieces.specs.Markup.{index_begin, index_end, list_begin, page_begin, page_end, page_style, table_begin, table_end}
+use Rattle.census_page_pieces.specs.Numbers.{grouped, labelled}
+use Rattle.census_page_pieces.specs.Pictures.{cells_told, picture, rle, spelled}
 use Rattle.census_page.specs.declared.holder.Holder.{Holder}
-use Rattle.census_page.specs.declared.kind.Kind.{Kind}
-use Rattle.census_page.specs.declared.kind.Kind.TheVariants.{StillLife, Oscillator, Spaceship, Other}
-use Rattle.census_page.specs.Escapes.{name_element, told_text}
-use Rattle.census_page.specs.Fates.{fate_row, recurs}
-use Rattle.census_page.specs.declared.speed.Way.{Way}
 use Rattle.census_page.specs.Holders.{having, holders_from, way_of}
-use Rattle.census_page.specs.Kinds.{class_of, is_kind, kind_of, object_words}
 use Rattle.census_page.specs.Lists.{holder_list}
-use Rattle.census_page.specs.Markup.{index_begin, index_end, list_begin, page_begin, page_end, page_style, table_begin, table_end}
-use Rattle.census_page.specs.Numbers.{grouped, labelled}
 use Rattle.census_page.specs.Options.{Options}
-use Rattle.census_page.specs.Pictures.{cells_told, picture, rle, spelled}
 
 -- # A collection
 
@@ -51,12 +52,6 @@ headings [] = []
 headings (row ∷ rows) = heading row ++ headings rows
 
 -- # Its codes
-
--- a code: beyond 60 bytes only the first 24, and all when they are asked for
-unfoldable pub code_element : List ℕ → List ℕ
-code_element code =
-    if nat_le (length code) 60 then codes "<code>" ++ told_text code ++ codes "</code>" else
-    codes "<details><summary><code>" ++ told_text (take 24 code) ++ codes "&hellip;</code></summary><code>" ++ told_text code ++ codes "</code></details>"
 
 -- the picture of a code
 abbrev pub picture_cell : List ℕ → Option Generation → List ℕ
@@ -93,13 +88,14 @@ code_rows holders (row ∷ rows) = code_row holders row ++ code_rows holders row
 
 -- # Its patterns that do not recur
 
-abbrev pub stray_row : Row → List ℕ
-stray_row (Line collection pattern outcome name) = fate_row name.now outcome
-stray_row _ = []
+-- the row of a table for a row of a report that stands before these
+abbrev pub stray_row : Row → List Row → List ℕ
+stray_row (Line collection pattern outcome name) rows = fate_row name.now outcome (take_while describes_growth rows)
+stray_row _ rows = []
 
 abbrev pub stray_rows : List Row → List ℕ
 stray_rows [] = []
-stray_rows (row ∷ rows) = stray_row row ++ stray_rows rows
+stray_rows (row ∷ rows) = stray_row row rows ++ stray_rows rows
 
 -- # The whole of it
 

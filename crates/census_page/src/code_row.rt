@@ -2,50 +2,23 @@
 ghost use Rattle.std.specs.Prelude.{◌≡◌, ◌++◌, codes, IfOk, MatchResult, OnOk};
 ghost use Rattle.gathered.specs.Telling.{TellsAfter, TellsFront, sheet};
 ghost use Rattle.census_readback.specs.Grouped.{rows_lent};
+ghost use Rattle.census_page_pieces.specs.Numbers.{grouped};
 ghost use Rattle.census_page.specs.Holders.{having};
-ghost use Rattle.census_page.specs.Numbers.{grouped};
 ghost use Rattle.census_page.specs.Order.{AreInOrder};
-ghost use Rattle.census_page.specs.Pages.{code_cells, code_element, code_row, code_rows, front_cells, name_cell, object_cells, picture_cell, rule_cells};
+ghost use Rattle.census_page.specs.Pages.{code_cells, code_row, code_rows, front_cells, name_cell, object_cells, picture_cell, rule_cells};
 
-use crate::escape::push_text;
 use crate::holder::{Holder, having, way_of};
-use crate::kind::{class_of, kind_of, push_object_words};
 use crate::list::put_list;
-use crate::numbers::push_grouped;
-use crate::picture::{push_cell_count, push_picture, spelled};
-use crate::rle::push_rle;
-use crate::speed::Way;
+use census_page_pieces::{
+    Way, class_of, kind_of, push_cell_count, push_code, push_grouped, push_object_words,
+    push_picture, push_rle, push_text, spelled,
+};
 use census_rows::Row;
 use gathered::{Block, put};
 use life_shape::Shape;
 use std::alloc::{AllocError, Global};
 use std::io::Write;
 use watched::Watched;
-
-// A code of so many bytes is shown whole.
-const SHOWN: usize = 60;
-
-// So many bytes of a longer code are shown at first.
-const BEGINNING: usize = 24;
-
-// Adds a code: beyond `SHOWN` bytes only the first, and all when they are asked for.
-#[tactic(auto, unfolding(crate::specs::Pages::code_element))]
-fn push_code(alloc: Global, text: &mut Vec<u8>, code: &[u8]) -> Result<(), AllocError>
-    ensures { OnOk result (text.new.items ≡ text.old.items ++ code_element code.now) }
-{
-    if code.len() <= SHOWN {
-        text.extend_from_slice(b"<code>")?;
-        push_text(alloc, text, code)?;
-        text.extend_from_slice(b"</code>")?;
-        return Ok(());
-    }
-    text.extend_from_slice(b"<details><summary><code>")?;
-    push_text(alloc, text, &code[..BEGINNING])?;
-    text.extend_from_slice(b"&hellip;</code></summary><code>")?;
-    push_text(alloc, text, code)?;
-    text.extend_from_slice(b"</code></details>")?;
-    Ok(())
-}
 
 // Adds the picture of a code.
 fn push_picture_cell(

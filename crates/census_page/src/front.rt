@@ -3,14 +3,11 @@ ghost use Rattle.std.specs.Prelude.{◌≡◌, ◌++◌, IfOk, OnOk};
 ghost use Rattle.census_page.specs.Options.{options_of};
 ghost use Rattle.census_page.specs.Pages.{choice, choices, front, note_text, total, totals};
 
-use crate::escape::push_text;
-use crate::kind::Kind;
-use crate::markup::{page_begin, page_style};
-use crate::numbers::push_grouped;
 use crate::options::PageOptions;
 use crate::tally::{
     count_patterns, count_refused, count_resolved, count_shown, count_shown_as, count_unresolved,
 };
+use census_page_pieces::{Kind, page_begin, page_style, push_grouped, push_text};
 use census_rows::Row;
 use std::alloc::{AllocError, Global};
 

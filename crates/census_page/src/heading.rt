@@ -4,8 +4,7 @@ ghost use Rattle.gathered.specs.Telling.{TellsAfter, TellsFront, sheet};
 ghost use Rattle.census_readback.specs.Grouped.{rows_lent};
 ghost use Rattle.census_page.specs.Pages.{collection_name, counts_text, heading, headings};
 
-use crate::escape::push_told;
-use crate::numbers::push_labelled;
+use census_page_pieces::{push_labelled, push_told};
 use census_rows::Row;
 use gathered::{Block, put};
 use std::alloc::{AllocError, Global};

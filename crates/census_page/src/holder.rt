@@ -2,12 +2,15 @@
 ghost use Rattle.std.specs.Prelude.{◌≡◌, ◌≤◌, ℕ, List, length, IfOk, None, OnOk, true, false};
 ghost use Rattle.std.specs.List.{All};
 ghost use Rattle.std.specs.List.Sorted.{IsPartitionPoint};
+ghost use Rattle.census_rows.specs.Kinds.{said};
+ghost use Rattle.census_rows.specs.declared.kinds.Behind.TheVariants as behind;
 ghost use Rattle.census_readback.specs.Grouped.{rows_lent};
+ghost use Rattle.census_readback.specs.Sections.{same_behind};
 ghost use Rattle.census_page.specs.Holders.{has_code, holder_by_part, holder_in, holder_of, having, holders_from, naming_after, naming_in, way_of};
 ghost use Rattle.census_page.specs.Order.{AreInOrder, holder_key, is_before, key_cmp};
 
-use crate::speed::Way;
-use census_rows::{Finding, Outcome, Row};
+use census_page_pieces::Way;
+use census_rows::{Behind, Finding, Outcome, Row};
 use std::alloc::{AllocError, Global};
 use std::cmp::Ordering;
 
@@ -43,6 +46,16 @@ struct Naming<'a> {
     name: &'a [u8],
 }
 
+// Whether `part` lines stand behind an outcome.
+fn has_parts(outcome: &Outcome) -> bool
+    ensures { result ≡ same_behind (said outcome.now).behind behind.Parts }
+{
+    match outcome.behind() {
+        Behind::Parts => true,
+        _ => false,
+    }
+}
+
 // The rule and the name of the pattern that has parts, where this outcome has, and else of the last.
 fn naming_in<'a>(
     naming: &Option<Naming<'a>>,
@@ -52,7 +65,7 @@ fn naming_in<'a>(
     ensures { result ≡ naming_in naming.now outcome.now name.entry }
 {
     match outcome {
-        Outcome::Found { rule, .. } if outcome.has_parts() => Some(Naming { rule: *rule, name }),
+        Outcome::Found { rule, .. } if has_parts(outcome) => Some(Naming { rule: *rule, name }),
         _ => *naming,
     }
 }

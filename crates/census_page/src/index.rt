@@ -4,10 +4,8 @@ ghost use Rattle.gathered.specs.Telling.{TellsAfter, TellsFront, sheet};
 ghost use Rattle.census_readback.specs.Grouped.{rows_lent, sections_lent};
 ghost use Rattle.census_page.specs.Pages.{all_index_cells, index_cells, index_row, index_rows, link_cell, number_cell};
 
-use crate::escape::push_told;
-use crate::kind::Kind;
-use crate::numbers::{push_grouped, push_number};
 use crate::tally::count_lent;
+use census_page_pieces::{Kind, push_grouped, push_number, push_told};
 use census_rows::Row;
 use gathered::{Block, put};
 use std::alloc::{AllocError, Global};

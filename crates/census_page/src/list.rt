@@ -1,12 +1,11 @@
 //! Lists of the patterns that have a code.
 ghost use Rattle.std.specs.Prelude.{◌≡◌, ◌++◌, IfOk, MatchResult, OnOk, codes};
 ghost use Rattle.gathered.specs.Telling.{TellsAfter, TellsFront, sheet};
+ghost use Rattle.census_page_pieces.specs.Numbers.{grouped, labelled};
 ghost use Rattle.census_page.specs.Lists.{holder_list, item, items, more_items, share_words};
-ghost use Rattle.census_page.specs.Numbers.{grouped, labelled};
 
-use crate::escape::push_told;
 use crate::holder::{Holder, Share};
-use crate::numbers::{push_grouped, push_labelled};
+use census_page_pieces::{push_grouped, push_labelled, push_told};
 use gathered::{Block, put};
 use std::alloc::{AllocError, Global};
 use std::io::Write;

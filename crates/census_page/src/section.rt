@@ -6,12 +6,10 @@ ghost use Rattle.census_readback.specs.Grouped.{rows_lent};
 ghost use Rattle.census_page.specs.Pages.{code_table, is_code, is_stray, section_text, stray_list};
 
 use crate::code_row::put_code_rows;
-use crate::fate::recurs;
 use crate::heading::put_headings;
 use crate::holder::{holders, put_in_order};
-use crate::markup::{list_begin, table_begin, table_end};
-use crate::numbers::push_number;
 use crate::stray::put_stray_rows;
+use census_page_pieces::{list_begin, push_number, recurs, table_begin, table_end};
 use census_rows::Row;
 use gathered::{Block, put};
 use std::alloc::{AllocError, Global};

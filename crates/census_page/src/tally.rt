@@ -6,8 +6,7 @@ ghost use Rattle.census_rows.specs.Kinds.{is_refused, is_resolved, is_unresolved
 ghost use Rattle.census_page.specs.Pages.{is_shown, is_shown_as, kind_shown};
 ghost use Rattle.census_readback.specs.Grouped.{rows_lent};
 
-use crate::fate::recurs;
-use crate::kind::{Kind, is_kind, kind_of};
+use census_page_pieces::{Kind, is_kind, kind_of, recurs};
 use census_rows::{Class, Row};
 
 // Of which kind what a row tells of is, where the page has a row for it.

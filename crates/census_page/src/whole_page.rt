@@ -9,9 +9,9 @@ ghost use Rattle.census_page.specs.Pages.{body_text, codes_in, page_of, sections
 
 use crate::front::{choices, front};
 use crate::index::put_rows;
-use crate::markup::{index_begin, index_end, page_end};
 use crate::options::PageOptions;
 use crate::section::put_section;
+use census_page_pieces::{index_begin, index_end, page_end};
 use census_readback::collections;
 use census_rows::Row;
 use gathered::{Block, put};

@@ -2,7 +2,7 @@
 use Rattle.std.proofs.Common.{◌≡◌, ℕ, zero, suc, ◌+◌, ◌<◌, ◌≤◌, true, false, eqb, Option, Some, None as Nothing, List, [], ◌∷◌, ◌++◌, map, length, ap, ◌∙◌, sym, refl, subst, arith, append_assoc, append-nil, inl, inr}
 use Rattle.std.proofs.lemmas.Bool.{cases_Bool}
 use Rattle.census_rows.specs.declared.row.Row.{Row}
-use Rattle.census_rows.specs.declared.row.Row.TheVariants.{Open, Line, Part, Code, Close, End}
+use Rattle.census_rows.specs.declared.row.Row.TheVariants.{Open, Line, Part, Engine, Emits, Code, Close, End}
 use Rattle.census_merge.specs.declared.report_sums.Sums.{Sums}
 use Rattle.census_merge.specs.Sums.{no_sums, sums_plus, sums_in, sums_of}
 use Rattle.census_merge.specs.Merged.{merged_rows, numbered_on, renumbered_row}
@@ -21,10 +21,14 @@ entry-same k b h (Open c n t) = refl
 entry-same k b (Open c n t) (Line d i o name) = refl
 entry-same k b (Line c j p t) (Line d i o name) = refl
 entry-same k b (Part c j code n) (Line d i o name) = refl
+entry-same k b (Engine c j e p x y n) (Line d i o name) = refl
+entry-same k b (Emits c j e code n) (Line d i o name) = refl
 entry-same k b (Code c rule code n) (Line d i o name) = refl
 entry-same k b (Close c n x y z) (Line d i o name) = refl
 entry-same k b (End c n) (Line d i o name) = refl
 entry-same k b h (Part c i code n) = refl
+entry-same k b h (Engine c i e p x y n) = refl
+entry-same k b h (Emits c i e code n) = refl
 entry-same k b h (Code c rule code n) = refl
 entry-same k b h (Close c n x y z) = refl
 entry-same k b h (End c n) = refl
@@ -43,6 +47,8 @@ number-of : (b : ℕ) (r : Row) → 0 < collection_of r → collection_of (renum
 number-of b (Open c n t) h = refl
 number-of b (Line c i o t) h = refl
 number-of b (Part c i code n) h = refl
+number-of b (Engine c i e p x y n) h = refl
+number-of b (Emits c i e code n) h = refl
 number-of b (Code c rule code n) h = refl
 number-of b (Close c n x y z) h = refl
 number-of b (End c n) h = absurd (omega arith)
@@ -51,6 +57,8 @@ no-sums : (r : Row) → 0 < collection_of r → sums_of r ≡ Nothing
 no-sums (Open c n t) h = refl
 no-sums (Line c i o t) h = refl
 no-sums (Part c i code n) h = refl
+no-sums (Engine c i e p x y n) h = refl
+no-sums (Emits c i e code n) h = refl
 no-sums (Code c rule code n) h = refl
 no-sums (Close c n x y z) h = refl
 no-sums (End c n) h = absurd (omega arith)

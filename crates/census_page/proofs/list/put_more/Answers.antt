@@ -3,8 +3,8 @@ use Rattle.std.proofs.lemmas.Result.{err_from_is_err_and}
 use Rattle.gathered.specs.Telling.{TellsAfter, TellsFront, sheet}
 use Rattle.gathered.proofs.Telling.{tells_more, tells_none}
 use Rattle.gathered.proofs.Fronts.{front_first, front_more, front_none}
+use Rattle.census_page_pieces.specs.Numbers.{grouped}
 use Rattle.census_page.specs.Lists.{items, more_items}
-use Rattle.census_page.specs.Numbers.{grouped}
 use Rattle.census_page.proofs.Listing.{more-is, more-none}
 use Rattle.census_page.proofs.list.put_more.Goals as goal
 

@@ -5,8 +5,8 @@ use Rattle.gathered.specs.Telling.{TellsAfter, TellsFront, sheet}
 use Rattle.gathered.proofs.Telling.{tells_more, tells_none}
 use Rattle.gathered.proofs.Fronts.{front_first, front_more, front_none}
 use Rattle.census_readback.specs.Grouped.{rows_lent}
+use Rattle.census_page_pieces.specs.Markup.{table_begin, table_end}
 use Rattle.census_page.specs.Holders.{holders_from}
-use Rattle.census_page.specs.Markup.{table_begin, table_end}
 use Rattle.census_page.specs.Pages.{code_rows, code_table, is_code}
 use Rattle.census_page.proofs.Lent.{any_lent}
 use Rattle.census_page.proofs.Tables.{same-rows, table-is, table-none}

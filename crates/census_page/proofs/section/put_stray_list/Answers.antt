@@ -4,7 +4,7 @@ use Rattle.gathered.specs.Telling.{TellsAfter, TellsFront, sheet}
 use Rattle.gathered.proofs.Telling.{tells_more, tells_none}
 use Rattle.gathered.proofs.Fronts.{front_first, front_more}
 use Rattle.census_readback.specs.Grouped.{rows_lent}
-use Rattle.census_page.specs.Markup.{list_begin, table_end}
+use Rattle.census_page_pieces.specs.Markup.{list_begin, table_end}
 use Rattle.census_page.specs.Pages.{is_stray, stray_rows}
 use Rattle.census_page.proofs.Lent.{any_lent}
 use Rattle.census_page.proofs.Tables.{list-is, list-none}

@@ -5,7 +5,7 @@ use Rattle.census_readback.specs.Grouped.{rows_lent}
 use Rattle.census_page.specs.Pages.{stray_rows}
 use Rattle.census_page.proofs.stray.put_stray_rows.Given as goal
 
-abbrev pub invariant-loop-row : goal.invariant-loop-row
-invariant-loop-row g l =
-    TellsUpTo (stray_rows (rows_lent l.rows)) (stray_rows (rows_lent (drop l.row-index l.rows)))
+abbrev pub invariant-loop-index : goal.invariant-loop-index
+invariant-loop-index g l =
+    TellsUpTo (stray_rows (rows_lent l.rows)) (stray_rows (rows_lent (drop l.index l.rows)))
     (sheet g.W.Write.contents l.fn.block l.fn.writer) (sheet g.W.Write.contents l.block l.writer)

@@ -4,7 +4,7 @@ use Rattle.gathered.specs.Telling.{TellsAfter, sheet}
 use Rattle.gathered.proofs.Telling.{tells_more}
 use Rattle.gathered.proofs.Fronts.{front_first, front_more, front_none}
 use Rattle.census_readback.specs.Grouped.{sections_lent}
-use Rattle.census_page.specs.Markup.{index_begin, index_end, page_end}
+use Rattle.census_page_pieces.specs.Markup.{index_begin, index_end, page_end}
 use Rattle.census_page.specs.Pages.{choices, index_rows, sections_text}
 use Rattle.census_page.proofs.whole_page.put_body.Goals as goal
 

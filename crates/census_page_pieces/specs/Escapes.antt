@@ -1,0 +1,45 @@
+-- Bytes in HTML, so that none of them is markup.
+use Rattle.std.specs.Prelude.{ℕ, Bool, true, false, ◌&&◌, ◌||◌, ◌==◌, if◌then◌else◌, List, [], ◌∷◌, ◌++◌, codes, length, nat_le, take}
+use Rattle.std.specs.Str.Lossy.{utf8_lossy}
+
+-- an entity in the place of `&`, `<`, `>`, `"` and `'`
+abbrev pub escaped_byte : ℕ → List ℕ
+escaped_byte c =
+    if c == 38 then codes "&amp;" else (if c == 60 then codes "&lt;" else (if c == 62 then codes "&gt;" else (if c == 34 then codes "&quot;" else (if c == 39 then codes "&#39;" else c ∷ []))))
+
+abbrev pub escaped_text : List ℕ → List ℕ
+escaped_text [] = []
+escaped_text (c ∷ cs) = escaped_byte c ++ escaped_text cs
+
+-- with U+FFFD for what is not UTF-8
+abbrev pub told_text : List ℕ → List ℕ
+told_text bytes = escaped_text (utf8_lossy bytes)
+
+-- an element of its own
+unfoldable pub name_element : List ℕ → List ℕ
+name_element bytes = codes "<bdi>" ++ told_text bytes ++ codes "</bdi>"
+
+-- a code: beyond 60 bytes only the first 24, and all when they are asked for
+unfoldable pub code_element : List ℕ → List ℕ
+code_element code =
+    if nat_le (length code) 60 then codes "<code>" ++ told_text code ++ codes "</code>" else
+    codes "<details><summary><code>" ++ told_text (take 24 code) ++ codes "&hellip;</code></summary><code>" ++ told_text code ++ codes "</code></details>"
+
+abbrev pub starts_with : List ℕ → List ℕ → Bool
+starts_with [] cs = true
+starts_with (b ∷ bs) [] = false
+starts_with (b ∷ bs) (c ∷ cs) = (b == c) && starts_with bs cs
+
+-- what may stand after an `&`
+abbrev pub ends_entity : List ℕ → Bool
+ends_entity cs =
+    starts_with (codes "amp;") cs || (starts_with (codes "lt;") cs || (starts_with (codes "gt;") cs || (starts_with (codes "quot;") cs || starts_with (codes "#39;") cs)))
+
+-- `<`, `>`, `"` and `'`
+abbrev pub is_markup : ℕ → Bool
+is_markup c = (c == 60) || ((c == 62) || ((c == 34) || (c == 39)))
+
+-- no byte is markup, and each `&` begins an entity
+abbrev pub is_harmless : List ℕ → Bool
+is_harmless [] = true
+is_harmless (c ∷ cs) = (if is_markup c then false else (if c == 38 then ends_entity cs else true)) && is_harmless cs

@@ -1,0 +1,75 @@
+-- How patterns grow, in words.
+use Rattle.std.specs.Prelude.{ℕ, ℤ, pos, Bool, true, false, ◌&&◌, ◌==◌, if◌then◌else◌, Some, List, [], ◌∷◌, ◌++◌, codes}
+use Rattle.std.specs.Fmt.{signed_decimal}
+use Rattle.std.specs.List.{list_all, take_while}
+use Rattle.std.specs.Ordering.{int_eq}
+use Rattle.census_rows.specs.declared.row.Row.{Row}
+use Rattle.census_rows.specs.declared.row.Row.TheVariants.{Engine, Emits}
+use Rattle.census_page_pieces.specs.declared.engine.EngineKind.{EngineKind}
+use Rattle.census_page_pieces.specs.declared.engine.EngineKind.TheVariants.{Gun, Rake, Puffer}
+use Rattle.census_page_pieces.specs.declared.kind.Kind.TheVariants.{Spaceship}
+use Rattle.census_page_pieces.specs.Escapes.{code_element}
+use Rattle.census_page_pieces.specs.Kinds.{is_kind, kind_of}
+use Rattle.census_page_pieces.specs.Numbers.{grouped, labelled, plural}
+
+-- the row tells what an engine emits
+abbrev pub is_emits : Row → Bool
+is_emits (Emits collection pattern engine code count) = true
+is_emits _ = false
+
+-- it emits spaceships
+abbrev pub emits_ship : Row → Bool
+emits_ship (Emits collection pattern engine code count) = is_kind Spaceship (Some (kind_of code.now))
+emits_ship _ = false
+
+-- what an engine is that moves so far in a period and emits what these rows tell
+abbrev pub engine_kind : ℤ → ℤ → List Row → EngineKind
+engine_kind dx dy emits = if int_eq dx (pos 0) && int_eq dy (pos 0) then Gun else (if list_all emits_ship emits then Rake else Puffer)
+
+abbrev pub engine_name : EngineKind → List ℕ
+engine_name Gun = codes "gun"
+engine_name Rake = codes "rake"
+engine_name Puffer = codes "puffer"
+
+-- a number before what there are several of, on the same line
+abbrev pub several : ℕ → List ℕ
+several number = if number == 1 then [] else grouped number ++ codes "&nbsp;"
+
+-- what one or several do
+abbrev pub verb : List ℕ → ℕ → List ℕ
+verb word number = word ++ (if number == 1 then codes "s" else [])
+
+-- how far engines move in a period, to the right and down
+unfoldable pub moves : ℤ → ℤ → ℕ → List ℕ
+moves dx dy number = verb (codes " move") number ++ codes " (" ++ signed_decimal dx ++ codes ", " ++ signed_decimal dy ++ codes ") and"
+
+-- what engines do in a period
+abbrev pub deeds : EngineKind → ℤ → ℤ → ℕ → List ℕ
+deeds Gun dx dy number = verb (codes " emit") number
+deeds Rake dx dy number = moves dx dy number ++ verb (codes " emit") number
+deeds Puffer dx dy number = moves dx dy number ++ verb (codes " leave") number
+
+-- how many objects with a code are emitted
+abbrev pub emitted : Row → List ℕ
+emitted (Emits collection pattern engine code count) = several count ++ code_element code.now
+emitted _ = []
+
+-- the objects that are emitted: the first after this, and each other after a comma
+abbrev pub all_emitted : List ℕ → List Row → List ℕ
+all_emitted before [] = []
+all_emitted before (row ∷ rows) = before ++ emitted row ++ all_emitted (codes ", ") rows
+
+-- so many engines of a kind
+unfoldable pub engine_head : EngineKind → ℕ → ℕ → List ℕ
+engine_head kind period number = codes "<div>" ++ several number ++ engine_name kind ++ plural number ++ labelled (codes " of period ") period ++ codes " that"
+
+-- the engines that a row tells of, with the rows that tell what each emits
+abbrev pub engine_text : Row → List Row → List ℕ
+engine_text (Engine collection pattern place period dx dy number) emits =
+    engine_head (engine_kind dx dy emits) period number ++ deeds (engine_kind dx dy emits) dx dy number ++ all_emitted (codes " ") emits ++ codes "</div>"
+engine_text _ emits = []
+
+-- the engines of these rows; behind the row of each stand those that tell what it emits
+abbrev pub growth_text : List Row → List ℕ
+growth_text [] = []
+growth_text (row ∷ rows) = engine_text row (take_while is_emits rows) ++ growth_text rows

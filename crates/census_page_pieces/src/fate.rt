@@ -1,0 +1,166 @@
+//! What becomes of patterns that do not recur.
+ghost use Rattle.std.specs.Prelude.{◌≡◌, ◌++◌, OnOk, decimal};
+ghost use Rattle.census_readback.specs.Grouped.{rows_lent};
+ghost use Rattle.census_page_pieces.specs.Fates.{fate_cells, fate_row, fault_of, fault_words, finding_words, found_cells, recurs, refused_cells};
+ghost use Rattle.census_rows.specs.declared.row.Finding.TheVariants.{Ash, Large};
+
+use crate::escape::{push_escaped, push_text, push_told};
+use crate::growth::push_growth;
+use crate::numbers::{push_grouped, push_labelled, push_number, push_plural};
+use census_rows::{Finding, Outcome, Row};
+use life_faults::sentence;
+use life_text::RleFault;
+use std::alloc::{AllocError, Global};
+
+// The fault that a report names by this number, without its place.
+fn fault_of(number: u64) -> Option<RleFault>
+    ensures { result ≡ fault_of number }
+{
+    match number {
+        1 => Some(RleFault::NoHeader),
+        2 => Some(RleFault::BadHeader),
+        3 => Some(RleFault::RuleNotLifeLike),
+        4 => Some(RleFault::RuleHasB0),
+        5 => Some(RleFault::ManyStates { at: 0 }),
+        6 => Some(RleFault::BadChar { at: 0 }),
+        7 => Some(RleFault::BadRun { at: 0 }),
+        8 => Some(RleFault::TooFar { at: 0 }),
+        9 => Some(RleFault::TooMany { at: 0 }),
+        10 => Some(RleFault::NoEnd),
+        _ => None,
+    }
+}
+
+// Adds a number behind words.
+fn push_numbered(text: &mut Vec<u8>, words: &[u8], number: u64) -> Result<(), AllocError>
+    ensures { OnOk result (text.new.items ≡ text.old.items ++ (words.now ++ decimal number)) }
+{
+    text.extend_from_slice(words)?;
+    push_number(text, number)?;
+    Ok(())
+}
+
+// Adds the sentence for a fault, or its number where it has none.
+fn push_fault(text: &mut Vec<u8>, number: u64, fault: &Option<RleFault>) -> Result<(), AllocError>
+    ensures { OnOk result (text.new.items ≡ text.old.items ++ fault_words number fault.now) }
+{
+    match fault {
+        Some(fault) => push_escaped(text, sentence(*fault).as_bytes()),
+        None if number == 0 => text.extend_from_slice(b"the file can&#39;t be read"),
+        None => push_numbered(text, b"fault ", number),
+    }
+}
+
+// Adds that a pattern has fallen apart.
+fn push_ash(text: &mut Vec<u8>, onset: u64, objects: u64) -> Result<(), AllocError>
+    ensures { OnOk result (text.new.items ≡ text.old.items ++ finding_words (Ash onset objects)) }
+{
+    push_grouped(text, objects)?;
+    text.extend_from_slice(b" object")?;
+    push_plural(text, objects)?;
+    push_labelled(text, b" from generation ", onset)?;
+    text.extend_from_slice(b" on")?;
+    Ok(())
+}
+
+// Adds that a pattern has too many cells.
+fn push_large(text: &mut Vec<u8>, generation: u64) -> Result<(), AllocError>
+    ensures { OnOk result (text.new.items ≡ text.old.items ++ finding_words (Large generation)) }
+{
+    push_labelled(text, b"unresolved: at generation ", generation)?;
+    text.extend_from_slice(b" it has more cells than the limit")?;
+    Ok(())
+}
+
+// Adds what was found of a pattern that does not recur.
+fn push_finding(text: &mut Vec<u8>, finding: &Finding) -> Result<(), AllocError>
+    ensures { OnOk result (text.new.items ≡ text.old.items ++ finding_words finding.now) }
+{
+    match finding {
+        Finding::Ok { .. } => Ok(()),
+        Finding::Ash { onset, objects } => push_ash(text, *onset, *objects),
+        Finding::Unresolved => text.extend_from_slice(b"unresolved within the bound"),
+        Finding::Grows { .. } => Ok(()),
+        Finding::Large { generation } => push_large(text, *generation),
+    }
+}
+
+// Adds the rule after a name, how many cells there are at first, and what was found.
+fn push_found(
+    alloc: Global,
+    text: &mut Vec<u8>,
+    rule: &[u8],
+    population: u64,
+    finding: &Finding,
+) -> Result<(), AllocError>
+    ensures { OnOk result (text.new.items ≡ text.old.items
+        ++ found_cells rule.now population finding.now) }
+{
+    text.extend_from_slice(b" <small>")?;
+    push_text(alloc, text, rule)?;
+    text.extend_from_slice(b"</small></th><td>")?;
+    push_grouped(text, population)?;
+    text.extend_from_slice(b"</td><td>")?;
+    push_finding(text, finding)?;
+    Ok(())
+}
+
+// Adds why a pattern was refused.
+fn push_refused(text: &mut Vec<u8>, number: u64) -> Result<(), AllocError>
+    ensures { OnOk result (text.new.items ≡ text.old.items ++ refused_cells number) }
+{
+    text.extend_from_slice(b"</th><td></td><td>refused: ")?;
+    push_fault(text, number, &fault_of(number))?;
+    Ok(())
+}
+
+// Adds what stands after a name: its rule and its cells, and what becomes of it.
+fn push_fate(alloc: Global, text: &mut Vec<u8>, outcome: &Outcome) -> Result<(), AllocError>
+    ensures { OnOk result (text.new.items ≡ text.old.items ++ fate_cells outcome.now) }
+{
+    match outcome {
+        Outcome::Found {
+            rule,
+            population,
+            finding,
+        } => push_found(alloc, text, *rule, *population, finding),
+        Outcome::Bad { fault } => push_refused(text, *fault),
+    }
+}
+
+/// Whether a pattern recurs, so that the row of its code tells of it.
+pub fn recurs(outcome: &Outcome) -> bool
+    ensures { result ≡ recurs outcome.now }
+{
+    match outcome {
+        Outcome::Found {
+            finding: Finding::Ok { .. },
+            ..
+        } => true,
+        _ => false,
+    }
+}
+
+/// Appends a row of a table with the name of a pattern and what becomes of it, or nothing where it
+/// recurs. Where it grows, these are the rows of its engines and of what they emit. The only error is
+/// out of memory.
+pub fn push_fate_row(
+    alloc: Global,
+    text: &mut Vec<u8>,
+    name: &[u8],
+    outcome: &Outcome,
+    growth: &[&Row],
+) -> Result<(), AllocError>
+    ensures { OnOk result (text.new.items
+        ≡ text.old.items ++ fate_row name.now outcome.now (rows_lent growth.now)) }
+{
+    if recurs(outcome) {
+        return Ok(());
+    }
+    text.extend_from_slice(b"<tr class=\"u\"><th scope=\"row\">")?;
+    push_told(alloc, text, name)?;
+    push_fate(alloc, text, outcome)?;
+    push_growth(alloc, text, growth)?;
+    text.extend_from_slice(b"</td></tr>\n")?;
+    Ok(())
+}
