@@ -1,13 +1,15 @@
 -- The lines of a block.
-use Rattle.std.specs.Prelude.{ℕ, List, [], ◌∷◌, ◌++◌, codes, decimal, map}
+use Rattle.std.specs.Prelude.{ℕ, suc, List, [], ◌∷◌, ◌++◌, codes, decimal, map}
 use Rattle.std.specs.Fmt.{signed_decimal}
 use Rattle.life_model.specs.Recurrence.{Recurrence}
 use Rattle.life_model.specs.Rule.{Rule}
 use Rattle.life_cells.specs.Rules.{rule_text}
 use Rattle.life_answer.specs.declared.part.Part.{Part}
+use Rattle.life_answer.specs.declared.tale.Engines.{Engines}
+use Rattle.life_answer.specs.CountedTales.{engines_in}
 use Rattle.life_answer.specs.Parts.{objects_in}
 use Rattle.census_blocks.specs.declared.known.Known.{Known}
-use Rattle.census_blocks.specs.declared.known.Known.TheVariants.{Apart, Settles, Unresolved}
+use Rattle.census_blocks.specs.declared.known.Known.TheVariants.{Apart, Grows, Settles, Unresolved}
 
 -- the bytes of a line
 abbrev pub Line : Type 0
@@ -56,7 +58,26 @@ apart_lines onset parts =
     ∷ line (codes "objects") (decimal (objects_in parts) ∷ [])
     ∷ map part_line parts
 
--- `unresolved` and the bound, of a pattern that neither settles nor has fallen apart within it
+-- `engine`, the number of these engines, their period and displacement, and how many they are
+abbrev pub engine_line : ℕ → Engines → Line
+engine_line e engines =
+    line (codes "engine")
+    (decimal e ∷ decimal engines.tale.period ∷ signed_decimal engines.tale.dx ∷ signed_decimal engines.tale.dy ∷ decimal engines.count ∷ [])
+
+-- `emits`, the number of engines, the code of an object, and how often each of them emits it in a period
+abbrev pub emits_line : ℕ → Part → Line
+emits_line e part = line (codes "emits") (decimal e ∷ part.code ∷ decimal part.count ∷ [])
+
+-- the `engine` lines, each with its `emits` lines behind it, of engines the first of which have the number e
+abbrev pub engines_lines : ℕ → List Engines → List Line
+engines_lines e [] = []
+engines_lines e (engines ∷ lines) = (engine_line e engines ∷ map (emits_line e) engines.tale.emits) ++ engines_lines (suc e) lines
+
+-- `engines`, how many engines a pattern that grows has, and their lines
+abbrev pub growing_lines : List Engines → List Line
+growing_lines engines = line (codes "engines") (decimal (engines_in engines) ∷ []) ∷ engines_lines 1 engines
+
+-- `unresolved` and the bound, of a pattern that neither settles nor has fallen apart within it, and isn't told to grow
 abbrev pub unresolved_lines : ℕ → List Line
 unresolved_lines bound = line (codes "unresolved") (decimal bound ∷ []) ∷ []
 
@@ -65,4 +86,5 @@ abbrev pub known_lines : ℕ → Known → List Line
 known_lines bound (Settles onset period dx dy code) =
     settled_lines (record { onset = onset; period = period; displacement = (dx, dy) }) code
 known_lines bound (Apart onset parts) = apart_lines onset parts
+known_lines bound (Grows engines) = growing_lines engines
 known_lines bound Unresolved = unresolved_lines bound

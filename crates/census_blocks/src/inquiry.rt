@@ -1,5 +1,8 @@
 //! What is asked of a pattern.
 
+/// Within how many generations growth is looked for.
+pub const GROWTH_HORIZON: u32 = 1_000;
+
 /// What is asked of a pattern.
 #[derive(Clone, Copy, Debug, PartialEq, Eq)]
 pub struct Inquiry {

@@ -1,13 +1,14 @@
 //! What is known of a pattern, once both questions were asked of it.
-ghost use Rattle.std.specs.Prelude.{◌≡◌, ◌≤◌, IfOk, Ok};
+ghost use Rattle.std.specs.Prelude.{◌≡◌, ◌≤◌, IfOk, None, Ok};
 ghost use Rattle.life_text.specs.Picture.{picture_of};
 ghost use Rattle.life_text.specs.Rle.{reading};
 ghost use Rattle.life_answer.specs.Answers.{outcome_of};
-ghost use Rattle.life_answer.specs.Census.{census_of};
-ghost use Rattle.census_blocks.specs.Known.{known_parts, known_of, known_recurrence};
+ghost use Rattle.life_answer.specs.Questions.{outcome_to};
+ghost use Rattle.life_answer.specs.declared.question.Question.TheVariants.{Objects};
+ghost use Rattle.census_blocks.specs.Known.{growth_horizon, known_goal, known_of, known_recurrence};
 
-use crate::inquiry::Inquiry;
-use life_answer::{Answer, Code, Outcome, Parts};
+use crate::inquiry::{GROWTH_HORIZON, Inquiry};
+use life_answer::{Answer, Code, EngineList, Outcome, Parts};
 use life_orbit::BOUND_LIMIT;
 use life_text::Pattern;
 use std::alloc::{AllocError, Global};
@@ -35,7 +36,12 @@ pub enum Known {
         /// The objects, or their independent parts.
         parts: Parts,
     },
-    /// Neither is so within the bound.
+    /// It doesn't settle, and grows for ever.
+    Grows {
+        /// The engines by which it grows.
+        engines: EngineList,
+    },
+    /// None of these is so within the bound.
     Unresolved,
 }
 
@@ -61,12 +67,13 @@ fn known_recurrence(outcome: Outcome) -> Option<Known>
     }
 }
 
-// What is known of a pattern that doesn't settle, by the objects that are found of it.
-fn known_parts(outcome: Outcome) -> Known
-    ensures { result ≡ known_parts outcome }
+// What is known of a pattern that doesn't settle, by the objects or the engines that are found of it.
+fn known_goal(outcome: Outcome) -> Known
+    ensures { result ≡ known_goal outcome }
 {
     match outcome {
         Outcome::Ash { onset, parts } => Known::Apart { onset, parts },
+        Outcome::Grows { engines } => Known::Grows { engines },
         _ => Known::Unresolved,
     }
 }
@@ -90,7 +97,7 @@ fn settling(
 }
 
 // What is known of the pattern that a text means, where it doesn't settle within the bound.
-fn falling_apart(
+fn going_on(
     alloc: Global,
     text: &[u8],
     pattern: &Pattern,
@@ -99,19 +106,28 @@ fn falling_apart(
     requires bound { 1 ≤ inquiry.bound × inquiry.bound ≤ BOUND_LIMIT }
     requires meant { picture_of (reading text.now) ≡ Ok pattern.now }
     ensures { IfOk result
-        (λ known. known ≡ known_parts (census_of inquiry.near pattern.now.rule pattern.now.cells inquiry.bound)) }
+        (λ known. known ≡ known_goal (outcome_to (Objects inquiry.bound None inquiry.near growth_horizon)
+        pattern.now.rule pattern.now.cells)) }
 {
-    match life_census::answer(alloc, text, inquiry.bound, None, inquiry.near)? {
-        Answer::Found { finding, .. } => Ok(known_parts(finding.outcome)),
+    match life_census::answer(
+        alloc,
+        text,
+        inquiry.bound,
+        None,
+        inquiry.near,
+        GROWTH_HORIZON,
+    )? {
+        Answer::Found { finding, .. } => Ok(known_goal(finding.outcome)),
         Answer::Refused(_) => Ok(Known::Unresolved),
     }
 }
 
 /// What is known within the bound of the pattern that a text means: where it settles, when and as what; else, where it has
 /// fallen apart, when and into which objects, or into which independent parts where what comes near each other is not one
-/// object; else that neither is so. The bound is 1 to 100,000 generations.
+/// object; else, where it grows within 1,000 generations, by which engines; else that none of these is so. The bound is 1 to
+/// 100,000 generations.
 ///
-/// It may look at generations past the bound, up to three times the bound.
+/// It may look at generations past the bound, up to four times the bound.
 pub fn known_of(
     alloc: Global,
     text: &[u8],
@@ -125,5 +141,5 @@ pub fn known_of(
     if let Some(known) = settling(alloc, text, pattern, inquiry.bound)? {
         return Ok(known);
     }
-    falling_apart(alloc, text, pattern, inquiry)
+    going_on(alloc, text, pattern, inquiry)
 }

@@ -4,11 +4,12 @@
 #![tactic(auto)]
 
 mod block_text;
+mod engines;
 mod inquiry;
 mod known;
 mod lines;
 mod size;
 
 pub use block_text::{BlockText, block};
-pub use inquiry::Inquiry;
+pub use inquiry::{GROWTH_HORIZON, Inquiry};
 pub use known::{Known, known_of};

@@ -2,16 +2,17 @@
 ghost use Rattle.std.specs.Prelude.{◌≡◌, ◌++◌, [], ◌∷◌, OnOk, codes, decimal, map};
 ghost use Rattle.std.specs.Fmt.{signed_decimal};
 ghost use Rattle.life_cells.specs.Rules.{rule_text};
-ghost use Rattle.census_blocks.specs.Lines.{apart_lines, fields_text, head_lines, known_lines, line, part_line, settled_lines, text_of};
+ghost use Rattle.census_blocks.specs.Lines.{apart_lines, fields_text, head_lines, known_lines, line, part_line, growing_lines, settled_lines, text_of};
 
+use crate::engines::push_engines;
 use crate::known::Known;
 use itoa::{Buffer, Integer};
-use life_answer::{Part, Parts};
+use life_answer::{EngineList, Part, Parts};
 use life_cells::Rule;
 use std::alloc::AllocError;
 
 // A blank and these bytes.
-fn push_field(text: &mut Vec<u8>, field: &[u8]) -> Result<(), AllocError>
+pub(crate) fn push_field(text: &mut Vec<u8>, field: &[u8]) -> Result<(), AllocError>
     ensures { OnOk result (text.new.items ≡ text.old.items ++ 32 ∷ field.now) }
 {
     text.push(b' ')?;
@@ -20,7 +21,7 @@ fn push_field(text: &mut Vec<u8>, field: &[u8]) -> Result<(), AllocError>
 }
 
 // A blank and a number.
-fn push_number<I: Integer>(text: &mut Vec<u8>, number: I) -> Result<(), AllocError>
+pub(crate) fn push_number<I: Integer>(text: &mut Vec<u8>, number: I) -> Result<(), AllocError>
     ensures { OnOk result (text.new.items ≡ text.old.items ++ 32 ∷ I.text number) }
 {
     let mut buffer = Buffer::new();
@@ -93,7 +94,7 @@ pub fn push_head(
 }
 
 // How far a pattern has moved: a blank and a number, twice.
-fn push_moves(text: &mut Vec<u8>, dx: &i32, dy: &i32) -> Result<(), AllocError>
+pub(crate) fn push_moves(text: &mut Vec<u8>, dx: &i32, dy: &i32) -> Result<(), AllocError>
     ensures { OnOk result
         (text.new.items ≡
         text.old.items ++ fields_text (signed_decimal dx.now ∷ signed_decimal dy.now ∷ [])) }
@@ -169,6 +170,14 @@ fn push_apart(text: &mut Vec<u8>, onset: u32, parts: &Parts) -> Result<(), Alloc
     push_parts(text, parts.as_slice())
 }
 
+// The lines of a pattern that grows.
+fn push_growing(text: &mut Vec<u8>, engines: &EngineList) -> Result<(), AllocError>
+    ensures { OnOk result (text.new.items ≡ text.old.items ++ text_of (growing_lines engines.now)) }
+{
+    push_one(text, b"engines", engines.count())?;
+    push_engines(text, engines.as_slice())
+}
+
 /// Appends the lines of what is known of a pattern within the bound.
 pub fn push_known(text: &mut Vec<u8>, known: &Known, bound: u32) -> Result<(), AllocError>
     ensures { OnOk result
@@ -183,6 +192,7 @@ pub fn push_known(text: &mut Vec<u8>, known: &Known, bound: u32) -> Result<(), A
             code,
         } => push_settled(text, *onset, *period, dx, dy, code.as_slice()),
         Known::Apart { onset, parts } => push_apart(text, *onset, parts),
+        Known::Grows { engines } => push_growing(text, engines),
         Known::Unresolved => push_one(text, b"unresolved", bound),
     }
 }

@@ -10,4 +10,4 @@ use Rattle.life_find.specs.Soon.{is_open, soon_reach}
 abbrev pub IsLongWork : Question → Entry → Type 0
 IsLongWork (Settles bound cells) e =
     (e.is_lost ≡ false) × (soon_reach < bound) × (is_open (answer_to_question (Settles soon_reach cells) e.text) ≡ true)
-IsLongWork (Objects bound cells near) e = e.is_lost ≡ false
+IsLongWork (Objects bound cells near horizon) e = e.is_lost ≡ false

@@ -64,9 +64,12 @@ fn find(alloc: Global, entry: &Entry, question: Question) -> Result<Answer, Allo
     let text = entry.text.as_slice();
     match question {
         Question::Settles { bound, cells } => life_find::answer(alloc, text, bound, cells),
-        Question::Objects { bound, cells, near } => {
-            life_census::answer(alloc, text, bound, cells, near)
-        }
+        Question::Objects {
+            bound,
+            cells,
+            near,
+            horizon,
+        } => life_census::answer(alloc, text, bound, cells, near, horizon),
     }
 }
 
@@ -109,7 +112,7 @@ fn head_of(alloc: Global, ticket: Ticket, answer: &Answer) -> Result<Option<Text
     }
 }
 
-// The `part` lines of a pattern of which this was found.
+// The lines behind that of a pattern of which this was found.
 #[tactic(auto, unfolding(census_format::specs::Heads::line_tail))]
 fn tail_of(alloc: Global, ticket: Ticket, answer: &Answer) -> Result<Vec<u8>, AllocError>
     ensures tail { IfOk result
@@ -152,8 +155,8 @@ impl<'a> Done<'a> {
     }
 
     /// Works a ticket: what is found of the entry's text. Where that is lost, no work is done, and it is refused under the
-    /// number 0. A bound is 1 to 1,000,000 generations, and 1 to 100,000 where objects are asked for. Memory is taken only for
-    /// a text that has a header.
+    /// number 0. A bound is 1 to 1,000,000 generations; where objects are asked for, it is 1 to 100,000, and the horizon is 1
+    /// to 10,000. Memory is taken only for a text that has a header.
     pub fn work(
         alloc: Global,
         ticket: Ticket,

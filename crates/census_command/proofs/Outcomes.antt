@@ -1,6 +1,7 @@
 -- What each exit status says.
 use Rattle.std.proofs.Common.{◌≡◌, ◌⊎◌, ℕ, Bool, List, ◌++◌, Option, None, Some, map, option_map, true, false, inl, inr, ⊎_elim, refl, sym, ◌∙◌, arith, true≢false, string_bytes, ◌||◌}
 use Rattle.census_folders.specs.Sources.{Asked}
+use Rattle.census_blocks.specs.Known.{growth_horizon}
 use Rattle.census_cli.specs.Asking.{Asks, AsksToExplain}
 use Rattle.census_cli.specs.Refusing.{AreRefusedWords, AsksHelp, AsksText, RefusesWords}
 use Rattle.census_cli.specs.declared.fault.WordsFault.{WordsFault}
@@ -94,7 +95,7 @@ module _ (shelf : Tellings) (before after : State) where
       → Says before after (status_of error) (RefusesInput shelf request before after) (ReportsInPart shelf request before after) (DoesInPart shelf request before after)
       (StopsAtFolder shelf request)
   says (command.Run e) (Run bound workers cells input recursive keep_going folders) h = run_says shelf before after e (source_of (record { limit = input; recursive = recursive; keep_going = keep_going; words = map (λ s. s.now) folders.items })) (question.Settles bound cells) h
-  says (command.Run e) (Objects bound workers cells near input recursive keep_going folders) h = run_says shelf before after e (source_of (record { limit = input; recursive = recursive; keep_going = keep_going; words = map (λ s. s.now) folders.items })) (question.Objects bound (Some cells) near) h
+  says (command.Run e) (Objects bound workers cells near input recursive keep_going folders) h = run_says shelf before after e (source_of (record { limit = input; recursive = recursive; keep_going = keep_going; words = map (λ s. s.now) folders.items })) (question.Objects bound (Some cells) near growth_horizon) h
   says (command.Advance e) (Advance n file) h = advance_says shelf before after e (file_of (option_map (λ s. s.now) file)) n h
   says (command.Draw (draw.Rule fault)) (Draw code rule) h = inl (refl, inl (fault, h.0), record { written = h.1.written; sound = h.1.sound })
   says (command.Draw (draw.Code fault)) (Draw code rule) h = inl (refl, inr (fault, h.0.1), record { written = h.1.written; sound = h.1.sound })

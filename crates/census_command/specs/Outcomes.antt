@@ -12,6 +12,7 @@ use Rattle.life_text.specs.declared.rle.RleFault.{RleFault}
 use Rattle.census_bundle.specs.declared.fault.BundleFault.{BundleFault}
 use Rattle.census_bundle.specs.Sizes.{input_limit}
 use Rattle.census_crew.specs.Bytes.{ReadsFault}
+use Rattle.census_blocks.specs.Known.{growth_horizon}
 use Rattle.census_cli.specs.Asking.{Asks, AsksToExplain, IsMatched}
 use Rattle.census_cli.specs.Refusing.{AreRefusedWords, AsksHelp, AsksText}
 use Rattle.census_cli.specs.declared.fault.WordsFault.{WordsFault}
@@ -124,7 +125,7 @@ pub record HelpsInPart (words : List (List ℕ)) (before after : State) : Type 0
 
 abbrev pub ReportsInPart : Tellings → Request → State → State → Type 0
 ReportsInPart shelf (Run bound workers cells input recursive keep_going folders) before after = RunsInPart shelf (source_of (record { limit = input; recursive = recursive; keep_going = keep_going; words = map (λ s. s.now) folders.items })) (question.Settles bound cells) before after
-ReportsInPart shelf (Objects bound workers cells near input recursive keep_going folders) before after = RunsInPart shelf (source_of (record { limit = input; recursive = recursive; keep_going = keep_going; words = map (λ s. s.now) folders.items })) (question.Objects bound (Some cells) near) before after
+ReportsInPart shelf (Objects bound workers cells near input recursive keep_going folders) before after = RunsInPart shelf (source_of (record { limit = input; recursive = recursive; keep_going = keep_going; words = map (λ s. s.now) folders.items })) (question.Objects bound (Some cells) near growth_horizon) before after
 ReportsInPart shelf request before after = ⊥
 
 -- The words ask for a census, and a prefix of its report was written.
@@ -248,7 +249,7 @@ abbrev pub IsKeeping : Request → KeptCensus → Type 0
 IsKeeping (Run bound workers cells input recursive keep_going folders) keeping =
     (source_of (record { limit = input; recursive = recursive; keep_going = keep_going; words = map (λ s. s.now) folders.items }) ≡ Folders keeping.asked) × (keeping.asked.on_loss ≡ Keep) × (keeping.question ≡ question.Settles bound cells)
 IsKeeping (Objects bound workers cells near input recursive keep_going folders) keeping =
-    (source_of (record { limit = input; recursive = recursive; keep_going = keep_going; words = map (λ s. s.now) folders.items }) ≡ Folders keeping.asked) × (keeping.asked.on_loss ≡ Keep) × (keeping.question ≡ question.Objects bound (Some cells) near)
+    (source_of (record { limit = input; recursive = recursive; keep_going = keep_going; words = map (λ s. s.now) folders.items }) ≡ Folders keeping.asked) × (keeping.asked.on_loss ≡ Keep) × (keeping.question ≡ question.Objects bound (Some cells) near growth_horizon)
 IsKeeping request keeping = ⊥
 
 -- The words ask for such a census. What could be read was reported, or an error ended it.

@@ -1,5 +1,6 @@
 -- What is done where something is asked for, and what each error says.
 use Rattle.std.specs.Prelude.{◌≡◌, ℕ, ◌≤◌, Bool, List, [], Some, map, option_map}
+use Rattle.census_blocks.specs.Known.{growth_horizon}
 use Rattle.census_cli.specs.declared.request.Request.{Request}
 use Rattle.census_cli.specs.declared.request.Request.TheVariants.{Run, Objects, Identify, Advance, Draw, Merge, Table, Page, Same, Verify}
 use Rattle.census_cli.specs.Limits.{generation_limit, objects_bound_limit, settles_bound_limit, worker_limit}
@@ -52,7 +53,7 @@ abbrev pub Does : Tellings → Request → Bool → List ℕ → State → State
 Does shelf (Run bound workers cells input recursive keep_going folders) explain lines before after =
     Runs shelf (source_of (record { limit = input; recursive = recursive; keep_going = keep_going; words = map (λ s. s.now) folders.items })) (question.Settles bound cells) explain lines before after
 Does shelf (Objects bound workers cells near input recursive keep_going folders) explain lines before after =
-    Runs shelf (source_of (record { limit = input; recursive = recursive; keep_going = keep_going; words = map (λ s. s.now) folders.items })) (question.Objects bound (Some cells) near) explain lines before after
+    Runs shelf (source_of (record { limit = input; recursive = recursive; keep_going = keep_going; words = map (λ s. s.now) folders.items })) (question.Objects bound (Some cells) near growth_horizon) explain lines before after
 Does shelf (Advance generations file) explain lines before after =
     (lines ≡ []) × AdvancesFrom shelf (file_of (option_map (λ s. s.now) file)) generations before after
 Does shelf (Draw code rule) explain lines before after = (lines ≡ []) × Draws (record { code = code.now; rule = rule.now }) before after
@@ -61,7 +62,7 @@ Does shelf _ explain lines before after = ⊥
 -- it was done as far as the writer took it
 abbrev pub DoesInPart : Tellings → Request → State → State → Type 0
 DoesInPart shelf (Run bound workers cells input recursive keep_going folders) before after = RunsInPart shelf (source_of (record { limit = input; recursive = recursive; keep_going = keep_going; words = map (λ s. s.now) folders.items })) (question.Settles bound cells) before after
-DoesInPart shelf (Objects bound workers cells near input recursive keep_going folders) before after = RunsInPart shelf (source_of (record { limit = input; recursive = recursive; keep_going = keep_going; words = map (λ s. s.now) folders.items })) (question.Objects bound (Some cells) near) before after
+DoesInPart shelf (Objects bound workers cells near input recursive keep_going folders) before after = RunsInPart shelf (source_of (record { limit = input; recursive = recursive; keep_going = keep_going; words = map (λ s. s.now) folders.items })) (question.Objects bound (Some cells) near growth_horizon) before after
 DoesInPart shelf (Advance generations file) before after = AdvancesFromInPart shelf (file_of (option_map (λ s. s.now) file)) generations before after
 DoesInPart shelf (Draw code rule) before after = DrawsInPart (record { code = code.now; rule = rule.now }) before after
 DoesInPart shelf _ before after = ⊥
@@ -69,7 +70,7 @@ DoesInPart shelf _ before after = ⊥
 -- it was not done whole, for this error
 abbrev pub Fails : CommandError → Tellings → Request → State → State → Type 0
 Fails (error.Run e) shelf (Run bound workers cells input recursive keep_going folders) before after = RunFails e shelf (source_of (record { limit = input; recursive = recursive; keep_going = keep_going; words = map (λ s. s.now) folders.items })) (question.Settles bound cells) before after
-Fails (error.Run e) shelf (Objects bound workers cells near input recursive keep_going folders) before after = RunFails e shelf (source_of (record { limit = input; recursive = recursive; keep_going = keep_going; words = map (λ s. s.now) folders.items })) (question.Objects bound (Some cells) near) before after
+Fails (error.Run e) shelf (Objects bound workers cells near input recursive keep_going folders) before after = RunFails e shelf (source_of (record { limit = input; recursive = recursive; keep_going = keep_going; words = map (λ s. s.now) folders.items })) (question.Objects bound (Some cells) near growth_horizon) before after
 Fails (error.Advance e) shelf (Advance generations file) before after =
     AdvanceFromFails e shelf (file_of (option_map (λ s. s.now) file)) generations before after
 Fails (error.Draw e) shelf (Draw code rule) before after = DrawFails e (record { code = code.now; rule = rule.now }) before after

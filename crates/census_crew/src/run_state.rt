@@ -7,7 +7,7 @@ ghost use Rattle.census_bundle.specs.Tickets.{has_ticket, with_ticket, HasAllTic
 ghost use Rattle.census_book.specs.Collecting.{after_offer, Judged, Offered};
 ghost use Rattle.census_book.specs.Progress.{initial_progress};
 ghost use Rattle.census_crew.specs.Faults.{FitsFault, TellsTicket, TellsTicketOf};
-ghost use Rattle.census_crew.specs.RunStates.{IsRunState};
+ghost use Rattle.census_crew.specs.RunStates.{IsRunState, IsRunState-prop};
 ghost use Rattle.census_crew.specs.Strangers.{HasStrangers, NotesStranger};
 ghost use Rattle.census_crew.specs.Tallying.{TalliesPatterns};
 ghost use Rattle.census_crew.specs.Writing.{EndsInStep, StaysInStep, StopsInStep};
@@ -27,7 +27,7 @@ use watched::{Failed, Watched};
 pub(crate) struct RunState<'a> {
     pub(crate) collector: Collector<'a>,
     pub(crate) tally: Tally,
-    ghost sound: { IsRunState collector tally },
+    ghost sound: { IsRunState collector tally } by { IsRunState-prop collector tally },
 }
 
 // A bundle is small.

@@ -1,5 +1,5 @@
 -- How many of the objects that are counted by their codes have a given rule and code.
-use Rattle.std.proofs.Common.{◌≡◌, ℕ, zero, suc, ◌+◌, ◌<◌, ◌≤◌, Bool, true, false, cond, List, [], ◌∷◌, map, fold}
+use Rattle.std.proofs.Common.{◌≡◌, ℕ, zero, suc, ◌+◌, ◌<◌, ◌≤◌, Bool, true, false, cond, List, [], ◌∷◌, fold}
 use Rattle.std.proofs.Common.{Ordering, Less, Equal, Greater, inl, inr, refl, sym, ap, ◌∙◌, arith}
 use Rattle.std.specs.List.{Contains, count_by, sum_by}
 use Rattle.std.proofs.lemmas.Bool.{cases_Bool}
@@ -54,14 +54,6 @@ module _ (k : Object) (rule : Rule) where
   as_counted codes = as_folded codes [] ∙ omega arith
 
 -- ---- lists
-
-pub count-map : {A B : Type 0} (f : A → B) (p : B → Bool) (xs : List A)
-    → count_by p (map f xs) ≡ count_by (λ x. p (f x)) xs
-count-map f p [] = refl
-count-map f p (x ∷ xs) =
-    count_first p (f x) (map f xs)
-    ∙ ap (λ n. cond (p (f x)) 1 0 + n) (count-map f p xs)
-    ∙ sym (count_first (λ y. p (f y)) x xs)
 
 module _ {A : Type 0} where
   -- one of these passes

@@ -1,12 +1,12 @@
 -- The sets that objects count as.
-use Rattle.std.proofs.Common.{◌≡◌, ℕ, ◌+◌, ◌≤◌, Bool, true, false, cond, List, [], ◌∷◌, count_by, flat_map, inl, inr, refl, sym, ap, subst, ◌∙◌, arith}
-use Rattle.std.specs.List.{All, Contains, sum_by}
+use Rattle.std.proofs.Common.{◌≡◌, ℕ, ◌≤◌, Bool, true, false, cond, List, [], ◌∷◌, count_by, flat_map, inl, inr, refl, sym, subst, ◌∙◌, arith}
+use Rattle.std.specs.List.{All, Contains}
 use Rattle.std.specs.List.Sorted.{IsPermutation}
 use Rattle.std.proofs.lemmas.List.Elements.{All-contains}
 use Rattle.std.proofs.lemmas.List.Sorted.{sum_by-IsPermutation}
-use Rattle.std.proofs.lemmas.List.Sums.{sum_by-append, sum_by-cons}
 use Rattle.life_answer.specs.Counted.{all_come_again, code_bound, counted_as, counted_of}
 use Rattle.life_answer.proofs.CountedSets.{come_again_tells}
+use Rattle.life_answer.proofs.Permuted.{count-flat_map}
 use Rattle.life_model.specs.Generation.{Generation}
 use Rattle.life_model.specs.Rule.{Rule}
 use Rattle.life_objects.specs.Ash.{IsObject, RecursWithin}
@@ -18,17 +18,10 @@ use Rattle.census_laws.specs.ObjectsOfAsh.{coming_bound}
 
 -- ---- how many of them there are
 
-module _ {A B : Type 0} (p : B → Bool) (f : A → List B) where
-  pub count-flat_map : (xs : List A) → count_by p (flat_map f xs) ≡ sum_by (λ x. count_by p (f x)) xs
-  count-flat_map [] = refl
-  count-flat_map (x ∷ xs) =
-      sum_by-append (λ y. cond (p y) 1 0) (f x) (flat_map f xs)
-      ∙ ap (λ n. count_by p (f x) + n) (count-flat_map xs)
-      ∙ sym (sum_by-cons (λ z. count_by p (f z)) x xs)
-
-  pub count_in_any_order : (xs ys : List A) → IsPermutation xs ys → count_by p (flat_map f ys) ≡ count_by p (flat_map f xs)
-  count_in_any_order xs ys order =
-      count-flat_map ys ∙ sum_by-IsPermutation (λ x. count_by p (f x)) xs ys order ∙ sym (count-flat_map xs)
+pub count_in_any_order : {A B : Type 0} (p : B → Bool) (f : A → List B) (xs ys : List A) → IsPermutation xs ys →
+    count_by p (flat_map f ys) ≡ count_by p (flat_map f xs)
+count_in_any_order p f xs ys order =
+    count-flat_map p f ys ∙ sum_by-IsPermutation (λ x. count_by p (f x)) xs ys order ∙ sym (count-flat_map p f xs)
 
 -- ---- each of them comes again
 

@@ -4,3 +4,4 @@ pub mod Fallen
 pub mod CodeCounts
 pub mod ObjectsOfAsh
 pub mod OneCollection
+pub mod Growing

@@ -6,6 +6,7 @@ use Rattle.census_bundle.specs.declared.bundle.Entry.{Entry}
 use Rattle.life_answer.specs.Census.{part_code, parts_found}
 use Rattle.life_answer.specs.Counted.{code_bound, counted_as, counted_of}
 use Rattle.life_answer.proofs.PartCodes.{wider_code}
+use Rattle.life_answer.proofs.Permuted.{count_by-map}
 use Rattle.life_answer.specs.declared.finding.Answer.{Answer}
 use Rattle.life_answer.specs.declared.finding.Answer.TheVariants.{Found, Refused}
 use Rattle.life_answer.specs.declared.finding.Finding.{Finding}
@@ -21,7 +22,7 @@ use Rattle.census_format.specs.PartCounts.{fallen_as, parts_as, CountsParts}
 use Rattle.census_format.proofs.PartCounts.{codes_count_parts}
 use Rattle.census_laws.specs.Fallen.{FallsApart, AreCounted, CountsIn, counted_sets}
 use Rattle.census_laws.specs.ObjectsOfAsh.{IsCoded, CountsPartsOfObject, code_counts, coming_bound, PartsHaveOneLine, CodesCountObjectsOfAsh}
-use Rattle.census_laws.proofs.CodeCounts.{adding, as_counted, count-map, passing, some_count, some_sum}
+use Rattle.census_laws.proofs.CodeCounts.{adding, as_counted, passing, some_count, some_sum}
 use Rattle.census_laws.proofs.Fallen.{answer_in, said, to_say}
 use Rattle.census_laws.proofs.PartCodes.{at_once, part_code-is, part_codes_tell}
 use Rattle.census_laws.proofs.CountedSets.{count_in_any_order, counted_recurs, counted_told, sooner}
@@ -30,9 +31,9 @@ use Rattle.census_laws.proofs.CountedSets.{count_in_any_order, counted_recurs, c
 told : Rule → ℕ → Generation → Object
 told R b P = object R (part_code R (code_bound b) P)
 
-module _ (near : Bool) (bound : ℕ) (most : Option ℕ) where
+module _ (near : Bool) (bound : ℕ) (most : Option ℕ) (horizon : ℕ) where
   abbrev number : Object → Entry → ℕ
-  number k e = fallen_as k (answer_in near bound most e)
+  number k e = fallen_as k (answer_in near bound most horizon e)
 
   abbrev counted_in : (e : Entry) → FallsApart bound most e → List Generation
   counted_in e f = counted_sets near bound most e f
@@ -44,12 +45,12 @@ module _ (near : Bool) (bound : ℕ) (most : Option ℕ) where
       → number k e ≡ count_by (λ Q. same_object k (told f.rule bound Q)) (counted_in e f)
   unfolding told
   number-fallen k e f =
-      let s = to_say near bound most e f in
+      let s = to_say near bound most horizon e f in
       let code = part_code f.rule (code_bound bound) in
       let counted = counted_of near f.rule bound s.found in
       ap (fallen_as k) s.is
       ∙ as_counted k f.rule (map code counted)
-      ∙ count-map code (λ c. same_object k (object f.rule c)) counted
+      ∙ count_by-map (λ c. same_object k (object f.rule c)) code counted
       ∙ count_in_any_order (λ Q. same_object k (object f.rule (code Q))) (counted_as near f.rule bound) f.parts s.found s.order
 
   record IsFrom (k : Object) (e : Entry) : Type 0 where
@@ -66,19 +67,19 @@ module _ (near : Bool) (bound : ℕ) (most : Option ℕ) where
       record { fallen = f; part = p.one; of_it = p.among; is = one_object k (told f.rule bound p.one) p.passes }
 
   from_outcome : (k : Object) (e : Entry) (rule : Rule) (finding : Finding) (outcome : Outcome)
-      → answer_in near bound most e ≡ Found rule finding → finding.outcome ≡ outcome → 1 ≤ parts_as k rule (parts_found outcome)
+      → answer_in near bound most horizon e ≡ Found rule finding → finding.outcome ≡ outcome → 1 ≤ parts_as k rule (parts_found outcome)
       → 1 ≤ number k e → IsFrom k e
   from_outcome k e rule finding (Ash onset parts) is ash more some =
-      from_fallen k e (said near bound most e rule finding onset parts is ash) some
+      from_fallen k e (said near bound most horizon e rule finding onset parts is ash) some
   from_outcome k e rule finding _ is becomes none some = absurd (omega arith)
 
-  from_answer : (k : Object) (e : Entry) (a : Answer) → answer_in near bound most e ≡ a → 1 ≤ fallen_as k a
+  from_answer : (k : Object) (e : Entry) (a : Answer) → answer_in near bound most horizon e ≡ a → 1 ≤ fallen_as k a
       → 1 ≤ number k e → IsFrom k e
   from_answer k e (Found rule finding) is more some = from_outcome k e rule finding finding.outcome is refl more some
   from_answer k e (Refused fault) is none some = absurd (omega arith)
 
   from : (k : Object) (e : Entry) → 1 ≤ number k e → IsFrom k e
-  from k e some = from_answer k e (answer_in near bound most e) refl some some
+  from k e some = from_answer k e (answer_in near bound most horizon e) refl some some
 
   -- ---- one object
 
@@ -133,7 +134,7 @@ module _ (near : Bool) (bound : ℕ) (most : Option ℕ) where
 
   -- ---- the lines
 
-  line_counts : (es : List Entry) (line : Object × ℕ) → CountsParts bound most near es line
+  line_counts : (es : List Entry) (line : Object × ℕ) → CountsParts bound most near horizon es line
       → CountsPartsOfObject near bound most es line
   line_counts es line c =
       let all = c.count in
@@ -155,11 +156,11 @@ module _ (near : Bool) (bound : ℕ) (most : Option ℕ) where
         sum = all;
       }
 
-  each_line : (es : List Entry) → All (CountsPartsOfObject near bound most es) (code_counts near bound most es)
+  each_line : (es : List Entry) → All (CountsPartsOfObject near bound most es) (code_counts near bound most horizon es)
   each_line es i d lt =
-      line_counts es (get_or (code_counts near bound most es) i d) ((codes_count_parts bound most near es).0 i d lt)
+      line_counts es (get_or (code_counts near bound most horizon es) i d) ((codes_count_parts bound most near horizon es).0 i d lt)
 
-  each_part : (es : List Entry) → PartsHaveOneLine near bound most es
+  each_part : (es : List Entry) → PartsHaveOneLine near bound most horizon es
   each_part es e at f P of_it =
       let k = told f.rule bound P in
       let here = some_count (λ Q. same_object k (told f.rule bound Q)) P (counted_in e f) of_it (same_itself k) in
@@ -168,8 +169,9 @@ module _ (near : Bool) (bound : ℕ) (most : Option ℕ) where
       record {
         shown = k;
         coded = coded f.rule P (comes_again e f P of_it);
-        once = (codes_count_parts bound most near es).1 k (some_sum (number k) e es at some);
+        once = (codes_count_parts bound most near horizon es).1 k (some_sum (number k) e es at some);
       }
 
 pub codes_count_objects_of_ash : CodesCountObjectsOfAsh
-codes_count_objects_of_ash near bound most es = (each_line near bound most es, each_part near bound most es)
+codes_count_objects_of_ash near bound most horizon es =
+    (each_line near bound most horizon es, each_part near bound most horizon es)

@@ -1,2 +1,3 @@
 pub mod Fallen
+pub mod Growing
 pub mod ObjectsOfAsh

@@ -39,8 +39,8 @@ pub record CountsPartsOfObject (near : Bool) (bound : ℕ) (most : Option ℕ) (
   pub sum : line.1 ≡ sum_by number es
 
 -- the rules and codes of the `code` lines of a collection, and their numbers
-abbrev pub code_counts : (near : Bool) (bound : ℕ) (most : Option ℕ) → List Entry → List (Object × ℕ)
-code_counts near bound most es = tally same_object (objects (answers (question.Objects bound most near) es))
+abbrev pub code_counts : (near : Bool) (bound : ℕ) (most : Option ℕ) (horizon : ℕ) → List Entry → List (Object × ℕ)
+code_counts near bound most horizon es = tally same_object (objects (answers (question.Objects bound most near horizon) es))
 
 -- One of these lines, and no more, has the rule and P's code.
 pub record HasOneLine (bound : ℕ) (R : Rule) (P : Generation) (lines : List (Object × ℕ)) : Type 0 where
@@ -49,13 +49,13 @@ pub record HasOneLine (bound : ℕ) (R : Rule) (P : Generation) (lines : List (O
   pub once : count_by (λ line. same_object shown line.0) lines ≡ 1
 
 -- each set that these patterns count as, where they fall apart, has one line
-abbrev pub PartsHaveOneLine : (near : Bool) (bound : ℕ) (most : Option ℕ) → List Entry → Type 0
-PartsHaveOneLine near bound most es =
+abbrev pub PartsHaveOneLine : (near : Bool) (bound : ℕ) (most : Option ℕ) (horizon : ℕ) → List Entry → Type 0
+PartsHaveOneLine near bound most horizon es =
     (e : Entry) → Contains es e → (f : FallsApart bound most e) → (P : Generation) → Contains (counted_sets near bound most e f) P
-    → HasOneLine (coming_bound near bound) f.rule P (code_counts near bound most es)
+    → HasOneLine (coming_bound near bound) f.rule P (code_counts near bound most horizon es)
 
 -- Each `code` line of a collection counts an object, and each object has one line.
 abbrev pub CodesCountObjectsOfAsh : Type 0
 CodesCountObjectsOfAsh =
-    (near : Bool) (bound : ℕ) (most : Option ℕ) (es : List Entry)
-    → All (CountsPartsOfObject near bound most es) (code_counts near bound most es) × PartsHaveOneLine near bound most es
+    (near : Bool) (bound : ℕ) (most : Option ℕ) (horizon : ℕ) (es : List Entry)
+    → All (CountsPartsOfObject near bound most es) (code_counts near bound most horizon es) × PartsHaveOneLine near bound most horizon es

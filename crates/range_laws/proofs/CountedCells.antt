@@ -34,7 +34,7 @@ itself P some = record {
   once = λ i j d h k. absurd (omega arith);
 }
 
-apart_now : (R : Rule) (parts : List Generation) → AllPairs (AreApartForEver R) parts → AllPairs AreApart parts
+pub apart_now : (R : Rule) (parts : List Generation) → AllPairs (AreApartForEver R) parts → AllPairs AreApart parts
 unfolding generation
 apart_now R parts apart = AllPairs-weaker (AreApartForEver R) AreApart (λ P Q far. far 0) parts apart
 

@@ -2,6 +2,8 @@ pub mod Standing
 pub mod SettledRanges
 pub mod CellCounts
 pub mod CountedCells
+pub mod Codes
+pub mod GrowthRanges
 pub mod ObjectRanges
 pub mod Several
 pub mod Readings

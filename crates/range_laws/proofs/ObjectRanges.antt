@@ -1,5 +1,5 @@
 -- What is found of patterns whose objects are asked for has numbers in the range of a line.
-use Rattle.std.proofs.Common.{◌≡◌, ℕ, suc, ◌+◌, ◌*◌, ◌<◌, ◌≤◌, ◌^◌, Bool, true, false, cond, inl, inr, Option, Some, None, Result, Ok, Err, List, [], ◌∷◌, ◌++◌, codes, length, map, slice_get, refl, sym, ap, subst, ◌∙◌, arith}
+use Rattle.std.proofs.Common.{◌≡◌, ℕ, suc, ◌+◌, ◌*◌, ◌<◌, ◌≤◌, ◌^◌, min, Bool, true, false, cond, inl, inr, Option, Some, None, Result, Ok, Err, List, [], ◌∷◌, ◌++◌, codes, length, map, slice_get, refl, sym, ap, subst, ◌∙◌, arith}
 use Rattle.std.specs.List.{All, AllByRecursion as Each, Contains, fold}
 use Rattle.std.specs.declared.cmp.Ordering.{Ordering}
 use Rattle.std.specs.declared.cmp.Ordering.TheVariants.{Less, Equal, Greater}
@@ -16,7 +16,7 @@ use Rattle.life_answer.specs.Census.{ash_onset, census_found, census_of, counted
 use Rattle.life_answer.specs.Counted.{code_bound, counted_of}
 use Rattle.life_answer.specs.Limited.{first_past, unless_large}
 use Rattle.life_answer.specs.Parts.{with_code_by_order, counted_codes, objects_in, with_code}
-use Rattle.life_answer.specs.Questions.{IsAnswered, answer_to, answer_to_question, finding_to}
+use Rattle.life_answer.specs.Questions.{IsAnswered, answer_to, answer_to_question, finding_to, growth_horizon_limit}
 use Rattle.life_answer.specs.declared.finding.Answer.{Answer}
 use Rattle.life_answer.specs.declared.finding.Answer.TheVariants.{Found, Refused}
 use Rattle.life_answer.specs.declared.finding.Outcome.{Outcome}
@@ -49,52 +49,17 @@ use Rattle.life_text.specs.declared.rle.RleFault.{RleFault}
 use Rattle.life_text.specs.declared.rle.RleFault.TheVariants.{NoHeader, BadHeader, RuleNotLifeLike, RuleHasB0, ManyStates, BadChar, BadRun, TooFar, TooMany, NoEnd, Memory}
 use Rattle.life_text.proofs.PictureLemmas.{placed_rises, placed_within}
 use Rattle.life_text.proofs.RisingLemmas.{meaning_rises}
-use Rattle.report_laws.specs.Ranges.{FitsOutcome, InRange, IsCodedPart, IsToldAnswer, IsToldFolder}
+use Rattle.census_readback.specs.Limits.{period_limit}
+use Rattle.life_answer.specs.Growing.{allowed_bound, growing_or}
+use Rattle.life_answer.specs.Told.{growth_told}
+use Rattle.life_answer.specs.declared.tale.Engines.{Engines}
+use Rattle.life_answer.proofs.Growing.{allowed_within}
+use Rattle.report_laws.specs.Ranges.{FitsOutcome, InRange, IsToldAnswer, IsToldFolder}
+use Rattle.range_laws.proofs.Codes.{counted-coded}
+use Rattle.range_laws.proofs.GrowthRanges.{FitsGrowth, growth-fits}
 use Rattle.range_laws.proofs.CellCounts.{few_cells}
 use Rattle.range_laws.proofs.CountedCells.{few_counted}
 use Rattle.report_laws.proofs.Solid.{each-map}
-
--- ---- the codes of parts
-
-abbrev IsSome : List ℕ → Type 0
-IsSome code = 0 < length code
-
-code-some : (R : Rule) (H : Generation) (period : ℕ) (displacement : Cell) → IsSome (code_of R H period displacement)
-unfolding code_of
-code-some R H period displacement =
-    let start = prefix (size H) period displacement in
-    let all = length-append (start ++ codes "_") (least_text (bodies R H period)) in
-    let first = length-append start (codes "_") in
-    let one : length (codes "_") ≡ 1 = refl in
-    omega arith
-
-module _ (R : Rule) (b : ℕ) where
-  part-some : (P : Generation) → RecursWithin R b P → IsSome (part_code R b P)
-  part-some P again =
-      let s = at_once R b P again in
-      subst IsSome (sym (part_code-is R b P s)) (code-some R P s.period s.displacement)
-
-  parts-some : (parts : List Generation) → ((P : Generation) → Contains parts P → RecursWithin R b P)
-      → Each IsSome (map (part_code R b) parts)
-  parts-some [] h = tt
-  parts-some (P ∷ parts) h =
-      (part-some P (h P (Contains-head P parts)), parts-some parts (λ Q one. h Q (Contains-later P Q parts one)))
-
-beside-some : (order : Ordering) (code : List ℕ) (part : Part) (parts rest : List Part)
-    → IsSome code → Each IsCodedPart (part ∷ parts) → Each IsCodedPart rest → Each IsCodedPart (with_code_by_order order code part parts rest)
-beside-some Less code part parts rest h k l = (h, k)
-beside-some Equal code part parts rest h k l = (k.0, k.1)
-beside-some Greater code part parts rest h k l = (k.0, l)
-
-with-some : (code : List ℕ) (parts : List Part) → IsSome code → Each IsCodedPart parts → Each IsCodedPart (with_code code parts)
-with-some code [] h k = (h, tt)
-with-some code (part ∷ parts) h k =
-    beside-some (shorter_cmp code part.code) code part parts (with_code code parts) h k (with-some code parts h k.1)
-
-counted-some : (all : List (List ℕ)) (parts : List Part) → Each IsSome all → Each IsCodedPart parts
-    → Each IsCodedPart (fold (λ parts code. with_code code parts) parts all)
-counted-some [] parts h k = k
-counted-some (code ∷ all) parts h k = counted-some all (with_code code parts) h.1 (with-some code parts h.0 k)
 
 -- ---- what is found of a set
 
@@ -109,7 +74,7 @@ IsRangedAnswer (Refused number) = number < 2 ^ 64
 unless-ranged : (found : Outcome) (large : Option ℕ) → IsRanged found
     → ((n : ℕ) → large ≡ Some n → n < 2 ^ 64) → IsRanged (unless_large found large)
 unless-ranged found None h early = h
-unless-ranged found (Some n) h early = (((early n refl, tt), tt), omega arith)
+unless-ranged found (Some n) h early = (((early n refl, tt), tt, tt), omega arith)
 
 module _ (R : Rule) (G : Generation) (b : ℕ) (few : b ≤ objects_bound_limit) (within : All (IsWithin 0) (cells G)) where
   abbrev last : Generation
@@ -137,25 +102,39 @@ module _ (R : Rule) (G : Generation) (b : ℕ) (few : b ≤ objects_bound_limit)
       let small : objects_in (counted_codes all) ≤ 2 ^ 48 = omega arith in
       let fits : objects_in (counted_codes all) < 2 ^ 64 = omega arith in
       let early : ash_onset R G b < 2 ^ 64 = let by_then = ash_onset-within R G b in omega arith in
-      let come : (Q : Generation) → Contains sets Q → RecursWithin R (code_bound b) Q =
-      λ Q one. counted_told R b near Q (counted_recurs R b near parts ash.objects Q one) in
-      (((early, (fits, tt)), counted-some all [] (parts-some R (code_bound b) sets come) tt), small)
+      (((early, (fits, tt)), counted-coded R b near parts ash.objects, tt), small)
 
   found-ranged : (near : Bool) (o : Option (List Generation)) → ash_of R b last ≡ o
       → IsRanged (census_found near R b (ash_onset R G b) o)
-  found-ranged near None e = ((tt, tt), omega arith)
+  found-ranged near None e = ((tt, tt, tt), omega arith)
   found-ranged near (Some parts) e = ash-ranged near parts e
 
   census-ranged : (near : Bool) → IsRanged (census_of near R G b)
   unfolding census_of
   census-ranged near = found-ranged near (ash_of R b last) refl
 
-  finding-ranged : (limit : Option ℕ) (near : Bool) → IsRangedAnswer (Found R (finding_to (Objects b limit near) R G))
-  finding-ranged limit near = (
-    population_fits,
-    unless-ranged (census_of near R G b) (first_past limit R G (3 * b)) (census-ranged near)
-        (λ n past. let early : n ≤ 3 * b = past_within R G limit (3 * b) n past in omega arith),
-  )
+  -- what is told of growth goes before what was found
+  growing-ranged : (told : Option (List Engines)) (found : Outcome) → ((engines : List Engines) → told ≡ Some engines → FitsGrowth engines)
+      → IsRanged found → IsRanged (growing_or told found)
+  growing-ranged None found grown h = h
+  growing-ranged (Some engines) found grown h =
+      let fits = grown engines refl in
+      (((fits.few, tt), tt, fits.each), omega arith)
+
+  finding-ranged : (limit : Option ℕ) (near : Bool) (horizon : ℕ) → horizon ≤ growth_horizon_limit
+      → IsRangedAnswer (Found R (finding_to (Objects b limit near horizon) R G))
+  finding-ranged limit near horizon far =
+      let c = allowed_bound limit R G b in
+      let early = allowed_within limit R G b in
+      let young : c ≤ objects_bound_limit = omega arith in
+      let soon : min horizon c ≤ period_limit = omega arith in (
+        population_fits,
+        growing-ranged (growth_told near R (min horizon c) (generation R G c)) (unless_large (census_of near R G b) (first_past limit R G (3 * b)))
+            (growth-fits R near (min horizon c) c soon young (generation R G c)
+            (subst (λ k. All (IsWithin k) (cells (generation R G c))) (let e : 0 + c ≡ c = omega arith in e) (generation_within R 0 G within c)))
+            (unless-ranged (census_of near R G b) (first_past limit R G (3 * b)) (census-ranged near)
+            (λ n past. let first : n ≤ 3 * b = past_within R G limit (3 * b) n past in omega arith)),
+      )
 
 -- ---- what is found of a text
 
@@ -172,9 +151,9 @@ fault-fits (TooMany at) = omega arith
 fault-fits NoEnd = omega arith
 fault-fits Memory = omega arith
 
-module _ (bound : ℕ) (limit : Option ℕ) (near : Bool) (answered : IsAnswered (Objects bound limit near)) where
+module _ (bound : ℕ) (limit : Option ℕ) (near : Bool) (horizon : ℕ) (answered : IsAnswered (Objects bound limit near horizon)) where
   abbrev question : Question
-  question = Objects bound limit near
+  question = Objects bound limit near horizon
 
   body-ranged : (r : Rule) (ts : List Token) (o : Option RleFault) → first_fault [] ts ≡ o
       → IsRangedAnswer (answer_to question (picture_of (unless_fault o (record { rule = r; cells = cells_after [] ts }))))
@@ -184,7 +163,7 @@ module _ (bound : ℕ) (limit : Option ℕ) (near : Bool) (answered : IsAnswered
       finding-ranged r (from_list (map cell_of_pair places)) bound answered.1
       (subst (All (IsWithin 0)) (sym (cells-from_list (map cell_of_pair places) (placed_rises 0 0 places rises)))
       (placed_within 0 0 places rises))
-      limit near
+      limit near horizon answered.2.1
   body-ranged r ts (Some fault) e = fault-fits fault
 
   rule-ranged : (r : Result Rule RleFault) (ts : List Token) → IsRangedAnswer (answer_to question (picture_of (with_body r ts)))
@@ -207,10 +186,10 @@ answer-told : (found : Answer) → IsRangedAnswer found → IsToldAnswer found
 answer-told (Found rule finding) h = (h.0, h.1.0)
 answer-told (Refused number) h = h
 
-pub objects_are_told : (bound : ℕ) (limit : Option ℕ) (near : Bool) (text : List ℕ) → IsAnswered (Objects bound limit near)
-    → IsToldAnswer (answer_to_question (Objects bound limit near) text)
-objects_are_told bound limit near text answered =
-    answer-told (answer_to_question (Objects bound limit near) text) (text-ranged bound limit near answered text)
+pub objects_are_told : (bound : ℕ) (limit : Option ℕ) (near : Bool) (horizon : ℕ) (text : List ℕ) → IsAnswered (Objects bound limit near horizon)
+    → IsToldAnswer (answer_to_question (Objects bound limit near horizon) text)
+objects_are_told bound limit near horizon text answered =
+    answer-told (answer_to_question (Objects bound limit near horizon) text) (text-ranged bound limit near horizon answered text)
 
 -- ---- what is found of a bundle's patterns
 
@@ -232,20 +211,20 @@ all-told : (found : List Answer) → Each IsRangedAnswer found → Each IsToldAn
 all-told [] h = tt
 all-told (a ∷ found) h = (answer-told a h.0, all-told found h.1)
 
-module _ (bound : ℕ) (limit : Option ℕ) (near : Bool) (answered : IsAnswered (Objects bound limit near)) where
-  folder-told : (f : Folder) → length f.entries ≤ count_limit → IsToldFolder (Objects bound limit near) f
+module _ (bound : ℕ) (limit : Option ℕ) (near : Bool) (horizon : ℕ) (answered : IsAnswered (Objects bound limit near horizon)) where
+  folder-told : (f : Folder) → length f.entries ≤ count_limit → IsToldFolder (Objects bound limit near horizon) f
   folder-told f small =
-      let found = answers (Objects bound limit near) f.entries in
-      let each = each-map IsRangedAnswer (answer_to_entry (Objects bound limit near)) (entry-ranged bound limit near answered) f.entries in
+      let found = answers (Objects bound limit near horizon) f.entries in
+      let each = each-map IsRangedAnswer (answer_to_entry (Objects bound limit near horizon)) (entry-ranged bound limit near horizon answered) f.entries in
       let most : length (objects found) ≤ 2 ^ 48 * length found = few-objects found each in
-      let long : length found ≡ length f.entries = length-map f.entries (answer_to_entry (Objects bound limit near)) in
+      let long : length found ≡ length f.entries = length-map f.entries (answer_to_entry (Objects bound limit near horizon)) in
       let fits : length (objects found) < 2 ^ 64 = omega arith in
       (all-told found each, fits)
 
   folders-told : (b : List Folder) → ((j : ℕ) (f : Folder) → slice_get b j ≡ Some f → length f.entries ≤ count_limit)
-      → InRange b (Objects bound limit near)
+      → InRange b (Objects bound limit near horizon)
   folders-told [] small = tt
   folders-told (f ∷ b) small = (folder-told f (small 0 f refl), folders-told b (λ j g. small (suc j) g))
 
-  pub objects_in_range : (b : List Folder) → IsWithinCounts b → InRange b (Objects bound limit near)
+  pub objects_in_range : (b : List Folder) → IsWithinCounts b → InRange b (Objects bound limit near horizon)
   objects_in_range b small = folders-told b small.entries

@@ -13,7 +13,7 @@ use Rattle.range_laws.proofs.SettledRanges.{settled-in-range}
 
 pub all-in-range : (question : Question) → IsAnswered question → (b : List Folder) → IsBundle b → InRange b question
 all-in-range (Settles bound cells) answered b bundle = settled-in-range bound cells answered b bundle.0
-all-in-range (Objects bound cells near) answered b bundle = objects_in_range bound cells near answered b bundle.0
+all-in-range (Objects bound cells near horizon) answered b bundle = objects_in_range bound cells near horizon answered b bundle.0
 
 pub all-read : (question : Question) → IsAnswered question → (b : List Folder) (text : List ℕ) → IsBundle b → IsReport b question text → Readable text
 all-read question answered b text bundle report = report-read b question bundle (all-in-range question answered b bundle) text report

@@ -101,12 +101,12 @@ module _ (R : Rule) (G : Generation) (b : ℕ) (textual : IsTextual G) where
       let soon : period + (onset + 0) ≤ 4000000 = omega (arith, both, low) in
       let fits = moved-fits (onset + 0) (period + (onset + 0)) (generation R G onset) r.displacement young soon here again s.unmoved in
       let code = code-some R (generation R G onset) period r.displacement in
-      ((omega (arith, both, low), (omega (arith, both, low), (fits.0, (fits.1, (code, tt))))), tt)
+      ((omega (arith, both, low), (omega (arith, both, low), (fits.0, (fits.1, (code, tt))))), tt, tt)
 
   pub found-told : b ≤ settles_bound_limit → FitsOutcome (outcome_of R G b)
   found-told low = ⊎_elim
       (λ some. subst FitsOutcome (sym some.found) (settled-told some.recurrence low some.settles))
-      (λ none. subst FitsOutcome (sym none.found) (tt, tt))
+      (λ none. subst FitsOutcome (sym none.found) (tt, tt, tt))
       (settled_or_not R G b)
 
 -- where what is found can be told, so can it where a generation may be too large
@@ -115,7 +115,7 @@ module _ (R : Rule) (G : Generation) (last : ℕ) (short : last < 2 ^ 64)
   past-told : (most : ℕ) (large : Option ℕ) → first_past (Some most) R G last ≡ large
       → FitsOutcome (unless_large found large)
   past-told most None e = told
-  past-told most (Some n) e = let first = (first_past-is R G last most n).0 e in ((omega (arith, first.0, short), tt), tt)
+  past-told most (Some n) e = let first = (first_past-is R G last most n).0 e in ((omega (arith, first.0, short), tt), tt, tt)
 
   pub limited-told : (limit : Option ℕ) → FitsOutcome (outcome_unless_large limit R G last found)
   limited-told None = told

@@ -1,6 +1,6 @@
 -- The codes of answers have no blank.
-use Rattle.std.proofs.Common.{ℕ, Bool, true, false, cond, not, Option, Some, None, Result, Ok, Err, List, [], ◌∷◌, map, count_by, replicate}
-use Rattle.std.specs.Prelude.{⊤}
+use Rattle.std.proofs.Common.{ℕ, ◌*◌, min, Bool, true, false, cond, not, Option, Some, None, Result, Ok, Err, List, [], ◌∷◌, map, count_by, replicate}
+use Rattle.std.specs.Prelude.{⊤, option_map}
 use Rattle.std.specs.List.{AllByRecursion as Each, fold}
 use Rattle.std.specs.declared.cmp.Ordering.{Ordering}
 use Rattle.std.specs.declared.cmp.Ordering.TheVariants.{Less, Equal, Greater}
@@ -9,17 +9,21 @@ use Rattle.census_format.specs.Lines.{answer_to_entry, answers}
 use Rattle.census_format.specs.Objects.{Object, distinct_elements, object, objects, outcome_objects, part_objects, tally}
 use Rattle.life_answer.specs.Answers.{outcome_at, outcome_from, outcome_of}
 use Rattle.life_answer.specs.Counted.{code_bound, counted_of}
-use Rattle.life_answer.specs.Census.{ash_onset, census_found, census_of, code_found, part_code, parts_found}
-use Rattle.life_answer.specs.Limited.{unless_large}
+use Rattle.life_answer.specs.Census.{ash_onset, census_found, census_of, code_found, counted_parts, part_code, parts_found}
+use Rattle.life_answer.specs.Growing.{allowed_bound, growing_or}
+use Rattle.life_answer.specs.Limited.{first_past, outcome_unless_large, unless_large}
 use Rattle.life_answer.specs.Parts.{with_code_by_order, with_code}
 use Rattle.life_answer.specs.Questions.{answer_to, answer_to_question, outcome_to}
 use Rattle.life_answer.specs.declared.finding.Answer.{Answer}
 use Rattle.life_answer.specs.declared.finding.Answer.TheVariants.{Found, Refused}
 use Rattle.life_answer.specs.declared.finding.Outcome.{Outcome}
-use Rattle.life_answer.specs.declared.finding.Outcome.TheVariants.{Recurs, Ash}
+use Rattle.life_answer.specs.declared.finding.Outcome.TheVariants.{Recurs, Ash, Grows}
 use Rattle.life_answer.specs.declared.part.Part.{Part}
 use Rattle.life_answer.specs.declared.question.Question.{Question}
 use Rattle.life_answer.specs.declared.question.Question.TheVariants.{Objects, Settles}
+use Rattle.life_answer.specs.declared.tale.Engines.{Engines}
+use Rattle.life_answer.specs.Told.{growth_told, told_of_engines}
+use Rattle.life_fates.specs.Decided.{growth_of}
 use Rattle.life_decided.specs.Decided.{ash_of}
 use Rattle.life_model.specs.Evolution.{generation}
 use Rattle.life_model.specs.Generation.{Generation}
@@ -27,15 +31,20 @@ use Rattle.life_model.specs.Rule.{Rule}
 use Rattle.life_shape.specs.TextOrder.{shorter_cmp}
 use Rattle.life_text.specs.Picture.{Picture}
 use Rattle.life_text.specs.declared.rle.RleFault.{RleFault}
+use Rattle.report_laws.proofs.Tales.{told-holds}
 use Rattle.report_laws.proofs.Solid.{IsSolid, code-solid, each-append, each-filter, each-map, each-replicate}
 
 abbrev pub IsSolidPart : Part → Type 0
 IsSolidPart part = IsSolid part.code
 
+abbrev pub IsSolidEngines : Engines → Type 0
+IsSolidEngines engines = Each IsSolidPart engines.tale.emits
+
 -- the codes of an outcome have no blank
 abbrev pub IsCoded : Outcome → Type 0
 IsCoded (Recurs onset period dx dy code) = IsSolid code
 IsCoded (Ash onset parts) = Each IsSolidPart parts
+IsCoded (Grows engines) = Each IsSolidEngines engines
 IsCoded _ = ⊤
 
 pub parts-solid : (outcome : Outcome) → IsCoded outcome → Each IsSolidPart (parts_found outcome)
@@ -78,13 +87,16 @@ counted-solid : (codes : List (List ℕ)) (parts : List Part) → Each IsSolid c
 counted-solid [] parts h k = k
 counted-solid (code ∷ codes) parts h k = counted-solid codes (with_code code parts) h.1 (with-solid code parts h.0 k)
 
-census-found-coded : (near : Bool) (R : Rule) (b onset : ℕ) (objects : Option (List Generation))
-    → IsCoded (census_found near R b onset objects)
-census-found-coded near R b onset None = tt
-census-found-coded near R b onset (Some objects) =
+counted-parts-solid : (near : Bool) (R : Rule) (b : ℕ) (objects : List Generation) → Each IsSolidPart (counted_parts near R b objects)
+counted-parts-solid near R b objects =
     let sets = counted_of near R b objects in
     let c = code_bound b in
     counted-solid (map (part_code R c) sets) [] (each-map IsSolid (part_code R c) (λ P. found-solid (outcome_of R P c) (outcome-coded R P c)) sets) tt
+
+census-found-coded : (near : Bool) (R : Rule) (b onset : ℕ) (objects : Option (List Generation))
+    → IsCoded (census_found near R b onset objects)
+census-found-coded near R b onset None = tt
+census-found-coded near R b onset (Some objects) = counted-parts-solid near R b objects
 
 census-coded : (near : Bool) (R : Rule) (G : Generation) (b : ℕ) → IsCoded (census_of near R G b)
 unfolding census_of
@@ -94,9 +106,30 @@ unless-coded : (outcome : Outcome) (large : Option ℕ) → IsCoded outcome → 
 unless-coded outcome None h = h
 unless-coded outcome (Some n) h = tt
 
+-- the codes of what is told of growth have no blank
+abbrev AreSolidEngines : Option (List Engines) → Type 0
+AreSolidEngines None = ⊤
+AreSolidEngines (Some told) = Each IsSolidEngines told
+
+growth-solid : (near : Bool) (R : Rule) (b : ℕ) (G : Generation) → AreSolidEngines (growth_told near R b G)
+unfolding growth_told
+growth-solid near R b G = by-growth (growth_of R b G)
+  where
+    by-growth : (found : Option (List Generation × Generation)) → AreSolidEngines (option_map (λ growth. told_of_engines near R b growth.0) found)
+    by-growth None = tt
+    by-growth (Some growth) = told-holds (Each IsSolidPart) near R b tt (counted-parts-solid near R b) growth.0
+
+growing-coded : (told : Option (List Engines)) (outcome : Outcome) → AreSolidEngines told → IsCoded outcome → IsCoded (growing_or told outcome)
+growing-coded None outcome h k = k
+growing-coded (Some told) outcome h k = h
+
 outcome-to-coded : (question : Question) (R : Rule) (G : Generation) → IsCoded (outcome_to question R G)
 outcome-to-coded (Settles bound cells) R G = unless-coded (outcome_of R G bound) _ (outcome-coded R G bound)
-outcome-to-coded (Objects bound cells near) R G = unless-coded (census_of near R G bound) _ (census-coded near R G bound)
+outcome-to-coded (Objects bound cells near horizon) R G =
+    let c = allowed_bound cells R G bound in
+    growing-coded (growth_told near R (min horizon c) (generation R G c)) (outcome_unless_large cells R G (3 * bound) (census_of near R G bound))
+    (growth-solid near R (min horizon c) (generation R G c))
+    (unless-coded (census_of near R G bound) (first_past cells R G (3 * bound)) (census-coded near R G bound))
 
 answer-to-coded : (question : Question) (read : Result Picture RleFault) → IsCodedAnswer (answer_to question read)
 answer-to-coded question (Ok pattern) = outcome-to-coded question pattern.rule pattern.cells

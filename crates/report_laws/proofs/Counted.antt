@@ -6,27 +6,32 @@ use Rattle.census_format.specs.Lines.{pattern_count}
 use Rattle.census_readback.specs.Shapes.{AreCodes, AreLines, AreOfCollections, patterns_in, rows_of}
 use Rattle.census_readback.specs.Steps.{collection_of, patterns_opened}
 use Rattle.census_rows.specs.Kinds.{said}
+use Rattle.census_rows.specs.declared.kinds.Behind.{Behind}
 use Rattle.census_rows.specs.declared.row.Row.{Row}
-use Rattle.census_rows.specs.declared.row.Row.TheVariants.{Open, Line, Part, Code, Close, End}
+use Rattle.census_rows.specs.declared.row.Row.TheVariants.{Open, Line, Part, Engine, Emits, Code, Close, End}
 
 pub patterns-append : (xs ys : List Row) → patterns_in (xs ++ ys) ≡ patterns_in xs + patterns_in ys
 patterns-append [] ys = (let e : patterns_in ys ≡ 0 + patterns_in ys = omega arith in e)
 patterns-append (x ∷ xs) ys = (let inner = patterns-append xs ys in omega (arith, inner))
 
-pub lines-open-none : (last : ℕ) (ash : Bool) (rows : List Row) → AreLines last ash rows → patterns_in rows ≡ 0
-lines-open-none last ash [] h = refl
-lines-open-none last ash (Open c n name ∷ rows) h = absurd h
-lines-open-none last ash (Line c i o name ∷ rows) h = let e = lines-open-none (last + 1) (said o).has_parts rows h.1 in omega (arith, e)
-lines-open-none last ash (Part c i code k ∷ rows) h = let e = lines-open-none last ash rows h.2 in omega (arith, e)
-lines-open-none last ash (Code c rule code k ∷ rows) h = absurd h
-lines-open-none last ash (Close c n a b d ∷ rows) h = absurd h
-lines-open-none last ash (End n k ∷ rows) h = absurd h
+pub lines-open-none : (last : ℕ) (kind : Behind) (rows : List Row) → AreLines last kind rows → patterns_in rows ≡ 0
+lines-open-none last kind [] h = refl
+lines-open-none last kind (Open c n name ∷ rows) h = absurd h
+lines-open-none last kind (Line c i o name ∷ rows) h = let e = lines-open-none (last + 1) (said o).behind rows h.1 in omega (arith, e)
+lines-open-none last kind (Part c i code k ∷ rows) h = let e = lines-open-none last kind rows h.2 in omega (arith, e)
+lines-open-none last kind (Engine c i n p x y k ∷ rows) h = let e = lines-open-none last kind rows h.2 in omega (arith, e)
+lines-open-none last kind (Emits c i n code k ∷ rows) h = let e = lines-open-none last kind rows h.2 in omega (arith, e)
+lines-open-none last kind (Code c rule code k ∷ rows) h = absurd h
+lines-open-none last kind (Close c n a b d ∷ rows) h = absurd h
+lines-open-none last kind (End n k ∷ rows) h = absurd h
 
 pub codes-open-none : (rows : List Row) → AreCodes rows → patterns_in rows ≡ 0
 codes-open-none [] h = refl
 codes-open-none (Open c n name ∷ rows) h = absurd h
 codes-open-none (Line c i o name ∷ rows) h = absurd h
 codes-open-none (Part c i code k ∷ rows) h = absurd h
+codes-open-none (Engine c i e p x y k ∷ rows) h = absurd h
+codes-open-none (Emits c i e code k ∷ rows) h = absurd h
 codes-open-none (Code c rule code k ∷ rows) h = let e = codes-open-none rows h in omega (arith, e)
 codes-open-none (Close c n a b d ∷ rows) h = absurd h
 codes-open-none (End n k ∷ rows) h = absurd h

@@ -4,7 +4,7 @@ use Rattle.std.specs.List.{AllByRecursion as Each}
 use Rattle.std.proofs.lemmas.Fmt.{decimal_injective}
 use Rattle.census_readback.specs.Texts.{AllLines, HasNoFeed}
 use Rattle.census_rows.specs.declared.row.Row.{Row}
-use Rattle.census_rows.specs.declared.row.Row.TheVariants.{Open, Line, Part, Code, Close, End}
+use Rattle.census_rows.specs.declared.row.Row.TheVariants.{Open, Line, Part, Engine, Emits, Code, Close, End}
 use Rattle.census_rows.specs.Lines.{IsRow, Spelling, line_of, row_text, spelling, text_of}
 use Rattle.report_laws.proofs.Named.{IsCut}
 use Rattle.report_laws.proofs.Parsed.{end-cut, parse, row-parsed}
@@ -29,6 +29,8 @@ small-number : (row : Row) → IsRow row → (spelling row).number < 2 ^ 64
 small-number (Open collection patterns name) h = h.0
 small-number (Line collection pattern outcome name) h = h.0
 small-number (Part collection pattern code count) h = h.0
+small-number (Engine collection pattern number period dx dy count) h = h.0
+small-number (Emits collection pattern engine code count) h = h.0
 small-number (Code collection rule code count) h = h.0
 small-number (Close collection patterns resolved unresolved refused) h = h.0
 small-number (End collections patterns) h = h.0
@@ -102,6 +104,9 @@ last-row : (m n : ℕ) (row : Row) → n < 2 ^ 64 → IsRow row → spelling row
 last-row m n (Open collection patterns name) b h e = absurd (isnt-end (spelling (Open collection patterns name)) m n e refl)
 last-row m n (Line collection pattern outcome name) b h e = absurd (isnt-end (spelling (Line collection pattern outcome name)) m n e refl)
 last-row m n (Part collection pattern code count) b h e = absurd (isnt-end (spelling (Part collection pattern code count)) m n e refl)
+last-row m n (Engine collection pattern number period dx dy count) b h e =
+    absurd (isnt-end (spelling (Engine collection pattern number period dx dy count)) m n e refl)
+last-row m n (Emits collection pattern engine code count) b h e = absurd (isnt-end (spelling (Emits collection pattern engine code count)) m n e refl)
 last-row m n (Code collection rule code count) b h e = absurd (isnt-end (spelling (Code collection rule code count)) m n e refl)
 last-row m n (Close collection patterns resolved unresolved refused) b h e =
     absurd (isnt-end (spelling (Close collection patterns resolved unresolved refused)) m n e refl)

@@ -2,6 +2,7 @@ pub mod Texts
 pub mod Shifted
 pub mod Joined
 pub mod Solid
+pub mod Tales
 pub mod Coded
 pub mod Parsed
 pub mod Cut
@@ -15,6 +16,11 @@ pub mod Formed
 pub mod Ranged
 pub mod Ruled
 pub mod CodeStarts
+pub mod Taken
+pub mod Engined
+pub mod Growing
+pub mod PartsFound
+pub mod Grown
 pub mod Whole
 pub mod Tallied
 pub mod Readable

@@ -8,7 +8,7 @@ use Rattle.census_bundle.specs.declared.bundle.Folder.{Folder}
 use Rattle.census_bundle.specs.Names.{IsNamedEntry, IsNamedFolder, is_name, is_name_byte}
 use Rattle.census_bundle.specs.Sizes.{IsWithinCounts, count_limit}
 use Rattle.census_format.specs.Found.{lent}
-use Rattle.census_format.specs.Lines.{answer_to_entry, answers, is_refused, is_resolved, is_unresolved, part_row, part_rows, pattern_count, pattern_lines, pattern_row, pattern_rows}
+use Rattle.census_format.specs.Lines.{answer_to_entry, answers, is_refused, is_resolved, is_unresolved, emits_row, engine_row, engine_rows, outcome_rows, part_row, pattern_count, pattern_lines, pattern_row, pattern_rows, rows_behind, rows_of_engines}
 use Rattle.census_format.specs.Objects.{Object, same_object}
 use Rattle.census_format.specs.Reports.{folder_section, section, section_of}
 use Rattle.census_rows.specs.declared.row.Row.{Row}
@@ -18,16 +18,17 @@ use Rattle.census_readback.specs.Texts.{HasNoFeed}
 use Rattle.life_answer.specs.declared.finding.Answer.{Answer}
 use Rattle.life_answer.specs.declared.finding.Answer.TheVariants.{Found, Refused}
 use Rattle.life_answer.specs.declared.finding.Outcome.{Outcome}
-use Rattle.life_answer.specs.declared.finding.Outcome.TheVariants.{Recurs, Unresolved, Large, Ash}
+use Rattle.life_answer.specs.declared.finding.Outcome.TheVariants.{Recurs, Unresolved, Large, Ash, Grows}
 use Rattle.life_answer.specs.declared.part.Part.{Part}
 use Rattle.life_answer.specs.declared.question.Question.{Question}
+use Rattle.life_answer.specs.declared.tale.Engines.{Engines}
+use Rattle.life_answer.specs.CountedTales.{engines_in}
 use Rattle.life_answer.specs.Parts.{objects_in}
-use Rattle.life_answer.specs.Census.{parts_found}
 use Rattle.life_cells.specs.Rules.{rule_text}
 use Rattle.life_model.specs.Rule.{Rule}
 use Rattle.report_laws.specs.Joining.{IsBundle}
 use Rattle.report_laws.proofs.Rowed.{close_row, code-is, code_groups, code_row, counted_in, open_row, row_outcome, section-is}
-use Rattle.report_laws.proofs.Coded.{IsCoded, IsCodedAnswer, IsSolidObject, IsSolidPart, entry-coded, parts-solid, tally-coded}
+use Rattle.report_laws.proofs.Coded.{IsCoded, IsCodedAnswer, IsSolidEngines, IsSolidObject, IsSolidPart, entry-coded, tally-coded}
 use Rattle.report_laws.proofs.Parsed.{IsParsed, long-parsed, short-parsed, solid-flat}
 use Rattle.report_laws.proofs.Solid.{decimal-solid, each-append, rule-solid, signed-solid, solid-checked}
 
@@ -71,6 +72,18 @@ part-cut c i part h =
     short-parsed (codes "part") c (decimal i) (part.code ∷ decimal part.count ∷ []) (solid-checked (codes "part") refl)
     (decimal-solid i, (h, number-flat part.count)) (λ found. refl)
 
+engine-cut : (c i e : ℕ) (engines : Engines) → IsParsed (spelling (engine_row c i e engines))
+engine-cut c i e engines =
+    let tale = engines.tale in
+    short-parsed (codes "engine") c (decimal i)
+    (decimal e ∷ decimal tale.period ∷ signed_decimal tale.dx ∷ signed_decimal tale.dy ∷ decimal engines.count ∷ []) (solid-checked (codes "engine") refl)
+    (decimal-solid i, (decimal-solid e, (decimal-solid tale.period, (signed-solid tale.dx, (signed-solid tale.dy, number-flat engines.count))))) (λ found. refl)
+
+emits-cut : (c i e : ℕ) (part : Part) → IsSolidPart part → IsParsed (spelling (emits_row c i e part))
+emits-cut c i e part h =
+    short-parsed (codes "emits") c (decimal i) (decimal e ∷ part.code ∷ decimal part.count ∷ []) (solid-checked (codes "emits") refl)
+    (decimal-solid i, (decimal-solid e, (h, number-flat part.count))) (λ found. refl)
+
 code-cut : (c : ℕ) (counted : Object × ℕ) → IsSolidObject counted.0 → IsParsed (spelling (code_row c counted))
 code-cut c counted h =
     short-parsed (codes "code") c (rule_text counted.0.rule) (counted.0.code ∷ decimal counted.1 ∷ []) (solid-checked (codes "code") refl)
@@ -98,6 +111,9 @@ outcome-cut c i rule population (Large generation) name h k =
 outcome-cut c i rule population (Ash onset parts) name h k =
     long-parsed c (decimal i) (codes "ash") (rule_text rule) (decimal population ∷ decimal onset ∷ decimal (objects_in parts) ∷ name ∷ [])
     (decimal-solid i, (solid-checked (codes "ash") refl, (rule-solid rule, (decimal-solid population, (decimal-solid onset, (decimal-solid (objects_in parts), k)))))) refl
+outcome-cut c i rule population (Grows engines) name h k =
+    long-parsed c (decimal i) (codes "grows") (rule_text rule) (decimal population ∷ decimal (engines_in engines) ∷ name ∷ [])
+    (decimal-solid i, (solid-checked (codes "grows") refl, (rule-solid rule, (decimal-solid population, (decimal-solid (engines_in engines), k))))) refl
 
 answer-cut : (c i : ℕ) (found : Answer) (name : List ℕ) → IsCodedAnswer found → HasNoFeed name → IsParsed (spelling (pattern_row c i found name))
 answer-cut c i (Found rule finding) name h k = outcome-cut c i rule finding.population finding.outcome name h k
@@ -105,10 +121,21 @@ answer-cut c i (Refused number) name h k =
     long-parsed c (decimal i) (codes "bad") (decimal number) (name ∷ [])
     (decimal-solid i, (solid-checked (codes "bad") refl, (decimal-solid number, k))) refl
 
-parts-cut : (c i : ℕ) (found : Answer) → c < 2 ^ 64 → IsCodedAnswer found → Each IsCut (part_rows c i found)
-parts-cut c i (Found rule finding) few h =
-    map-each IsSolidPart IsCut (part_row c i) (λ part k. (part-cut c i part k, few)) (parts_found finding.outcome) (parts-solid finding.outcome h)
-parts-cut c i (Refused number) few h = tt
+engines-cut : (c i e : ℕ) (engines : List Engines) → c < 2 ^ 64 → Each IsSolidEngines engines → Each IsCut (rows_of_engines c i e engines)
+engines-cut c i e [] few h = tt
+engines-cut c i e (line ∷ engines) few h =
+    each-append IsCut (engine_rows c i e line) (rows_of_engines c i (suc e) engines)
+    ((engine-cut c i e line, few), map-each IsSolidPart IsCut (emits_row c i e) (λ part k. (emits-cut c i e part k, few)) line.tale.emits h.0)
+    (engines-cut c i (suc e) engines few h.1)
+
+rows-cut : (c i : ℕ) (outcome : Outcome) → c < 2 ^ 64 → IsCoded outcome → Each IsCut (outcome_rows c i outcome)
+rows-cut c i (Ash onset parts) few h = map-each IsSolidPart IsCut (part_row c i) (λ part k. (part-cut c i part k, few)) parts h
+rows-cut c i (Grows engines) few h = engines-cut c i 1 engines few h
+rows-cut c i _ few h = tt
+
+behind-cut : (c i : ℕ) (found : Answer) → c < 2 ^ 64 → IsCodedAnswer found → Each IsCut (rows_behind c i found)
+behind-cut c i (Found rule finding) few h = rows-cut c i finding.outcome few h
+behind-cut c i (Refused number) few h = tt
 
 patterns-cut : (question : Question) (c i : ℕ) (es : List Entry) → c < 2 ^ 64 → Each IsNamedEntry es → Each (Each IsCut) (pattern_lines question c i es)
 unfolding pattern_rows
@@ -116,7 +143,7 @@ patterns-cut question c i [] few h = tt
 patterns-cut question c i (e ∷ es) few h =
     let found = answer_to_entry question e in
     let coded = entry-coded question e in
-    (((answer-cut c i found e.name coded (name-flat e.name h.0.name), few), parts-cut c i found few coded), patterns-cut question c (suc i) es few h.1)
+    (((answer-cut c i found e.name coded (name-flat e.name h.0.name), few), behind-cut c i found few coded), patterns-cut question c (suc i) es few h.1)
 
 codes-cut : (c : ℕ) (counted : List (Object × ℕ)) → c < 2 ^ 64 → Each (λ (x : Object × ℕ). IsSolidObject x.0) counted → Each (Each IsCut) (code_groups c counted)
 codes-cut c [] few h = tt

@@ -8,7 +8,7 @@ use Rattle.census_rows.specs.declared.row.Finding.TheVariants as findings
 use Rattle.census_rows.specs.declared.row.Outcome.{Outcome}
 use Rattle.census_rows.specs.declared.row.Outcome.TheVariants as outcomes
 use Rattle.census_rows.specs.declared.row.Row.{Row}
-use Rattle.census_rows.specs.declared.row.Row.TheVariants.{Open, Line, Part, Code, Close, End}
+use Rattle.census_rows.specs.declared.row.Row.TheVariants.{Open, Line, Part, Engine, Emits, Code, Close, End}
 use Rattle.census_rows.specs.Lines.{HasNoBlank, IsOutcome, IsRow, Spelling, fields_text, outcome_fields, row_text, spelled, spelling, spelling_text}
 use Rattle.report_laws.proofs.Solid.{IsSolid, decimal-solid, signed-solid, solid-checked}
 
@@ -29,12 +29,15 @@ fields_of (suc n) text = first text ∷ fields_of n (after text)
 -- how many fields follow the word of a line, by what a `line` line finds
 abbrev line_size : List ℕ → ℕ
 line_size found =
-    cond (bytes_eq found (codes "ok")) 11 (cond (bytes_eq found (codes "ash")) 8 (cond (bytes_eq found (codes "none")) 6 (cond (bytes_eq found (codes "large")) 7 5)))
+    cond (bytes_eq found (codes "ok")) 11 (cond (bytes_eq found (codes "ash")) 8 (cond (bytes_eq found (codes "none")) 6 (cond (bytes_eq found (codes "large")) 7 (cond (bytes_eq found (codes "grows")) 7 5))))
 
 abbrev size : List ℕ → List ℕ → ℕ
 size word found =
     cond (bytes_eq word (codes "line")) (line_size found)
-    (cond (bytes_eq word (codes "open")) 3 (cond (bytes_eq word (codes "part")) 4 (cond (bytes_eq word (codes "code")) 4 (cond (bytes_eq word (codes "close")) 5 2))))
+    (cond (bytes_eq word (codes "open")) 3
+    (cond (bytes_eq word (codes "part")) 4
+    (cond (bytes_eq word (codes "engine")) 7
+    (cond (bytes_eq word (codes "emits")) 5 (cond (bytes_eq word (codes "code")) 4 (cond (bytes_eq word (codes "close")) 5 2))))))
 
 abbrev found_in : List ℕ → List ℕ
 found_in text = first (after (after (after text)))
@@ -107,6 +110,9 @@ plain-none = solid-plain (codes "none") (solid-checked (codes "none") refl)
 plain-large : HasNoBlank (codes "large")
 plain-large = solid-plain (codes "large") (solid-checked (codes "large") refl)
 
+plain-grows : HasNoBlank (codes "grows")
+plain-grows = solid-plain (codes "grows") (solid-checked (codes "grows") refl)
+
 plain-bad : HasNoBlank (codes "bad")
 plain-bad = solid-plain (codes "bad") (solid-checked (codes "bad") refl)
 
@@ -115,6 +121,12 @@ plain-open = solid-plain (codes "open") (solid-checked (codes "open") refl)
 
 plain-part : HasNoBlank (codes "part")
 plain-part = solid-plain (codes "part") (solid-checked (codes "part") refl)
+
+plain-engine : HasNoBlank (codes "engine")
+plain-engine = solid-plain (codes "engine") (solid-checked (codes "engine") refl)
+
+plain-emits : HasNoBlank (codes "emits")
+plain-emits = solid-plain (codes "emits") (solid-checked (codes "emits") refl)
 
 plain-code : HasNoBlank (codes "code")
 plain-code = solid-plain (codes "code") (solid-checked (codes "code") refl)
@@ -147,6 +159,10 @@ line-parsed c p (outcomes.Found rule population (findings.Large generation)) nam
     parsed-line (decimal c) (decimal p) (codes "large") rule.now (decimal population ∷ decimal generation ∷ name ∷ [])
     (plain-line, (number c, (number p, (plain-large, (h.0.1, (number population, (number generation, tt)))))))
     refl
+line-parsed c p (outcomes.Found rule population (findings.Grows engines)) name h =
+    parsed-line (decimal c) (decimal p) (codes "grows") rule.now (decimal population ∷ decimal engines ∷ name ∷ [])
+    (plain-line, (number c, (number p, (plain-grows, (h.0.1, (number population, (number engines, tt)))))))
+    refl
 line-parsed c p (outcomes.Bad fault) name h =
     parsed-line (decimal c) (decimal p) (codes "bad") (decimal fault) (name ∷ [])
     (plain-line, (number c, (number p, (plain-bad, (number fault, tt)))))
@@ -160,6 +176,15 @@ row-parsed (Line collection pattern outcome name) h = line-parsed collection pat
 row-parsed (Part collection pattern code count) h =
     parsed-short (codes "part") (decimal collection) (decimal pattern ∷ code.now ∷ decimal count ∷ [])
     (plain-part, (number collection, (number pattern, (h.2.1, tt)))) (λ found. refl)
+row-parsed (Engine collection pattern index period dx dy count) h =
+    let dx_plain = solid-plain (signed_decimal dx) (signed-solid dx) in
+    let dy_plain = solid-plain (signed_decimal dy) (signed-solid dy) in
+    parsed-short (codes "engine") (decimal collection)
+    (decimal pattern ∷ decimal index ∷ decimal period ∷ signed_decimal dx ∷ signed_decimal dy ∷ decimal count ∷ [])
+    (plain-engine, (number collection, (number pattern, (number index, (number period, (dx_plain, (dy_plain, tt))))))) (λ found. refl)
+row-parsed (Emits collection pattern engine code count) h =
+    parsed-short (codes "emits") (decimal collection) (decimal pattern ∷ decimal engine ∷ code.now ∷ decimal count ∷ [])
+    (plain-emits, (number collection, (number pattern, (number engine, (h.3.1, tt))))) (λ found. refl)
 row-parsed (Code collection rule code count) h =
     parsed-short (codes "code") (decimal collection) (rule.now ∷ code.now ∷ decimal count ∷ [])
     (plain-code, (number collection, (h.1.1, (h.2.1, tt)))) (λ found. refl)

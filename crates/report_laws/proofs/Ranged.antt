@@ -1,6 +1,9 @@
 -- The rows that say what is said of a bundle stand on lines, where their numbers are in range.
 use Rattle.std.proofs.Common.{◌≡◌, ℕ, zero, suc, ◌+◌, ◌-◌, ◌<◌, ⊎_elim, eq-zero-or-pos, replicate, ◌≤◌, ◌^◌, Bool, None as Nothing, Some, List, [], ◌∷◌, ◌++◌, map, length, count_by, slice_get, sym, refl, arith, subst}
 use Rattle.std.specs.List.{AllByRecursion as Each}
+use Rattle.std.specs.Prelude.{FitsSigned}
+use Rattle.std.specs.Int.{w64}
+use Rattle.std.proofs.lemmas.Int.{ints}
 use Rattle.std.proofs.lemmas.List.{length-map}
 use Rattle.std.proofs.lemmas.List.Sums.{count_by-le-length}
 use Rattle.std.proofs.lemmas.Option.{slice_get_past}
@@ -8,7 +11,7 @@ use Rattle.census_bundle.specs.Sizes.{IsWithinCounts, count_limit}
 use Rattle.census_bundle.specs.declared.bundle.Entry.{Entry}
 use Rattle.census_bundle.specs.declared.bundle.Folder.{Folder}
 use Rattle.census_format.specs.Found.{outcome_of}
-use Rattle.census_format.specs.Lines.{answer_to_entry, answers, is_refused, is_resolved, is_unresolved, part_row, part_rows, pattern_lines, pattern_rows}
+use Rattle.census_format.specs.Lines.{answer_to_entry, answers, is_refused, is_resolved, is_unresolved, emits_row, engine_row, engine_rows, outcome_rows, part_row, pattern_lines, pattern_rows, rows_behind, rows_of_engines}
 use Rattle.census_format.specs.Objects.{Object, code_line, distinct_elements, object, objects, outcome_objects, part_objects, same_object}
 use Rattle.census_format.specs.Reports.{folder_section, section, section_of}
 use Rattle.census_merge.specs.Sums.{sums_of}
@@ -18,15 +21,16 @@ use Rattle.census_rows.specs.Lines.{IsOutcome, IsRow, IsWord}
 use Rattle.life_answer.specs.declared.finding.Answer.{Answer}
 use Rattle.life_answer.specs.declared.finding.Answer.TheVariants.{Found, Refused}
 use Rattle.life_answer.specs.declared.finding.Outcome as becomes
-use Rattle.life_answer.specs.declared.finding.Outcome.TheVariants.{Recurs, Unresolved, Large, Ash}
+use Rattle.life_answer.specs.declared.finding.Outcome.TheVariants.{Recurs, Unresolved, Large, Ash, Grows}
 use Rattle.life_answer.specs.declared.part.Part as part
 use Rattle.life_answer.specs.declared.question.Question.{Question}
 use Rattle.life_answer.specs.Parts.{objects_in}
-use Rattle.life_answer.specs.Census.{parts_found}
+use Rattle.life_answer.specs.CountedTales.{engines_in}
+use Rattle.life_answer.specs.declared.tale.Engines.{Engines}
 use Rattle.life_cells.specs.Rules.{rule_text}
 use Rattle.life_model.specs.Rule.{Rule}
-use Rattle.report_laws.specs.Ranges.{FitsOutcome, InRange, IsCodedPart, IsToldAnswer, IsToldFolder}
-use Rattle.report_laws.proofs.Coded.{IsCoded, IsCodedAnswer, IsSolidObject, IsSolidPart, counted-each, distinct-each, entry-coded, tally-coded}
+use Rattle.report_laws.specs.Ranges.{FitsEmitted, FitsEngines, FitsOutcome, InRange, IsCodedPart, IsToldAnswer, IsToldFolder}
+use Rattle.report_laws.proofs.Coded.{IsCoded, IsCodedAnswer, IsSolidEngines, IsSolidObject, IsSolidPart, counted-each, distinct-each, entry-coded, tally-coded}
 use Rattle.report_laws.proofs.Parsed.{solid-plain}
 use Rattle.report_laws.proofs.Rowed.{close_row, code_groups, counted_in, row_outcome, section-is}
 use Rattle.report_laws.proofs.Solid.{IsSolid, each-append, each-replicate, rule-solid}
@@ -48,6 +52,7 @@ row-outcome-fits rule population (Recurs onset period dx dy code) few h k =
 row-outcome-fits rule population Unresolved few h k = (rule-word rule, (few, tt))
 row-outcome-fits rule population (Large generation) few h k = (rule-word rule, (few, (h.0.0, tt)))
 row-outcome-fits rule population (Ash onset parts) few h k = (rule-word rule, (few, (h.0.0, (h.0.1.0, tt))))
+row-outcome-fits rule population (Grows engines) few h k = (rule-word rule, (few, (h.0.0, tt)))
 
 outcome-fits : (found : Answer) → IsToldAnswer found → IsCodedAnswer found → IsOutcome (outcome_of found)
 outcome-fits (Found rule finding) h k = row-outcome-fits rule finding.population finding.outcome h.0 h.1 k
@@ -61,12 +66,44 @@ parts-fit c i (p ∷ parts) a b few some h =
     let more : objects_in parts < 2 ^ 64 = omega (arith, few) in
     ((refl, refl, (a, b, word p.code some.0 h.0, here)), parts-fit c i parts a b more some.1 h.1)
 
+emits-fit : (c i e : ℕ) (parts : List part.Part) → c < 2 ^ 64 → i < 2 ^ 64 → e < 2 ^ 64 → Each FitsEmitted parts → Each IsSolidPart parts
+    → Each (IsFit c) (map (emits_row c i e) parts)
+emits-fit c i e [] a b d h k = tt
+emits-fit c i e (p ∷ parts) a b d h k =
+    let few = h.0.1 in
+    let here : p.count < 2 ^ 64 = omega (arith, few) in
+    ((refl, refl, (a, b, d, word p.code h.0.0 k.0, here)), emits-fit c i e parts a b d h.1 k.1)
+
+engine-fit : (c i e : ℕ) (line : Engines) → c < 2 ^ 64 → i < 2 ^ 64 → e < 2 ^ 64 → line.count < 2 ^ 64 → FitsEngines line → IsFit c (engine_row c i e line)
+engine-fit c i e line a b d few h =
+    let soon = h.0.soon in
+    let left = h.0.left in
+    let right = h.0.right in
+    let above = h.0.above in
+    let below = h.0.below in
+    let short : line.tale.period < 2 ^ 64 = omega (arith, soon) in
+    let across : FitsSigned w64 line.tale.dx = omega (arith, ints, soon, left, right) in
+    let down : FitsSigned w64 line.tale.dy = omega (arith, ints, soon, above, below) in
+    (refl, refl, (a, b, d, short, across, down, few))
+
+engines-fit : (c i e : ℕ) (engines : List Engines) → c < 2 ^ 64 → i < 2 ^ 64 → 0 < e → e + engines_in engines ≤ 2 ^ 64 → Each FitsEngines engines → Each IsSolidEngines engines
+    → Each (IsFit c) (rows_of_engines c i e engines)
+engines-fit c i e [] a b from few h k = tt
+engines-fit c i e (line ∷ engines) a b from few h k =
+    let some = h.0.0.some in
+    let number : e < 2 ^ 64 = omega (arith, few, some) in
+    let count : line.count < 2 ^ 64 = omega (arith, from, few) in
+    each-append (IsFit c) (engine_rows c i e line) (rows_of_engines c i (suc e) engines)
+    (engine-fit c i e line a b number count h.0, emits-fit c i e line.tale.emits a b number h.0.1 k.0)
+    (engines-fit c i (suc e) engines a b (omega arith) (omega (arith, few, some)) h.1 k.1)
+
 found-fit : (c i : ℕ) (outcome : becomes.Outcome) → c < 2 ^ 64 → i < 2 ^ 64 → FitsOutcome outcome → IsCoded outcome
-    → Each (IsFit c) (map (part_row c i) (parts_found outcome))
+    → Each (IsFit c) (outcome_rows c i outcome)
 found-fit c i (Ash onset parts) a b h k = parts-fit c i parts a b h.0.1.0 h.1 k
+found-fit c i (Grows engines) a b h k = let few = h.0.0 in engines-fit c i 1 engines a b (omega arith) (omega (arith, few)) h.2 k
 found-fit c i _ a b h k = tt
 
-after-fit : (c i : ℕ) (found : Answer) → c < 2 ^ 64 → i < 2 ^ 64 → IsToldAnswer found → IsCodedAnswer found → Each (IsFit c) (part_rows c i found)
+after-fit : (c i : ℕ) (found : Answer) → c < 2 ^ 64 → i < 2 ^ 64 → IsToldAnswer found → IsCodedAnswer found → Each (IsFit c) (rows_behind c i found)
 after-fit c i (Found rule finding) a b h k = found-fit c i finding.outcome a b h.1 k
 after-fit c i (Refused number) a b h k = tt
 

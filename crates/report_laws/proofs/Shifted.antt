@@ -6,20 +6,22 @@ use Rattle.std.proofs.lemmas.Bool.{eq-eqb, eqb-false, eqb-true, ne_eqb}
 use Rattle.std.proofs.lemmas.List.{map-append}
 use Rattle.census_bundle.specs.declared.bundle.Entry.{Entry}
 use Rattle.census_bundle.specs.declared.bundle.Folder.{Folder}
-use Rattle.census_format.specs.Lines.{Group, answer_to_entry, answers, part_row, part_rows, pattern_lines, pattern_row, pattern_rows}
+use Rattle.census_format.specs.Lines.{Group, answer_to_entry, answers, emits_row, engine_row, engine_rows, outcome_rows, part_row, pattern_lines, pattern_row, pattern_rows, rows_behind, rows_of_engines}
 use Rattle.census_format.specs.Objects.{Object, code_line}
 use Rattle.census_format.specs.Reports.{Owned, lines_of, section_of}
 use Rattle.census_merge.specs.declared.report_sums.Sums.{Sums}
 use Rattle.census_merge.specs.Sums.{sums_plus, sums_in, sums_of}
 use Rattle.census_merge.specs.Merged.{numbered_on, renumbered_row}
 use Rattle.census_rows.specs.declared.row.Row.{Row}
-use Rattle.census_rows.specs.declared.row.Row.TheVariants.{Open, Line, Part, Code, Close, End}
+use Rattle.census_rows.specs.declared.row.Row.TheVariants.{Open, Line, Part, Engine, Emits, Code, Close, End}
 use Rattle.census_rows.specs.Lines.{Spelling, spelled, spelling}
 use Rattle.life_answer.specs.declared.finding.Answer.{Answer}
 use Rattle.life_answer.specs.declared.finding.Answer.TheVariants.{Found, Refused}
-use Rattle.life_answer.specs.Census.{parts_found}
+use Rattle.life_answer.specs.declared.finding.Outcome.{Outcome}
+use Rattle.life_answer.specs.declared.finding.Outcome.TheVariants.{Ash, Grows}
 use Rattle.life_answer.specs.declared.part.Part as part
 use Rattle.life_answer.specs.declared.question.Question.{Question}
+use Rattle.life_answer.specs.declared.tale.Engines.{Engines}
 use Rattle.report_laws.specs.Telling.{rows_in}
 use Rattle.report_laws.proofs.Rowed.{close_row, code_groups, counted_in, open_row, section-is}
 use Rattle.report_laws.proofs.Solid.{each-append}
@@ -33,6 +35,8 @@ other-word : (row : Row) → IsLasting row → bytes_eq (spelling row).word (cod
 other-word (Open collection patterns name) e = refl
 other-word (Line collection pattern outcome name) e = refl
 other-word (Part collection pattern code count) e = refl
+other-word (Engine collection pattern number period dx dy count) e = refl
+other-word (Emits collection pattern engine code count) e = refl
 other-word (Code collection rule code count) e = refl
 other-word (Close collection patterns resolved unresolved refused) e = refl
 other-word (End collections patterns) e = absurd (cc)
@@ -41,6 +45,8 @@ by-word : (row : Row) → bytes_eq (spelling row).word (codes "end") ≡ false �
 by-word (Open collection patterns name) e = refl
 by-word (Line collection pattern outcome name) e = refl
 by-word (Part collection pattern code count) e = refl
+by-word (Engine collection pattern number period dx dy count) e = refl
+by-word (Emits collection pattern engine code count) e = refl
 by-word (Code collection rule code count) e = refl
 by-word (Close collection patterns resolved unresolved refused) e = refl
 by-word (End collections patterns) e = let no : true ≡ false = e in absurd (cc)
@@ -58,8 +64,23 @@ parts-lasting : (c i : ℕ) (parts : List part.Part) → Each IsLasting (map (pa
 parts-lasting c i [] = tt
 parts-lasting c i (p ∷ parts) = (refl, parts-lasting c i parts)
 
-found-lasting : (c i : ℕ) (found : Answer) → Each IsLasting (part_rows c i found)
-found-lasting c i (Found rule finding) = parts-lasting c i (parts_found finding.outcome)
+emits-lasting : (c i e : ℕ) (parts : List part.Part) → Each IsLasting (map (emits_row c i e) parts)
+emits-lasting c i e [] = tt
+emits-lasting c i e (p ∷ parts) = (refl, emits-lasting c i e parts)
+
+engines-lasting : (c i e : ℕ) (engines : List Engines) → Each IsLasting (rows_of_engines c i e engines)
+engines-lasting c i e [] = tt
+engines-lasting c i e (line ∷ engines) =
+    each-append IsLasting (engine_rows c i e line) (rows_of_engines c i (suc e) engines) (refl, emits-lasting c i e line.tale.emits)
+    (engines-lasting c i (suc e) engines)
+
+outcome-lasting : (c i : ℕ) (outcome : Outcome) → Each IsLasting (outcome_rows c i outcome)
+outcome-lasting c i (Ash onset parts) = parts-lasting c i parts
+outcome-lasting c i (Grows engines) = engines-lasting c i 1 engines
+outcome-lasting c i _ = tt
+
+found-lasting : (c i : ℕ) (found : Answer) → Each IsLasting (rows_behind c i found)
+found-lasting c i (Found rule finding) = outcome-lasting c i finding.outcome
 found-lasting c i (Refused number) = tt
 
 patterns-lasting : (question : Question) (c i : ℕ) (es : List Entry) → Each (Each IsLasting) (pattern_lines question c i es)
@@ -92,6 +113,8 @@ row-moved : (n : ℕ) (row : Row) → IsLasting row → spelling (renumbered_row
 row-moved n (Open collection patterns name) e = refl
 row-moved n (Line collection pattern outcome name) e = refl
 row-moved n (Part collection pattern code count) e = refl
+row-moved n (Engine collection pattern number period dx dy count) e = refl
+row-moved n (Emits collection pattern engine code count) e = refl
 row-moved n (Code collection rule code count) e = refl
 row-moved n (Close collection patterns resolved unresolved refused) e = refl
 row-moved n (End collections patterns) e = absurd (cc)
@@ -109,8 +132,23 @@ parts-moved : (n c i : ℕ) (parts : List part.Part) → map (renumbered_row n) 
 parts-moved n c i [] = refl
 parts-moved n c i (p ∷ parts) = ap (λ rows. part_row (n + c) i p ∷ rows) (parts-moved n c i parts)
 
-found-moved : (n c i : ℕ) (found : Answer) → map (renumbered_row n) (part_rows c i found) ≡ part_rows (n + c) i found
-found-moved n c i (Found rule finding) = parts-moved n c i (parts_found finding.outcome)
+emits-moved : (n c i e : ℕ) (parts : List part.Part) → map (renumbered_row n) (map (emits_row c i e) parts) ≡ map (emits_row (n + c) i e) parts
+emits-moved n c i e [] = refl
+emits-moved n c i e (p ∷ parts) = ap (λ rows. emits_row (n + c) i e p ∷ rows) (emits-moved n c i e parts)
+
+engines-moved : (n c i e : ℕ) (engines : List Engines) → map (renumbered_row n) (rows_of_engines c i e engines) ≡ rows_of_engines (n + c) i e engines
+engines-moved n c i e [] = refl
+engines-moved n c i e (line ∷ engines) =
+    map-append (renumbered_row n) (engine_rows c i e line) (rows_of_engines c i (suc e) engines)
+    ∙ (λ k. (engine_row (n + c) i e line ∷ emits-moved n c i e line.tale.emits k) ++ engines-moved n c i (suc e) engines k)
+
+outcome-moved : (n c i : ℕ) (outcome : Outcome) → map (renumbered_row n) (outcome_rows c i outcome) ≡ outcome_rows (n + c) i outcome
+outcome-moved n c i (Ash onset parts) = parts-moved n c i parts
+outcome-moved n c i (Grows engines) = engines-moved n c i 1 engines
+outcome-moved n c i _ = refl
+
+found-moved : (n c i : ℕ) (found : Answer) → map (renumbered_row n) (rows_behind c i found) ≡ rows_behind (n + c) i found
+found-moved n c i (Found rule finding) = outcome-moved n c i finding.outcome
 found-moved n c i (Refused number) = refl
 
 patterns-moved : (n : ℕ) (question : Question) (c i : ℕ) (es : List Entry) → map (map (renumbered_row n)) (pattern_lines question c i es) ≡ pattern_lines question (n + c) i es

@@ -10,7 +10,7 @@ use Rattle.indexmap.specs.IndexMap.{insert_entry}
 use Rattle.census_bundle.specs.declared.bundle.Entry.{Entry}
 use Rattle.census_bundle.specs.declared.bundle.Folder.{Folder}
 use Rattle.census_format.specs.Found.{lent}
-use Rattle.census_format.specs.Lines.{answer_to_entry, answers, part_row, part_rows, pattern_lines, pattern_row, pattern_rows}
+use Rattle.census_format.specs.Lines.{answer_to_entry, answers, emits_row, outcome_rows, part_row, pattern_lines, pattern_row, pattern_rows, rows_behind, rows_of_engines}
 use Rattle.census_format.specs.Objects.{Object, code_line, distinct_elements, object, objects, outcome_objects, part_objects, same_object, tally}
 use Rattle.census_format.specs.ObjectLaws.{one_object, same_itself}
 use Rattle.census_format.proofs.Tallies.{lookup_tally, tally_push_all}
@@ -24,9 +24,10 @@ use Rattle.life_answer.specs.Census.{parts_found}
 use Rattle.life_answer.specs.declared.finding.Answer.{Answer}
 use Rattle.life_answer.specs.declared.finding.Answer.TheVariants.{Found, Refused}
 use Rattle.life_answer.specs.declared.finding.Outcome.{Outcome}
-use Rattle.life_answer.specs.declared.finding.Outcome.TheVariants.{Recurs, Unresolved, Large, Ash}
+use Rattle.life_answer.specs.declared.finding.Outcome.TheVariants.{Recurs, Unresolved, Large, Ash, Grows}
 use Rattle.life_answer.specs.declared.part.Part as part
 use Rattle.life_answer.specs.declared.question.Question.{Question}
+use Rattle.life_answer.specs.declared.tale.Engines.{Engines}
 use Rattle.life_answer.specs.declared.question.Question.TheVariants.{Objects, Settles}
 use Rattle.life_cells.specs.Rules.{rule_text}
 use Rattle.life_model.specs.Rule.{Rule}
@@ -34,7 +35,8 @@ use Rattle.report_laws.proofs.Coded.{counted-each, distinct-each}
 use Rattle.report_laws.proofs.Rowed.{code_groups, counted_in, row_outcome}
 use Rattle.report_laws.proofs.Ruled.{IsLifeLike, IsLifeLikeAnswer, IsLifeLikeObject, entry-ruled, one-rule, outcome-ruled}
 use Rattle.report_laws.proofs.Solid.{each-append, each-replicate}
-use Rattle.report_laws.proofs.Whole.{IsCounted, IsFair, IsFairAnswer, entry-fair}
+use Rattle.report_laws.proofs.PartsFound.{IsCounted}
+use Rattle.report_laws.proofs.Whole.{IsFair, IsFairAnswer, entry-fair}
 
 -- ---- objects as they are printed
 
@@ -116,6 +118,18 @@ parts-counted c i rule (p ∷ parts) before rest own all some few =
     ∙ parts-counted c i rule parts (before ++ here) rest own (each-append IsLifeLikeObject before here all (each-replicate IsLifeLikeObject p.count k own)) some.1 (omega (arith, few, size, more))
     ∙ ap (λ os. counted_by (at (rule_text rule) os) rest) (append_assoc before here behind)
 
+-- the rows of engines count no object
+emits-uncounted : (c i e : ℕ) (parts : List part.Part) (k : Counts) (rest : List Row) → counted_by k (map (emits_row c i e) parts ++ rest) ≡ counted_by k rest
+emits-uncounted c i e [] k rest = refl
+emits-uncounted c i e (p ∷ parts) k rest = emits-uncounted c i e parts k rest
+
+engines-uncounted : (c i e : ℕ) (engines : List Engines) (k : Counts) (rest : List Row) → counted_by k (rows_of_engines c i e engines ++ rest) ≡ counted_by k rest
+engines-uncounted c i e [] k rest = refl
+engines-uncounted c i e (line ∷ engines) k rest =
+    let more = rows_of_engines c i (suc e) engines in
+    ap (counted_by k) (append_assoc (map (emits_row c i e) line.tale.emits) more rest)
+    ∙ emits-uncounted c i e line.tale.emits k (more ++ rest) ∙ engines-uncounted c i (suc e) engines k rest
+
 -- what was counted before, and these objects
 record Goes (k : Counts) (rows rest : List Row) (all : List Object) : Type 0 where
   rule : List ℕ
@@ -123,7 +137,7 @@ record Goes (k : Counts) (rows rest : List Row) (all : List Object) : Type 0 whe
 
 outcome-counted : (c i : ℕ) (rule : Rule) (population : ℕ) (outcome : Outcome) (name : List ℕ) (last : List ℕ) (before : List Object) (rest : List Row)
     → IsLifeLike rule → AreLifeLike before → Each IsCounted (parts_found outcome) → length before + length (outcome_objects rule outcome) < 2 ^ 64
-    → Goes (at last before) (Line c i (row_outcome rule population outcome) (lent name) ∷ (map (part_row c i) (parts_found outcome) ++ rest)) rest (before ++ outcome_objects rule outcome)
+    → Goes (at last before) (Line c i (row_outcome rule population outcome) (lent name) ∷ (outcome_rows c i outcome ++ rest)) rest (before ++ outcome_objects rule outcome)
 outcome-counted c i rule population (Recurs onset period dx dy code) name last before rest own all some few = record {
   rule = rule_text rule;
   is = ap (λ sums. counted_by (record { rule = rule_text rule; sums = sums }) rest) (counted-more before (object rule code) 1 own all (omega arith) few);
@@ -139,6 +153,10 @@ outcome-counted c i rule population Unresolved name last before rest own all som
 outcome-counted c i rule population (Large n) name last before rest own all some few = record {
   rule = rule_text rule;
   is = ap (λ os. counted_by (at (rule_text rule) os) rest) (sym (append-nil before));
+}
+outcome-counted c i rule population (Grows engines) name last before rest own all some few = record {
+  rule = rule_text rule;
+  is = engines-uncounted c i 1 engines (at (rule_text rule) before) rest ∙ ap (λ os. counted_by (at (rule_text rule) os) rest) (sym (append-nil before));
 }
 
 -- ---- answers
@@ -158,15 +176,16 @@ answer-ruled (Refused number) h = tt
 
 fair-counted : (question : Question) (outcome : Outcome) → IsFair question outcome → Each IsCounted (parts_found outcome)
 fair-counted (Settles bound cells) (Ash onset parts) h = absurd h
-fair-counted (Objects bound cells near) (Ash onset parts) h = h.1
+fair-counted (Objects bound cells near horizon) (Ash onset parts) h = h.1
 fair-counted (Settles bound cells) (Recurs onset period dx dy code) h = tt
-fair-counted (Objects bound cells near) (Recurs onset period dx dy code) h = absurd h
+fair-counted (Objects bound cells near horizon) (Recurs onset period dx dy code) h = absurd h
 fair-counted question Unresolved h = tt
 fair-counted question (Large n) h = tt
+fair-counted question (Grows engines) h = tt
 
 answer-counted : (question : Question) (c i : ℕ) (found : Answer) (name last : List ℕ) (before : List Object) (rest : List Row) → IsLifeLikeAnswer found → IsFairAnswer question found
     → AreLifeLike before → length before + length (answer_objects found) < 2 ^ 64
-    → Goes (at last before) (pattern_row c i found name ∷ (part_rows c i found ++ rest)) rest (before ++ answer_objects found)
+    → Goes (at last before) (pattern_row c i found name ∷ (rows_behind c i found ++ rest)) rest (before ++ answer_objects found)
 answer-counted question c i (Found rule finding) name last before rest own fair all few =
     outcome-counted c i rule finding.population finding.outcome name last before rest own all (fair-counted question finding.outcome fair) few
 answer-counted question c i (Refused number) name last before rest own fair all few = record {

@@ -1,9 +1,6 @@
 -- The rows that say what is said of a bundle tell what the rows of a report tell together.
-use Rattle.std.proofs.Common.{◌≡◌, ℕ, zero, suc, ◌+◌, ◌-◌, ◌<◌, ◌≤◌, Bool, true, false, not, ◌&&◌, ◌||◌, cond, eqb, leb, ltb, Option, Some, None as Nothing, Result, Ok, Err, List, [], ◌∷◌, ◌++◌, map, fold, length, count_by, replicate, slice_get, Ordering, Less, Equal, Greater, ap, ◌∙◌, sym, subst, refl, arith}
+use Rattle.std.proofs.Common.{◌≡◌, ℕ, zero, suc, ◌+◌, ◌*◌, ◌-◌, ◌<◌, ◌≤◌, min, Bool, true, false, not, ◌&&◌, ◌||◌, cond, eqb, leb, ltb, Option, Some, None as Nothing, Result, Ok, Err, List, [], ◌∷◌, ◌++◌, map, length, count_by, replicate, slice_get, Less, ap, ◌∙◌, sym, subst, refl, arith}
 use Rattle.std.specs.Prelude.{⊤}
-use Rattle.std.specs.Ordering.{nat_cmp, ordering_reverse, ordering_then}
-use Rattle.std.specs.Cmp.{nat_cmp_is}
-use Rattle.std.specs.Cmp.Lexicographic.{slice_cmp}
 use Rattle.std.proofs.lemmas.List.Sums.{sum_by-cons}
 use Rattle.std.specs.List.{AllByRecursion as Each}
 use Rattle.std.proofs.lemmas.Bool.{eq-eqb, le-leb, lt-ltb}
@@ -11,12 +8,13 @@ use Rattle.census_bundle.specs.Names.{IsNamedEntry, IsNamedFolder, is_name}
 use Rattle.census_bundle.specs.declared.bundle.Entry.{Entry}
 use Rattle.census_bundle.specs.declared.bundle.Folder.{Folder}
 use Rattle.census_format.specs.Found.{outcome_of, lent}
-use Rattle.census_format.specs.Lines.{Group, answer_to_entry, answers, part_row, part_rows, pattern_lines, pattern_row, pattern_rows}
+use Rattle.census_format.specs.Lines.{Group, answer_to_entry, answers, outcome_rows, part_row, pattern_lines, pattern_row, pattern_rows, rows_behind, rows_of_engines}
 use Rattle.census_format.specs.Objects.{Object, distinct_elements, object, objects, outcome_objects, part_objects, same_object}
 use Rattle.census_format.specs.ObjectLaws.{same_itself}
 use Rattle.census_format.specs.Reports.{Owned, folder_section, lines_of, section, section_of}
-use Rattle.census_readback.specs.Told.{Told, has_code, is_less, line_told, nothing_told, part_told, told_after, told_by, told_next}
-use Rattle.census_readback.specs.Lawful.{is_lawful, number_in}
+use Rattle.census_readback.specs.Told.{Told, has_code, has_rows, is_less, is_told, line_told, nothing_told, part_told, told_by, told_next, to_tell}
+use Rattle.census_readback.specs.Engines.{LastEngine, no_engine}
+use Rattle.census_readback.specs.Lawful.{is_lawful}
 use Rattle.census_readback.specs.Codes.{is_code, is_code_after}
 use Rattle.census_readback.specs.Rules.{is_rule}
 use Rattle.life_model.specs.Cell.{origin, same_cell}
@@ -24,72 +22,58 @@ use Rattle.life_cells.specs.Rules.{rule_text}
 use Rattle.census_rows.specs.declared.row.Row.{Row}
 use Rattle.census_rows.specs.declared.row.Row.TheVariants.{Line, End}
 use Rattle.census_rows.specs.declared.row.Outcome as rows
-use Rattle.census_rows.specs.declared.kinds.Label.TheVariants as label
-use Rattle.census_rows.specs.Kinds.{Said, said, value_at}
+use Rattle.census_rows.specs.Kinds.{Said, said}
 use Rattle.life_answer.specs.Answers.{outcome_at, outcome_from}
 use Rattle.life_answer.specs.Answers as answers
-use Rattle.life_answer.specs.Counted.{code_bound, counted_of}
-use Rattle.life_answer.specs.Census.{ash_onset, census_found, census_of, part_code, parts_found}
-use Rattle.life_answer.specs.Limited.{unless_large}
-use Rattle.life_answer.specs.Parts.{objects_in, with_code, with_code_by_order}
+use Rattle.life_answer.specs.Census.{ash_onset, census_found, census_of}
+use Rattle.life_answer.specs.Growing.{allowed_bound, growing_or}
+use Rattle.life_answer.specs.CountedTales.{engines_in}
+use Rattle.life_answer.specs.Limited.{first_past, outcome_unless_large, unless_large}
+use Rattle.life_answer.specs.Parts.{objects_in}
 use Rattle.life_answer.specs.Questions.{answer_to, answer_to_question, outcome_to}
 use Rattle.life_answer.specs.declared.finding.Answer.{Answer}
 use Rattle.life_answer.specs.declared.finding.Answer.TheVariants.{Found, Refused}
 use Rattle.life_answer.specs.declared.finding.Outcome.{Outcome}
-use Rattle.life_answer.specs.declared.finding.Outcome.TheVariants.{Recurs, Unresolved, Large, Ash}
+use Rattle.life_answer.specs.declared.finding.Outcome.TheVariants.{Recurs, Unresolved, Large, Ash, Grows}
 use Rattle.life_answer.specs.declared.part.Part as part
 use Rattle.life_answer.specs.declared.question.Question.{Question}
+use Rattle.life_answer.specs.declared.tale.Engines.{Engines}
+use Rattle.life_answer.specs.Told.{growth_told}
 use Rattle.life_answer.specs.declared.question.Question.TheVariants.{Objects, Settles}
 use Rattle.life_decided.specs.Decided.{ash_of}
 use Rattle.life_model.specs.Evolution.{generation}
 use Rattle.life_model.specs.Generation.{Generation}
 use Rattle.life_model.specs.Rule.{Rule}
 use Rattle.life_shape.specs.TextOrder.{shorter_cmp}
-use Rattle.life_shape.proofs.TextOrders.{shorter_total}
 use Rattle.life_text.specs.Picture.{Picture}
 use Rattle.life_text.specs.declared.rle.RleFault.{RleFault}
 use Rattle.report_laws.specs.Joining.{IsBundle}
 use Rattle.report_laws.specs.Telling.{rows_in}
-use Rattle.report_laws.specs.Ranges.{FitsOutcome, InRange, IsCodedPart, IsToldAnswer, IsToldFolder}
+use Rattle.report_laws.specs.Ranges.{FitsEngines, FitsOutcome, InRange, IsCodedPart, IsToldAnswer, IsToldFolder}
 use Rattle.report_laws.proofs.Coded.{counted-each, distinct-each}
 use Rattle.report_laws.proofs.Grouped.{each-then}
 use Rattle.report_laws.proofs.Named.{each-of}
-use Rattle.report_laws.proofs.CodeStarts.{IsCodeIfSome, IsCodePart, IsToldRecurrence, after-code, parts-told as parts-told-codes, outcome-told as recurrence-told}
+use Rattle.report_laws.proofs.CodeStarts.{IsCodeIfSome, IsCodePart, IsToldRecurrence, after-code, outcome-told as recurrence-told}
+use Rattle.report_laws.proofs.Grown as grown
+use Rattle.report_laws.proofs.Grown.{IsFairGrowth, engines-are, first-behind, growth-fair, lines-lawful, rows-are}
+use Rattle.report_laws.proofs.Growing.{AllBehind, engines-told}
+use Rattle.report_laws.proofs.PartsFound.{AreFairParts, IsCounted, parts-fair, rise-some}
 use Rattle.report_laws.proofs.Ranged.{HasObjectCode, objects-some}
 use Rattle.report_laws.proofs.Ruled.{IsLifeLike, IsLifeLikeAnswer, IsLifeLikeObject, entries-ruled, entry-ruled, rule-printed}
 use Rattle.report_laws.proofs.Rowed.{close_row, code_groups, code_row, code-is, counted_in, open_row, row_outcome, section-is}
+use Rattle.report_laws.proofs.Taken.{Rise, fits, told-one, told-then}
 use Rattle.report_laws.proofs.Solid.{each-append, each-map, each-replicate}
-
--- ---- rows one after the other
-
-abbrev and_then : Option Told → (Told → Option Told) → Option Told
-and_then o go = elim o as (λ _. Option Told) [ Nothing ↦ Nothing | Some u ↦ go u ]
-
-told-one : (t u : Told) (row : Row) (rows : List Row) → told_after t row ≡ Some u → told_by t (row ∷ rows) ≡ told_by u rows
-told-one t u row rows h = ap (λ o. and_then o (λ v. told_by v rows)) h
-
--- a lawful row that fits
-fits : (t u : Told) (row : Row) → is_lawful row ≡ true → told_next t row ≡ Some u → told_after t row ≡ Some u
-fits t u row h k = ap (λ b. cond b (told_next t row) Nothing) h ∙ k
-
-told-then : (t v : Told) (xs ys : List Row) → told_by t xs ≡ Some v → told_by t (xs ++ ys) ≡ told_by v ys
-told-then t v [] ys h = ap (λ w. told_by w ys) (let same : t ≡ v = cc in same)
-told-then t v (x ∷ xs) ys h =
-    (elim (told_after t x) as (λ o. and_then o (λ u. told_by u xs) ≡ Some v → and_then o (λ u. told_by u (xs ++ ys)) ≡ told_by v ys) [
-      | Nothing ↦ λ k. absurd (cc)
-      | Some u ↦ λ k. told-then u v xs ys k
-    ]) h
 
 -- ---- what is told between groups
 
 -- a line is told of the other question
 abbrev is_mixed : Question → Told → Bool
-is_mixed (Settles bound cells) t = t.falls_apart
-is_mixed (Objects bound cells near) t = t.recurs
+is_mixed (Settles bound cells) t = t.parted
+is_mixed (Objects bound cells near horizon) t = t.recurs
 
--- all objects of the last line are told, and no line is of the other question
+-- all objects or engines of the last line are told, and no line is of the other question
 abbrev IsCalm : Question → Told → Type 0
-IsCalm question t = (t.left ≡ 0) × (is_mixed question t ≡ false)
+IsCalm question t = (is_told t ≡ true) × (is_mixed question t ≡ false)
 
 record Passes (question : Question) (t : Told) (rows : List Row) : Type 0 where
   after : Told
@@ -99,31 +83,30 @@ record Passes (question : Question) (t : Told) (rows : List Row) : Type 0 where
 abbrev IsTold : Question → List Row → Type 0
 IsTold question rows = (t : Told) → IsCalm question t → Passes question t rows
 
-no-more : (t : Told) → t.left ≡ 0 → cond (eqb t.left 0) (Some t) Nothing ≡ Some t
-no-more t h = ap (λ b. cond b (Some t) Nothing) (eq-eqb t.left 0 h)
+-- after a row that tells nothing of a pattern
+abbrev past : Told → Told
+past t = record t { engine = no_engine }
+
+no-more : (t : Told) → is_told t ≡ true → cond (is_told t) (Some (past t)) Nothing ≡ Some (past t)
+no-more t h = ap (λ b. cond b (Some (past t)) Nothing) h
+
+past-told : (a b : Bool) → (a && b) ≡ true → (a && true) ≡ true
+past-told true b h = refl
+past-told false b h = h
+
+past-mixed : (question : Question) (t : Told) → is_mixed question t ≡ false → is_mixed question (past t) ≡ false
+past-mixed (Settles bound cells) t h = h
+past-mixed (Objects bound cells near horizon) t h = h
 
 -- a lawful row that tells nothing of a pattern
-plain : (question : Question) (row : Row) → is_lawful row ≡ true → ((t : Told) → t.left ≡ 0 → told_next t row ≡ Some t) → IsTold question (row ∷ [])
+plain : (question : Question) (row : Row) → is_lawful row ≡ true → ((t : Told) → is_told t ≡ true → told_next t row ≡ Some (past t)) → IsTold question (row ∷ [])
 plain question row lawful same t calm = record {
-  after = t;
-  tells = told-one t t row [] (fits t t row lawful (same t calm.0));
-  calm = calm;
+  after = past t;
+  tells = told-one t (past t) row [] (fits t (past t) row lawful (same t calm.0));
+  calm = (past-told (eqb t.left 0) t.engine.rises calm.0, past-mixed question t calm.1);
 }
 
 -- ---- parts
-
--- the code stands behind the last one, where there is one
-abbrev pub IsBehind : Option (List ℕ) → List ℕ → Type 0
-IsBehind Nothing code = ⊤
-IsBehind (Some last) code = shorter_cmp last code ≡ Less
-
--- codes that rise, from behind the last one on
-abbrev pub Rise : Option (List ℕ) → List part.Part → Type 0
-Rise last [] = ⊤
-Rise last (p ∷ parts) = IsBehind last p.code × Rise (Some p.code) parts
-
-abbrev pub IsCounted : part.Part → Type 0
-IsCounted p = 0 < p.count
 
 abbrev with_left : Told → ℕ → List ℕ → Told
 with_left t left last = record t { left = left; last = last }
@@ -146,73 +129,36 @@ part-fits t c code count owner few later =
 
 still : (question : Question) (t : Told) (left : ℕ) (last : List ℕ) → is_mixed question t ≡ false → is_mixed question (record t { left = left; last = last }) ≡ false
 still (Settles bound cells) t left last h = h
-still (Objects bound cells near) t left last h = h
+still (Objects bound cells near horizon) t left last h = h
 
-parts-told : (question : Question) (c i : ℕ) (parts : List part.Part) (t : Told) → t.collection ≡ c → t.left ≡ objects_in parts → is_mixed question t ≡ false
+parts-told : (question : Question) (c i : ℕ) (parts : List part.Part) (t : Told) → t.collection ≡ c → t.left ≡ objects_in parts → t.engine.rises ≡ true → is_mixed question t ≡ false
     → Rise (Some t.last) parts → Each IsLawfulPart parts → Passes question t (map (part_row c i) parts)
-parts-told question c i [] t owner left mixed rise counted = record { after = t; tells = refl; calm = (left, mixed) }
-parts-told question c i (p ∷ parts) t owner left mixed rise counted =
+parts-told question c i [] t owner left rises mixed rise counted = record { after = t; tells = refl; calm = (ap (λ b. b && t.engine.rises) (eq-eqb t.left 0 left) ∙ rises, mixed) }
+parts-told question c i (p ∷ parts) t owner left rises mixed rise counted =
     let few : p.count ≤ t.left = omega (arith, left) in
     let u : Told = record t { left = t.left - p.count; last = p.code } in
     let rest : t.left - p.count ≡ objects_in parts = omega (arith, left) in
     let one = told-one t u (part_row c i p) (map (part_row c i) parts)
     (fits t u (part_row c i p) (part-lawful c i p counted.0) (part-fits t c p.code p.count (sym owner) few rise.0)) in
-    let others = parts-told question c i parts u owner rest (still question t (t.left - p.count) p.code mixed) rise.1 counted.1 in
+    let others = parts-told question c i parts u owner rest rises (still question t (t.left - p.count) p.code mixed) rise.1 counted.1 in
     record { after = others.after; tells = one ∙ others.tells; calm = others.calm }
-
--- ---- the parts that are found
-
-rise-beside : (last : Option (List ℕ)) (code : List ℕ) (p : part.Part) (parts rest : List part.Part) (o : Ordering) → shorter_cmp code p.code ≡ o
-    → IsBehind last code → Rise last (p ∷ parts) → (shorter_cmp p.code code ≡ Less → Rise (Some p.code) rest) → Rise last (with_code_by_order o code p parts rest)
-rise-beside last code p parts rest Less e first rise later = (first, (e, rise.1))
-rise-beside last code p parts rest Equal e first rise later = (rise.0, rise.1)
-rise-beside last code p parts rest Greater e first rise later = (rise.0, later (shorter_total.antisymm p.code code ∙ ap ordering_reverse e))
-
-rise-with : (last : Option (List ℕ)) (code : List ℕ) (parts : List part.Part) → IsBehind last code → Rise last parts → Rise last (with_code code parts)
-rise-with last code [] first rise = (first, tt)
-rise-with last code (p ∷ parts) first rise =
-    rise-beside last code p parts (with_code code parts) (shorter_cmp code p.code) refl first rise (λ later. rise-with (Some p.code) code parts later rise.1)
-
-rise-counted : (codes : List (List ℕ)) (parts : List part.Part) → Rise Nothing parts → Rise Nothing (fold (λ parts code. with_code code parts) parts codes)
-rise-counted [] parts rise = rise
-rise-counted (code ∷ codes) parts rise = rise-counted codes (with_code code parts) (rise-with Nothing code parts tt rise)
-
-some-first : (code : List ℕ) → 0 < length code → shorter_cmp [] code ≡ Less
-some-first [] h = absurd (omega (arith, h))
-some-first (c ∷ code) h = ap (λ o. ordering_then o (slice_cmp nat_cmp [] (c ∷ code))) (sym (nat_cmp_is 0 (length (c ∷ code)) Less (omega arith)))
-
--- the first code has a byte
-rise-some : (parts : List part.Part) → Rise Nothing parts → Each IsCodedPart parts → Rise (Some []) parts
-rise-some [] rise some = tt
-rise-some (p ∷ parts) rise some = (some-first p.code some.0, rise.1)
-
-beside-counted : (o : Ordering) (code : List ℕ) (p : part.Part) (parts rest : List part.Part) → Each IsCounted (p ∷ parts) → Each IsCounted rest
-    → Each IsCounted (with_code_by_order o code p parts rest)
-beside-counted Less code p parts rest h k = (omega arith, h)
-beside-counted Equal code p parts rest h k = (omega arith, h.1)
-beside-counted Greater code p parts rest h k = (h.0, k)
-
-with-counted : (code : List ℕ) (parts : List part.Part) → Each IsCounted parts → Each IsCounted (with_code code parts)
-with-counted code [] h = (omega arith, tt)
-with-counted code (p ∷ parts) h = beside-counted (shorter_cmp code p.code) code p parts (with_code code parts) h (with-counted code parts h.1)
-
-all-counted : (codes : List (List ℕ)) (parts : List part.Part) → Each IsCounted parts → Each IsCounted (fold (λ parts code. with_code code parts) parts codes)
-all-counted [] parts h = h
-all-counted (code ∷ codes) parts h = all-counted codes (with_code code parts) (with-counted code parts h)
 
 -- ---- what is found
 
 -- what is found answers the question, and its parts stand in the order of their codes
 abbrev pub IsFair : Question → Outcome → Type 0
 IsFair (Settles bound cells) (Ash onset parts) = ⊥
-IsFair (Objects bound cells near) (Recurs onset period dx dy code) = ⊥
-IsFair (Objects bound cells near) (Ash onset parts) = Rise Nothing parts × Each IsCounted parts × Each IsCodePart parts
+IsFair (Settles bound cells) (Grows engines) = ⊥
+IsFair (Objects bound cells near horizon) (Recurs onset period dx dy code) = ⊥
+IsFair (Objects bound cells near horizon) (Ash onset parts) = AreFairParts parts
+IsFair (Objects bound cells near horizon) (Grows engines) = IsFairGrowth engines
 IsFair (Settles bound cells) (Recurs onset period dx dy code) = is_code_after (not (same_cell (dx, dy) origin)) period code ≡ true
 IsFair question _ = ⊤
 
--- it has not fallen apart
+-- it has not fallen apart, and doesn't grow
 abbrev IsWhole : Outcome → Type 0
 IsWhole (Ash onset parts) = ⊥
+IsWhole (Grows engines) = ⊥
 IsWhole _ = ⊤
 
 at-whole : (R : Rule) (G : Generation) (onset : ℕ) (period : Option ℕ) → IsWhole (outcome_at R G onset period)
@@ -230,33 +176,41 @@ settled-whole R G b = from-whole R G b _
 by-recurrence : (bound : ℕ) (cells : Option ℕ) (outcome : Outcome) → IsWhole outcome → IsToldRecurrence outcome → IsFair (Settles bound cells) outcome
 by-recurrence bound cells (Recurs onset period dx dy code) whole h = h
 by-recurrence bound cells (Ash onset parts) whole h = absurd whole
+by-recurrence bound cells (Grows engines) whole h = absurd whole
 by-recurrence bound cells Unresolved whole h = tt
 by-recurrence bound cells (Large n) whole h = tt
 
 settled-fair : (bound : ℕ) (cells : Option ℕ) (R : Rule) (G : Generation) (b : ℕ) → IsFair (Settles bound cells) (answers.outcome_of R G b)
 settled-fair bound cells R G b = by-recurrence bound cells (answers.outcome_of R G b) (settled-whole R G b) (recurrence-told R G b)
 
-census-found-fair : (bound : ℕ) (cells : Option ℕ) (near : Bool) (R : Rule) (b onset : ℕ) (objects : Option (List Generation))
-    → IsFair (Objects bound cells near) (census_found near R b onset objects)
-census-found-fair bound cells near R b onset Nothing = tt
-census-found-fair bound cells near R b onset (Some objects) =
-    let sets = counted_of near R b objects in
-    let c = code_bound b in
-    (rise-counted (map (part_code R c) sets) [] tt, all-counted (map (part_code R c) sets) [] tt, parts-told-codes R c sets)
+census-found-fair : (bound : ℕ) (cells : Option ℕ) (near : Bool) (horizon : ℕ) (R : Rule) (b onset : ℕ) (objects : Option (List Generation))
+    → IsFair (Objects bound cells near horizon) (census_found near R b onset objects)
+census-found-fair bound cells near horizon R b onset Nothing = tt
+census-found-fair bound cells near horizon R b onset (Some objects) = parts-fair near R b objects
 
-census-fair : (bound : ℕ) (cells : Option ℕ) (near : Bool) (R : Rule) (G : Generation) (b : ℕ)
-    → IsFair (Objects bound cells near) (census_of near R G b)
+census-fair : (bound : ℕ) (cells : Option ℕ) (near : Bool) (horizon : ℕ) (R : Rule) (G : Generation) (b : ℕ)
+    → IsFair (Objects bound cells near horizon) (census_of near R G b)
 unfolding census_of
-census-fair bound cells near R G b = census-found-fair bound cells near R b (ash_onset R G b) (ash_of R b (generation R G b))
+census-fair bound cells near horizon R G b = census-found-fair bound cells near horizon R b (ash_onset R G b) (ash_of R b (generation R G b))
 
 unless-fair : (question : Question) (outcome : Outcome) (large : Option ℕ) → IsFair question outcome → IsFair question (unless_large outcome large)
 unless-fair question outcome Nothing h = h
 unless-fair (Settles bound cells) outcome (Some n) h = tt
-unless-fair (Objects bound cells near) outcome (Some n) h = tt
+unless-fair (Objects bound cells near horizon) outcome (Some n) h = tt
+
+growing-fair : (bound : ℕ) (cells : Option ℕ) (near : Bool) (horizon : ℕ) (told : Option (List Engines)) (outcome : Outcome)
+    → ((engines : List Engines) → told ≡ Some engines → IsFairGrowth engines) → IsFair (Objects bound cells near horizon) outcome
+    → IsFair (Objects bound cells near horizon) (growing_or told outcome)
+growing-fair bound cells near horizon Nothing outcome grown h = h
+growing-fair bound cells near horizon (Some engines) outcome grown h = grown engines refl
 
 outcome-fair : (question : Question) (R : Rule) (G : Generation) → IsFair question (outcome_to question R G)
 outcome-fair (Settles bound cells) R G = unless-fair (Settles bound cells) (answers.outcome_of R G bound) _ (settled-fair bound cells R G bound)
-outcome-fair (Objects bound cells near) R G = unless-fair (Objects bound cells near) (census_of near R G bound) _ (census-fair bound cells near R G bound)
+outcome-fair (Objects bound cells near horizon) R G =
+    let c = allowed_bound cells R G bound in
+    growing-fair bound cells near horizon (growth_told near R (min horizon c) (generation R G c))
+    (outcome_unless_large cells R G (3 * bound) (census_of near R G bound)) (growth-fair near R (min horizon c) (generation R G c))
+    (unless-fair (Objects bound cells near horizon) (census_of near R G bound) (first_past cells R G (3 * bound)) (census-fair bound cells near horizon R G bound))
 
 abbrev pub IsFairAnswer : Question → Answer → Type 0
 IsFairAnswer question (Found rule finding) = IsFair question finding.outcome
@@ -282,8 +236,8 @@ entry-fair question e =
 
 -- the outcome answers the question, if it has found
 abbrev Suits : Question → Said → Type 0
-Suits (Settles bound cells) what = what.has_parts ≡ false
-Suits (Objects bound cells near) what = has_code what ≡ false
+Suits (Settles bound cells) what = has_rows what.behind ≡ false
+Suits (Objects bound cells near horizon) what = has_code what ≡ false
 
 not-both : (a : Bool) → not (a && false) ≡ true
 not-both true = refl
@@ -294,57 +248,85 @@ record Lined (question : Question) (t : Told) (c : ℕ) (what : Said) : Type 0 w
   told : line_told t c what ≡ Some after
   mixed : is_mixed question after ≡ false
   collection : after.collection ≡ c
-  left : after.left ≡ number_in (value_at label.Objects what.fields)
+  left : after.left ≡ to_tell what.behind what
   last : after.last ≡ []
+  fresh : after.engine ≡ no_engine
 
-line-fits : (t : Told) (c : ℕ) (what : Said) (recurs falls_apart : Bool) → t.left ≡ 0 → (t.recurs || has_code what) ≡ recurs
-    → (t.falls_apart || what.has_parts) ≡ falls_apart → not (recurs && falls_apart) ≡ true
-    → line_told t c what ≡ Some (record { recurs = recurs; falls_apart = falls_apart; collection = c; left = number_in (value_at label.Objects what.fields); last = [] })
-line-fits t c what recurs falls_apart none code parts apart =
+line-fits : (t : Told) (c : ℕ) (what : Said) (recurs parted : Bool) → is_told t ≡ true → (t.recurs || has_code what) ≡ recurs
+    → (t.parted || has_rows what.behind) ≡ parted → not (recurs && parted) ≡ true
+    → line_told t c what ≡ Some (record { recurs = recurs; parted = parted; collection = c; left = to_tell what.behind what; last = []; engine = no_engine })
+line-fits t c what recurs parted none code parts apart =
     let made : Bool → Bool → Bool → Option Told = λ z r f.
-    cond (z && not (r && f)) (Some (record { recurs = r; falls_apart = f; collection = c; left = number_in (value_at label.Objects what.fields); last = [] })) Nothing in
-    ap (λ z. made z (t.recurs || has_code what) (t.falls_apart || what.has_parts)) (eq-eqb t.left 0 none)
-    ∙ ap (λ r. made true r (t.falls_apart || what.has_parts)) code ∙ ap (made true recurs) parts
-    ∙ ap (λ b. cond b (Some (record { recurs = recurs; falls_apart = falls_apart; collection = c; left = number_in (value_at label.Objects what.fields); last = [] })) Nothing) apart
+    cond (z && not (r && f)) (Some (record { recurs = r; parted = f; collection = c; left = to_tell what.behind what; last = []; engine = no_engine })) Nothing in
+    ap (λ z. made z (t.recurs || has_code what) (t.parted || has_rows what.behind)) none
+    ∙ ap (λ r. made true r (t.parted || has_rows what.behind)) code ∙ ap (made true recurs) parts
+    ∙ ap (λ b. cond b (Some (record { recurs = recurs; parted = parted; collection = c; left = to_tell what.behind what; last = []; engine = no_engine })) Nothing) apart
 
 lined : (question : Question) (t : Told) (c : ℕ) (what : Said) → IsCalm question t → Suits question what → Lined question t c what
 lined (Settles bound cells) t c what calm suits =
     let recurs = t.recurs || has_code what in
-    let parts : (t.falls_apart || what.has_parts) ≡ false = ap (λ b. b || what.has_parts) calm.1 ∙ suits in
+    let parts : (t.parted || has_rows what.behind) ≡ false = ap (λ b. b || has_rows what.behind) calm.1 ∙ suits in
     record {
-      after = record { recurs = recurs; falls_apart = false; collection = c; left = number_in (value_at label.Objects what.fields); last = [] };
+      after = record { recurs = recurs; parted = false; collection = c; left = to_tell what.behind what; last = []; engine = no_engine };
       told = line-fits t c what recurs false calm.0 refl parts (not-both recurs);
       mixed = refl;
       collection = refl;
       left = refl;
       last = refl;
+      fresh = refl;
     }
-lined (Objects bound cells near) t c what calm suits =
-    let falls_apart = t.falls_apart || what.has_parts in
+lined (Objects bound cells near horizon) t c what calm suits =
+    let parted = t.parted || has_rows what.behind in
     let code : (t.recurs || has_code what) ≡ false = ap (λ b. b || has_code what) calm.1 ∙ suits in
     record {
-      after = record { recurs = false; falls_apart = falls_apart; collection = c; left = number_in (value_at label.Objects what.fields); last = [] };
-      told = line-fits t c what false falls_apart calm.0 code refl refl;
+      after = record { recurs = false; parted = parted; collection = c; left = to_tell what.behind what; last = []; engine = no_engine };
+      told = line-fits t c what false parted calm.0 code refl refl;
       mixed = refl;
       collection = refl;
       left = refl;
       last = refl;
+      fresh = refl;
     }
 
 -- a line and its parts
 line-told : (question : Question) (c i : ℕ) (o : rows.Outcome) (name : List ℕ) (parts : List part.Part) → is_lawful (Line c i o (lent name)) ≡ true
-    → Suits question (said o) → number_in (value_at label.Objects (said o).fields) ≡ objects_in parts → Rise (Some []) parts → Each IsLawfulPart parts
+    → Suits question (said o) → to_tell (said o).behind (said o) ≡ objects_in parts → Rise (Some []) parts → Each IsLawfulPart parts
     → IsTold question (Line c i o (lent name) ∷ map (part_row c i) parts)
 line-told question c i o name parts lawful suits all rise counted t calm =
     let row = Line c i o (lent name) in
     let one = lined question t c (said o) calm suits in
     let behind : Rise (Some one.after.last) parts = subst (λ w. Rise (Some w) parts) (sym one.last) rise in
-    let others = parts-told question c i parts one.after one.collection (one.left ∙ all) one.mixed behind counted in
+    let rises = ap (λ (e : LastEngine). e.rises) one.fresh in
+    let others = parts-told question c i parts one.after one.collection (one.left ∙ all) rises one.mixed behind counted in
     record {
       after = others.after;
       tells = told-one t one.after row (map (part_row c i) parts) (fits t one.after row lawful one.told) ∙ others.tells;
       calm = others.calm;
     }
+
+-- a line of growth, and the rows of its engines
+grows-told : (bound : ℕ) (cells : Option ℕ) (near : Bool) (horizon c i : ℕ) (o : rows.Outcome) (name : List ℕ) (engines : List Engines)
+    → is_lawful (Line c i o (lent name)) ≡ true → has_code (said o) ≡ false → to_tell (said o).behind (said o) ≡ engines_in engines
+    → Each FitsEngines engines → IsFairGrowth engines → IsTold (Objects bound cells near horizon) (Line c i o (lent name) ∷ rows_of_engines c i 1 engines)
+grows-told bound cells near horizon c i o name engines lawful suits all range fair t calm =
+    let row = Line c i o (lent name) in
+    let one = lined (Objects bound cells near horizon) t c (said o) calm suits in
+    let lines = map grown.line_of engines in
+    let first : (e : LastEngine) → no_engine ≡ e → AllBehind e.way e.emits lines =
+    λ e is. subst (λ (e : LastEngine). AllBehind e.way e.emits lines) is (first-behind engines fair.rise range) in
+    let others = engines-told c i 1 lines one.after one.collection (one.left ∙ all ∙ sym (engines-are engines))
+    (ap (λ (e : LastEngine). e.rises) one.fresh) (ap (λ (e : LastEngine). e.number + 1) (sym one.fresh)) (first one.after.engine (sym one.fresh))
+    (lines-lawful engines range fair.emits) in
+    record {
+      after = others.after;
+      tells = told-one t one.after row (rows_of_engines c i 1 engines) (fits t one.after row lawful one.told)
+          ∙ ap (told_by one.after) (sym (rows-are c i 1 engines)) ∙ others.tells;
+      calm = (others.told, others.recurs ∙ one.mixed);
+    }
+
+growing-line : (rule : Rule) (name : List ℕ) (n : ℕ) → IsLifeLike rule → 1 ≤ n → is_name name ≡ true → (is_rule (rule_text rule) && (ltb 0 n && is_name name)) ≡ true
+growing-line rule name n ruled some named =
+    ap (λ b. b && (ltb 0 n && is_name name)) (rule-printed rule ruled) ∙ ap (λ b. b && is_name name) (lt-ltb 0 n some) ∙ named
 
 named-line : (rule : Rule) (name : List ℕ) → IsLifeLike rule → is_name name ≡ true → (is_rule (rule_text rule) && is_name name) ≡ true
 named-line rule name ruled named = ap (λ b. b && is_name name) (rule-printed rule ruled) ∙ named
@@ -360,7 +342,7 @@ parts-lawful (p ∷ parts) counted told some = ((counted.0, told.0 some.0), part
 
 outcome-told : (question : Question) (c i : ℕ) (rule : Rule) (population : ℕ) (outcome : Outcome) (name : List ℕ) → IsLifeLike rule → is_name name ≡ true
     → FitsOutcome outcome → IsFair question outcome
-    → IsTold question (Line c i (row_outcome rule population outcome) (lent name) ∷ map (part_row c i) (parts_found outcome))
+    → IsTold question (Line c i (row_outcome rule population outcome) (lent name) ∷ outcome_rows c i outcome)
 outcome-told (Settles bound cells) c i rule population (Recurs onset period dx dy code) name ruled named range fair =
     line-told (Settles bound cells) c i (row_outcome rule population (Recurs onset period dx dy code)) name [] (coded-line rule name (not (same_cell (dx, dy) origin)) period code ruled fair named) refl refl tt tt
 outcome-told (Settles bound cells) c i rule population Unresolved name ruled named range fair =
@@ -368,22 +350,25 @@ outcome-told (Settles bound cells) c i rule population Unresolved name ruled nam
 outcome-told (Settles bound cells) c i rule population (Large n) name ruled named range fair =
     line-told (Settles bound cells) c i (row_outcome rule population (Large n)) name [] (named-line rule name ruled named) refl refl tt tt
 outcome-told (Settles bound cells) c i rule population (Ash onset parts) name ruled named range fair = absurd fair
-outcome-told (Objects bound cells near) c i rule population (Recurs onset period dx dy code) name ruled named range fair = absurd fair
-outcome-told (Objects bound cells near) c i rule population Unresolved name ruled named range fair =
-    line-told (Objects bound cells near) c i (row_outcome rule population Unresolved) name [] (named-line rule name ruled named) refl refl tt tt
-outcome-told (Objects bound cells near) c i rule population (Large n) name ruled named range fair =
-    line-told (Objects bound cells near) c i (row_outcome rule population (Large n)) name [] (named-line rule name ruled named) refl refl tt tt
-outcome-told (Objects bound cells near) c i rule population (Ash onset parts) name ruled named range fair =
-    line-told (Objects bound cells near) c i (row_outcome rule population (Ash onset parts)) name parts (named-line rule name ruled named) refl refl (rise-some parts fair.0 range.1) (parts-lawful parts fair.1 fair.2 range.1)
+outcome-told (Settles bound cells) c i rule population (Grows engines) name ruled named range fair = absurd fair
+outcome-told (Objects bound cells near horizon) c i rule population (Recurs onset period dx dy code) name ruled named range fair = absurd fair
+outcome-told (Objects bound cells near horizon) c i rule population Unresolved name ruled named range fair =
+    line-told (Objects bound cells near horizon) c i (row_outcome rule population Unresolved) name [] (named-line rule name ruled named) refl refl tt tt
+outcome-told (Objects bound cells near horizon) c i rule population (Large n) name ruled named range fair =
+    line-told (Objects bound cells near horizon) c i (row_outcome rule population (Large n)) name [] (named-line rule name ruled named) refl refl tt tt
+outcome-told (Objects bound cells near horizon) c i rule population (Ash onset parts) name ruled named range fair =
+    line-told (Objects bound cells near horizon) c i (row_outcome rule population (Ash onset parts)) name parts (named-line rule name ruled named) refl refl (rise-some parts fair.0 range.1) (parts-lawful parts fair.1 fair.2 range.1)
+outcome-told (Objects bound cells near horizon) c i rule population (Grows engines) name ruled named range fair =
+    grows-told bound cells near horizon c i (row_outcome rule population (Grows engines)) name engines (growing-line rule name (engines_in engines) ruled fair.some named) refl refl range.2 fair
 
 answer-told : (question : Question) (c i : ℕ) (found : Answer) (name : List ℕ) → is_name name ≡ true → IsLifeLikeAnswer found → IsToldAnswer found → IsFairAnswer question found
-    → IsTold question (pattern_row c i found name ∷ part_rows c i found)
+    → IsTold question (pattern_row c i found name ∷ rows_behind c i found)
 answer-told question c i (Found rule finding) name named ruled range fair =
     outcome-told question c i rule finding.population finding.outcome name ruled named range.1 fair
 answer-told (Settles bound cells) c i (Refused number) name named ruled range fair =
     line-told (Settles bound cells) c i (outcome_of (Refused number)) name [] named refl refl tt tt
-answer-told (Objects bound cells near) c i (Refused number) name named ruled range fair =
-    line-told (Objects bound cells near) c i (outcome_of (Refused number)) name [] named refl refl tt tt
+answer-told (Objects bound cells near horizon) c i (Refused number) name named ruled range fair =
+    line-told (Objects bound cells near horizon) c i (outcome_of (Refused number)) name [] named refl refl tt tt
 
 -- ---- sections
 
@@ -430,10 +415,12 @@ parts-coded rule (p ∷ parts) h =
 outcome-coded : (question : Question) (rule : Rule) (outcome : Outcome) → IsFair question outcome → Each IsCodeObject (outcome_objects rule outcome)
 outcome-coded (Settles bound cells) rule (Recurs onset period dx dy code) h = ((λ some. after-code (not (same_cell (dx, dy) origin)) period code h), tt)
 outcome-coded (Settles bound cells) rule (Ash onset parts) h = absurd h
-outcome-coded (Objects bound cells near) rule (Recurs onset period dx dy code) h = absurd h
-outcome-coded (Objects bound cells near) rule (Ash onset parts) h = parts-coded rule parts h.2
+outcome-coded (Objects bound cells near horizon) rule (Recurs onset period dx dy code) h = absurd h
+outcome-coded (Objects bound cells near horizon) rule (Ash onset parts) h = parts-coded rule parts h.2
 outcome-coded question rule Unresolved h = tt
 outcome-coded question rule (Large n) h = tt
+outcome-coded (Settles bound cells) rule (Grows engines) h = absurd h
+outcome-coded (Objects bound cells near horizon) rule (Grows engines) h = tt
 
 objects-coded : (question : Question) (found : List Answer) → Each (IsFairAnswer question) found → Each IsCodeObject (objects found)
 objects-coded question [] h = tt
@@ -510,7 +497,7 @@ groups-told question (l ∷ ls) h t calm =
 
 calm-first : (question : Question) → IsCalm question nothing_told
 calm-first (Settles bound cells) = (refl, refl)
-calm-first (Objects bound cells near) = (refl, refl)
+calm-first (Objects bound cells near horizon) = (refl, refl)
 
 -- the rows of a bundle's report tell what rows of a report tell
 pub report-tells : (b : List Folder) (question : Question) (groups : List Owned) (n k : ℕ) → IsBundle b → InRange b question
@@ -520,4 +507,4 @@ report-tells b question groups n k bundle range are =
     let all = groups-told question groups each nothing_told (calm-first question) in
     told-then nothing_told all.after (rows_in groups) (End n k ∷ []) all.tells
     ∙ told-one all.after nothing_told (End n k) []
-    (fits all.after nothing_told (End n k) refl (ap (λ z. cond z (Some nothing_told) Nothing) (eq-eqb all.after.left 0 all.calm.0)))
+    (fits all.after nothing_told (End n k) refl (ap (λ z. cond z (Some nothing_told) Nothing) all.calm.0))

@@ -6,19 +6,22 @@ use Rattle.census_bundle.specs.declared.bundle.Folder.{Folder}
 use Rattle.census_format.specs.Found.{finding_of}
 use Rattle.census_format.specs.Lines.{answers}
 use Rattle.census_format.specs.Objects.{objects}
+use Rattle.census_readback.specs.Limits.{period_limit}
 use Rattle.census_readback.specs.Reports.{ReadsAsReports}
 use Rattle.census_rows.specs.declared.kinds.Field.{Field}
 use Rattle.census_rows.specs.declared.kinds.Value.{Value}
 use Rattle.census_rows.specs.declared.kinds.Value.TheVariants.{Number, Signed, Text}
 use Rattle.census_rows.specs.declared.row.Row.{Row}
 use Rattle.census_rows.specs.Kinds.{said_of}
-use Rattle.life_answer.specs.Census.{parts_found}
+use Rattle.life_answer.specs.Census.{engines_found, parts_found}
 use Rattle.life_answer.specs.declared.finding.Answer.{Answer}
 use Rattle.life_answer.specs.declared.finding.Answer.TheVariants.{Found, Refused}
 use Rattle.life_answer.specs.declared.finding.Finding.{Finding}
 use Rattle.life_answer.specs.declared.finding.Outcome.{Outcome}
 use Rattle.life_answer.specs.declared.part.Part.{Part}
 use Rattle.life_answer.specs.declared.question.Question.{Question}
+use Rattle.life_answer.specs.declared.tale.Engines.{Engines}
+use Rattle.life_answer.specs.Ranges.{IsInRange}
 
 -- the part has a code
 abbrev pub IsCodedPart : Part → Type 0
@@ -30,9 +33,19 @@ FitsValue (Number n) = n < 2 ^ 64
 FitsValue (Signed z) = FitsSigned w64 z
 FitsValue (Text bytes) = 0 < length bytes.now
 
--- the numbers of an outcome fit 64 bits, and each object has a code
+-- what is emitted has a code, and its number is one that is read back
+abbrev pub FitsEmitted : Part → Type 0
+FitsEmitted part = IsCodedPart part × (part.count < 2 ^ 32)
+
+-- what is told of the engines is in range
+abbrev pub FitsEngines : Engines → Type 0
+FitsEngines engines = IsInRange period_limit engines × Each FitsEmitted engines.tale.emits
+
+-- the numbers of an outcome fit 64 bits, each object has a code, and what is told of engines is in range
 abbrev pub FitsOutcome : Outcome → Type 0
-FitsOutcome outcome = Each (λ (field : Field). FitsValue field.value) (said_of (finding_of outcome)).fields × Each IsCodedPart (parts_found outcome)
+FitsOutcome outcome =
+    Each (λ (field : Field). FitsValue field.value) (said_of (finding_of outcome)).fields
+    × Each IsCodedPart (parts_found outcome) × Each FitsEngines (engines_found outcome)
 
 -- the numbers found fit 64 bits, and each object has a code
 abbrev pub FitsReport : Finding → Type 0

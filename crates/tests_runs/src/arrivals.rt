@@ -124,21 +124,31 @@ fn answers_to_another_question_are_strangers(rt: HostRuntime) -> Result<(), Fail
         bound: 10,
         cells: None,
         near: true,
+        horizon: 10,
     };
     let within_less = Question::Objects {
         bound: 9,
         cells: None,
         near: true,
+        horizon: 10,
     };
     let limited = Question::Objects {
         bound: 10,
         cells: Some(4),
         near: true,
+        horizon: 10,
     };
     let of_parts = Question::Objects {
         bound: 10,
         cells: None,
         near: false,
+        horizon: 10,
+    };
+    let sooner = Question::Objects {
+        bound: 10,
+        cells: None,
+        near: true,
+        horizon: 9,
     };
     let bundle = two_folders(rt.alloc())?;
     let mut collector = Collector::new(rt.alloc(), &bundle, asked)?;
@@ -149,6 +159,7 @@ fn answers_to_another_question_are_strangers(rt: HostRuntime) -> Result<(), Fail
         (within_less, Offer::Stranger),
         (limited, Offer::Stranger),
         (of_parts, Offer::Stranger),
+        (sooner, Offer::Stranger),
         (asked, Offer::Taken),
     ] {
         let done = Done::work(rt.alloc(), ticket, entry, question)?;

@@ -8,8 +8,8 @@ use Rattle.census_laws.proofs.Fallen.{to_say}
 use Rattle.census_laws.proofs.ash_lines_tell_the_onset.Goals as goal
 
 pub returns : goal.returns
-returns c = λ near bound most e f. (
+returns c = λ near bound most horizon e f. (
   ash_onset f.rule f.cells bound,
   onset_found f.rule f.cells bound (f.parts, f.ash),
-  ap (λ answer. value_at Onset (said (outcome_of answer)).fields) (to_say near bound most e f).is,
+  ap (λ answer. value_at Onset (said (outcome_of answer)).fields) (to_say near bound most horizon e f).is,
 )

@@ -13,4 +13,4 @@ loop-part-preserved c =
     let at : slice_get parts i ≡ Some part = slice_get_read parts (length parts) i part refl c.loop-part-test.true c.part-item.is in
     c.in_ok-push_part.ensures ∙ ap (λ t. t ++ part_line part) c.loop-part.invariant
     ∙ append_assoc text (text_of (map part_line (take i parts))) (part_line part)
-    ∙ ap (λ t. text ++ t) (sym (lines_taken parts i part at))
+    ∙ ap (λ t. text ++ t) (sym (lines_taken part_line parts i part at))

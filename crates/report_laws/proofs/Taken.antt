@@ -1,0 +1,39 @@
+-- Rows that fit what was told, one after the other.
+use Rattle.std.proofs.Common.{◌≡◌, ◌++◌, true, cond, Option, Some, None as Nothing, List, ℕ, [], ◌∷◌, ap, ◌∙◌}
+use Rattle.std.specs.Prelude.{⊤}
+use Rattle.std.specs.declared.cmp.Ordering.TheVariants.{Less}
+use Rattle.census_readback.specs.Lawful.{is_lawful}
+use Rattle.census_readback.specs.Told.{Told, told_after, told_by, told_next}
+use Rattle.census_rows.specs.declared.row.Row.{Row}
+use Rattle.life_answer.specs.declared.part.Part as part
+use Rattle.life_shape.specs.TextOrder.{shorter_cmp}
+
+abbrev pub and_then : Option Told → (Told → Option Told) → Option Told
+and_then o go = elim o as (λ _. Option Told) [ Nothing ↦ Nothing | Some u ↦ go u ]
+
+pub told-one : (t u : Told) (row : Row) (rows : List Row) → told_after t row ≡ Some u → told_by t (row ∷ rows) ≡ told_by u rows
+told-one t u row rows h = ap (λ o. and_then o (λ v. told_by v rows)) h
+
+-- a lawful row that fits
+pub fits : (t u : Told) (row : Row) → is_lawful row ≡ true → told_next t row ≡ Some u → told_after t row ≡ Some u
+fits t u row h k = ap (λ b. cond b (told_next t row) Nothing) h ∙ k
+
+pub told-then : (t v : Told) (xs ys : List Row) → told_by t xs ≡ Some v → told_by t (xs ++ ys) ≡ told_by v ys
+told-then t v [] ys h = ap (λ w. told_by w ys) (let same : t ≡ v = cc in same)
+told-then t v (x ∷ xs) ys h =
+    (elim (told_after t x) as (λ o. and_then o (λ u. told_by u xs) ≡ Some v → and_then o (λ u. told_by u (xs ++ ys)) ≡ told_by v ys) [
+      | Nothing ↦ λ k. absurd (cc)
+      | Some u ↦ λ k. told-then u v xs ys k
+    ]) h
+
+-- ---- codes that rise
+
+-- the code stands behind the last one, where there is one
+abbrev pub IsBehind : Option (List ℕ) → List ℕ → Type 0
+IsBehind Nothing code = ⊤
+IsBehind (Some last) code = shorter_cmp last code ≡ Less
+
+-- codes that rise, from behind the last one on
+abbrev pub Rise : Option (List ℕ) → List part.Part → Type 0
+Rise last [] = ⊤
+Rise last (p ∷ parts) = IsBehind last p.code × Rise (Some p.code) parts
