@@ -39,7 +39,7 @@ impl Example {
             } => self.settled == Some((*onset, *period, code.as_slice())),
             Outcome::Large { generation } => self.large == Some(*generation),
             Outcome::Unresolved => self.settled.is_none() && self.large.is_none(),
-            Outcome::Ash { .. } => false,
+            Outcome::Ash { .. } | Outcome::Grows { .. } => false,
         }
     }
 }
