@@ -14,12 +14,6 @@ of_none {N = N} e h = subst (λ p. IfNone p N) e h
 pub of_some : {X : Type 0} {o : Option X} {x : X} (P : X → Type 0) → o ≡ Some x → IfSome o P → P x
 of_some P e h = subst (λ p. IfSome p P) e h
 
--- what follows from two things that are said of something, where there is some
-pub both_some : {X : Type 0} {P Q S : X → Type 0} (o : Option X) → IfSome o P → IfSome o Q →
-    ((x : X) → P x → Q x → S x) → IfSome o S
-both_some None p q then = tt
-both_some (Some x) p q then = then x p q
-
 -- what follows from two things that are said of what is found
 pub both_then : {E X : Type 0} {P Q S : X → Type 0} (r : Result (Option X) E) → IfOk r (λ o. IfSome o P) →
     IfOk r (λ o. IfSome o Q) → ((x : X) → P x → Q x → S x) → IfOk r (λ o. IfSome o S)

@@ -1,5 +1,6 @@
 -- What is found on the way from the bound on.
-use Rattle.std.proofs.Common.{◌≡◌, ℕ, ◌+◌, ◌*◌, ◌-◌, ◌≤◌, List, [], Option, None, IfNone, IfSome, sym, ap, subst, ◌∙◌, arith}
+use Rattle.std.proofs.Common.{Bool, true, false, ◌≡◌, ℕ, ◌+◌, ◌*◌, ◌-◌, ◌≤◌, List, [], Option, None, sym, ap, subst, ◌∙◌, arith}
+use Rattle.std.specs.Bool.{OnTrue}
 use Rattle.std.specs.List.{All}
 use Rattle.std.proofs.lemmas.List.Elements.{All-nil}
 use Rattle.life_model.specs.Rule.{Rule}
@@ -12,14 +13,16 @@ use Rattle.life_onset.specs.Moments.{IsMomentOf, Moment}
 use Rattle.life_orbit.specs.Course.{Course}
 use Rattle.life_ash.specs.Ahead.{IsAshThen, IsFound, IsFoundPast}
 use Rattle.life_ash.specs.Allowed.{AreAllowedBefore}
-use Rattle.life_ash.specs.Fates.{IsFate, IsSmallEnough}
+use Rattle.life_ash.specs.Fates.{EndsLater, IsFate, IsSmallEnough}
 use Rattle.life_ash.specs.Met.{Terms}
-use Rattle.life_apart.specs.Sets.{IsCourseBy, sets_of}
+use Rattle.life_apart.specs.Sets.{sets_of}
 use Rattle.life_ash.specs.Parts.{ash_age_limit}
+use Rattle.life_ash.specs.Telling.{IsAtBound}
+use Rattle.life_ash.specs.declared.at_bound.AtBound.{AtBound}
+use Rattle.life_ash.specs.declared.at_bound.AtBound.TheVariants.{NoAsh}
 use Rattle.life_ash.specs.declared.found.Found.{Found}
 use Rattle.life_ash.specs.declared.found.Found.TheVariants.{Large, Nothing, Parts}
 use Rattle.life_ash.specs.declared.pattern_fate.Fate.{Fate}
-use Rattle.life_ash.proofs.Finding.{both_some, none_then}
 use Rattle.life_ash.proofs.Limits.{past_nowhere}
 
 module _ (R : Rule) (b : ℕ) (G : Generation) (limit : Option ℕ) where
@@ -84,27 +87,32 @@ trail_from_start t G from H before after cells start none told =
     told G (cells ∙ sym (ap (generation t.rule G) start ∙ generation-zero t.rule G))
     (subst (All (IsMomentOf t.rule G)) (sym none) (All-nil (IsMomentOf t.rule G)))
 
--- what becomes of G, where its generation of the bound is this ash or none
-pub fate_by : (t s : Terms) (n : ℕ) (G H : Generation) (limit : Option ℕ) (trail : List Moment)
-    (ash : Option (List Course)) (fate : Fate) → s ≡ t → n ≡ t.bound → H ≡ generation t.rule G t.bound →
-    IsSmallEnough t.rule G t.bound limit → All (IsMomentOf t.rule G) trail →
-    IfSome ash (λ os. IsAsh s.rule s.bound H (sets_of os)) → IfSome ash (λ os. All (IsCourseBy s.rule) os) →
-    IfNone ash ((parts : List Generation) → IsAsh s.rule s.bound H parts → ⊥) →
+-- what ends later ends later than each of the generations before
+ends_later : (R : Rule) (b : ℕ) (G : Generation) → EndsLater R (generation R G b) → EndsLater R G
+ends_later R b G ends = (
+  ends.0,
+  b + ends.1,
+  ends.2,
+  subst (λ H. IsAsh R ends.0 H ends.2) (generation-add R G b ends.1) ends.3,
+)
+
+-- what becomes of a pattern, by what its generation of the bound is
+pub fate_of_bound : (R : Rule) (b : ℕ) (G : Generation) (ends : Bool) →
+    IsAtBound R b (generation R G b) (NoAsh ends) →
+    ((parts : List Generation) → HasFallenApart R b G parts → ⊥) × OnTrue ends (EndsLater R G)
+fate_of_bound R b G true h = (h.0, ends_later R b G h.1)
+fate_of_bound R b G false h = (h.0, tt)
+
+-- what becomes of G, where its generation of the bound is this
+pub fate_by : (t s : Terms) (n : ℕ) (G H : Generation) (limit : Option ℕ) (trail : List Moment) (found : AtBound)
+    (fate : Fate) → s ≡ t → n ≡ t.bound → H ≡ generation t.rule G t.bound →
+    IsSmallEnough t.rule G t.bound limit → All (IsMomentOf t.rule G) trail → IsAtBound s.rule s.bound H found →
     ((R : Rule) (K : Generation) (most : Option ℕ) → IsSmallEnough R K n most → All (IsMomentOf R K) trail →
-    IfSome ash (λ os. HasFallenApart R n K (sets_of os) × All (IsCourseBy R) os) →
-    IfNone ash ((parts : List Generation) → HasFallenApart R n K parts → ⊥) → IsFate R K n most fate) →
+    IsAtBound R n (generation R K n) found → IsFate R K n most fate) →
     IsFate t.rule G t.bound limit fate
-fate_by t s n G H limit trail ash fate same bound here small kept some rule none told =
+fate_by t s n G H limit trail found fate same bound here small kept is told =
     subst (λ m. IsFate t.rule G m limit fate) bound
     (told t.rule G limit (subst (λ m. IsSmallEnough t.rule G m limit) (sym bound) small) kept
-    (both_some ash some rule
-    (λ os is of. (
-      subst (λ m. HasFallenApart t.rule m G (sets_of os)) (sym bound)
-          (subst (λ K. IsAsh t.rule t.bound K (sets_of os)) here
-          (subst (λ (u : Terms). IsAsh u.rule u.bound H (sets_of os)) same is)),
-      subst (λ (u : Terms). All (IsCourseBy u.rule) os) same of,
-    )))
-    (none_then ash none
-    (λ no parts has. no parts
-    (subst (λ (u : Terms). IsAsh u.rule u.bound H parts) (sym same)
-    (subst (λ K. IsAsh t.rule t.bound K parts) (sym here) (subst (λ m. HasFallenApart t.rule m G parts) bound has))))))
+    (subst (λ m. IsAtBound t.rule m (generation t.rule G m) found) (sym bound)
+    (subst (λ K. IsAtBound t.rule t.bound K found) here
+    (subst (λ (u : Terms). IsAtBound u.rule u.bound H found) same is))))

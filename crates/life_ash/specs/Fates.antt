@@ -1,5 +1,6 @@
 -- What becomes of a pattern of which no generation may have more than some number of cells.
 use Rattle.std.specs.Prelude.{◌≡◌, ℕ, ◌*◌, ◌≤◌, List, None, Option, Some}
+use Rattle.std.specs.Bool.{OnTrue}
 use Rattle.std.specs.List.{All}
 use Rattle.life_model.specs.Generation.{Generation}
 use Rattle.life_model.specs.Rule.{Rule}
@@ -15,12 +16,17 @@ use Rattle.life_ash.specs.declared.pattern_fate.Fate.TheVariants.{Ash, Large, Un
 abbrev pub IsSmallEnough : Rule → Generation → ℕ → Option ℕ → Type 0
 IsSmallEnough R G b limit = first_past limit R G (3 * b) ≡ None
 
+-- some generation of G, however late, is ash within some bound
+abbrev pub EndsLater : Rule → Generation → Type 0
+EndsLater R G = (b : ℕ) × (n : ℕ) × (parts : List Generation) × IsAsh R b (generation R G n) parts
+
 -- This becomes of G within b: it falls apart, a generation up to b being ash of these parts, and these are some of its
--- generations, or it doesn't, or the first generation past the limit is this one.
+-- generations, or it doesn't, and where it is seen to end it falls apart later, or the first generation past the limit is
+-- this one.
 abbrev pub IsFate : Rule → Generation → ℕ → Option ℕ → Fate → Type 0
 IsFate R G b limit (Ash parts age trail) =
     IsSmallEnough R G b limit × (age ≤ b) × IsAsh R b (generation R G age) (sets_of parts) × All (IsCourseBy R) parts ×
     All (IsMomentOf R G) trail
-IsFate R G b limit Unresolved =
-    IsSmallEnough R G b limit × ((parts : List Generation) → HasFallenApart R b G parts → ⊥)
+IsFate R G b limit (Unresolved ends) =
+    IsSmallEnough R G b limit × ((parts : List Generation) → HasFallenApart R b G parts → ⊥) × OnTrue ends (EndsLater R G)
 IsFate R G b limit (Large n) = first_past limit R G (3 * b) ≡ Some n

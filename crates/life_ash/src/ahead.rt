@@ -43,8 +43,13 @@ pub fn parts_if_due<P: Plane>(
     guessed_parts(alloc, plane, met, pace.looks())
 }
 
-/// Walks on to an age, and looks now and then whether the plane's cells are ash. No generation that the walk comes to may
-/// have more cells than the limit, and where ash is found none up to the last. Some generations are kept on a trail.
+/// Walks on to an age, the end, and looks now and then whether the plane's cells are ash. Whether those of the end are is not
+/// asked. No generation that the walk comes to may have more cells than the limit, and where ash is found none up to the last.
+/// Some generations are kept on a trail. The rule and the bound are those of what is known.
+///
+/// Where `Nothing` is found the plane is as old as the end, and one may walk on from there: with a greater end, and the same
+/// plane, knowledge, pace, trail, limit and last. A plane's age may be the end already. The end is at most 400,000 and at
+/// most one more than the last.
 pub fn walk_on<P: Plane>(
     alloc: Global,
     plane: &mut P,

@@ -7,16 +7,13 @@ ghost use Rattle.life_orbit.specs.Course.{IsCourse};
 ghost use Rattle.life_apart.specs.Sets.{IsCourseBy, sets_of};
 ghost use Rattle.life_ash.specs.Parts.{IsFit, IsPlaced, ash_age_limit};
 
-use crate::far::told_later;
 use crate::known::Known;
 use crate::parts::{only_parts, parts_before};
-use crate::told::Told;
 use crate::whole::are_objects;
 use life_apart::{are_apart, are_together};
 use life_cells::Rule;
 use life_orbit::{BOUND_LIMIT, Orbit};
 use life_plane::Plane;
-use life_tally::Pace;
 use std::alloc::{AllocError, Global};
 use std::marker::Model;
 
@@ -151,29 +148,6 @@ pub fn ash_before<P: Plane>(
     match parts_before(alloc, plane, known, later.as_slice(), ago)? {
         Some(parts) => ash_if(alloc, plane, known, parts),
         None => Ok(None),
-    }
-}
-
-/// The same of cells that are as old as the bound, which later generations mostly tell.
-pub fn ash_told<P: Plane>(
-    alloc: Global,
-    plane: &P,
-    known: &mut Known,
-    pace: &mut Pace,
-) -> Result<Option<Ash>, AllocError>
-    requires young { P.steps_made plane.now ≤ ash_age_limit }
-    requires age { P.steps_made plane.now ≡ known.old.bound }
-    ensures some { IfOk result (λ found. IfSome found (λ ash.
-        IsAsh known.old.rule known.old.bound (P.members plane.now) (sets_of ash))) }
-    ensures rule { IfOk result
-        (λ found. IfSome found (λ ash. All (IsCourseBy known.old.rule) ash)) }
-    ensures none { IfOk result (λ found. IfNone found ((parts : List Generation) →
-        IsAsh known.old.rule known.old.bound (P.members plane.now) parts → ⊥)) }
-{
-    match told_later(alloc, plane, known, pace)? {
-        Told::Parts { parts, ago } => ash_before(alloc, plane, known, parts, ago),
-        Told::Never => Ok(None),
-        Told::Nothing => ash_by(alloc, plane, known),
     }
 }
 

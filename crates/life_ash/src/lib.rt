@@ -1,11 +1,12 @@
 //! The objects that a set of cells falls apart into.
 //!
-//! Tested in `tests_objects`, by `life_census`.
+//! Tested in `tests_objects`, by `life_census`, and in `tests_onset`.
 #![tactic(auto)]
 
 mod again;
 mod ahead;
 mod ash_orbits;
+mod at_bound;
 mod before;
 mod far;
 mod found;
@@ -18,11 +19,14 @@ mod parts;
 mod pattern;
 mod pattern_fate;
 mod sizes;
+mod telling;
 mod told;
 mod whole;
 
+pub use ahead::walk_on;
 pub use ash_orbits::{Ash, ash_of, is_ash};
+pub use found::Found;
 pub use guess::guessed_parts;
 pub use known::Known;
-pub use pattern::fate;
+pub use pattern::{fate, fate_past};
 pub use pattern_fate::Fate;

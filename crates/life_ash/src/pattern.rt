@@ -9,13 +9,16 @@ ghost use Rattle.life_objects.specs.Ash.{HasFallenApart};
 ghost use Rattle.life_onset.specs.Moments.{IsMomentOf};
 ghost use Rattle.life_ash.specs.Allowed.{AreAllowedBefore};
 ghost use Rattle.life_ash.specs.Fates.{IsFate, IsSmallEnough};
+ghost use Rattle.life_ash.specs.Telling.{IsAtBound};
 ghost use Rattle.life_apart.specs.Sets.{IsCourseBy, sets_of};
 
 use crate::ahead::{found_past, walk_on};
-use crate::ash_orbits::{Ash, ash_before, ash_told};
+use crate::ash_orbits::Ash;
+use crate::at_bound::AtBound;
 use crate::found::Found;
 use crate::known::Known;
 use crate::pattern_fate::Fate;
+use crate::telling::{ash_by_later, ash_told};
 use life_cells::{CellList, Rule};
 use life_onset::Trail;
 use life_orbit::BOUND_LIMIT;
@@ -24,27 +27,27 @@ use life_tally::Pace;
 use std::alloc::{AllocError, Global};
 
 /// What becomes of a pattern of which no generation up to three times the bound is past the limit, of which the generation
-/// of the bound is this ash or none, and some on the way there are on a trail.
-fn fate_of(ash: Option<Ash>, bound: u32, trail: Trail) -> Fate
+/// of the bound is this, and some on the way there are on a trail.
+fn fate_of(found: AtBound, bound: u32, trail: Trail) -> Fate
     ensures { (R : ModelRule) (G : Generation) (limit : Option ℕ) →
         IsSmallEnough R G bound limit → All (IsMomentOf R G) trail →
-        IfSome ash (λ ash. HasFallenApart R bound G (sets_of ash) × All (IsCourseBy R) ash) →
-        IfNone ash ((parts : List Generation) → HasFallenApart R bound G parts → ⊥) →
-        IsFate R G bound limit result }
+        IsAtBound R bound (generation R G bound) found → IsFate R G bound limit result }
 {
-    match ash {
-        Some(ash) => Fate::Ash {
+    match found {
+        AtBound::Ash { ash } => Fate::Ash {
             ash,
             age: bound,
             trail,
         },
-        None => Fate::Unresolved,
+        AtBound::NoAsh { ends } => Fate::Unresolved { ends },
     }
 }
 
-/// What becomes of a pattern of which a plane has the generation of the bound, where nothing was found on the way there, of
-/// which some generations are on a trail.
-fn fate_past<P: Plane>(
+/// What becomes of a pattern of which a plane has the generation of the bound, where no ash was found before, and no generation
+/// before has more cells than it may have. So it is where `walk_on`, from generation 0 to the bound, finds `Nothing`. The rule
+/// and the bound are those of what is known. The trail has some of the pattern's generations, and the plane stays as it is.
+///
+pub fn fate_past<P: Plane>(
     alloc: Global,
     plane: &P,
     met: &mut Known,
@@ -66,7 +69,7 @@ fn fate_past<P: Plane>(
         Found::Large { generation } => Fate::Large { generation },
         Found::Parts { parts, age } => {
             fate_of(
-                ash_before(alloc, plane, met, parts, age - bound)?,
+                ash_by_later(alloc, plane, met, parts, age - bound)?,
                 bound,
                 trail,
             )

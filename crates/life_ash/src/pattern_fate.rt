@@ -15,7 +15,10 @@ pub enum Fate {
         trail: Trail,
     },
     /// It has not fallen apart by the bound.
-    Unresolved,
+    Unresolved {
+        /// Whether it is seen to fall apart later.
+        ends: bool,
+    },
     /// Some generation from 0 to three times the bound has more cells than it may have.
     Large {
         /// The first such generation.

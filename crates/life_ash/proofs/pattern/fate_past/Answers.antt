@@ -4,10 +4,10 @@ use Rattle.life_ash.specs.Fates.{IsFate}
 use Rattle.life_ash.specs.Met.{Terms}
 use Rattle.life_ash.proofs.Ways.{ash_ahead, fate_by}
 use Rattle.life_ash.proofs.pattern.fate_past.Goals as goal
-use Rattle.life_ash.proofs.pattern.fate_past.Goals.{in-Large, in-Parts+in_ok-ash_before-in-Parts, in-Nothing+in_ok-ash_told-in-Nothing}
+use Rattle.life_ash.proofs.pattern.fate_past.Goals.{in-Large, in-Parts+in_ok-ash_by_later-in-Parts, in-Nothing+in_ok-ash_told-in-Nothing}
 
-pub ash_before-requires-clause-ash : goal.ash_before-requires-clause-ash
-ash_before-requires-clause-ash g c =
+pub ash_by_later-requires-clause-ash : goal.ash_by_later-requires-clause-ash
+ash_by_later-requires-clause-ash g c =
     let R = c.args.met.now.rule in
     let b = c.args.met.now.bound in
     let G = c.requires.later.0 in
@@ -31,16 +31,16 @@ returns g c G here allowed kept =
     let past = c.in_ok-generation.ensures.found G here allowed in
     elim c.match-branch-2.branch [
       | in-Large w ↦ subst IsFateOf (sym w.result-is) (subst (IsFoundPast t.rule t.bound G limit) w.in-Large.is past)
-      | in-Parts+in_ok-ash_before-in-Parts w ↦
+      | in-Parts+in_ok-ash_by_later-in-Parts w ↦
           let found = subst (IsFoundPast t.rule t.bound G limit) w.in-Parts.is past in
           subst IsFateOf (sym w.result-is)
-          (fate_by t met n G H limit c.args.trail w.in_ok-ash_before-in-Parts.field-0 w.fate_of.result
-          c.found_past.ensures.same c.bound-bound.ensures.value here found.2 kept w.in_ok-ash_before-in-Parts.ensures.some
-          w.in_ok-ash_before-in-Parts.ensures.rule w.in_ok-ash_before-in-Parts.ensures.none w.fate_of.ensures)
+          (fate_by t met n G H limit c.args.trail w.in_ok-ash_by_later-in-Parts.field-0 w.fate_of.result
+          c.found_past.ensures.same c.bound-bound.ensures.value here found.2 kept w.in_ok-ash_by_later-in-Parts.ensures
+          w.fate_of.ensures)
       | in-Nothing+in_ok-ash_told-in-Nothing w ↦
           let small = subst (IsFoundPast t.rule t.bound G limit) w.in-Nothing.is past in
           subst IsFateOf (sym w.result-is)
           (fate_by t met n G H limit c.args.trail w.in_ok-ash_told-in-Nothing.field-0 w.fate_of-in-Nothing.result
-          c.found_past.ensures.same c.bound-bound.ensures.value here small kept w.in_ok-ash_told-in-Nothing.ensures.some
-          w.in_ok-ash_told-in-Nothing.ensures.rule w.in_ok-ash_told-in-Nothing.ensures.none w.fate_of-in-Nothing.ensures)
+          c.found_past.ensures.same c.bound-bound.ensures.value here small kept w.in_ok-ash_told-in-Nothing.ensures
+          w.fate_of-in-Nothing.ensures)
     ]

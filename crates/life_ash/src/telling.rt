@@ -1,0 +1,69 @@
+//! What ash the cells of the bound are, as later generations tell.
+ghost use Rattle.std.specs.Prelude.{◌≡◌, ℕ, ◌≤◌, All, IfNone, IfOk, IfSome, List};
+ghost use Rattle.std.specs.Bool.{OnTrue};
+ghost use Rattle.life_model.specs.Generation.{Generation};
+ghost use Rattle.life_model.specs.Rule.{Rule as ModelRule};
+ghost use Rattle.life_objects.specs.Ash.{IsAsh};
+ghost use Rattle.life_apart.specs.Sets.{IsCourseBy, sets_of};
+ghost use Rattle.life_ash.specs.Ahead.{IsAshThen};
+ghost use Rattle.life_ash.specs.Fates.{EndsLater};
+ghost use Rattle.life_ash.specs.Parts.{ash_age_limit};
+ghost use Rattle.life_ash.specs.Telling.{IsAtBound};
+
+use crate::ash_orbits::{Ash, ash_before, ash_by};
+use crate::at_bound::AtBound;
+use crate::far::told_later;
+use crate::known::Known;
+use crate::told::Told;
+use life_orbit::Orbit;
+use life_plane::Plane;
+use life_tally::Pace;
+use std::alloc::{AllocError, Global};
+
+/// What cells are that are this ash or none, and if it is none are seen, or not, to become ash later.
+fn at_bound(ash: Option<Ash>, ends: bool) -> AtBound
+    ensures { (R : ModelRule) (b : ℕ) (H : Generation) →
+        IfSome ash (λ ash. IsAsh R b H (sets_of ash)) → IfSome ash (All (IsCourseBy R)) →
+        IfNone ash ((parts : List Generation) → IsAsh R b H parts → ⊥) →
+        OnTrue ends (EndsLater R H) → IsAtBound R b H result }
+{
+    match ash {
+        Some(ash) => AtBound::Ash { ash },
+        None => AtBound::NoAsh { ends },
+    }
+}
+
+/// What a plane's cells are that become ash of these parts after so many generations.
+pub fn ash_by_later<P: Plane>(
+    alloc: Global,
+    plane: &P,
+    known: &mut Known,
+    later: Vec<Orbit>,
+    ago: u32,
+) -> Result<AtBound, AllocError>
+    requires young { P.steps_made plane.now ≤ ash_age_limit }
+    requires ago { ago ≤ ash_age_limit }
+    requires ash { IsAshThen known.old.rule known.old.bound (P.members plane.now) ago later.items }
+    ensures { IfOk result (IsAtBound known.old.rule known.old.bound (P.members plane.now)) }
+{
+    let ash = ash_before(alloc, plane, known, later, ago)?;
+    Ok(at_bound(ash, true))
+}
+
+/// What a plane's cells are that are as old as the bound, which later generations mostly tell.
+pub fn ash_told<P: Plane>(
+    alloc: Global,
+    plane: &P,
+    known: &mut Known,
+    pace: &mut Pace,
+) -> Result<AtBound, AllocError>
+    requires young { P.steps_made plane.now ≤ ash_age_limit }
+    requires age { P.steps_made plane.now ≡ known.old.bound }
+    ensures { IfOk result (IsAtBound known.old.rule known.old.bound (P.members plane.now)) }
+{
+    match told_later(alloc, plane, known, pace)? {
+        Told::Parts { parts, ago } => ash_by_later(alloc, plane, known, parts, ago),
+        Told::Never => Ok(AtBound::NoAsh { ends: false }),
+        Told::Nothing => Ok(at_bound(ash_by(alloc, plane, known)?, false)),
+    }
+}
