@@ -12,7 +12,7 @@ use std::process::Abort;
 use std::test::Fail;
 
 // The R-pentomino.
-const PENTOMINO: &[(i32, i32)] = &[(1, 0), (2, 0), (0, 1), (1, 1), (1, 2)];
+pub const PENTOMINO: &[(i32, i32)] = &[(1, 0), (2, 0), (0, 1), (1, 1), (1, 2)];
 
 // The acorn, so far from the edge that all that it becomes stays in the field.
 const ACORN: &[(i32, i32)] = &[
