@@ -112,7 +112,7 @@ pub fn census<P: Plane>(
         Fate::Ash { ash, age, trail } => {
             outcome_of_ash::<P>(alloc, rule, cells, &ash, age, &trail, near)?
         }
-        Fate::Unresolved => {
+        Fate::Unresolved { .. } => {
             let engines = engines_within::<P>(alloc, rule, cells, bound, limit, near, horizon)?;
             growing_or(engines, Outcome::Unresolved)
         }
