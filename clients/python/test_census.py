@@ -24,8 +24,8 @@ ROOT = os.path.realpath(os.path.join(HERE, "..", ".."))
 sys.path.insert(0, HERE)
 import census
 from census import (
-    Census, CensusError, ClaimFault, Code, CodeFault, Disagreement, FolderFault, OutOfMemory, Pattern, PatternFault, ProgramFailed, ReadFailed,
-    ReportFault, RuleFault, Same, TimedOut, TooLong, read_report,
+    Census, CensusError, ClaimFault, Code, CodeFault, Disagreement, Engine, FolderFault, OutOfMemory, Pattern, PatternFault, ProgramFailed,
+    ReadFailed, ReportFault, RuleFault, Same, TimedOut, TooLong, read_report,
 )
 
 PROGRAM = os.path.realpath(os.environ.get("CENSUS", f"{ROOT}/release/census"))
@@ -39,6 +39,8 @@ GUN = """x = 36, y = 9, rule = B3/S23
 24bo$22bobo$12b2o6b2o12b2o$11bo3bo4b2o12b2o$2o8bo5bo3b2o$2o8bo3bob2o4b
 obo$10bo5bo7bo$11bo3bo$12b2o!
 """
+# LifeWiki, Infinite growth: this one of 10 cells becomes a block-laying switch engine
+TEN_CELLS = "x = 8, y = 6\n6bo$4bob2o$4bobo$4bo$2bo$obo!"
 # a traffic light, and a glider that goes away from it
 LIGHT_AND_GLIDER = "x = 23, y = 23\n4bo$4bo$4bo2$3o3b3o2$4bo$4bo$4bo12$21bo$22bo$20b3o!"
 # LifeWiki: it vanishes at generation 130
@@ -48,6 +50,11 @@ FAULTY = "x = 3, y = 3\nbo$2bo$3q!\n"
 
 # LifeWiki, R-pentomino: 8 blocks, 6 gliders, 4 beehives, 4 blinkers, a boat, a loaf and a ship
 ASH_OF_R_PENTOMINO = {"xs4_33": 8, "xq4_153": 6, "xs6_696": 4, "xp2_7": 4, "xs5_253": 1, "xs7_2596": 1, "xs6_356": 1}
+
+# LifeWiki, Gosper glider gun: period 30
+GOSPERS = Engine(30, (0, 0), 1, {"xq4_153": 1})
+# LifeWiki, Block-laying switch engine: it moves by c/12 diagonally, and leaves 8 blocks every 288 generations
+BLOCK_LAYER = Engine(288, (-24, -24), 1, {"xs4_33": 8})
 
 # LifeWiki: the population of the phase that the file has, the period, the apgcode
 KNOWN = {
@@ -79,6 +86,13 @@ def cells_of(rle):
                 cells.add((x, y))
             x, y = (0, y + 1) if tag == "$" else (x + 1, y)
     return cells
+
+
+def rle_of(cells):
+    """A text in B3/S23 of live cells, none of which is left of or above the origin."""
+    width, height = (max(places) + 1 for places in zip(*cells))
+    rows = ("".join("bo"[(x, y) in cells] for x in range(width)) for y in range(height))
+    return f"x = {width}, y = {height}\n{'$'.join(rows)}!"
 
 
 def next_of(cells):
@@ -166,8 +180,33 @@ class Identify(Room):
         self.assertEqual(self.census.identify("x = 0, y = 0\n!"), Pattern("B3/S23", 0, (0, 0), 0, 1, (0, 0), "xs0_0"))
 
     def test_unresolved(self):
-        gun = self.census.identify(GUN, bound=60)
-        self.assertEqual(gun, Pattern("B3/S23", 36, (36, 9), unresolved=60))
+        gun = self.census.identify(GUN, bound=20)
+        self.assertEqual(gun, Pattern("B3/S23", 36, (36, 9), unresolved=20))
+        self.assertIsNone(gun.engines)
+
+    def test_growth(self):
+        gun = self.census.identify(GUN, bound=100)
+        self.assertEqual(gun, Pattern("B3/S23", 36, (36, 9), engines=[GOSPERS]))
+        self.assertEqual((gun.period, gun.displacement, gun.apgcode, gun.objects), (None, None, None, None))
+        self.assertEqual(self.census.identify(TEN_CELLS, bound=500).engines, [BLOCK_LAYER])
+
+    def test_engines_that_are_told_together(self):
+        two = cells_of(GUN) | {(x + 150, y) for x, y in cells_of(GUN)}
+        self.assertEqual(self.census.identify(rle_of(two), bound=100).engines, [replace(GOSPERS, count=2)])
+        near = self.census.identify_many([GUN, rle_of(two), GLIDER], bound=100, near=True)
+        self.assertEqual([it.engines for it in near], [[GOSPERS], [replace(GOSPERS, count=2)], None])
+
+    def test_growth_has_a_horizon(self):
+        self.assertEqual(self.census.identify(GUN, bound=500, horizon=20), Pattern("B3/S23", 36, (36, 9), unresolved=500))
+        self.assertEqual(self.census.identify(GUN, bound=500, horizon=31).engines, [GOSPERS])
+        self.assertEqual([it.unresolved for it in self.census.identify_many([GUN, GLIDER], bound=100, horizon=20)], [100, None])
+
+    def test_too_many_cells(self):
+        cells, generation = cells_of(GUN), 0
+        while len(cells) <= 60:
+            cells, generation = next_of(cells), generation + 1
+        self.assertEqual(self.census.identify(GUN, bound=500, cells=60), Pattern("B3/S23", 36, (36, 9), large=generation))
+        self.assertEqual([it.large for it in self.census.identify_many([GUN, GLIDER], bound=500, cells=35)], [0, None])
 
     def test_objects(self):
         found = self.census.identify(R_PENTOMINO)
@@ -204,11 +243,15 @@ class Identify(Room):
             self.census.identify(GLIDER, bound="10")
 
     def test_patterns_are_values(self):
-        found = self.census.identify(R_PENTOMINO)
-        self.assertEqual(hash(found), hash(self.census.identify(R_PENTOMINO)))
-        self.assertEqual(pickle.loads(pickle.dumps(found)), found)
+        for text in (R_PENTOMINO, GUN):
+            found = self.census.identify(text, bound=2000)
+            self.assertEqual(hash(found), hash(self.census.identify(text, bound=2000)))
+            self.assertEqual(pickle.loads(pickle.dumps(found)), found)
+            with self.assertRaises(AttributeError):
+                found.population = 6
+        self.assertEqual(hash(GOSPERS), hash(replace(GOSPERS)))
         with self.assertRaises(AttributeError):
-            found.population = 6
+            GOSPERS.count = 2
 
 
 class Faults(Room):
@@ -282,12 +325,16 @@ class Faults(Room):
         self.assertIsInstance(found[1], ReadFailed)
         self.assertEqual((found[1].index, found[1].place, str(found[1])), (1, "rles[1]", "rles[1]: reading failed"))
 
-    def test_bound_out_of_range(self):
+    def test_options_out_of_range(self):
         for bound in (0, 100001, -1):
             with self.subTest(bound), self.assertRaises(ProgramFailed) as caught:
                 self.census.identify(GLIDER, bound=bound)
             self.assertEqual(caught.exception.status, 2)
             self.assertIn(str(bound), caught.exception.sentence)
+        for options in ({"cells": 0}, {"cells": 2 ** 32}, {"horizon": 0}, {"horizon": 10001}):
+            with self.subTest(options), self.assertRaises(ProgramFailed) as caught:
+                self.census.identify(GLIDER, **options)
+            self.assertEqual(caught.exception.status, 2)
 
     def test_out_of_memory(self):
         # the program tells what it can, and then stops
@@ -326,6 +373,15 @@ class Faults(Room):
         self.assertEqual(self.told(block).identify(GLIDER, bound=9).unresolved, 9)
         apart = self.told(f"{head};onset 9;objects 1;part xs4_33 1").identify(GLIDER, bound=9)
         self.assertEqual((apart.onset, apart.objects), (9, {"xs4_33": 1}))
+        gun = "engine 1 9 0 0 2;emits 1 xq4_153 1;emits 1 xq4_6frc 2"
+        puffer = "engine 2 9 1 -9 1;emits 2 xs4_33 1"
+        wanted = [Engine(9, (0, 0), 2, {"xq4_153": 1, "xq4_6frc": 2}), Engine(9, (1, -9), 1, {"xs4_33": 1})]
+        growing = self.told(f"{head};engines 3;{gun};{puffer}")
+        self.assertEqual(growing.identify(GLIDER, bound=9).engines, wanted)
+        self.assertEqual(growing.identify(GLIDER, horizon=9).engines, wanted)
+        with self.assertRaises(ProgramFailed):
+            growing.identify(GLIDER, bound=10, horizon=8)
+        self.assertEqual(self.told(f"{head};large 27").identify(GLIDER, bound=9).large, 27)
         for body in ("exit 0", "echo census: write failed >&2; exit 4", "echo hello", "echo; exit 1"):
             with self.subTest(body), self.assertRaises(ProgramFailed):
                 self.script(body).identify(GLIDER)
@@ -334,6 +390,11 @@ class Faults(Room):
             f"{head};unresolved 09", f"{head.replace('B3/S23', 'B9')};unresolved 9", f"{head};onset 0;objects 2;part xs4_33 1",
             f"{head};onset 0;objects 2;part xs4_33 1;part xs4_33 1", f"{head};objects 1;part xs4_33 1", f"{head};onset 10;objects 1;part xs4_33 1", f"{head};onset 9;period 1;displacement 0 0;apgcode xs4_33",
             f"{head};onset 0;period 0;displacement 0 0;apgcode xs4_33", f"{head};onset 0;period 1;displacement 0 0;apgcode 33", head,
+            f"{head};engines 0", f"{head};engines 1", f"{head};engines 1;engine 1 9 0 0 1", f"{head};engines 2;{gun};{puffer}",
+            f"{head};engines 4;{gun};{puffer}", f"{head};engines 1;{puffer}", f"{head};engines 3;{puffer};{gun}", f"{gun}", f"{head};{gun}",
+            f"{head};engines 3;{gun};{puffer.replace('9 1 -9', '10 1 -9')}", f"{head};engines 3;{gun};{puffer.replace('1 -9', '1 -10')}",
+            f"{head};engines 3;{gun};{puffer.replace('xs4_33', 'xs4_')}", f"{head};engines 3;{gun};{puffer};unresolved 9",
+            f"{head};large 28", f"{head};large 1;unresolved 9", f"{head};large -1",
         ]
         for block in blocks:
             with self.subTest(block), self.assertRaises(ProgramFailed):
@@ -408,8 +469,8 @@ class IdentifyMany(Room):
         self.assertEqual(self.census.identify_many([GLIDER, GLIDER]), [self.census.identify(GLIDER)] * 2)
 
     def test_bound(self):
-        found = self.census.identify_many([GUN, GLIDER], bound=50)
-        self.assertEqual([(it.unresolved, it.apgcode) for it in found], [(50, None), (None, "xq4_153")])
+        found = self.census.identify_many([GUN, GLIDER], bound=20)
+        self.assertEqual([(it.unresolved, it.apgcode) for it in found], [(20, None), (None, "xq4_153")])
 
     def test_first_fault_is_raised(self):
         with self.assertRaises(PatternFault) as caught:
@@ -501,8 +562,25 @@ class Tables(Room):
 
     def test_unresolved(self):
         for objects in (False, True):
-            row, = self.census.table([f"{EXAMPLES}/guns"], bound=100, objects=objects)
+            row, = self.census.table([f"{EXAMPLES}/guns"], bound=20, objects=objects)
             self.assertEqual((row.status, row.rule, row.population, row.onset, row.parts), ("none", "B3/S23", 36, None, None))
+            self.assertIsNone(row.engines)
+
+    def test_growth(self):
+        folder = self.folder("mine", a=GUN, b=TEN_CELLS, c=BLOCK)
+        rows = self.census.table([folder], bound=500, objects=True)
+        self.assertEqual([(row.status, row.engines) for row in rows], [("grows", [GOSPERS]), ("grows", [BLOCK_LAYER]), ("ash", None)])
+        found = [(row.rule, row.population, row.onset, row.parts) for row in rows[:2]]
+        self.assertEqual(found, [("B3/S23", 36, None, None), ("B3/S23", 10, None, None)])
+        self.assertEqual(self.census.objects([folder], bound=500, near=True)[:2], rows[:2])
+        self.assertEqual([row.status for row in self.census.run([folder], bound=500)], ["none", "none", "ok"])
+
+    def test_growth_has_a_horizon(self):
+        for horizon, status in ((20, "none"), (31, "grows")):
+            row, = self.census.objects([f"{EXAMPLES}/guns"], bound=100, horizon=horizon)
+            self.assertEqual(row.status, status)
+        with self.assertRaises(TypeError):
+            self.census.table(self.FOLDERS, horizon=1000)
 
     def test_too_many_cells(self):
         cells, generation = cells_of(GUN), 0
@@ -603,7 +681,8 @@ class Tables(Room):
         self.assertEqual(caught.exception.place, folder)
 
     def test_options_out_of_range(self):
-        for options in ({"bound": 0}, {"bound": 1000001}, {"workers": 17}, {"cells": 0}, {"bound": 100001, "objects": True}):
+        for options in ({"bound": 0}, {"bound": 1000001}, {"workers": 17}, {"cells": 0}, {"bound": 100001, "objects": True},
+                        {"horizon": 0, "objects": True}, {"horizon": 10001, "objects": True}):
             with self.subTest(options), self.assertRaises(ProgramFailed) as caught:
                 self.census.table(self.FOLDERS, **options)
             self.assertEqual(caught.exception.status, 2)
@@ -621,6 +700,9 @@ class Tables(Room):
         self.assertEqual([row.parts for row in self.told(parted).table([folder], objects=True)], [(("xs4_33", 1),), None])
         large = whole.replace(two, "large B3/S23 4 9 b.rle")
         self.assertEqual(self.told(large).table([folder], cells=1)[1].generation, 9)
+        growing = parted.replace(two, "grows B3/S23 4 1 b.rle;engine 1 2 1 30 0 0 1;emits 1 2 1 xq4_153 1").replace("2 1 1 0", "2 2 0 0")
+        self.assertEqual(self.told(growing).table([folder], objects=True)[1].engines, [GOSPERS])
+        self.assertEqual(self.told(growing).table([folder], objects=True, bound=30, horizon=30)[1].engines, [GOSPERS])
         wrong = [
             # other patterns, other names, another folder, another number of folders
             f"open 1 1 {folder};line 1 1 {one};{code};close 1 1 1 0 0;end 1 1",
@@ -638,9 +720,13 @@ class Tables(Room):
                 self.told(text).table([folder])
         two_objects = parted.replace("4 0 1 a", "4 0 2 a").replace(code, "code 1 B3/S23 xs4_33 2")
         late = parted.replace("4 0 1 a", "4 10001 1 a")
-        for text in (whole, late, two_objects, two_objects.replace("a.rle;", "a.rle;part 1 1 xs4_33 1;")):
+        for text in (whole, late, two_objects, two_objects.replace("a.rle;", "a.rle;part 1 1 xs4_33 1;"),
+                     growing.replace("1 30 0 0 1", "1 1001 0 0 1"), growing.replace("xq4_153", "xq4_")):
             with self.subTest(text), self.assertRaises(ProgramFailed):
                 self.told(text).table([folder], objects=True)
+        for options in ({"objects": True, "horizon": 29}, {"objects": True, "bound": 29}, {"cells": 1}):
+            with self.subTest(options), self.assertRaises(ProgramFailed):
+                self.told(growing).table([folder], **options)
 
     def test_folder_that_changes(self):
         folder = self.folder("mine", a=BLOCK)
@@ -674,6 +760,37 @@ close 2 3 1 1 1
 close 1 2 1 1 0
 end 2 5
 """
+    # engines of each order: by period, right, down, and by what they emit, entry by entry
+    GROWING = b"""open 1 3 a
+open 2 1 b
+line 1 1 grows B3/S23 36 9 c d
+engine 1 1 1 4 -1 4 2
+emits 1 1 1 xs4_33 2
+engine 1 1 2 30 -1 9 1
+emits 1 1 2 xs4_33 2
+engine 1 1 3 30 0 0 1
+emits 1 1 3 xq4_153 1
+engine 1 1 4 30 0 0 1
+emits 1 1 4 xq4_153 1
+emits 1 1 4 xq4_6frc 1
+engine 1 1 5 30 0 0 2
+emits 1 1 5 xq4_153 2
+engine 1 1 6 30 0 1 1
+emits 1 1 6 xs4_33 1
+emits 1 1 6 xs6_696 1
+engine 1 1 7 30 0 1 1
+emits 1 1 7 xs6_696 1
+line 2 1 ash B3/S23 4 0 1 e
+part 2 1 xs4_33 1
+line 1 2 grows B3/S23 10 1 f
+engine 1 2 1 288 -24 -24 1
+emits 1 2 1 xs4_33 8
+code 2 B3/S23 xs4_33 1
+close 2 1 1 0 0
+line 1 3 none B3/S23 36 g
+close 1 3 2 1 0
+end 2 4
+"""
 
     def test_interleaved(self):
         rows = read_report(self.INTERLEAVED)
@@ -685,6 +802,72 @@ end 2 5
         self.assertEqual([row.population for row in rows], [11, 12, 5, None, 36])
         self.assertEqual([row.onset for row in rows], [7, None, 7, None, None])
         self.assertEqual((rows[3].fault, rows[4].generation), (6, 248))
+
+    def test_growing(self):
+        first, second, third, fourth = read_report(self.GROWING)
+        self.assertEqual([row.status for row in (first, second, third, fourth)], ["grows", "grows", "none", "ash"])
+        self.assertEqual((first.rule, first.population, first.name, first.onset, first.parts), ("B3/S23", 36, "c d", None, None))
+        self.assertEqual([(it.period, it.displacement, it.count) for it in first.engines], [
+            (4, (-1, 4), 2), (30, (-1, 9), 1), (30, (0, 0), 1), (30, (0, 0), 1), (30, (0, 0), 2), (30, (0, 1), 1), (30, (0, 1), 1)])
+        self.assertEqual(list(first.engines[5].emits.items()), [("xs4_33", 1), ("xs6_696", 1)])
+        self.assertEqual(second.engines, [BLOCK_LAYER])
+        self.assertEqual((third.engines, fourth.engines, fourth.parts), (None, None, (("xs4_33", 1),)))
+
+    def test_engines_that_do_not_fit(self):
+        def report(engines, lines):
+            whole = f"open 1 1 a;line 1 1 grows B3/S23 36 {engines} b;{lines}close 1 1 1 0 0;end 1 1;"
+            return whole.replace(";", "\n").encode()
+
+        one, two = "engine 1 1 1 30 0 0 1;", "engine 1 1 2 30 0 0 1;"
+        glider, ship, gliders = "emits 1 1 1 xq4_153 1;", "emits 1 1 1 xq4_6frc 1;", "emits 1 1 2 xq4_153 2;"
+        again = gliders.replace(" 2;", " 1;")
+        wanted = [GOSPERS, replace(GOSPERS, emits={"xq4_153": 2})]
+        self.assertEqual(read_report(report(2, one + glider + two + gliders))[0].engines, wanted)
+        most = 2 ** 64 - 1
+        great, = read_report(report(most, f"engine 1 1 1 10000 10000 -10000 {most};emits 1 1 1 xs1_ {most};"))
+        self.assertEqual(great.engines, [Engine(10000, (10000, -10000), most, {"xs1_": most})])
+        wrong = [
+            # none, too few, too many, or some of which nothing is told
+            (0, ""), (1, ""), (2, one + glider), (1, one + glider + two + gliders), (0, one + glider), (1, glider), (1, one),
+            (2, one + two + gliders), (2, one + glider + two),
+            # other numbers
+            (2, one + glider + two + gliders.replace("1 1 2", "1 1 1")), (2, one + glider + two.replace("1 1 2", "1 1 3") + gliders),
+            (1, one.replace("1 1 1", "1 2 1") + glider), (1, one + glider.replace("1 1 1", "1 2 1")),
+            # the same code twice, or codes out of order
+            (1, one + glider + glider), (1, one + ship + glider), (1, one + glider.replace("xq4", "xq12") + glider),
+            # engines that are twice the same, or out of order by what they emit
+            (2, one + glider + two + again), (2, one + gliders.replace("1 1 2", "1 1 1") + two + again),
+            (2, one + glider + ship + two + again), (2, one + glider + ship + two + again + "emits 1 1 2 xq4_6fr0 9;"),
+            # other lines among them, and lines of an engine behind others
+            (1, one + "part 1 1 xs4_33 1;" + glider), (1, "part 1 1 xs4_33 1;"), (1, one + glider + "code 1 B3/S23 xq4_153 1;"),
+            (1, one + "open 2 0 c;close 2 0 0 0 0;" + glider), (1, one + glider + "open 2 0 c;" + ship + "close 2 0 0 0 0;"),
+        ]
+        for number in (0, 2, -1):
+            wrong.append((1, one + glider.replace("1 1 1", f"1 1 {number}")))
+            wrong.append((1, one.replace("1 1 1", f"1 1 {number}") + glider.replace("1 1 1", f"1 1 {number}")))
+        # periods and displacements that no engine has, and no engines
+        for way in ("0 0 0 1", "10001 0 0 1", "1 2 0 1", "1 0 -2 1", "-1 0 0 1", "30 0 0 0", f"30 {-2 ** 63} 0 1", "30 0 0", "30 0 0 1 1",
+                    "030 0 0 1", "30 +1 0 1"):
+            wrong.append((1, one.replace("30 0 0 1", way) + glider))
+        # ways out of order
+        for way in ("29 0 0", "30 -1 0", "30 -1 1", "30 0 -1"):
+            wrong.append((2, one + glider + two.replace("30 0 0", way) + gliders))
+        # what is emitted: none, no code, and what is no number
+        for words in ("xq4_153 0", "xq4 1", "xq4_153", f"xq4_153 {2 ** 64}", "xq4_153 1 1", "xq4_153 -1"):
+            wrong.append((1, one + glider.replace("xq4_153 1", words)))
+        for engines, lines in wrong:
+            with self.subTest((engines, lines)), self.assertRaises(ReportFault):
+                read_report(report(engines, lines))
+        # engines of a line that has none
+        for lines in ("none B3/S23 36 b;" + one, "ash B3/S23 4 0 1 b;" + one + glider, "ash B3/S23 4 0 0 b;" + glider, "bad 1 b;" + glider):
+            with self.subTest(lines), self.assertRaises(ReportFault) as caught:
+                read_report(f"open 1 1 a;line 1 1 {lines}close 1 1 0 1 0;end 1 1;".replace(";", "\n").encode())
+            self.assertEqual(caught.exception.line, 3)
+        # what comes again, and what grows
+        both = f"open 1 2 a;line 1 1 grows B3/S23 36 1 b;{one}{glider}line 1 2 ok B3/S23 4 0 1 0 0 xs4_33 c;"
+        with self.assertRaises(ReportFault) as caught:
+            read_report(f"{both}code 1 B3/S23 xs4_33 1;close 1 2 2 0 0;end 1 2;".replace(";", "\n").encode())
+        self.assertEqual(caught.exception.line, 5)
 
     def test_what_comes_again(self):
         row, = read_report(b"open 1 1 a\nline 1 1 ok B3/S23 5 0 4 1 1 xq4_153 b c\ncode 1 B3/S23 xq4_153 1\nclose 1 1 1 0 0\nend 1 1\n")
@@ -782,9 +965,10 @@ end 2 5
         self.assertEqual(read_report(b"open 1 1 a\nline 1 1 ash B3/S23 0 0 0 b\nclose 1 1 1 0 0\nend 1 1\n")[0].parts, ())
 
     def test_cut_short(self):
-        for end in range(len(self.INTERLEAVED)):
-            with self.assertRaises(ReportFault):
-                read_report(self.INTERLEAVED[:end])
+        for report in (self.INTERLEAVED, self.GROWING):
+            for end in range(len(report)):
+                with self.assertRaises(ReportFault):
+                    read_report(report[:end])
 
     def test_no_report(self):
         lines = self.INTERLEAVED.split(b"\n")
@@ -804,14 +988,16 @@ end 2 5
 
 
 class Mutations(unittest.TestCase):
-    """What is a report and what is none, for `read_report` and for `census merge`: reports with some mistakes."""
+    """What is a report and what is none, for `read_report` and for `census merge`: reports with some mistakes, and reports of growth."""
 
     COUNT = 2000
+    GROWN = 500
     SEED = os.environ.get("SEED", "reports")
-    NUMBERS = [b"0", b"1", b"2", b"3", b"10", b"00", b"01", b"-1", b"-0", b"+1", b"", b"1.0", b"65535", b"65536", b"9223372036854775807",
-               b"-9223372036854775808", b"9223372036854775808", b"18446744073709551615", b"18446744073709551616", b"\xd9\xa3"]
-    WORDS = [b"ok", b"ash", b"none", b"large", b"bad", b"open", b"line", b"part", b"code", b"close", b"end", b"B3/S23", b"xs4_33", b"\xff",
-             b"a b"]
+    NUMBERS = [b"0", b"1", b"2", b"3", b"10", b"00", b"01", b"-1", b"-0", b"+1", b"", b"1.0", b"10000", b"10001", b"65535", b"65536",
+               b"9223372036854775807", b"-9223372036854775808", b"9223372036854775808", b"18446744073709551615", b"18446744073709551616",
+               b"\xd9\xa3"]
+    WORDS = [b"ok", b"ash", b"grows", b"none", b"large", b"bad", b"open", b"line", b"part", b"engine", b"emits", b"code", b"close", b"end",
+             b"B3/S23", b"xs4_33", b"\xff", b"a b"]
 
     def reports(self):
         """Reports to make mistakes in."""
@@ -819,7 +1005,26 @@ class Mutations(unittest.TestCase):
         bundle += b"@folder c d\n@file g\n" + GUN.encode() + b"@file b\n" + BLOCK.encode() + b"\n"
         made = [["run", "-b60"], ["objects", "-b2000"], ["run", "--cells=5", "-b60"], ["objects", "--cells=20", "-b60"]]
         found = [subprocess.run([PROGRAM, *words], input=bundle, stdout=subprocess.PIPE, check=True).stdout for words in made]
-        return [Reports.INTERLEAVED, b"end 0 0\n", *found]
+        return [Reports.INTERLEAVED, Reports.GROWING, b"end 0 0\n", *found]
+
+    def growing(self, chance):
+        """A report of one pattern that grows, if it is one: its engines and what they emit are mostly in order."""
+        ways = [(1, *chance.choices((-1, 0, 1), k=2)), (2, *chance.choices((-2, 0, 1), k=2)), (2, 0, chance.randrange(3))]
+        tales = []
+        for _ in range(chance.randrange(5)):
+            codes = sorted(chance.sample(("xq4_153", "xs4_33", "xs6_696", "xs10_0"), chance.randrange(1, 4)), key=lambda it: (len(it), it))
+            emits = [(len(code), code, chance.randrange(1, 3)) for code in codes]
+            tales.append((*chance.choice(ways), emits))
+        if chance.randrange(4):
+            tales = [tale for at, tale in enumerate(tales) if tale not in tales[:at]]
+        if chance.randrange(4):
+            tales.sort()
+        counts = [chance.randrange(1, 3) for _ in tales]
+        lines = [f"open 1 1 a\nline 1 1 grows B3/S23 36 {sum(counts) + chance.choice((0, 0, 0, 0, 0, 0, 0, 1))} b"]
+        for number, ((period, dx, dy, emits), count) in enumerate(zip(tales, counts), 1):
+            lines.append(f"engine 1 1 {number} {period} {dx} {dy} {count}")
+            lines += [f"emits 1 1 {number} {code} {emitted}" for _, code, emitted in emits]
+        return "\n".join([*lines, "close 1 1 1 0 0\nend 1 1\n"]).encode()
 
     def changed_line(self, line, chance):
         """A line with a field that is another, is not there, is there twice or has changed places."""
@@ -870,7 +1075,8 @@ class Mutations(unittest.TestCase):
         if line is not None:
             is_same = (ran.returncode, ran.stderr) == (1, b"census: report fault at line %d\n" % line)
         else:
-            is_one = not {"ok", "ash"} <= {row.status for row in rows}
+            statuses = {row.status for row in rows}
+            is_one = "ok" not in statuses or not statuses & {"ash", "grows"}
             is_same = (ran.returncode, ran.stderr) == (0, b"") and (not is_one or read_report(ran.stdout) == rows)
         return None if is_same else (text, rows, line, ran)
 
@@ -878,8 +1084,9 @@ class Mutations(unittest.TestCase):
         chance = random.Random(self.SEED)
         reports = self.reports()
         mutants = reports + [self.mutant(reports, chance) for _ in range(self.COUNT)]
+        grown = [self.growing(chance) for _ in range(self.GROWN)]
         with ThreadPoolExecutor(4) as pool:
-            wrong = [it for it in pool.map(self.differs, mutants) if it]
+            wrong = [it for it in pool.map(self.differs, mutants + grown) if it]
         self.assertEqual(wrong[:3], [])
 
 

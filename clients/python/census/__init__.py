@@ -21,7 +21,7 @@ from dataclasses import dataclass, field, replace
 from typing import Callable, Dict, Iterable, Iterator, List, Literal, NoReturn, Optional, Set, Tuple, Union, overload
 
 __all__ = [
-    "Census", "Code", "Disagreement", "Pattern", "Row", "Same", "read_report",
+    "Census", "Code", "Disagreement", "Engine", "Pattern", "Row", "Same", "read_report",
     "CensusError", "PatternFault", "CodeFault", "RuleFault", "FolderFault", "TooLong", "ReadFailed", "ReportFault", "ClaimFault", "OutOfMemory", "TimedOut", "ProgramFailed",
 ]
 
@@ -181,7 +181,8 @@ class Pattern:
     """What a pattern is and becomes. The names that lifelib's patterns have too mean what they mean there.
 
     Where the pattern recurs within the bound, there are `onset`, `period`, `displacement` and `apgcode`; else, where it has fallen apart,
-    `onset` and `objects`; else `unresolved`. All others are None.
+    `onset` and `objects`; else, where it is found to grow for ever, `engines`; else, where a generation has too many cells, `large`; else
+    `unresolved`. All others are None.
     """
 
     # as `B3/S23`
@@ -200,16 +201,21 @@ class Pattern:
     apgcode: Optional[str] = None
     # how many independent parts have each code; with `near`, how many objects
     objects: Optional[Dict[str, int]] = field(default=None, hash=False)
-    # the bound, within which neither was found
+    # the bound, within which nothing was found
     unresolved: Optional[int] = None
+    # by which engines it grows for ever, in the order of period, displacement and what they emit
+    engines: Optional[List[Engine]] = field(default=None, hash=False)
+    # the first generation with too many cells
+    large: Optional[int] = None
 
 
 @dataclass(frozen=True)
 class Row:
     """What a report says of one pattern.
 
-    `status` is `ok` (recurs within the bound), `ash` (has fallen apart within it), `none` (neither), `large` (has more cells than it may)
-    or `bad` (its text has a fault). What a status has nothing to say of is None. The README has the meaning of each part.
+    `status` is `ok` (recurs within the bound), `ash` (has fallen apart within it), `grows` (grows for ever), `none` (none of these),
+    `large` (has more cells than it may) or `bad` (its text has a fault). What a status has nothing to say of is None. The README has the
+    meaning of each part.
     """
 
     # the number of the collection, from 1
@@ -239,6 +245,22 @@ class Row:
     fault: Optional[int] = None
     # each code of its parts with how many have it, in the order of the report; with `near`, of its objects
     parts: Optional[Tuple[Tuple[str, int], ...]] = None
+    # by which engines it grows for ever, in the order of the report
+    engines: Optional[List[Engine]] = field(default=None, hash=False)
+
+
+@dataclass(frozen=True)
+class Engine:
+    """Engines of a pattern that grows for ever: those of which the same is told, as of guns or puffers of one kind."""
+
+    # each comes again after so many generations, 1 to 10,000
+    period: int
+    # moved so many cells to the right and down, at most one in each generation; (0, 0) of a gun
+    displacement: Tuple[int, int]
+    # how many engines they are, 1 or more
+    count: int
+    # how many independent parts with each code each of them emits in a period; with `near`, how many objects; in the order of codes
+    emits: Dict[str, int] = field(hash=False)
 
 
 @dataclass(frozen=True)
@@ -297,29 +319,33 @@ class Census:
     def __repr__(self) -> str:
         return f"Census({self.program!r}, timeout={self.timeout!r})"
 
-    def identify(self, rle: Text, *, bound: Optional[int] = None, near: bool = False) -> Pattern:
+    def identify(self, rle: Text, *, bound: Optional[int] = None, near: bool = False, cells: Optional[int] = None,
+                 horizon: Optional[int] = None) -> Pattern:
         """Tells of one RLE text what its pattern is and becomes within `bound` generations, 1 to 100,000 (None: 10,000).
 
-        Of what has fallen apart the independent parts are counted; with `near` what comes within two cells is one object.
+        Of what has fallen apart the independent parts are counted; with `near` what comes within two cells is one object. `cells` is how
+        many live cells a generation may have, 1 to 4,294,967,295 (None: 1,000,000). Growth is looked for within `horizon` generations, 1 to
+        10,000 (None: 1,000).
 
         Raises `PatternFault`, `TooLong`, `OutOfMemory`, `TimedOut`, `ProgramFailed`, or `CensusError` itself; `OSError` where the program
         can't be started.
         """
-        ran = self._run(["identify", *_option("bound", bound), *_flag("near", near)], _bytes_of(rle))
-        answer = _answers(ran, ["-"], bound)["-"]
+        ran = self._run(["identify", *_question(bound, near, cells, horizon)], _bytes_of(rle))
+        answer = _answers(ran, ["-"], bound, horizon)["-"]
         if isinstance(answer, CensusError):
             raise answer
         return answer
 
     @overload
-    def identify_many(self, rles: Iterable[Text], *, bound: Optional[int] = None, near: bool = False,
-                      return_exceptions: Literal[False] = False) -> List[Pattern]: ...
+    def identify_many(self, rles: Iterable[Text], *, bound: Optional[int] = None, near: bool = False, cells: Optional[int] = None,
+                      horizon: Optional[int] = None, return_exceptions: Literal[False] = False) -> List[Pattern]: ...
 
     @overload
-    def identify_many(self, rles: Iterable[Text], *, bound: Optional[int] = None, near: bool = False,
-                      return_exceptions: Literal[True]) -> List[Union[Pattern, CensusError]]: ...
+    def identify_many(self, rles: Iterable[Text], *, bound: Optional[int] = None, near: bool = False, cells: Optional[int] = None,
+                      horizon: Optional[int] = None, return_exceptions: Literal[True]) -> List[Union[Pattern, CensusError]]: ...
 
-    def identify_many(self, rles: Iterable[Text], *, bound: Optional[int] = None, near: bool = False, return_exceptions: bool = False
+    def identify_many(self, rles: Iterable[Text], *, bound: Optional[int] = None, near: bool = False, cells: Optional[int] = None,
+                      horizon: Optional[int] = None, return_exceptions: bool = False
                       ) -> Union[List[Pattern], List[Union[Pattern, CensusError]]]:
         """Tells of each RLE text, in their order, what `identify` tells, by one call of the program.
 
@@ -336,14 +362,14 @@ class Census:
         found: Dict[str, Union[Pattern, CensusError]] = {
             str(index): text for index, text in enumerate(texts) if isinstance(text, CensusError)
         }
-        options = [*_option("bound", bound), *_flag("near", near)]
+        options = _question(bound, near, cells, horizon)
         judged = 0
         for names in _batches([str(index) for index in range(len(texts)) if str(index) not in found]):
             with tempfile.TemporaryDirectory(prefix="census-") as folder:
                 for name in names:
                     with open(os.path.join(folder, name), "wb") as it:
                         it.write(texts[int(name)])
-                found.update(_answers(self._run(["identify", *options, *names], folder=folder), names, bound))
+                found.update(_answers(self._run(["identify", *options, *names], folder=folder), names, bound, horizon))
             if not return_exceptions:
                 _raise_first([found[str(index)] for index in range(judged, int(names[-1]) + 1)])
             judged = int(names[-1]) + 1
@@ -353,14 +379,15 @@ class Census:
         return answers
 
     def table(self, folders: Iterable[Path], *, objects: bool = False, near: bool = False, bound: Optional[int] = None,
-              workers: Optional[int] = None, cells: Optional[int] = None) -> List[Row]:
+              workers: Optional[int] = None, cells: Optional[int] = None, horizon: Optional[int] = None) -> List[Row]:
         """Tells of each pattern of these folders, in their order, what it becomes: the report of `census run` or of `census objects`.
 
         Each folder is a collection of its `*.rle` files, sorted bytewise. `bound` is 1 to 1,000,000 generations (None: 1,000), with
         `objects` to 100,000 (None: 10,000); `workers` 1 to 16 threads (None: 4); `cells` is how many live cells a generation may have, 1 to
-        4,294,967,295 (None: any number, with `objects` 1,000,000). With `objects` the independent parts of what is left are counted; with
-        `near`, which goes with `objects` alone, what comes within two cells is one object. A text with a fault is a row; `identify` says
-        more of it. Where the folders are more than one call can hold, several are made in turn. No folder, no call.
+        4,294,967,295 (None: any number, with `objects` 1,000,000). With `objects` the independent parts of what is left are counted, and
+        growth is told; with `near`, what comes within two cells is one object; growth is looked for within `horizon` generations, 1 to
+        10,000 (None: 1,000). `near` and `horizon` go with `objects` alone. A text with a fault is a row; `identify` says more of it. Where
+        the folders are more than one call can hold, several are made in turn. No folder, no call.
 
         Raises `FolderFault`, `TooLong`, `ReadFailed`, `OutOfMemory`, `TimedOut`, `ProgramFailed`, or `CensusError` itself; `OSError` where
         the program can't be started. Of several folders it is found by further calls which one is at fault.
@@ -369,8 +396,9 @@ class Census:
             raise TypeError("folders must be a list of folders")
         if near and not objects:
             raise TypeError("near goes with objects alone")
-        numbers = [*_option("bound", bound), *_option("workers", workers), *_option("cells", cells)]
-        options = [*numbers, *_flag("near", near), "--"]
+        if horizon is not None and not objects:
+            raise TypeError("horizon goes with objects alone")
+        options = [*_question(bound, near, cells, horizon), *_option("workers", workers), "--"]
         rows: List[Row] = []
         before = 0
         for names in _batches([_path_of(folder) for folder in folders]):
@@ -378,7 +406,7 @@ class Census:
             ran = self._run(["objects" if objects else "run", *options, *names])
             if ran.returncode != 0:
                 self._raise_of_folders(ran, names)
-            asked = _Asked(names, listed, objects, bound, cells)
+            asked = _Asked(names, listed, objects, bound, cells, horizon)
             rows += [replace(row, collection=before + row.collection) for row in _rows_of(ran, asked)]
             before += len(names)
         return rows
@@ -389,9 +417,9 @@ class Census:
         return self.table(folders, bound=bound, workers=workers, cells=cells)
 
     def objects(self, folders: Iterable[Path], *, near: bool = False, bound: Optional[int] = None, workers: Optional[int] = None,
-                cells: Optional[int] = None) -> List[Row]:
-        """`table` of objects that are left: the report of `census objects`."""
-        return self.table(folders, objects=True, near=near, bound=bound, workers=workers, cells=cells)
+                cells: Optional[int] = None, horizon: Optional[int] = None) -> List[Row]:
+        """`table` of objects that are left, and of growth: the report of `census objects`."""
+        return self.table(folders, objects=True, near=near, bound=bound, workers=workers, cells=cells, horizon=horizon)
 
     def codes(self, report: Text) -> List[Code]:
         """The codes of a report, or of several one after another, by falling count, and then the shorter first: `census table --codes`.
@@ -488,6 +516,11 @@ def _option(name: str, value: Optional[int]) -> List[str]:
 def _flag(name: str, is_used: bool) -> List[str]:
     """The word for a flag, where it is used."""
     return [f"--{name}"] if is_used else []
+
+
+def _question(bound: Optional[int], near: bool, cells: Optional[int], horizon: Optional[int]) -> List[str]:
+    """The words for what is asked of each pattern."""
+    return [*_option("bound", bound), *_flag("near", near), *_option("cells", cells), *_option("horizon", horizon)]
 
 
 def _bytes_of(rle: Text, index: Optional[int] = None) -> bytes:
@@ -704,8 +737,9 @@ def _index_of(name: str) -> Optional[int]:
     return None if name == "-" else int(name)
 
 
-def _answers(ran: subprocess.CompletedProcess[bytes], names: List[str], bound: Optional[int]) -> Dict[str, Union[Pattern, CensusError]]:
-    """What `census identify` has told of each of these files within the bound, where `-` is standard input."""
+def _answers(ran: subprocess.CompletedProcess[bytes], names: List[str], bound: Optional[int], horizon: Optional[int]
+             ) -> Dict[str, Union[Pattern, CensusError]]:
+    """What `census identify` has told of each of these files within bound and horizon, where `-` is standard input."""
     told: List[Tuple[str, Union[Pattern, CensusError]]] = []
     for line in ran.stderr.decode("utf-8", "replace").split("\n"):
         error = _error_of(line)
@@ -714,7 +748,8 @@ def _answers(ran: subprocess.CompletedProcess[bytes], names: List[str], bound: O
     try:
         text = ran.stdout.decode("ascii")
         _demand(not text or text.endswith("\n"))
-        told += [_pattern_of(block, 10000 if bound is None else bound) for block in text[:-1].split("\n\n") if text]
+        most = 10000 if bound is None else bound
+        told += [_pattern_of(block, most, _period_limit(most, horizon)) for block in text[:-1].split("\n\n") if text]
     except ValueError:
         raise _failure(ran) from None
     answers = dict(told)
@@ -745,18 +780,48 @@ box (?P<width>{_COUNT}) (?P<height>{_COUNT})
 period (?P<period>{_COUNT})
 displacement (?P<dx>{_OFFSET}) (?P<dy>{_OFFSET})
 apgcode (?P<code>{_CODE})|onset (?P<first>{_COUNT})
-objects (?P<objects>{_COUNT})(?P<parts>(?:\npart {_CODE} {_COUNT})*)|unresolved (?P<bound>{_COUNT}))""")
+objects (?P<objects>{_COUNT})(?P<parts>(?:\npart {_CODE} {_COUNT})*)|engines (?P<engines>{_COUNT})(?P<tales>(?:
+(?:engine|emits) .*)*)|large (?P<large>{_COUNT})|unresolved (?P<bound>{_COUNT}))""")
 _PART = re.compile(rf"part ({_CODE}) ({_COUNT})")
 
 
-def _pattern_of(block: str, bound: int) -> Tuple[str, Pattern]:
-    """The file that a block of lines is of, and what it says; raises ValueError where it is no block for this bound."""
+def _period_limit(bound: int, horizon: Optional[int]) -> int:
+    """The most generations after which an engine comes again."""
+    return min(bound, 1000 if horizon is None else horizon)
+
+
+def _are_within(engines: List[Engine], longest: int) -> bool:
+    """Whether engines come again within so many generations, and emit what has whole codes."""
+    return all(engine.period <= longest and all(re.fullmatch(_CODE, code) for code in engine.emits) for engine in engines)
+
+
+def _engines_of(count: int, lines: List[str]) -> List[Engine]:
+    """The engines that these lines tell, so many in all; raises ValueError where they don't."""
+    told = _Engines(count)
+    for line in lines:
+        kind, rest = line.encode().split(b" ", 1)
+        (told.take_engine if kind == b"engine" else told.take_emits)(rest)
+    _demand(count > 0 and told.are_told())
+    return told.found
+
+
+def _pattern_of(block: str, bound: int, longest: int) -> Tuple[str, Pattern]:
+    """The file that a block of lines is of, and what it says; raises ValueError where it is no block for this bound, and where an engine
+    takes longer to come again."""
     found = _BLOCK.fullmatch(block)
     _demand(found is not None)
     name, pattern = found["file"] or "-", Pattern(found["rule"], int(found["population"]), (int(found["width"]), int(found["height"])))
     if found["bound"] is not None:
         _demand(int(found["bound"]) == bound)
         return name, replace(pattern, unresolved=bound)
+    if found["large"] is not None:
+        # (generations are looked at so far)
+        _demand(int(found["large"]) <= 3 * bound)
+        return name, replace(pattern, large=int(found["large"]))
+    if found["engines"] is not None:
+        engines = _engines_of(int(found["engines"]), found["tales"].split("\n")[1:])
+        _demand(_are_within(engines, longest))
+        return name, replace(pattern, engines=engines)
     if found["objects"] is not None:
         parts = [(code, int(count)) for code, count in _PART.findall(found["parts"])]
         objects = dict(parts)
@@ -779,6 +844,7 @@ class _Asked:
     objects: bool
     bound: Optional[int]
     cells: Optional[int]
+    horizon: Optional[int]
 
     def fits(self, reading: _Reading) -> bool:
         """Whether what was read tells of the folders, of their patterns and of each what was asked."""
@@ -792,9 +858,10 @@ class _Asked:
         is_lawful = all(name.endswith(b".rle") for name in names) and names == sorted(set(names))
         # (names may have come and gone since they were listed; a folder that is as it was has the names that it had)
         has_changed = listed is None or listed != _names_in(folder)
-        return is_lawful and (listed == names or has_changed) and all(map(self._fits_row, collection.lines, collection.parts))
+        rows = zip(collection.lines, collection.parts, collection.engines)
+        return is_lawful and (listed == names or has_changed) and all(self._fits_row(*row) for row in rows)
 
-    def _fits_row(self, row: Row, parts: List[Tuple[str, int]]) -> bool:
+    def _fits_row(self, row: Row, parts: List[Tuple[str, int]], engines: List[Engine]) -> bool:
         bound = self.bound if self.bound is not None else 10000 if self.objects else 1000
         if row.status == "bad":
             return 1 <= row.fault <= 10
@@ -804,6 +871,8 @@ class _Asked:
             return not self.objects and row.period > 0 and row.onset + row.period <= bound and bool(re.fullmatch(_CODE, row.code))
         if row.status == "ash":
             return self.objects and row.onset <= bound and all(re.fullmatch(_CODE, code) for code, _ in parts)
+        if row.status == "grows":
+            return self.objects and _are_within(engines, _period_limit(bound, self.horizon))
         if row.status == "large":
             return (self.objects or self.cells is not None) and row.generation <= bound * (3 if self.objects else 1)
         return True
@@ -829,9 +898,12 @@ def read_report(report: bytes) -> List[Row]:
 
     The lines of several collections may interleave. What a report is, is what `census merge` reads: numbers have no leading zeros and fit
     64 bits, rules are as they are printed, codes begin as codes, that of an `ok` line as its period and displacement say, a name is all
-    that is left of a line and is lawful, no report has `ok` and `ash` lines, right behind an `ash` line its `part` lines tell all its
-    objects in the order of codes, and the `code` lines of a collection are what its lines count, in the order of first appearance. Raises
-    `ReportFault` at the line at which `census merge` finds the fault.
+    that is left of a line and is lawful, no report has `ok` lines and `ash` or `grows` lines, right behind an `ash` line its `part` lines
+    tell all its objects in the order of codes, and the `code` lines of a collection are what its lines count, in the order of first
+    appearance. Right behind a `grows` line its `engine` lines tell all its engines, one at least, numbered from 1, in the order of period,
+    displacement and what they emit, no two the same; periods are 1 to 10,000, and an engine moves by a cell in a generation at most; right
+    behind each its `emits` lines tell what it emits, something at least, in the order of codes. Raises `ReportFault` at the line at which
+    `census merge` finds the fault.
     """
     return _read(report).rows()
 
@@ -904,6 +976,7 @@ def _fits_code(found: Dict[str, Union[int, str]]) -> bool:
 _FIELDS: Dict[bytes, Dict[str, Callable[[bytes], Union[int, str]]]] = {
     b"ok": {"rule": _rule, "population": _count, "onset": _count, "period": _count, "dx": _offset, "dy": _offset, "code": _code},
     b"ash": {"rule": _rule, "population": _count, "onset": _count, "objects": _count},
+    b"grows": {"rule": _rule, "population": _count, "engines": _count},
     b"none": {"rule": _rule, "population": _count},
     b"large": {"rule": _rule, "population": _count, "generation": _count},
     b"bad": {"fault": _count},
@@ -911,6 +984,10 @@ _FIELDS: Dict[bytes, Dict[str, Callable[[bytes], Union[int, str]]]] = {
 
 # the most collections of a report, and the most patterns of a collection
 _MOST = 65535
+# the most generations after which an engine comes again
+_LONGEST_PERIOD = 10000
+# the statuses that one command alone tells
+_COMMANDS = {b"ok": b"run", b"ash": b"objects", b"grows": b"objects"}
 
 
 class _Collection:
@@ -921,20 +998,21 @@ class _Collection:
         self.size = size
         self.name = name
         self.lines: List[Row] = []
-        # of each line: which objects were read
+        # of each line: which objects and which engines were read
         self.parts: List[List[Tuple[str, int]]] = []
+        self.engines: List[List[Engine]] = []
         # how many objects there are of each rule and code, in the order of first appearance, and those that no `code` line has told, once
         # one was read
         self.counted: Dict[Tuple[Optional[str], str], int] = {}
         self.untold: Optional[Iterator[Tuple[Tuple[Optional[str], str], int]]] = None
-        # whether `part` lines of the last line may follow
-        self.takes_parts = False
+        # the status of the last line, until a `code` line was read: `part`, `engine` and `emits` lines may follow it
+        self.status = b""
         self.is_closed = False
 
     def counts(self) -> List[int]:
         """How many lines there are, and of them those resolved, unresolved and refused."""
         found = [row.status for row in self.lines]
-        resolved, unresolved, refused = ("ok", "ash"), ("none", "large"), ("bad",)
+        resolved, unresolved, refused = ("ok", "ash", "grows"), ("none", "large"), ("bad",)
         return [len(found), *(sum(status in statuses for status in found) for statuses in (resolved, unresolved, refused))]
 
     def count(self, code: str, count: int) -> None:
@@ -952,30 +1030,88 @@ class _Collection:
         """The rows, where so many collections come before those of its report."""
         number = before + self.number
         return [
-            replace(row, collection=number, parts=tuple(parts) if row.status == "ash" else None)
-            for row, parts in zip(self.lines, self.parts)
+            replace(row, collection=number, parts=tuple(parts) if row.status == "ash" else None, engines=engines or None)
+            for row, parts, engines in zip(self.lines, self.parts, self.engines)
         ]
+
+
+class _Engines:
+    """What `engine` and `emits` lines tell of so many engines. A line that does not fit raises ValueError."""
+
+    def __init__(self, left: int) -> None:
+        self.found: List[Engine] = []
+        # how many no `engine` line has told
+        self.left = left
+        # of the last: its period, how far it moves, and what it emits, each code behind its length
+        self.way = (0, 0, 0)
+        self.emits: List[Tuple[int, bytes, int]] = []
+        # what the one before it emits, where that goes the same way
+        self.before: List[Tuple[int, bytes, int]] = []
+        # whether it emits something and comes behind the one before it
+        self.rises = True
+
+    def are_told(self) -> bool:
+        """Whether all are told."""
+        return self.left == 0 and self.rises
+
+    def take_engine(self, rest: bytes) -> None:
+        """Takes an `engine` line from the number of the engine on."""
+        number, period, dx, dy, count = rest.split(b" ")
+        way = _count(period), _offset(dx), _offset(dy)
+        _demand(0 < way[0] <= _LONGEST_PERIOD and abs(way[1]) <= way[0] and abs(way[2]) <= way[0])
+        _demand(self.rises and _count(number) == len(self.found) + 1 and 0 < _count(count) <= self.left and self.way <= way)
+        self.before = self.emits if self.way == way else []
+        self.way, self.emits, self.rises = way, [], False
+        self.left -= _count(count)
+        self.found.append(Engine(way[0], way[1:], _count(count), {}))
+
+    def take_emits(self, rest: bytes) -> None:
+        """Takes an `emits` line from the number of the engine on."""
+        number, code, count = rest.split(b" ")
+        next_one = len(code), code, _count(count)
+        _demand(0 < _count(number) == len(self.found) and 0 < _count(count))
+        _demand(not self.emits or self.emits[-1][:2] < next_one[:2])
+        # (none, or one)
+        other = self.before[len(self.emits) : len(self.emits) + 1]
+        _demand(self.rises or other <= [next_one])
+        self.rises = self.rises or other < [next_one]
+        self.emits.append(next_one)
+        self.found[-1].emits[_code(code)] = _count(count)
 
 
 class _Told:
     """What the lines of a report tell together. A line that does not fit raises ValueError."""
 
     def __init__(self) -> None:
-        # which of `ok` and `ash` there are
-        self.statuses: Set[bytes] = set()
+        # of which commands they are
+        self.commands: Set[bytes] = set()
         # the collection of the last line, how many of its objects no `part` line has told, and the last code of one
         self.collection = 0
         self.left = 0
         self.last = b""
+        # its engines
+        self.engines = _Engines(0)
 
-    def take_line(self, collection: int, status: bytes, objects: int) -> None:
-        self.statuses |= {status} & {b"ok", b"ash"}
-        _demand(len(self.statuses) < 2)
-        self.collection, self.left, self.last = collection, objects, b""
+    def end_line(self) -> None:
+        """Ends what stands behind the last line."""
+        _demand(self.left == 0 and self.engines.are_told())
+        self.engines = _Engines(0)
+
+    def take_line(self, collection: int, status: bytes, objects: int, engines: int) -> None:
+        _demand(status != b"grows" or engines > 0)
+        if status in _COMMANDS:
+            self.commands.add(_COMMANDS[status])
+        _demand(len(self.commands) < 2)
+        self.collection, self.left, self.last, self.engines = collection, objects, b"", _Engines(engines)
 
     def take_part(self, collection: int, code: bytes, count: int) -> None:
         _demand(collection == self.collection and 0 < count <= self.left and (len(self.last), self.last) < (len(code), code))
         self.left, self.last = self.left - count, code
+
+    def engines_of(self, collection: int) -> _Engines:
+        """The engines of the last line, which is of this collection."""
+        _demand(collection == self.collection)
+        return self.engines
 
 
 class _Reading:
@@ -990,8 +1126,10 @@ class _Reading:
         self.has_ended = False
         self.told = _Told()
         self.takes = {
-            b"open": self._open, b"line": self._line, b"part": self._part, b"code": self._code, b"close": self._close, b"end": self._end,
+            b"open": self._open, b"line": self._line, b"code": self._code, b"close": self._close, b"end": self._end,
         }
+        # what stands behind a line
+        self.takes_behind = {b"part": self._part, b"engine": self._engine, b"emits": self._emits}
 
     def rows(self) -> List[Row]:
         found: List[Row] = []
@@ -1005,11 +1143,12 @@ class _Reading:
     def take(self, line: bytes) -> None:
         """Takes the next line, without its line feed."""
         kind, _, rest = line.partition(b" ")
-        take = self.takes[kind]
         self.has_ended = False
-        # (nothing stands between a line and its parts)
-        _demand(kind == b"part" or self.told.left == 0)
-        take(rest)
+        if kind in self.takes_behind:
+            self.takes_behind[kind](rest)
+        else:
+            self.told.end_line()
+            self.takes[kind](rest)
 
     def _open(self, rest: bytes) -> None:
         number, size, name = rest.split(b" ", 2)
@@ -1032,27 +1171,42 @@ class _Reading:
         _demand(len(words) == len(fields))
         found = {key: read(word) for (key, read), word in zip(fields.items(), words)}
         _demand(status != b"ok" or _fits_code(found))
-        self.told.take_line(collection.number, status, found.pop("objects", 0))
+        self.told.take_line(collection.number, status, found.pop("objects", 0), found.pop("engines", 0))
         collection.parts.append([])
-        collection.takes_parts = status == b"ash"
+        collection.engines.append(self.told.engines.found)
+        collection.status = status
         folder = os.fsdecode(collection.name)
         collection.lines.append(Row(collection.number, folder, _count(pattern), os.fsdecode(_name(name)), status.decode(), **found))
         if status == b"ok":
             collection.count(found["code"], 1)
 
-    def _part(self, rest: bytes) -> None:
-        number, pattern, code, count = rest.split(b" ")
+    def _behind(self, status: bytes, rest: bytes) -> Tuple[_Collection, bytes]:
+        """The collection of a line behind one with this status, and what follows the numbers of both."""
+        number, pattern, rest = rest.split(b" ", 2)
         collection = self._still_open(number)
-        _demand(collection.takes_parts and _count(pattern) == len(collection.lines))
+        _demand(collection.status == status and _count(pattern) == len(collection.lines))
+        return collection, rest
+
+    def _part(self, rest: bytes) -> None:
+        collection, rest = self._behind(b"ash", rest)
+        code, count = rest.split(b" ")
         self.told.take_part(collection.number, code, _count(count))
         collection.parts[-1].append((_code(code), _count(count)))
         collection.count(*collection.parts[-1][-1])
+
+    def _engine(self, rest: bytes) -> None:
+        collection, rest = self._behind(b"grows", rest)
+        self.told.engines_of(collection.number).take_engine(rest)
+
+    def _emits(self, rest: bytes) -> None:
+        collection, rest = self._behind(b"grows", rest)
+        self.told.engines_of(collection.number).take_emits(rest)
 
     def _code(self, rest: bytes) -> None:
         number, rule, code, count = rest.split(b" ")
         collection = self._still_open(number)
         _demand(len(collection.lines) == collection.size and collection.next_count() == ((_rule(rule), _code(code)), _count(count)))
-        collection.takes_parts = False
+        collection.status = b""
 
     def _close(self, rest: bytes) -> None:
         number, *counts = rest.split(b" ")
