@@ -63,6 +63,14 @@ told_by_film R G T film is n h P one =
     IsUnsplit-wider R (T - n) T P (omega arith)
     (class_is_unsplit R (T - n) (generation R G n) (classes_at film n) (is.classes n h) P one)
 
+-- the classes of a film's first generation
+pub film_classes : (R : Rule) (G : Generation) (T : ℕ) (film : Film) → IsFilm R G T film →
+    AreClasses R T G (classes_at film 0)
+film_classes R G T film is =
+    subst (λ H. AreClasses R T H (classes_at film 0)) (generation-zero R G)
+    (subst (λ b. AreClasses R b (generation R G 0) (classes_at film 0)) (let e : T - 0 ≡ T = omega arith in e)
+    (is.classes 0 (omega arith)))
+
 module _ (R : Rule) (G : Generation) (T : ℕ) (film : Film) (is : IsFilm R G T film) (Ps : List Generation)
     (lent : 0 < length film.frames.items → Ps ≡ classes_at film 0) where
   -- the classes of the film's first generation
@@ -70,10 +78,7 @@ module _ (R : Rule) (G : Generation) (T : ℕ) (film : Film) (is : IsFilm R G T 
   first_classes =
       let count = is.count in
       let some : 0 < length film.frames.items = omega arith in
-      subst (AreClasses R T G) (sym (lent some))
-      (subst (λ H. AreClasses R T H (classes_at film 0)) (generation-zero R G)
-      (subst (λ b. AreClasses R b (generation R G 0) (classes_at film 0)) (let e : T - 0 ≡ T = omega arith in e)
-      (is.classes 0 (omega arith))))
+      subst (AreClasses R T G) (sym (lent some)) (film_classes R G T film is)
 
   pub film_alone : length Ps ≡ 1 → IsUnsplit R T G
   film_alone = unsplit_alone R T G Ps first_classes

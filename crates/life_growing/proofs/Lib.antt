@@ -3,11 +3,10 @@ pub mod FindingClasses
 pub mod FindingCores
 pub mod FindingEngines
 pub mod FindingLists
-pub mod FindingPlaces
 pub mod FindingThings
 pub mod FindingTracks
-pub mod Others
-pub mod Picked
+pub mod PickingClasses
+pub mod PickingGrowth
 pub mod GoingCores
 pub mod GoingLefts
 pub mod GoingPlaced
@@ -16,3 +15,4 @@ pub mod GoingAway
 pub mod GoingThings
 pub mod Counted
 pub mod Refusing
+pub mod Yielded

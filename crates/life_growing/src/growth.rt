@@ -8,9 +8,9 @@ ghost use Rattle.life_growing.specs.Growths.{IsGrowthOf};
 
 use crate::apart::stay_apart;
 use crate::emission::Engine;
-use crate::engines::{debris_beside, engines_of};
+use crate::picking::{all_cells, picks};
 use life_cells::Rule;
-use life_frames::Film;
+use life_classes::classes_of;
 use life_plane::Plane;
 use life_settled::{Settled, settled};
 use life_things::WAY_LIMIT;
@@ -51,10 +51,11 @@ impl Growth {
     }
 }
 
-/// The growth of a plane's cells within the bound, as a film of so many generations tells it. What is found is one. Where
-/// the film is at least twice as long as the bound, there is none where none is found.
+/// The growth of a plane's cells within the bound, as what becomes of them in so many generations tells it. What is found is
+/// one. Where these generations are at least twice as many as the bound, there is none where none is found.
 ///
-/// The film holds each cell of each of its generations.
+/// The cells are taken apart into classes, and each class that may be an engine is followed alone. So it holds one generation
+/// of all cells, and all generations of one class.
 pub fn growth_of<P: Plane>(
     alloc: Global,
     plane: &P,
@@ -68,19 +69,22 @@ pub fn growth_of<P: Plane>(
     ensures none { IfOk result (λ found. IfNone found (2 * bound ≤ length → (Es : List Generation) (S : Generation) →
         IsGrowth rule.now bound (P.members plane.now) Es S → ⊥)) }
 {
-    let film = Film::of(alloc, plane, rule, length)?;
     let age = plane.age();
-    let engines = engines_of::<P>(alloc, rule, &film, age, length, bound)?;
-    let found = engines.as_slice();
-    if found.is_empty() {
+    let classes = classes_of(alloc, plane, rule, length)?;
+    let picks = picks::<P>(alloc, rule, classes, age, length, bound)?;
+    let engines = picks.engines.as_slice();
+    if engines.is_empty() {
         return Ok(None);
     }
-    let rest = debris_beside(alloc, &film, found)?;
+    let rest = all_cells(alloc, picks.others.as_slice())?;
     let Some(debris) = settled::<P>(alloc, rule, &rest, age, bound)? else {
         return Ok(None);
     };
-    if !stay_apart(alloc, found, &debris)? {
+    if !stay_apart(alloc, engines, &debris)? {
         return Ok(None);
     }
-    Ok(Some(Growth { engines, debris }))
+    Ok(Some(Growth {
+        engines: picks.engines,
+        debris,
+    }))
 }

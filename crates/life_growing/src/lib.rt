@@ -1,5 +1,5 @@
 //! The growth of a generation: the engines among its classes, what becomes of what they emit, and of the debris beside
-//! them; and whether its classes show that it has none.
+//! them.
 //!
 //! Tested in `tests_growing`.
 #![tactic(auto)]
@@ -12,10 +12,11 @@ mod going;
 mod growth;
 mod laws;
 mod lefts;
+mod picking;
 mod refusal;
 mod whole;
 
 pub use emission::Engine;
 pub use growth::{Growth, growth_of};
 pub use laws::an_engine_is_made_of_its_things;
-pub use refusal::cannot_grow;
+pub use refusal::are_no_engine;

@@ -1,19 +1,16 @@
-//! Whether the classes of a plane's cells show that these don't grow.
-ghost use Rattle.std.specs.Prelude.{◌≡◌, ℕ, ◌+◌, ◌<◌, ◌≤◌, All, IfOk, List};
+//! What cells show by which they are no engine.
+ghost use Rattle.std.specs.Prelude.{◌≡◌, ℕ, ◌+◌, ◌<◌, ◌≤◌, All, IfOk};
 ghost use Rattle.std.specs.Bool.{OnTrue};
 ghost use Rattle.life_model.specs.Cell.{Cell};
-ghost use Rattle.life_model.specs.Generation.{Generation};
 ghost use Rattle.life_model.specs.Generation as generations;
 ghost use Rattle.life_model.specs.Recurrence.{RecursBy};
 ghost use Rattle.life_cells.specs.Limits.{IsWithin};
 ghost use Rattle.life_ash.specs.Parts.{ash_age_limit};
 ghost use Rattle.life_growth.specs.Engine.{IsEngineWithin};
-ghost use Rattle.life_growth.specs.Growth.{IsGrowth};
 ghost use Rattle.life_orbit.specs.Kept.{orbit_age_limit};
 ghost use Rattle.life_growing.specs.Populations.{ArePopulations, FallsBack};
 
 use life_cells::{CellList, Rule};
-use life_classes::classes_of;
 use life_orbit::Orbit;
 use life_plane::Plane;
 use life_things::WAY_LIMIT;
@@ -82,7 +79,7 @@ fn come_again_soon(alloc: Global, rule: &Rule, cells: &CellList) -> Result<bool,
 
 /// Whether cells of this age show that they are no engine within the bound: they come again soon, or, whatever the period
 /// were, there is a generation in which they have no fewer cells than a period later.
-fn are_no_engine<P: Plane>(
+pub fn are_no_engine<P: Plane>(
     alloc: Global,
     rule: &Rule,
     cells: &CellList,
@@ -99,29 +96,4 @@ fn are_no_engine<P: Plane>(
     }
     let counts = populations::<P>(alloc, rule, cells, age, bound + bound)?;
     Ok(keep_falling_back(counts.as_slice(), bound as usize))
-}
-
-/// Whether the classes of a plane's cells show that these don't grow within the bound: none of them is an engine. That it
-/// answers no tells nothing.
-///
-/// It makes about three times as many generations as the bound, and holds one of them at a time.
-pub fn cannot_grow<P: Plane>(
-    alloc: Global,
-    plane: &P,
-    rule: &Rule,
-    bound: u32,
-) -> Result<bool, AllocError>
-    requires bound { 1 ≤ bound × bound ≤ WAY_LIMIT }
-    requires age { (P.steps_made plane.now + bound) + bound ≤ ash_age_limit }
-    ensures { IfOk result (λ cannot. OnTrue cannot ((Es : List Generation) (S : Generation) →
-        IsGrowth rule.now bound (P.members plane.now) Es S → ⊥)) }
-{
-    let age = plane.age();
-    let classes = classes_of(alloc, plane, rule, bound)?;
-    for class in classes.as_slice() {
-        if !are_no_engine::<P>(alloc, rule, &class.first, age, bound)? {
-            return Ok(false);
-        }
-    }
-    Ok(true)
 }

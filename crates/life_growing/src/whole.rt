@@ -37,7 +37,7 @@ fn has_class(film: &Film, n: usize, cells: &CellList) -> bool
 }
 
 /// The film of some cells of this age up to the bound, where they are unsplit within it.
-fn film_if_whole<P: Plane>(
+pub fn film_if_whole<P: Plane>(
     alloc: Global,
     rule: &Rule,
     cells: &CellList,

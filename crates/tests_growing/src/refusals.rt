@@ -1,14 +1,14 @@
-//! What is seen not to grow by its classes alone.
+//! What is seen to be no engine by its populations, or as it comes again.
 use crate::patterns::{ACORN, BLOCK, GLIDER, GUN, PENTOMINO_AND_BLOCKS};
 use life_board::Board;
 use life_cells::{CellList, Rule};
-use life_growing::cannot_grow;
+use life_growing::are_no_engine;
 use life_plane::{AGE_LIMIT, Plane};
 use std::alloc::Global;
 use std::process::Abort;
 use std::test::Fail;
 
-/// Whether a pattern's generation is seen not to grow within the bound.
+/// Whether a pattern's generation is seen to be no engine within the bound.
 fn is_refused(
     rt: &impl Abort,
     alloc: Global,
@@ -24,9 +24,10 @@ fn is_refused(
         assert!(rt; plane.age() < AGE_LIMIT);
         plane.step(&rule)?;
     }
-    assert!(rt; plane.age() <= 100_000);
+    let age = plane.age();
+    assert!(rt; age <= 100_000);
     assert!(rt; 1 <= bound && bound <= 10_000);
-    let is = cannot_grow(alloc, &plane, &rule, bound)?;
+    let is = are_no_engine::<Board>(alloc, &rule, &plane.cells()?, age, bound)?;
     Ok(is)
 }
 
@@ -39,7 +40,7 @@ fn what_comes_again_is_refused(rt: HostRuntime) -> Result<(), Fail> {
 }
 
 #[test]
-fn what_goes_on_long_is_refused(rt: HostRuntime) -> Result<(), Fail> {
+fn what_falls_back_is_refused(rt: HostRuntime) -> Result<(), Fail> {
     assert!(rt; is_refused(&rt, rt.alloc(), ACORN, 100, 50)?);
     assert!(rt; is_refused(&rt, rt.alloc(), PENTOMINO_AND_BLOCKS, 0, 100)?);
     Ok(())
@@ -47,6 +48,6 @@ fn what_goes_on_long_is_refused(rt: HostRuntime) -> Result<(), Fail> {
 
 #[test]
 fn a_gun_is_not_refused(rt: HostRuntime) -> Result<(), Fail> {
-    assert!(rt; !is_refused(&rt, rt.alloc(), GUN, 100, 50)?);
+    assert!(rt; !is_refused(&rt, rt.alloc(), GUN, 0, 50)?);
     Ok(())
 }
