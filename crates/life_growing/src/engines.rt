@@ -20,8 +20,8 @@ use life_things::WAY_LIMIT;
 use life_tracks::tracks;
 use std::alloc::{AllocError, Global};
 
-/// The engine within the bound that goes along a track of a film, where the film is that of a set of this age, which is
-/// unsplit for the whole film.
+/// The engine within the bound that goes along a track of a film of a set of this age, if there is one. Where the set is
+/// unsplit for the whole film, it is that engine.
 fn engine_in<P: Plane>(
     alloc: Global,
     rule: &Rule,
@@ -50,7 +50,7 @@ fn engine_in<P: Plane>(
 /// The engine within the bound that a set of this age is, as a film of it alone of so many generations tells it. Where the
 /// film is at least twice as long as the bound, the set is none where none is found.
 ///
-/// The film is made only of what may be an engine by its populations. It holds each cell of each of its generations.
+/// The film is made only of what may be an engine by its populations, and holds each cell of each of its generations.
 pub fn engine_of<P: Plane>(
     alloc: Global,
     rule: &Rule,

@@ -55,7 +55,7 @@ impl Growth {
 /// one. Where these generations are at least twice as many as the bound, there is none where none is found.
 ///
 /// The cells are taken apart into classes, and each class that may be an engine is followed alone. So it holds one generation
-/// of all cells, and all generations of one class.
+/// of all cells at a time, and all generations of one class.
 pub fn growth_of<P: Plane>(
     alloc: Global,
     plane: &P,
