@@ -1,5 +1,5 @@
 -- Rows that say the same may stand in the same places.
-use Rattle.std.proofs.Common.{◌≡◌, ℕ, ℤ, Bool, true, false, not, ◌+◌, ◌-◌, ◌^◌, ◌&&◌, ◌||◌, ◌==◌, nat_eq, nat_lt, nat_le, Option, Some, None as Nothing, List, [], ◌∷◌, ap, ◌∙◌, refl, subst}
+use Rattle.std.proofs.Common.{◌≡◌, ℕ, ℤ, Bool, true, false, not, ◌+◌, ◌-◌, ◌&&◌, ◌||◌, ◌==◌, nat_eq, nat_lt, nat_le, Option, Some, None as Nothing, List, [], ◌∷◌, ap, ◌∙◌, refl, subst}
 use Rattle.std.specs.Prelude.{if◌then◌else◌, ⊤}
 use Rattle.census_bundle.specs.Names.{is_name}
 use Rattle.census_rows.specs.declared.kinds.Behind as rows
@@ -202,9 +202,9 @@ lawful-same (Engine c i e p x y k) (Engine c2 i2 e2 p2 x2 y2 k2) h =
     ap (λ m. is_way m x y && nat_lt 0 k) h.3 ∙ ap (λ z. is_way p2 z y && nat_lt 0 k) h.4 ∙ ap (λ z. is_way p2 x2 z && nat_lt 0 k) h.5
     ∙ ap (λ m. is_way p2 x2 y2 && nat_lt 0 m) h.6
 lawful-same (Emits c i e code k) (Emits c2 i2 e2 code2 k2) h =
-    ap (λ m. nat_lt 0 m && (is_code code.now && (nat_lt 0 k && nat_lt k (2 ^ 32)))) h.2
-    ∙ ap (λ w. nat_lt 0 e2 && (is_code w && (nat_lt 0 k && nat_lt k (2 ^ 32)))) h.3
-    ∙ ap (λ m. nat_lt 0 e2 && (is_code code2.now && (nat_lt 0 m && nat_lt m (2 ^ 32)))) h.4
+    ap (λ m. nat_lt 0 m && (is_code code.now && nat_lt 0 k)) h.2
+    ∙ ap (λ w. nat_lt 0 e2 && (is_code w && nat_lt 0 k)) h.3
+    ∙ ap (λ m. nat_lt 0 e2 && (is_code code2.now && nat_lt 0 m)) h.4
 lawful-same (Code c rule code k) (Code c2 rule2 code2 k2) h =
     ap (λ w. is_rule w && (is_code code.now && nat_lt 0 k)) h.1 ∙ ap (λ w. is_rule rule2.now && (is_code w && nat_lt 0 k)) h.2
     ∙ ap (λ m. is_rule rule2.now && (is_code code2.now && nat_lt 0 m)) h.3

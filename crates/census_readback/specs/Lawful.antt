@@ -1,5 +1,5 @@
 -- What a row of a lawful report says by itself.
-use Rattle.std.specs.Prelude.{ℕ, ℤ, pos, ◌^◌, Bool, true, not, ◌&&◌, nat_le, nat_lt, unsigned_abs, Option, Some, None as Nothing, List}
+use Rattle.std.specs.Prelude.{ℕ, ℤ, pos, Bool, true, not, ◌&&◌, nat_le, nat_lt, unsigned_abs, Option, Some, None as Nothing, List}
 use Rattle.census_bundle.specs.Names.{is_name}
 use Rattle.census_rows.specs.Kinds.{said, value_at}
 use Rattle.census_rows.specs.declared.kinds.Field.{Field}
@@ -66,7 +66,7 @@ is_lawful (Line collection pattern outcome name) =
     has_lawful_rule (said outcome).fields && (has_lawful_code (said outcome).fields && (has_lawful_engines (said outcome).fields && is_name name.now))
 is_lawful (Part collection pattern code count) = is_code code.now && nat_lt 0 count
 is_lawful (Engine collection pattern number period dx dy count) = is_way period dx dy && nat_lt 0 count
-is_lawful (Emits collection pattern engine code count) = nat_lt 0 engine && (is_code code.now && (nat_lt 0 count && nat_lt count (2 ^ 32)))
+is_lawful (Emits collection pattern engine code count) = nat_lt 0 engine && (is_code code.now && nat_lt 0 count)
 is_lawful (Code collection rule code count) = is_rule rule.now && (is_code code.now && nat_lt 0 count)
 is_lawful (Close collection patterns resolved unresolved refused) = true
 is_lawful (End collections patterns) = true

@@ -5,7 +5,7 @@ ghost use Rattle.census_rows.specs.Kinds.{said, value_at};
 ghost use Rattle.census_readback.specs.Lawful.{has_lawful_code, has_lawful_engines, has_lawful_rule, is_lawful, is_moved, is_way, number_in, signed_in, text_in};
 
 use crate::code::{is_code, is_code_after};
-use crate::limits::{EMITTED_LIMIT, PERIOD_LIMIT};
+use crate::limits::PERIOD_LIMIT;
 use crate::names::is_name;
 use crate::rules::is_rule;
 use census_rows::{Label, Outcome, Row, Value};
@@ -116,7 +116,7 @@ pub fn is_lawful(row: &Row) -> bool
             code,
             count,
             ..
-        } => 0 < *engine && is_code(*code) && 0 < *count && *count < EMITTED_LIMIT,
+        } => 0 < *engine && is_code(*code) && 0 < *count,
         Row::Code {
             rule,
             code,

@@ -12,8 +12,8 @@
 //!
 //! The `engine` lines tell all engines of their line, one at least, and count from 1. Their periods
 //! are 1 to 10,000, and they move by a cell in a generation at most. Each has `emits` lines, in the
-//! order of codes, with numbers from 1 and below 2^32. They are in the order of periods, of how far
-//! they move to the right and down, and of what they emit, entry by entry; no two tell the same.
+//! order of codes, with numbers from 1 on. They are in the order of periods, of how far they move to
+//! the right and down, and of what they emit, entry by entry; no two tell the same.
 //!
 //! The `code` lines of a collection are what its lines count: for each rule and code that `ok` and `part`
 //! lines have, in the order of first appearance, one line with the number of these `ok` lines and the

@@ -68,7 +68,9 @@ pub record FitsGrowth (told : List Engines) : Type 0 where
 
 both-each : (parts : List Part) → Each IsCodedPart parts → Each (λ (p : Part). p.count ≤ 2 ^ 62) parts → Each FitsEmitted parts
 both-each [] coded few = tt
-both-each (p ∷ parts) coded few = ((coded.0, ?), both-each parts coded.1 few.1)
+both-each (p ∷ parts) coded few =
+    let here = few.0 in
+    ((coded.0, omega (arith, here)), both-each parts coded.1 few.1)
 
 wider : (h : ℕ) (line : Engines) → h ≤ period_limit → IsInRange h line → IsInRange period_limit line
 wider h line le range =

@@ -1,5 +1,5 @@
 -- The rows of an engine fit what was told, where it comes behind the engine before it.
-use Rattle.std.proofs.Common.{◌≡◌, ℕ, ◌+◌, ◌-◌, ◌<◌, ◌≤◌, ◌^◌, Bool, true, false, ◌&&◌, cond, eqb, leb, ltb, Some, None as Nothing, List, [], ◌∷◌, ◌++◌, map, length, Ordering, Less, Equal, Greater, ap, ◌∙◌, sym, subst, refl, arith, append_assoc}
+use Rattle.std.proofs.Common.{◌≡◌, ℕ, ◌+◌, ◌-◌, ◌<◌, ◌≤◌, Bool, true, false, ◌&&◌, cond, eqb, leb, ltb, Some, None as Nothing, List, [], ◌∷◌, ◌++◌, map, length, Ordering, Less, Equal, Greater, ap, ◌∙◌, sym, subst, refl, arith, append_assoc}
 use Rattle.std.specs.Cmp.Lexicographic.{slice_cmp}
 use Rattle.std.specs.List.{AllByRecursion as Each}
 use Rattle.std.specs.Option.{option_map}
@@ -29,13 +29,12 @@ emits_row c i e p = Emits c i e (lent p.code) p.count
 
 -- it is told by its row
 abbrev pub IsLawfulEmitted : part.Part → Type 0
-IsLawfulEmitted p = (0 < p.count) × (p.count < 2 ^ 32) × (is_code p.code ≡ true)
+IsLawfulEmitted p = (0 < p.count) × (is_code p.code ≡ true)
 
 emits-lawful : (c i e : ℕ) (p : part.Part) → 0 < e → IsLawfulEmitted p → is_lawful (emits_row c i e p) ≡ true
 emits-lawful c i e p some h =
-    ap (λ b. b && (is_code p.code && (ltb 0 p.count && ltb p.count (2 ^ 32)))) (lt-ltb 0 e some)
-    ∙ ap (λ b. b && (ltb 0 p.count && ltb p.count (2 ^ 32))) h.2
-    ∙ ap (λ b. b && ltb p.count (2 ^ 32)) (lt-ltb 0 p.count h.0) ∙ lt-ltb p.count (2 ^ 32) h.1
+    ap (λ b. b && (is_code p.code && ltb 0 p.count)) (lt-ltb 0 e some)
+    ∙ ap (λ b. b && ltb 0 p.count) h.1 ∙ lt-ltb 0 p.count h.0
 
 -- it comes behind the engine before it, or will when it has emitted all this
 abbrev Comes : LastEngine → List Emitted → Type 0

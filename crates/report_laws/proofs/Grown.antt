@@ -117,7 +117,7 @@ some-parts (p ∷ parts) h = omega arith
 
 emits-lawful : (parts : List part.Part) → Each FitsEmitted parts → Each IsCounted parts → Each IsCodePart parts → Each IsLawfulEmitted parts
 emits-lawful [] fits counted told = tt
-emits-lawful (p ∷ parts) fits counted told = ((counted.0, fits.0.1, told.0 fits.0.0), emits-lawful parts fits.1 counted.1 told.1)
+emits-lawful (p ∷ parts) fits counted told = ((counted.0, told.0 fits.0.0), emits-lawful parts fits.1 counted.1 told.1)
 
 coded : (parts : List part.Part) → Each FitsEmitted parts → Each IsCodedPart parts
 coded [] fits = tt

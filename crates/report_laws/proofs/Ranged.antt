@@ -70,9 +70,7 @@ emits-fit : (c i e : ℕ) (parts : List part.Part) → c < 2 ^ 64 → i < 2 ^ 64
     → Each (IsFit c) (map (emits_row c i e) parts)
 emits-fit c i e [] a b d h k = tt
 emits-fit c i e (p ∷ parts) a b d h k =
-    let few = h.0.1 in
-    let here : p.count < 2 ^ 64 = omega (arith, few) in
-    ((refl, refl, (a, b, d, word p.code h.0.0 k.0, here)), emits-fit c i e parts a b d h.1 k.1)
+    ((refl, refl, (a, b, d, word p.code h.0.0 k.0, h.0.1)), emits-fit c i e parts a b d h.1 k.1)
 
 engine-fit : (c i e : ℕ) (line : Engines) → c < 2 ^ 64 → i < 2 ^ 64 → e < 2 ^ 64 → line.count < 2 ^ 64 → FitsEngines line → IsFit c (engine_row c i e line)
 engine-fit c i e line a b d few h =

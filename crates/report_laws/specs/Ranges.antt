@@ -33,9 +33,9 @@ FitsValue (Number n) = n < 2 ^ 64
 FitsValue (Signed z) = FitsSigned w64 z
 FitsValue (Text bytes) = 0 < length bytes.now
 
--- what is emitted has a code, and its number is one that is read back
+-- what is emitted has a code, and its number fits 64 bits
 abbrev pub FitsEmitted : Part → Type 0
-FitsEmitted part = IsCodedPart part × (part.count < 2 ^ 32)
+FitsEmitted part = IsCodedPart part × (part.count < 2 ^ 64)
 
 -- what is told of the engines is in range
 abbrev pub FitsEngines : Engines → Type 0

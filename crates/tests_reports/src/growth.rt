@@ -146,11 +146,15 @@ const OF_ONE: &[(&[u8], usize)] = &[
     ),
     (b"engine 1 1 1 30 0 0 1\nemits 1 1 1 xq4_153 0\n", 4),
     (
-        b"engine 1 1 1 30 0 0 1\nemits 1 1 1 xq4_153 4294967295\nclose 1 1 1 0 0\nend 1 1\n",
+        b"engine 1 1 1 30 0 0 1\nemits 1 1 1 xq4_153 4294967296\nclose 1 1 1 0 0\nend 1 1\n",
         0,
     ),
     (
-        b"engine 1 1 1 30 0 0 1\nemits 1 1 1 xq4_153 4294967296\n",
+        b"engine 1 1 1 30 0 0 1\nemits 1 1 1 xq4_153 18446744073709551615\nclose 1 1 1 0 0\nend 1 1\n",
+        0,
+    ),
+    (
+        b"engine 1 1 1 30 0 0 1\nemits 1 1 1 xq4_153 18446744073709551616\n",
         4,
     ),
     // An engine more than there are.
