@@ -23,7 +23,7 @@ use Rattle.census_cli.proofs.Rows.{HasFirst, Reads, reads_of, reads_or_none, row
 use Rattle.census_cli.proofs.Uses.{RuleHolds}
 use Rattle.census_cli.proofs.Walks.{StopHolds, is_help}
 use Rattle.census_cli.proofs.Levels.{HasDefault, LevelHolds, checks_pass, defaults-there, given-there, level-Holds}
-use Rattle.census_cli.specs.Limits.{generation_limit, objects_bound_limit, settles_bound_limit}
+use Rattle.census_cli.specs.Limits.{generation_limit, horizon_limit, objects_bound_limit, settles_bound_limit}
 
 accepted : (ignore_case : Bool) (p : ValueParser) (v : Text) → value_kinds ignore_case p v ≡ [] → Accepts ignore_case p v
 accepted ignore_case p v e = go (accepts ignore_case p v) refl e
@@ -67,6 +67,7 @@ CensusText most id v =
     × (bytes_eq id (codes "no-progress") ≡ true → IsFlagText v)
     × (bytes_eq id (codes "input") ≡ true → IsUnsignedIn 1 9223372036854775807 v)
     × (bytes_eq id (codes "near") ≡ true → IsFlagText v)
+    × (bytes_eq id (codes "horizon") ≡ true → IsUnsignedIn 1 horizon_limit v)
 
 abbrev RunText : Text → Text → Type 0
 RunText = CensusText settles_bound_limit
@@ -77,7 +78,9 @@ ObjectsText = CensusText objects_bound_limit
 abbrev IdentifyText : Text → Text → Type 0
 IdentifyText id v =
     (bytes_eq id (codes "bound") ≡ true → IsUnsignedIn 1 objects_bound_limit v)
+    × (bytes_eq id (codes "cells") ≡ true → IsUnsignedIn 1 4294967295 v)
     × (bytes_eq id (codes "near") ≡ true → IsFlagText v)
+    × (bytes_eq id (codes "horizon") ≡ true → IsUnsignedIn 1 horizon_limit v)
     × ExplainText id v
 
 abbrev AdvanceText : Text → Text → Type 0
@@ -149,18 +152,18 @@ true_given = record { first = codes "true"; rest = []; is = refl }
 -- the limit on the input, the flags, the folders and the help of `run` and of `objects`
 later_rules : (most : ℕ) → Each (RuleHolds (CensusText most)) (drop 3 built_run.rules)
 later_rules most = (
-  record { own = λ v e. (absent, absent, absent, absent, absent, absent, absent, λ _. unsigned_in 1 9223372036854775807 v e, absent); usual = inr (refl, inl refl); plain = λ t. refl },
+  record { own = λ v e. (absent, absent, absent, absent, absent, absent, absent, λ _. unsigned_in 1 9223372036854775807 v e, absent, absent); usual = inr (refl, inl refl); plain = λ t. refl },
   (
-    record { own = λ v e. (absent, absent, absent, λ _. flag_text v e, absent, absent, absent, absent, absent); usual = inr (refl, inr true_given); plain = λ t. refl },
+    record { own = λ v e. (absent, absent, absent, λ _. flag_text v e, absent, absent, absent, absent, absent, absent); usual = inr (refl, inr true_given); plain = λ t. refl },
     (
-      record { own = λ v e. (absent, absent, absent, absent, λ _. flag_text v e, absent, absent, absent, absent); usual = inr (refl, inr true_given); plain = λ t. refl },
+      record { own = λ v e. (absent, absent, absent, absent, λ _. flag_text v e, absent, absent, absent, absent, absent); usual = inr (refl, inr true_given); plain = λ t. refl },
       (
-        record { own = λ v e. (absent, absent, absent, absent, absent, λ _. flag_text v e, absent, absent, absent); usual = inr (refl, inr true_given); plain = λ t. refl },
+        record { own = λ v e. (absent, absent, absent, absent, absent, λ _. flag_text v e, absent, absent, absent, absent); usual = inr (refl, inr true_given); plain = λ t. refl },
         (
-          record { own = λ v e. (absent, absent, absent, absent, absent, absent, λ _. flag_text v e, absent, absent); usual = inr (refl, inr true_given); plain = λ t. refl },
+          record { own = λ v e. (absent, absent, absent, absent, absent, absent, λ _. flag_text v e, absent, absent, absent); usual = inr (refl, inr true_given); plain = λ t. refl },
           (
-            record { own = λ v e. (absent, absent, absent, absent, absent, absent, absent, absent, absent); usual = inr (refl, inl refl); plain = λ t. refl },
-            (record { own = λ v e. (absent, absent, absent, absent, absent, absent, absent, absent, absent); usual = inl refl; plain = λ t. refl }, tt),
+            record { own = λ v e. (absent, absent, absent, absent, absent, absent, absent, absent, absent, absent); usual = inr (refl, inl refl); plain = λ t. refl },
+            (record { own = λ v e. (absent, absent, absent, absent, absent, absent, absent, absent, absent, absent); usual = inl refl; plain = λ t. refl }, tt),
           ),
         ),
       ),
@@ -170,11 +173,11 @@ later_rules most = (
 
 run_rules : Each (RuleHolds RunText) built_run.rules
 run_rules = (
-  record { own = λ v e. (λ _. unsigned_in 1 settles_bound_limit v e, absent, absent, absent, absent, absent, absent, absent, absent); usual = inr (refl, inl refl); plain = λ t. refl },
+  record { own = λ v e. (λ _. unsigned_in 1 settles_bound_limit v e, absent, absent, absent, absent, absent, absent, absent, absent, absent); usual = inr (refl, inl refl); plain = λ t. refl },
   (
-    record { own = λ v e. (absent, λ _. unsigned_in 1 16 v e, absent, absent, absent, absent, absent, absent, absent); usual = inr (refl, inl refl); plain = λ t. refl },
+    record { own = λ v e. (absent, λ _. unsigned_in 1 16 v e, absent, absent, absent, absent, absent, absent, absent, absent); usual = inr (refl, inl refl); plain = λ t. refl },
     (
-      record { own = λ v e. (absent, absent, λ _. unsigned_in 1 4294967295 v e, absent, absent, absent, absent, absent, absent); usual = inr (refl, inl refl); plain = λ t. refl },
+      record { own = λ v e. (absent, absent, λ _. unsigned_in 1 4294967295 v e, absent, absent, absent, absent, absent, absent, absent); usual = inr (refl, inl refl); plain = λ t. refl },
       later_rules settles_bound_limit,
     ),
   ),
@@ -182,14 +185,17 @@ run_rules = (
 
 objects_rules : Each (RuleHolds ObjectsText) built_objects.rules
 objects_rules = (
-  record { own = λ v e. (λ _. unsigned_in 1 objects_bound_limit v e, absent, absent, absent, absent, absent, absent, absent, absent); usual = inr (refl, inl refl); plain = λ t. refl },
+  record { own = λ v e. (λ _. unsigned_in 1 objects_bound_limit v e, absent, absent, absent, absent, absent, absent, absent, absent, absent); usual = inr (refl, inl refl); plain = λ t. refl },
   (
-    record { own = λ v e. (absent, λ _. unsigned_in 1 16 v e, absent, absent, absent, absent, absent, absent, absent); usual = inr (refl, inl refl); plain = λ t. refl },
+    record { own = λ v e. (absent, λ _. unsigned_in 1 16 v e, absent, absent, absent, absent, absent, absent, absent, absent); usual = inr (refl, inl refl); plain = λ t. refl },
     (
-      record { own = λ v e. (absent, absent, λ _. unsigned_in 1 4294967295 v e, absent, absent, absent, absent, absent, absent); usual = inr (refl, inl refl); plain = λ t. refl },
+      record { own = λ v e. (absent, absent, λ _. unsigned_in 1 4294967295 v e, absent, absent, absent, absent, absent, absent, absent); usual = inr (refl, inl refl); plain = λ t. refl },
       (
-        record { own = λ v e. (absent, absent, absent, absent, absent, absent, absent, absent, λ _. flag_text v e); usual = inr (refl, inr true_given); plain = λ t. refl },
-        later_rules objects_bound_limit,
+        record { own = λ v e. (absent, absent, absent, absent, absent, absent, absent, absent, λ _. flag_text v e, absent); usual = inr (refl, inr true_given); plain = λ t. refl },
+        (
+          record { own = λ v e. (absent, absent, absent, absent, absent, absent, absent, absent, absent, λ _. unsigned_in 1 horizon_limit v e); usual = inr (refl, inl refl); plain = λ t. refl },
+          later_rules objects_bound_limit,
+        ),
       ),
     ),
   ),
@@ -197,14 +203,20 @@ objects_rules = (
 
 identify_rules : Each (RuleHolds IdentifyText) built_identify.rules
 identify_rules = (
-  record { own = λ v e. (λ _. unsigned_in 1 objects_bound_limit v e, absent, absent); usual = inr (refl, inl refl); plain = λ t. refl },
+  record { own = λ v e. (λ _. unsigned_in 1 objects_bound_limit v e, absent, absent, absent, absent); usual = inr (refl, inl refl); plain = λ t. refl },
   (
-    record { own = λ v e. (absent, λ _. flag_text v e, absent); usual = inr (refl, inr true_given); plain = λ t. refl },
+    record { own = λ v e. (absent, λ _. unsigned_in 1 4294967295 v e, absent, absent, absent); usual = inr (refl, inl refl); plain = λ t. refl },
     (
-      record { own = λ v e. (absent, absent, λ _. flag_text v e); usual = inr (refl, inr true_given); plain = λ t. refl },
+      record { own = λ v e. (absent, absent, λ _. flag_text v e, absent, absent); usual = inr (refl, inr true_given); plain = λ t. refl },
       (
-        record { own = λ v e. (absent, absent, absent); usual = inr (refl, inl refl); plain = λ t. refl },
-        (record { own = λ v e. (absent, absent, absent); usual = inl refl; plain = λ t. refl }, tt),
+        record { own = λ v e. (absent, absent, absent, λ _. unsigned_in 1 horizon_limit v e, absent); usual = inr (refl, inl refl); plain = λ t. refl },
+        (
+          record { own = λ v e. (absent, absent, absent, absent, λ _. flag_text v e); usual = inr (refl, inr true_given); plain = λ t. refl },
+          (
+            record { own = λ v e. (absent, absent, absent, absent, absent); usual = inr (refl, inl refl); plain = λ t. refl },
+            (record { own = λ v e. (absent, absent, absent, absent, absent); usual = inl refl; plain = λ t. refl }, tt),
+          ),
+        ),
       ),
     ),
   ),
@@ -372,25 +384,31 @@ objects_has words e = record {
       (read_by_default ObjectsText built_objects objects_rules words e (codes "cells") (inr (inr (inl (refl, record { first = codes "1000000"; rest = []; is = refl }))))) (λ v q. q.2 refl);
   near = flag_in ObjectsText (codes "near") _
       (read_by_default ObjectsText built_objects objects_rules words e (codes "near") (inr (inr (inr (inl (refl, false_by_default)))))) (λ v q. q.8 refl);
+  horizon = number_in ObjectsText 1 horizon_limit (codes "horizon") _
+      (read_by_default ObjectsText built_objects objects_rules words e (codes "horizon") (inr (inr (inr (inr (inl (refl, record { first = codes "1000"; rest = []; is = refl }))))))) (λ v q. q.9 refl);
   input = limit_in ObjectsText 9223372036854775807 (codes "input") _ (read_if_used ObjectsText built_objects objects_rules words e (codes "input")) (λ v q. q.7 refl);
   recursive = flag_in ObjectsText (codes "recursive") _
-      (read_by_default ObjectsText built_objects objects_rules words e (codes "recursive") (inr (inr (inr (inr (inr (inl (refl, false_by_default)))))))) (λ v q. q.3 refl);
+      (read_by_default ObjectsText built_objects objects_rules words e (codes "recursive") (inr (inr (inr (inr (inr (inr (inl (refl, false_by_default))))))))) (λ v q. q.3 refl);
   keep_going = flag_in ObjectsText (codes "keep-going") _
-      (read_by_default ObjectsText built_objects objects_rules words e (codes "keep-going") (inr (inr (inr (inr (inr (inr (inl (refl, false_by_default))))))))) (λ v q. q.4 refl);
+      (read_by_default ObjectsText built_objects objects_rules words e (codes "keep-going") (inr (inr (inr (inr (inr (inr (inr (inl (refl, false_by_default)))))))))) (λ v q. q.4 refl);
   explain = flag_in ObjectsText (codes "explain") _
-      (read_by_default ObjectsText built_objects objects_rules words e (codes "explain") (inr (inr (inr (inr (inr (inr (inr (inl (refl, false_by_default)))))))))) (λ v q. q.5 refl);
+      (read_by_default ObjectsText built_objects objects_rules words e (codes "explain") (inr (inr (inr (inr (inr (inr (inr (inr (inl (refl, false_by_default))))))))))) (λ v q. q.5 refl);
   no_progress = flag_in ObjectsText (codes "no-progress") _
-      (read_by_default ObjectsText built_objects objects_rules words e (codes "no-progress") (inr (inr (inr (inr (inr (inr (inr (inr (inl (refl, false_by_default))))))))))) (λ v q. q.6 refl);
+      (read_by_default ObjectsText built_objects objects_rules words e (codes "no-progress") (inr (inr (inr (inr (inr (inr (inr (inr (inr (inl (refl, false_by_default)))))))))))) (λ v q. q.6 refl);
 }
 
 identify_has : (words : List Text) → Passes built_identify words → HasIdentify (rows_after built_identify.rules [] words)
 identify_has words e = record {
   bound = number_in IdentifyText 1 objects_bound_limit (codes "bound") _
       (read_by_default IdentifyText built_identify identify_rules words e (codes "bound") (inl (refl, record { first = codes "10000"; rest = []; is = refl }))) (λ v q. q.0 refl);
+  cells = number_in IdentifyText 1 4294967295 (codes "cells") _
+      (read_by_default IdentifyText built_identify identify_rules words e (codes "cells") (inr (inl (refl, record { first = codes "1000000"; rest = []; is = refl })))) (λ v q. q.1 refl);
   near = flag_in IdentifyText (codes "near") _
-      (read_by_default IdentifyText built_identify identify_rules words e (codes "near") (inr (inl (refl, false_by_default)))) (λ v q. q.1 refl);
+      (read_by_default IdentifyText built_identify identify_rules words e (codes "near") (inr (inr (inl (refl, false_by_default))))) (λ v q. q.2 refl);
+  horizon = number_in IdentifyText 1 horizon_limit (codes "horizon") _
+      (read_by_default IdentifyText built_identify identify_rules words e (codes "horizon") (inr (inr (inr (inl (refl, record { first = codes "1000"; rest = []; is = refl })))))) (λ v q. q.3 refl);
   explain = flag_in IdentifyText (codes "explain") _
-      (read_by_default IdentifyText built_identify identify_rules words e (codes "explain") (inr (inr (inl (refl, false_by_default))))) (λ v q. q.2 refl);
+      (read_by_default IdentifyText built_identify identify_rules words e (codes "explain") (inr (inr (inr (inr (inl (refl, false_by_default))))))) (λ v q. q.4 refl);
 }
 
 advance_has : (words : List Text) → Passes built_advance words → HasAdvance (rows_after built_advance.rules [] words)
@@ -563,6 +581,19 @@ objects_command rows (inr (inr (inr (inr (inr (inr (inl h))))))) = other_name _ 
 objects_command rows (inr (inr (inr (inr (inr (inr (inr (inl h)))))))) = other_name _ _ h.0 refl
 objects_command rows (inr (inr (inr (inr (inr (inr (inr (inr (inl h))))))))) = other_name _ _ h.0 refl
 objects_command rows (inr (inr (inr (inr (inr (inr (inr (inr (inr h))))))))) = other_name _ _ h.0 refl
+
+-- and so has `identify`
+pub identify_command : (rows : List Row) → IsCommand (Some (codes "identify", rows)) → HasIdentify rows
+identify_command rows (inl h) = other_name _ _ h.0 refl
+identify_command rows (inr (inl h)) = other_name _ _ h.0 refl
+identify_command rows (inr (inr (inl h))) = h.1
+identify_command rows (inr (inr (inr (inl h)))) = other_name _ _ h.0 refl
+identify_command rows (inr (inr (inr (inr (inl h))))) = other_name _ _ h.0 refl
+identify_command rows (inr (inr (inr (inr (inr (inl h)))))) = other_name _ _ h.0 refl
+identify_command rows (inr (inr (inr (inr (inr (inr (inl h))))))) = other_name _ _ h.0 refl
+identify_command rows (inr (inr (inr (inr (inr (inr (inr (inl h)))))))) = other_name _ _ h.0 refl
+identify_command rows (inr (inr (inr (inr (inr (inr (inr (inr (inl h))))))))) = other_name _ _ h.0 refl
+identify_command rows (inr (inr (inr (inr (inr (inr (inr (inr (inr h))))))))) = other_name _ _ h.0 refl
 
 -- the command `advance` has a number of generations
 pub advance_command : (rows : List Row) → IsCommand (Some (codes "advance", rows)) → HasAdvance rows

@@ -25,21 +25,25 @@ run_flags : AsksRun (codes "run" ∷ codes "--recursive" ∷ codes "a" ∷ codes
 unfolding clap_on_literals
 run_flags = (refl, record { rows = _; named = refl; bound_is = refl; bound_in = (lit≤ tt, lit≤ tt); workers_are = refl; workers_in = (lit≤ tt, lit≤ tt); cells_are = refl; cells_in = tt; input_is = refl; input_in = tt; recursive_is = refl; keep_going_is = refl; folders_are = refl })
 
-objects_alone : AsksObjects (codes "objects" ∷ []) 10000 4 1000000 false None false false []
+objects_alone : AsksObjects (codes "objects" ∷ []) 10000 4 1000000 false 1000 None false false []
 unfolding clap_on_literals
-objects_alone = (refl, record { rows = _; named = refl; bound_is = refl; bound_in = (lit≤ tt, lit≤ tt); workers_are = refl; workers_in = (lit≤ tt, lit≤ tt); cells_are = refl; cells_in = (lit≤ tt, lit≤ tt); near_is = refl; input_is = refl; input_in = tt; recursive_is = refl; keep_going_is = refl; folders_are = refl })
+objects_alone = (refl, record { rows = _; named = refl; bound_is = refl; bound_in = (lit≤ tt, lit≤ tt); workers_are = refl; workers_in = (lit≤ tt, lit≤ tt); cells_are = refl; cells_in = (lit≤ tt, lit≤ tt); near_is = refl; horizon_is = refl; horizon_in = (lit≤ tt, lit≤ tt); input_is = refl; input_in = tt; recursive_is = refl; keep_going_is = refl; folders_are = refl })
 
-objects_flags : AsksObjects (codes "objects" ∷ codes "-rb5" ∷ codes "a" ∷ codes "--near" ∷ []) 5 4 1000000 true None true false (codes "a" ∷ [])
+objects_flags : AsksObjects (codes "objects" ∷ codes "-rb5" ∷ codes "a" ∷ codes "--near" ∷ []) 5 4 1000000 true 1000 None true false (codes "a" ∷ [])
 unfolding clap_on_literals
-objects_flags = (refl, record { rows = _; named = refl; bound_is = refl; bound_in = (lit≤ tt, lit≤ tt); workers_are = refl; workers_in = (lit≤ tt, lit≤ tt); cells_are = refl; cells_in = (lit≤ tt, lit≤ tt); near_is = refl; input_is = refl; input_in = tt; recursive_is = refl; keep_going_is = refl; folders_are = refl })
+objects_flags = (refl, record { rows = _; named = refl; bound_is = refl; bound_in = (lit≤ tt, lit≤ tt); workers_are = refl; workers_in = (lit≤ tt, lit≤ tt); cells_are = refl; cells_in = (lit≤ tt, lit≤ tt); near_is = refl; horizon_is = refl; horizon_in = (lit≤ tt, lit≤ tt); input_is = refl; input_in = tt; recursive_is = refl; keep_going_is = refl; folders_are = refl })
 
-identify_among : AsksIdentify (codes "identify" ∷ codes "a" ∷ codes "-b" ∷ codes "50" ∷ codes "-" ∷ []) 50 false (codes "a" ∷ codes "-" ∷ [])
+identify_among : AsksIdentify (codes "identify" ∷ codes "a" ∷ codes "-b" ∷ codes "50" ∷ codes "-" ∷ []) 50 1000000 false 1000 (codes "a" ∷ codes "-" ∷ [])
 unfolding clap_on_literals
-identify_among = (refl, record { rows = _; named = refl; bound_is = refl; bound_in = (lit≤ tt, lit≤ tt); near_is = refl; files_are = refl })
+identify_among = (refl, record { rows = _; named = refl; bound_is = refl; bound_in = (lit≤ tt, lit≤ tt); cells_are = refl; cells_in = (lit≤ tt, lit≤ tt); near_is = refl; horizon_is = refl; horizon_in = (lit≤ tt, lit≤ tt); files_are = refl })
 
-identify_near : AsksIdentify (codes "identify" ∷ codes "--near" ∷ []) 10000 true []
+identify_near : AsksIdentify (codes "identify" ∷ codes "--near" ∷ []) 10000 1000000 true 1000 []
 unfolding clap_on_literals
-identify_near = (refl, record { rows = _; named = refl; bound_is = refl; bound_in = (lit≤ tt, lit≤ tt); near_is = refl; files_are = refl })
+identify_near = (refl, record { rows = _; named = refl; bound_is = refl; bound_in = (lit≤ tt, lit≤ tt); cells_are = refl; cells_in = (lit≤ tt, lit≤ tt); near_is = refl; horizon_is = refl; horizon_in = (lit≤ tt, lit≤ tt); files_are = refl })
+
+identify_small : AsksIdentify (codes "identify" ∷ codes "--cells" ∷ codes "7" ∷ codes "a" ∷ codes "--horizon=20" ∷ []) 10000 7 false 20 (codes "a" ∷ [])
+unfolding clap_on_literals
+identify_small = (refl, record { rows = _; named = refl; bound_is = refl; bound_in = (lit≤ tt, lit≤ tt); cells_are = refl; cells_in = (lit≤ tt, lit≤ tt); near_is = refl; horizon_is = refl; horizon_in = (lit≤ tt, lit≤ tt); files_are = refl })
 
 advance_file : AsksAdvance (codes "advance" ∷ codes "4" ∷ codes "a" ∷ []) 4 (Some (codes "a"))
 unfolding clap_on_literals
@@ -108,6 +112,10 @@ workers_17 = refl
 objects_bound_100001 : fault_of census_app (codes "objects" ∷ codes "--bound" ∷ codes "100001" ∷ []) ≡ ValueValidation ∷ []
 unfolding clap_on_literals
 objects_bound_100001 = refl
+
+horizon_10001 : fault_of census_app (codes "objects" ∷ codes "--horizon" ∷ codes "10001" ∷ []) ≡ ValueValidation ∷ []
+unfolding clap_on_literals
+horizon_10001 = refl
 
 past_the_age : fault_of census_app (codes "advance" ∷ codes "4194305" ∷ []) ≡ ValueValidation ∷ []
 unfolding clap_on_literals

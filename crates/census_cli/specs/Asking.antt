@@ -14,7 +14,7 @@ use Rattle.census_cli.specs.declared.request.TableFormat.{TableFormat}
 use Rattle.census_cli.specs.declared.request.TableFormat.TheVariants.{Csv, Json}
 use Rattle.census_cli.specs.declared.request.TableSubject.{TableSubject}
 use Rattle.census_cli.specs.declared.request.TableSubject.TheVariants.{Patterns, Parts, Codes}
-use Rattle.census_cli.specs.Limits.{generation_limit, objects_bound_limit, settles_bound_limit, worker_limit}
+use Rattle.census_cli.specs.Limits.{generation_limit, horizon_limit, objects_bound_limit, settles_bound_limit, worker_limit}
 
 -- ---- what the matches of a command say
 
@@ -66,8 +66,8 @@ pub record GivesRun (command : Option (List ℕ × List Row)) (bound workers : �
   pub folders_are : values_of (codes "folder") rows ≡ folders
 
 -- those of a census of the objects of these folders, or of those of the bundle
-pub record GivesObjects (command : Option (List ℕ × List Row)) (bound workers cells : ℕ) (near : Bool) (input : Option ℕ)
-    (recursive keep_going : Bool) (folders : List (List ℕ)) : Type 0 where
+pub record GivesObjects (command : Option (List ℕ × List Row)) (bound workers cells : ℕ) (near : Bool) (horizon : ℕ)
+    (input : Option ℕ) (recursive keep_going : Bool) (folders : List (List ℕ)) : Type 0 where
   pub rows : List Row
   pub named : command ≡ Some (codes "objects", rows)
   pub bound_is : argument_number (codes "bound") rows ≡ Some bound
@@ -77,6 +77,8 @@ pub record GivesObjects (command : Option (List ℕ × List Row)) (bound workers
   pub cells_are : argument_number (codes "cells") rows ≡ Some cells
   pub cells_in : (1 ≤ cells) × (cells ≤ 4294967295)
   pub near_is : IsFlag (codes "near") rows near
+  pub horizon_is : argument_number (codes "horizon") rows ≡ Some horizon
+  pub horizon_in : (1 ≤ horizon) × (horizon ≤ horizon_limit)
   pub input_is : argument_number (codes "input") rows ≡ input
   pub input_in : IsLimit 9223372036854775807 input
   pub recursive_is : IsFlag (codes "recursive") rows recursive
@@ -84,13 +86,17 @@ pub record GivesObjects (command : Option (List ℕ × List Row)) (bound workers
   pub folders_are : values_of (codes "folder") rows ≡ folders
 
 -- those of the blocks of these files, or, where there is none, of the block of standard input
-pub record GivesIdentify (command : Option (List ℕ × List Row)) (bound : ℕ) (near : Bool)
+pub record GivesIdentify (command : Option (List ℕ × List Row)) (bound cells : ℕ) (near : Bool) (horizon : ℕ)
     (files : List (List ℕ)) : Type 0 where
   pub rows : List Row
   pub named : command ≡ Some (codes "identify", rows)
   pub bound_is : argument_number (codes "bound") rows ≡ Some bound
   pub bound_in : (1 ≤ bound) × (bound ≤ objects_bound_limit)
+  pub cells_are : argument_number (codes "cells") rows ≡ Some cells
+  pub cells_in : (1 ≤ cells) × (cells ≤ 4294967295)
   pub near_is : IsFlag (codes "near") rows near
+  pub horizon_is : argument_number (codes "horizon") rows ≡ Some horizon
+  pub horizon_in : (1 ≤ horizon) × (horizon ≤ horizon_limit)
   pub files_are : values_of (codes "file") rows ≡ files
 
 -- those of so many generations of this file, or, where there is none, of standard input
@@ -147,9 +153,10 @@ pub record GivesVerify (command : Option (List ℕ × List Row)) (claims : List 
 abbrev pub GivesRequest : Option (List ℕ × List Row) → Request → Type 0
 GivesRequest command (Run bound workers cells input recursive keep_going folders) =
     GivesRun command bound workers cells input recursive keep_going (map (λ s. s.now) folders.items)
-GivesRequest command (Objects bound workers cells near input recursive keep_going folders) =
-    GivesObjects command bound workers cells near input recursive keep_going (map (λ s. s.now) folders.items)
-GivesRequest command (Identify bound near files) = GivesIdentify command bound near (map (λ s. s.now) files.items)
+GivesRequest command (Objects bound workers cells near horizon input recursive keep_going folders) =
+    GivesObjects command bound workers cells near horizon input recursive keep_going (map (λ s. s.now) folders.items)
+GivesRequest command (Identify bound cells near horizon files) =
+    GivesIdentify command bound cells near horizon (map (λ s. s.now) files.items)
 GivesRequest command (Advance generations file) = GivesAdvance command generations (option_map (λ s. s.now) file)
 GivesRequest command (Draw code rule) = GivesDraw command code.now rule.now
 GivesRequest command (Merge reports) = GivesMerge command (map (λ s. s.now) reports.items)
@@ -191,13 +198,14 @@ AsksRun words bound workers cells input recursive keep_going folders =
     IsMatched words × GivesRun (subcommand_of census_app words) bound workers cells input recursive keep_going folders
 
 -- for the census of the objects of these folders, or of those of the bundle
-abbrev pub AsksObjects : List (List ℕ) → ℕ → ℕ → ℕ → Bool → Option ℕ → Bool → Bool → List (List ℕ) → Type 0
-AsksObjects words bound workers cells near input recursive keep_going folders =
-    IsMatched words × GivesObjects (subcommand_of census_app words) bound workers cells near input recursive keep_going folders
+abbrev pub AsksObjects : List (List ℕ) → ℕ → ℕ → ℕ → Bool → ℕ → Option ℕ → Bool → Bool → List (List ℕ) → Type 0
+AsksObjects words bound workers cells near horizon input recursive keep_going folders =
+    IsMatched words × GivesObjects (subcommand_of census_app words) bound workers cells near horizon input recursive keep_going folders
 
 -- for the blocks of these files, or, where there is none, for the block of standard input
-abbrev pub AsksIdentify : List (List ℕ) → ℕ → Bool → List (List ℕ) → Type 0
-AsksIdentify words bound near files = IsMatched words × GivesIdentify (subcommand_of census_app words) bound near files
+abbrev pub AsksIdentify : List (List ℕ) → ℕ → ℕ → Bool → ℕ → List (List ℕ) → Type 0
+AsksIdentify words bound cells near horizon files =
+    IsMatched words × GivesIdentify (subcommand_of census_app words) bound cells near horizon files
 
 -- for so many generations of this file, or, where there is none, of standard input
 abbrev pub AsksAdvance : List (List ℕ) → ℕ → Option (List ℕ) → Type 0

@@ -5,7 +5,7 @@ use Rattle.clap.specs.Walk.{Rule}
 use Rattle.clap.specs.Simple.{App, Shape, new_rule, new_shape}
 use Rattle.clap.specs.declared.builder.action.ArgAction.TheVariants.{SetTrue}
 use Rattle.clap.specs.declared.builder.value_parser.ValueParser.TheVariants.{Unsigned}
-use Rattle.census_cli.specs.Limits.{generation_limit, objects_bound_limit, settles_bound_limit, worker_limit}
+use Rattle.census_cli.specs.Limits.{generation_limit, horizon_limit, objects_bound_limit, settles_bound_limit, worker_limit}
 
 -- `--bound N`
 abbrev pub bound_rule : Rule
@@ -45,13 +45,22 @@ limit_rule = record (new_rule (codes "cells")) {
   parser = Some (Unsigned 1 4294967295);
 }
 
--- the `--cells N` of `objects`
+-- the `--cells N` of `objects` and of `identify`
 abbrev pub cells_rule : Rule
 cells_rule = record limit_rule { defaults = codes "1000000" ∷ [] }
 
 -- `--near`
 abbrev pub near_rule : Rule
 near_rule = record (new_rule (codes "near")) { long = Some (codes "near"); action = Some SetTrue }
+
+-- `--horizon N`
+abbrev pub horizon_rule : Rule
+horizon_rule = record (new_rule (codes "horizon")) {
+  long = Some (codes "horizon");
+  value_names = 1;
+  defaults = codes "1000" ∷ [];
+  parser = Some (Unsigned 1 horizon_limit);
+}
 
 -- `--input N`
 abbrev pub input_rule : Rule
@@ -171,11 +180,12 @@ run_shape = shape_with (codes "run")
 
 abbrev pub objects_shape : Shape
 objects_shape = shape_with (codes "objects")
-    (search_rule ∷ workers_rule ∷ cells_rule ∷ near_rule ∷ input_rule ∷ recursive_rule ∷ keep_going_rule
+    (search_rule ∷ workers_rule ∷ cells_rule ∷ near_rule ∷ horizon_rule ∷ input_rule ∷ recursive_rule ∷ keep_going_rule
     ∷ explain_rule ∷ no_progress_rule ∷ folder_rule ∷ [])
 
 abbrev pub identify_shape : Shape
-identify_shape = shape_with (codes "identify") (search_rule ∷ near_rule ∷ explain_rule ∷ files_rule ∷ [])
+identify_shape = shape_with (codes "identify")
+    (search_rule ∷ cells_rule ∷ near_rule ∷ horizon_rule ∷ explain_rule ∷ files_rule ∷ [])
 
 abbrev pub advance_shape : Shape
 advance_shape = shape_with (codes "advance") (generations_rule ∷ explain_rule ∷ file_rule ∷ [])

@@ -3,7 +3,7 @@ use Rattle.std.specs.Prelude.{◌≡◌, ◌⊎◌, ℕ, List, Bool, Option, Som
 use Rattle.clap.specs.Values.{IsUnsignedIn}
 use Rattle.clap.specs.Walk.{Row, first_of, one_of}
 use Rattle.census_cli.specs.Asking.{IsFlag}
-use Rattle.census_cli.specs.Limits.{generation_limit, objects_bound_limit, settles_bound_limit, worker_limit}
+use Rattle.census_cli.specs.Limits.{generation_limit, horizon_limit, objects_bound_limit, settles_bound_limit, worker_limit}
 
 -- a number of this range
 abbrev pub HasNumberIn : ℕ → ℕ → List ℕ → List Row → Type 0
@@ -42,6 +42,7 @@ pub record HasObjects (rows : List Row) : Type 0 where
   pub workers : HasNumberIn 1 worker_limit (codes "workers") rows
   pub cells : HasNumberIn 1 4294967295 (codes "cells") rows
   pub near : HasFlag (codes "near") rows
+  pub horizon : HasNumberIn 1 horizon_limit (codes "horizon") rows
   pub input : HasLimit 9223372036854775807 (codes "input") rows
   pub recursive : HasFlag (codes "recursive") rows
   pub keep_going : HasFlag (codes "keep-going") rows
@@ -51,7 +52,9 @@ pub record HasObjects (rows : List Row) : Type 0 where
 -- those of `identify` have theirs
 pub record HasIdentify (rows : List Row) : Type 0 where
   pub bound : HasNumberIn 1 objects_bound_limit (codes "bound") rows
+  pub cells : HasNumberIn 1 4294967295 (codes "cells") rows
   pub near : HasFlag (codes "near") rows
+  pub horizon : HasNumberIn 1 horizon_limit (codes "horizon") rows
   pub explain : HasFlag (codes "explain") rows
 
 -- those of `advance` have theirs

@@ -9,6 +9,10 @@ settles_bound_limit = 1000000
 abbrev pub objects_bound_limit : ℕ
 objects_bound_limit = 100000
 
+-- the horizon of `objects` and of `identify`
+abbrev pub horizon_limit : ℕ
+horizon_limit = 10000
+
 -- the N of `advance`
 abbrev pub generation_limit : ℕ
 generation_limit = 4194304

@@ -5,7 +5,7 @@ ghost use Rattle.clap.specs.declared.builder.command.Command.TheViews.{out-Comma
 ghost use Rattle.census_cli.specs.CommandLine.{advance_shape, bare_app, census_app, draw_shape, identify_shape};
 ghost use Rattle.census_cli.specs.CommandLine.{merge_shape, objects_shape, page_shape, run_shape, same_shape, table_shape, verify_shape};
 ghost use Rattle.census_cli.specs.CommandLine.{bound_rule, cells_rule, claims_rule, code_rule, codes_rule, csv_rule, explain_rule, file_rule};
-ghost use Rattle.census_cli.specs.CommandLine.{files_rule, folder_rule, generations_rule, input_rule, json_rule, keep_going_rule, limit_rule, near_rule};
+ghost use Rattle.census_cli.specs.CommandLine.{files_rule, folder_rule, generations_rule, horizon_rule, input_rule, json_rule, keep_going_rule, limit_rule, near_rule};
 ghost use Rattle.census_cli.specs.CommandLine.{no_progress_rule, parts_rule, recursive_rule, reports_rule, rule_rule, safe_rule, search_rule, workers_rule};
 
 use crate::fault::VERSION_TEXT;
@@ -19,6 +19,9 @@ const SETTLES_BOUND_LIMIT: i64 = 1_000_000;
 
 // The greatest bound of `objects` and of `identify`.
 const OBJECTS_BOUND_LIMIT: i64 = 100_000;
+
+// The greatest horizon of `objects` and of `identify`.
+const HORIZON_LIMIT: i64 = 10_000;
 
 // The greatest N of `advance`.
 const GENERATION_LIMIT: i64 = 4_194_304;
@@ -75,6 +78,17 @@ fn near<'a>(alloc: Global) -> Arg<'a>
         .long("near")
         .action(ArgAction::SetTrue)
         .help("Count what comes within two cells as one object")
+}
+
+fn horizon<'a>(alloc: Global) -> Arg<'a>
+    ensures { (rule_of result ≡ horizon_rule) × (result.global ≡ false) }
+{
+    Arg::new(alloc, "horizon")
+        .long("horizon")
+        .value_name("N")
+        .value_parser(value_parser!(u64).range(1..=HORIZON_LIMIT))
+        .default_value("1000")
+        .help("Generations within which growth is looked for, 1 to 10000")
 }
 
 fn input<'a>(alloc: Global) -> Arg<'a>
@@ -283,6 +297,7 @@ fn objects<'a>(alloc: Global) -> Result<Command<'a>, AllocError>
         .arg(workers(alloc))?
         .arg(cells(alloc))?
         .arg(near(alloc))?
+        .arg(horizon(alloc))?
         .arg(input(alloc))?
         .arg(recursive(alloc))?
         .arg(keep_going(alloc))?
@@ -299,7 +314,9 @@ fn identify<'a>(alloc: Global) -> Result<Command<'a>, AllocError>
         .about("Read RLE texts and tell of each what its pattern is")
         .after_help(help::IDENTIFY)
         .arg(search(alloc))?
+        .arg(cells(alloc))?
         .arg(near(alloc))?
+        .arg(horizon(alloc))?
         .arg(explain(alloc))?
         .arg(files(alloc))
 }

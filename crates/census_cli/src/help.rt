@@ -43,7 +43,10 @@ Lines of a report, of pattern I of collection C, both counted from 1:
   open C PATTERNS NAME
   line C I ash RULE POPULATION ONSET OBJECTS NAME has fallen apart in the bound
   part C I CODE COUNT                             its parts with CODE
-  line C I none RULE POPULATION NAME              has not
+  line C I grows RULE POPULATION ENGINES NAME     grows for ever by engines
+  engine C I E PERIOD DX DY COUNT                 its engines of kind E
+  emits C I E CODE COUNT                          what each emits in a period
+  line C I none RULE POPULATION NAME              neither
   line C I large RULE POPULATION GENERATION NAME  past --cells there
   line C I bad FAULT NAME                         RLE fault 1 to 10
   code C RULE CODE COUNT                          parts with CODE
@@ -98,16 +101,21 @@ run [--bound N] [--workers N] [--cells N] [--input N] [-r] [-k] [FOLDER]...
   FOLDER           a collection: its patterns are the *.rle files in the folder;
                    with no FOLDER a bundle of collections is read from standard
                    input
-objects [--bound N] [--workers N] [--cells N] [--near] [--input N] [-r] [-k]
-        [FOLDER]...
+objects [--bound N] [--workers N] [--cells N] [--near] [--horizon N] [--input N]
+        [-r] [-k] [FOLDER]...
                    as run, but another report ('census help objects'), and
   -b, --bound N    1 to 100000 [default: 10000]
       --cells N    1 to 4294967295 [default: 1000000]
       --near       count what comes within two cells as one object
-identify [--bound N] [--near] [FILE]...
+      --horizon N  generations within which growth is looked for, 1 to 10000
+                   [default: 1000]
+identify [--bound N] [--cells N] [--near] [--horizon N] [FILE]...
                    what each pattern is ('census help identify')
   -b, --bound N    1 to 100000 [default: 10000]
+      --cells N    1 to 4294967295 [default: 1000000]
       --near       count what comes within two cells as one object
+      --horizon N  generations within which growth is looked for, 1 to 10000
+                   [default: 1000]
   FILE             an RLE text; - is standard input; with no FILE standard input
                    is read
 advance N [FILE]
@@ -171,6 +179,7 @@ which tells a traffic light from blinkers that are far from each other.
 Example: census objects soups gliders
          census objects --bound 50000 --workers 16 soups
          census objects --near soups
+         census objects --horizon 5000 guns
          census objects --cells 20000 --recursive --keep-going soups old
          census objects --explain <bundle.txt
          census objects --no-progress soups >report.txt
@@ -196,11 +205,19 @@ or else where it has fallen apart in the bound
   onset GENERATION     the first that is ash,
   objects COUNT        that it has become ('census help objects' says which)
   part CODE COUNT      those with CODE
+or else where it is found to grow for ever
+  engines COUNT        by which it grows,
+  engine E PERIOD DX DY COUNT
+                       those of kind E, and how many they are,
+  emits E CODE COUNT   what each of them emits in a period
+or else where it has more cells than --cells allows
+  large GENERATION     the first that has
 or else
-  unresolved N         neither within N generations
+  unresolved N         none of these within N generations
 
 Example: census identify --bound 50000 glider.rle gun.rle
          census identify --near soup.rle
+         census identify --cells 20000 --horizon 5000 breeder.rle
          census identify --explain broken.rle
 
 "

@@ -2,7 +2,7 @@
 ghost use Rattle.std.specs.Prelude.{◌≡◌, IfOk, MatchResult, Some, codes, map, option_map};
 ghost use Rattle.clap.specs.Words.{first_of, found_of, rows_of, subcommand_rows_of};
 ghost use Rattle.census_cli.specs.Asking.{AsksFor, Explains, GivesAsked, GivesRequest, IsFlag, IsQuiet, argument_number, values_of};
-ghost use Rattle.census_cli.specs.Holding.{HasFlag, HasLimit, HasNumber, HasObjects, HasRun, HasTable, HasText};
+ghost use Rattle.census_cli.specs.Holding.{HasFlag, HasIdentify, HasLimit, HasNumber, HasObjects, HasRun, HasTable, HasText};
 ghost use Rattle.census_cli.specs.Holding.{IsCommand};
 ghost use Rattle.census_cli.specs.Refusing.{NamesFormat, NamesSubject, RefusesCommand, RefusesWords};
 
@@ -66,6 +66,8 @@ pub enum Request<'a> {
         cells: u32,
         /// Whether what comes near each other is counted as one object.
         near: bool,
+        /// Within how many generations growth is looked for, 1 to 10,000.
+        horizon: u32,
         /// How many bytes the files of the folders may have together, 1 to 9,223,372,036,854,775,807, where there is such
         /// a limit.
         input: Option<u64>,
@@ -80,8 +82,12 @@ pub enum Request<'a> {
     Identify {
         /// How many generations are searched, 1 to 100,000.
         bound: u32,
+        /// How many live cells a pattern may have, 1 to 4,294,967,295.
+        cells: u32,
         /// Whether what comes near each other is counted as one object.
         near: bool,
+        /// Within how many generations growth is looked for, 1 to 10,000.
+        horizon: u32,
         /// In the order of the words. `-` is standard input.
         files: Vec<&'a str>,
     },
@@ -227,10 +233,26 @@ fn objects_of<'a>(alloc: Global, objects: &ArgMatches<'a>) -> Result<Request<'a>
         workers: number(objects, "workers"),
         cells: number(objects, "cells"),
         near: flag(objects, "near"),
+        horizon: number(objects, "horizon"),
         input: long_limit(objects, "input"),
         recursive: flag(objects, "recursive"),
         keep_going: flag(objects, "keep-going"),
         folders: texts(alloc, objects, "folder")?,
+    })
+}
+
+// What the matches of `identify` ask for.
+fn identify_of<'a>(alloc: Global, identify: &ArgMatches<'a>) -> Result<Request<'a>, AllocError>
+    requires { HasIdentify (rows_of (found_of identify.now)) }
+    ensures { IfOk result
+        (GivesRequest (Some (codes "identify", rows_of (found_of identify.now)))) }
+{
+    Ok(Request::Identify {
+        bound: number(identify, "bound"),
+        cells: number(identify, "cells"),
+        near: flag(identify, "near"),
+        horizon: number(identify, "horizon"),
+        files: texts(alloc, identify, "file")?,
     })
 }
 
@@ -296,11 +318,7 @@ fn request_of<'a>(alloc: Global, matches: &ArgMatches<'a>) -> Result<Request<'a>
         return Ok(objects_of(alloc, objects)?);
     }
     if let Some(identify) = matches.subcommand_matches("identify") {
-        return Ok(Request::Identify {
-            bound: number(identify, "bound"),
-            near: flag(identify, "near"),
-            files: texts(alloc, identify, "file")?,
-        });
+        return Ok(identify_of(alloc, identify)?);
     }
     if let Some(advance) = matches.subcommand_matches("advance") {
         return Ok(Request::Advance {

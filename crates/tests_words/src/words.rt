@@ -74,6 +74,7 @@ fn is_asked(request: &Request, words: Words, asked: &Asked, flags: (bool, bool))
             workers,
             cells,
             near: _,
+            horizon: _,
             input: _,
             recursive,
             keep_going,
@@ -257,7 +258,9 @@ fn patterns_are_identified_in_the_order_of_their_files(rt: HostRuntime) -> Resul
         let asked = match &request_of(rt.alloc(), words)? {
             Request::Identify {
                 bound,
+                cells: _,
                 near: _,
+                horizon: _,
                 files,
             } => *bound == *asked_bound && files.as_slice() == *asked_files,
             _ => false,
@@ -588,6 +591,46 @@ fn what_is_near_is_one_object_where_that_is_asked_for(rt: HostRuntime) -> Result
     Ok(())
 }
 
+#[test]
+fn growth_has_a_horizon(rt: HostRuntime) -> Result<(), Fail> {
+    const ASKED: &[(Words, u32)] = &[
+        (&["objects"], 1_000),
+        (&["objects", "--horizon", "1", "a"], 1),
+        (&["objects", "a", "--horizon=10000", "-r"], 10_000),
+        (&["objects", "--", "--horizon", "5"], 1_000),
+        (&["identify"], 1_000),
+        (&["identify", "a", "--horizon", "20"], 20),
+        (&["identify", "--horizon=10000", "-b1", "a"], 10_000),
+        (&["identify", "--", "--horizon=5"], 1_000),
+    ];
+    for (words, asked) in ASKED {
+        let found = match request_of(rt.alloc(), words)? {
+            Request::Objects { horizon, .. } | Request::Identify { horizon, .. } => horizon,
+            other => panic!(rt; "{words:?}: {other:?}"),
+        };
+        assert_eq!(rt; found, *asked, "{words:?}");
+    }
+    Ok(())
+}
+
+#[test]
+fn single_patterns_have_a_limit_of_cells(rt: HostRuntime) -> Result<(), Fail> {
+    const ASKED: &[(Words, u32)] = &[
+        (&["identify"], 1_000_000),
+        (&["identify", "--cells", "1", "a"], 1),
+        (&["identify", "a", "--cells=4294967295"], 4_294_967_295),
+        (&["identify", "--", "--cells", "5"], 1_000_000),
+    ];
+    for (words, asked) in ASKED {
+        let found = match request_of(rt.alloc(), words)? {
+            Request::Identify { cells, .. } => cells,
+            other => panic!(rt; "{words:?}: {other:?}"),
+        };
+        assert_eq!(rt; found, *asked, "{words:?}");
+    }
+    Ok(())
+}
+
 // Words that are refused, and a part of the text that says so.
 const REFUSED: &[(Words, &str)] = &[
     (&[], "census"),
@@ -609,12 +652,21 @@ const REFUSED: &[(Words, &str)] = &[
     (&["objects", "--bound", "100001"], "--bound"),
     (&["objects", "--cells", "0"], "--cells"),
     (&["objects", "--cells", "4294967296"], "--cells"),
+    (&["objects", "--horizon", "0"], "--horizon"),
+    (&["objects", "--horizon", "10001"], "--horizon"),
+    (&["objects", "--horizon"], "--horizon"),
+    (&["run", "--horizon", "5"], "--horizon"),
     (&["objects", "--near", "--near"], "--near"),
     (&["objects", "--near=1"], "--near"),
     (&["run", "--near"], "--near"),
     (&["identify", "--near", "a", "--near"], "--near"),
     (&["identify", "--bound", "0"], "--bound"),
     (&["identify", "--bound", "100001"], "--bound"),
+    (&["identify", "--cells", "0"], "--cells"),
+    (&["identify", "--cells", "4294967296"], "--cells"),
+    (&["identify", "--horizon", "0"], "--horizon"),
+    (&["identify", "--horizon", "10001"], "--horizon"),
+    (&["identify", "--horizon=5", "--horizon=5"], "--horizon"),
     (&["identify", "--workers", "2"], "--workers"),
     (&["identify", "-k"], "-k"),
     (&["identify", "--no-progress"], "--no-progress"),
@@ -696,6 +748,9 @@ const OBJECTS_REPORT_PARTS: Words = &[
     "open C PATTERNS NAME",
     "line C I ash RULE POPULATION ONSET OBJECTS NAME",
     "part C I CODE COUNT",
+    "line C I grows RULE POPULATION ENGINES NAME",
+    "engine C I E PERIOD DX DY COUNT",
+    "emits C I E CODE COUNT",
     "line C I none RULE POPULATION NAME",
     "line C I large RULE POPULATION GENERATION NAME",
     "line C I bad FAULT NAME",
@@ -715,9 +770,10 @@ const PROGRAM_PARTS: Words = &[
     "-k, --keep-going",
     "1 to 100000 [default: 10000]",
     "[default: 1000000]",
-    "objects [--bound N] [--workers N] [--cells N] [--near] [--input N] [-r] [-k]\n",
+    "objects [--bound N] [--workers N] [--cells N] [--near] [--horizon N] [--input N]\n",
     "--near       count what comes within two cells as one object",
-    "identify [--bound N] [--near] [FILE]...",
+    "--horizon N  generations within which growth is looked for, 1 to 10000\n",
+    "identify [--bound N] [--cells N] [--near] [--horizon N] [FILE]...",
     "advance N [FILE]",
     "0 to 4194304",
     "[default: B3/S23]",
@@ -750,6 +806,8 @@ const OBJECTS_PARTS: Words = &[
     "--cells <N>",
     "1 to 4294967295 [default: 1000000]",
     "--near",
+    "--horizon <N>",
+    "1 to 10000 [default: 1000]",
     "Independent parts are counted",
     "-r, --recursive",
     "-k, --keep-going",
@@ -760,7 +818,11 @@ const IDENTIFY_PARTS: Words = &[
     "--explain",
     "-b, --bound <N>",
     "1 to 100000 [default: 10000]",
+    "--cells <N>",
+    "1 to 4294967295 [default: 1000000]",
     "--near",
+    "--horizon <N>",
+    "1 to 10000 [default: 1000]",
     "An RLE text; - is standard input",
     "With no FILE standard input is read",
     "Example: census identify",
@@ -778,6 +840,10 @@ const BLOCK_PARTS: Words = &[
     "apgcode CODE",
     "objects COUNT",
     "part CODE COUNT",
+    "engines COUNT",
+    "engine E PERIOD DX DY COUNT",
+    "emits E CODE COUNT",
+    "large GENERATION",
     "unresolved N",
     "0 done, 1 input refused, 2 bad command line, 3 out of memory,",
     "4 reading or writing failed",

@@ -12,10 +12,11 @@ returns c =
     let with_workers = adds_rule _ _ _ _ _ c.in_ok-arg-2.ensures c.workers.ensures with_search in
     let with_cells = adds_rule _ _ _ _ _ c.in_ok-arg-3.ensures c.cells.ensures with_workers in
     let with_near = adds_rule _ _ _ _ _ c.in_ok-arg-4.ensures c.near.ensures with_cells in
-    let with_input = adds_rule _ _ _ _ _ c.in_ok-arg-5.ensures c.input.ensures with_near in
-    let with_recursive = adds_rule _ _ _ _ _ c.in_ok-arg-6.ensures c.recursive.ensures with_input in
-    let with_keep_going = adds_rule _ _ _ _ _ c.in_ok-arg-7.ensures c.keep_going.ensures with_recursive in
-    let with_explain = adds_rule _ _ _ _ _ c.in_ok-arg-8.ensures c.explain.ensures with_keep_going in
-    let with_no_progress = adds_rule _ _ _ _ _ c.in_ok-arg-9.ensures c.no_progress.ensures with_explain in
-    IfOk-weaker c.arg-10.result _ _
-    (λ command adds. let whole = adds_rule _ _ _ _ _ adds c.folder.ensures with_no_progress in (ap (λ (a : App). a.top) whole.0, whole.1)) c.arg-10.ensures
+    let with_horizon = adds_rule _ _ _ _ _ c.in_ok-arg-5.ensures c.horizon.ensures with_near in
+    let with_input = adds_rule _ _ _ _ _ c.in_ok-arg-6.ensures c.input.ensures with_horizon in
+    let with_recursive = adds_rule _ _ _ _ _ c.in_ok-arg-7.ensures c.recursive.ensures with_input in
+    let with_keep_going = adds_rule _ _ _ _ _ c.in_ok-arg-8.ensures c.keep_going.ensures with_recursive in
+    let with_explain = adds_rule _ _ _ _ _ c.in_ok-arg-9.ensures c.explain.ensures with_keep_going in
+    let with_no_progress = adds_rule _ _ _ _ _ c.in_ok-arg-10.ensures c.no_progress.ensures with_explain in
+    IfOk-weaker c.arg-11.result _ _
+    (λ command adds. let whole = adds_rule _ _ _ _ _ adds c.folder.ensures with_no_progress in (ap (λ (a : App). a.top) whole.0, whole.1)) c.arg-11.ensures

@@ -2,7 +2,7 @@ use Rattle.std.proofs.Common.{refl, codes, subst}
 use Rattle.clap.specs.Matches.{found_of}
 use Rattle.clap.specs.Walk.{rows_of}
 use Rattle.census_cli.specs.Holding.{IsCommand}
-use Rattle.census_cli.proofs.Commands.{advance_command, objects_command, run_command, table_command}
+use Rattle.census_cli.proofs.Commands.{advance_command, identify_command, objects_command, run_command, table_command}
 use Rattle.census_cli.proofs.Getters.{entered_as, number_within}
 use Rattle.census_cli.proofs.request.request_of.Goals as goal
 use Rattle.census_cli.specs.Limits.{generation_limit}
@@ -16,8 +16,8 @@ returns-in-Some-subcommand_matches-3 c =
     record {
       rows = rows;
       named = named;
-      generations_are = c.number-in-Some-subcommand_matches-3.ensures;
-      generations_in = (number_within 0 generation_limit (codes "generations") rows _ has.generations c.number-in-Some-subcommand_matches-3.ensures).1;
+      generations_are = c.number.ensures;
+      generations_in = (number_within 0 generation_limit (codes "generations") rows _ has.generations c.number.ensures).1;
       file_is = c.text_if_used.ensures;
     }
 
@@ -32,6 +32,12 @@ objects_of-requires c =
     let arm = c.in-Some-subcommand_matches in
     let rows = rows_of (found_of arm.objects.now) in
     objects_command rows (subst IsCommand (entered_as c.args.matches.now (codes "objects") rows (arm.ensures.found.0 refl) arm.ensures.rows) c.requires)
+
+pub identify_of-requires : goal.identify_of-requires
+identify_of-requires c =
+    let arm = c.in-Some-subcommand_matches-2 in
+    let rows = rows_of (found_of arm.identify.now) in
+    identify_command rows (subst IsCommand (entered_as c.args.matches.now (codes "identify") rows (arm.ensures.found.0 refl) arm.ensures.rows) c.requires)
 
 pub table_of-requires : goal.table_of-requires
 table_of-requires c =
