@@ -9,7 +9,7 @@ use Rattle.life_answer.specs.declared.tale.Engines.{Engines}
 use Rattle.life_answer.specs.CountedTales.{engines_in}
 use Rattle.life_answer.specs.Parts.{objects_in}
 use Rattle.census_blocks.specs.declared.known.Known.{Known}
-use Rattle.census_blocks.specs.declared.known.Known.TheVariants.{Apart, Grows, Settles, Unresolved}
+use Rattle.census_blocks.specs.declared.known.Known.TheVariants.{Apart, Grows, Large, Settles, Unresolved}
 
 -- the bytes of a line
 abbrev pub Line : Type 0
@@ -77,6 +77,10 @@ engines_lines e (engines ∷ lines) = (engine_line e engines ∷ map (emits_line
 abbrev pub growing_lines : List Engines → List Line
 growing_lines engines = line (codes "engines") (decimal (engines_in engines) ∷ []) ∷ engines_lines 1 engines
 
+-- `large` and the first generation that has more cells than it may have
+abbrev pub large_lines : ℕ → List Line
+large_lines generation = line (codes "large") (decimal generation ∷ []) ∷ []
+
 -- `unresolved` and the bound, of a pattern that neither settles nor has fallen apart within it, and isn't told to grow
 abbrev pub unresolved_lines : ℕ → List Line
 unresolved_lines bound = line (codes "unresolved") (decimal bound ∷ []) ∷ []
@@ -87,4 +91,5 @@ known_lines bound (Settles onset period dx dy code) =
     settled_lines (record { onset = onset; period = period; displacement = (dx, dy) }) code
 known_lines bound (Apart onset parts) = apart_lines onset parts
 known_lines bound (Grows engines) = growing_lines engines
+known_lines bound (Large generation) = large_lines generation
 known_lines bound Unresolved = unresolved_lines bound

@@ -5,7 +5,7 @@ ghost use Rattle.life_text.specs.Rle.{reading};
 ghost use Rattle.life_text.specs.declared.rle.RleFault.TheVariants.{Memory};
 ghost use Rattle.census_blocks.specs.Blocks.{block_of, pattern_block};
 
-use crate::inquiry::Inquiry;
+use crate::inquiry::{HORIZON_LIMIT, Inquiry};
 use crate::known::known_of;
 use crate::lines::{push_head, push_known};
 use crate::size::size;
@@ -56,6 +56,7 @@ fn block_of_pattern(
     inquiry: Inquiry,
 ) -> Result<BlockText, AllocError>
     requires bound { 1 ≤ inquiry.bound × inquiry.bound ≤ BOUND_LIMIT }
+    requires horizon { 1 ≤ inquiry.horizon × inquiry.horizon ≤ HORIZON_LIMIT }
     requires meant { picture_of (reading text.now) ≡ Ok pattern.now }
     ensures { IfOk result (λ block. block ≡ pattern_block inquiry pattern.now) }
 {
@@ -73,19 +74,21 @@ fn block_of_pattern(
 }
 
 /// The block of lines that tells what the pattern of an RLE text is, or the text's fault. The bound is 1 to 100,000
-/// generations.
+/// generations, and the horizon 1 to 10,000.
 ///
 /// It tells the rule, the population and the box of generation 0; then, where the pattern settles within the bound, its
 /// onset, period, displacement and apgcode; else, where it has fallen apart within the bound, the onset of its ash, how many
 /// objects it has become, or how many independent parts where what comes near each other is not one object, and how many of
-/// each code; else that it is unresolved within the bound. It may look at generations past the bound, up to three times the
-/// bound.
+/// each code; else, where it grows within the horizon, by how many engines, and what is told of each; else, where some
+/// generation has more cells than it may have, the first such generation; else that it is unresolved within the bound. It may
+/// look at generations past the bound, up to four times the bound.
 pub fn block(
     alloc: Global,
     text: &[u8],
     inquiry: Inquiry,
 ) -> Result<Result<BlockText, RleFault>, AllocError>
-    requires { 1 ≤ inquiry.bound × inquiry.bound ≤ BOUND_LIMIT }
+    requires bound { 1 ≤ inquiry.bound × inquiry.bound ≤ BOUND_LIMIT }
+    requires horizon { 1 ≤ inquiry.horizon × inquiry.horizon ≤ HORIZON_LIMIT }
     ensures { IfOk result (λ block. block ≡ block_of inquiry text.now) }
 {
     match read_rle(alloc, text) {

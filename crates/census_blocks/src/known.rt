@@ -1,13 +1,12 @@
 //! What is known of a pattern, once both questions were asked of it.
-ghost use Rattle.std.specs.Prelude.{◌≡◌, ◌≤◌, IfOk, None, Ok};
+ghost use Rattle.std.specs.Prelude.{◌≡◌, ◌≤◌, IfOk, Ok, Some};
 ghost use Rattle.life_text.specs.Picture.{picture_of};
 ghost use Rattle.life_text.specs.Rle.{reading};
-ghost use Rattle.life_answer.specs.Answers.{outcome_of};
 ghost use Rattle.life_answer.specs.Questions.{outcome_to};
-ghost use Rattle.life_answer.specs.declared.question.Question.TheVariants.{Objects};
-ghost use Rattle.census_blocks.specs.Known.{growth_horizon, known_goal, known_of, known_recurrence};
+ghost use Rattle.life_answer.specs.declared.question.Question.TheVariants.{Objects, Settles};
+ghost use Rattle.census_blocks.specs.Known.{known_goal, known_of, known_recurrence};
 
-use crate::inquiry::{GROWTH_HORIZON, Inquiry};
+use crate::inquiry::{HORIZON_LIMIT, Inquiry};
 use life_answer::{Answer, Code, EngineList, Outcome, Parts};
 use life_orbit::BOUND_LIMIT;
 use life_text::Pattern;
@@ -41,6 +40,11 @@ pub enum Known {
         /// The engines by which it grows.
         engines: EngineList,
     },
+    /// None of these is so, and some generation has more cells than it may have.
+    Large {
+        /// The first such generation.
+        generation: u32,
+    },
     /// None of these is so within the bound.
     Unresolved,
 }
@@ -67,13 +71,15 @@ fn known_recurrence(outcome: Outcome) -> Option<Known>
     }
 }
 
-// What is known of a pattern that doesn't settle, by the objects or the engines that are found of it.
+// What is known of a pattern that doesn't settle, by the objects or the engines that are found of it, or by the generation that
+// is too large.
 fn known_goal(outcome: Outcome) -> Known
     ensures { result ≡ known_goal outcome }
 {
     match outcome {
         Outcome::Ash { onset, parts } => Known::Apart { onset, parts },
         Outcome::Grows { engines } => Known::Grows { engines },
+        Outcome::Large { generation } => Known::Large { generation },
         _ => Known::Unresolved,
     }
 }
@@ -83,14 +89,15 @@ fn settling(
     alloc: Global,
     text: &[u8],
     pattern: &Pattern,
-    bound: u32,
+    inquiry: Inquiry,
 ) -> Result<Option<Known>, AllocError>
-    requires bound { 1 ≤ bound × bound ≤ BOUND_LIMIT }
+    requires bound { 1 ≤ inquiry.bound × inquiry.bound ≤ BOUND_LIMIT }
     requires meant { picture_of (reading text.now) ≡ Ok pattern.now }
     ensures { IfOk result
-        (λ known. known ≡ known_recurrence (outcome_of pattern.now.rule pattern.now.cells bound)) }
+        (λ known. known ≡ known_recurrence (outcome_to (Settles inquiry.bound (Some inquiry.cells))
+        pattern.now.rule pattern.now.cells)) }
 {
-    match life_find::answer(alloc, text, bound, None)? {
+    match life_find::answer(alloc, text, inquiry.bound, Some(inquiry.cells))? {
         Answer::Found { finding, .. } => Ok(known_recurrence(finding.outcome)),
         Answer::Refused(_) => Ok(None),
     }
@@ -104,18 +111,19 @@ fn going_on(
     inquiry: Inquiry,
 ) -> Result<Known, AllocError>
     requires bound { 1 ≤ inquiry.bound × inquiry.bound ≤ BOUND_LIMIT }
+    requires horizon { 1 ≤ inquiry.horizon × inquiry.horizon ≤ HORIZON_LIMIT }
     requires meant { picture_of (reading text.now) ≡ Ok pattern.now }
     ensures { IfOk result
-        (λ known. known ≡ known_goal (outcome_to (Objects inquiry.bound None inquiry.near growth_horizon)
+        (λ known. known ≡ known_goal (outcome_to (Objects inquiry.bound (Some inquiry.cells) inquiry.near inquiry.horizon)
         pattern.now.rule pattern.now.cells)) }
 {
     match life_census::answer(
         alloc,
         text,
         inquiry.bound,
-        None,
+        Some(inquiry.cells),
         inquiry.near,
-        GROWTH_HORIZON,
+        inquiry.horizon,
     )? {
         Answer::Found { finding, .. } => Ok(known_goal(finding.outcome)),
         Answer::Refused(_) => Ok(Known::Unresolved),
@@ -124,8 +132,12 @@ fn going_on(
 
 /// What is known within the bound of the pattern that a text means: where it settles, when and as what; else, where it has
 /// fallen apart, when and into which objects, or into which independent parts where what comes near each other is not one
-/// object; else, where it grows within 1,000 generations, by which engines; else that none of these is so. The bound is 1 to
-/// 100,000 generations.
+/// object; else, where it grows within the horizon, by which engines; else, where some generation up to three times the bound
+/// has more cells than it may have, the first such generation; else that none of these is so. The bound is 1 to 100,000
+/// generations, and the horizon 1 to 10,000.
+///
+/// What settles within the bound is told so only where no generation up to the bound is too large, what has fallen apart only
+/// where none up to three times the bound is, and growth only where none is up to four times the generation that tells it.
 ///
 /// It may look at generations past the bound, up to four times the bound.
 pub fn known_of(
@@ -135,10 +147,11 @@ pub fn known_of(
     inquiry: Inquiry,
 ) -> Result<Known, AllocError>
     requires bound { 1 ≤ inquiry.bound × inquiry.bound ≤ BOUND_LIMIT }
+    requires horizon { 1 ≤ inquiry.horizon × inquiry.horizon ≤ HORIZON_LIMIT }
     requires meant { picture_of (reading text.now) ≡ Ok pattern.now }
     ensures { IfOk result (λ known. known ≡ known_of inquiry pattern.now) }
 {
-    if let Some(known) = settling(alloc, text, pattern, inquiry.bound)? {
+    if let Some(known) = settling(alloc, text, pattern, inquiry)? {
         return Ok(known);
     }
     going_on(alloc, text, pattern, inquiry)

@@ -11,5 +11,5 @@ mod lines;
 mod size;
 
 pub use block_text::{BlockText, block};
-pub use inquiry::{GROWTH_HORIZON, Inquiry};
+pub use inquiry::{HORIZON_LIMIT, Inquiry};
 pub use known::{Known, known_of};

@@ -193,6 +193,7 @@ pub fn push_known(text: &mut Vec<u8>, known: &Known, bound: u32) -> Result<(), A
         } => push_settled(text, *onset, *period, dx, dy, code.as_slice()),
         Known::Apart { onset, parts } => push_apart(text, *onset, parts),
         Known::Grows { engines } => push_growing(text, engines),
+        Known::Large { generation } => push_one(text, b"large", *generation),
         Known::Unresolved => push_one(text, b"unresolved", bound),
     }
 }

@@ -1,4 +1,4 @@
-use Rattle.std.proofs.Common.{None, ap, ◌∙◌}
+use Rattle.std.proofs.Common.{Some, ap, ◌∙◌}
 use Rattle.life_answer.specs.declared.question.Question.TheVariants.{Settles}
 use Rattle.life_answer.specs.declared.finding.Finding.{Finding}
 use Rattle.census_blocks.specs.Known.{known_recurrence}
@@ -8,8 +8,8 @@ use Rattle.census_blocks.proofs.known.settling.Goals as goal
 pub returns-in-Found : goal.returns-in-Found
 returns-in-Found c =
     c.known_recurrence.ensures
-    ∙ ap (λ (f : Finding). known_recurrence f.outcome) (found (Settles c.args.bound None) c.args.text.now c.args.pattern.now _ _ _ c.in_ok-finding.ensures.answer c.requires.meant c.in-Found.is)
+    ∙ ap (λ (f : Finding). known_recurrence f.outcome) (found (Settles c.args.inquiry.bound (Some c.args.inquiry.cells)) c.args.text.now c.args.pattern.now _ _ _ c.in_ok-finding.ensures.answer c.requires.meant c.in-Found.is)
 
 pub returns-in-Refused : goal.returns-in-Refused
 returns-in-Refused c =
-    absurd (not_refused (Settles c.args.bound None) c.args.text.now c.args.pattern.now _ _ c.in_ok-finding.ensures.answer c.requires.meant c.in-Refused.is)
+    absurd (not_refused (Settles c.args.inquiry.bound (Some c.args.inquiry.cells)) c.args.text.now c.args.pattern.now _ _ c.in_ok-finding.ensures.answer c.requires.meant c.in-Refused.is)
