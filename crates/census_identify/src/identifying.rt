@@ -8,7 +8,7 @@ use crate::course::{Course, tell, tell_line};
 use crate::error::IdentifyError;
 use crate::heard::hear;
 use crate::told::told_of;
-use census_blocks::Inquiry;
+use census_blocks::{HORIZON_LIMIT, Inquiry};
 use census_folders::Shelf;
 use life_orbit::BOUND_LIMIT;
 use std::alloc::Global;
@@ -33,6 +33,7 @@ fn identify_each<S: Shelf, I: Read, O: Write, E: Write>(
     errors: &mut Watched<E>,
 ) -> Result<u8, IdentifyError>
     requires bound { 1 ≤ inquiry.bound × inquiry.bound ≤ BOUND_LIMIT }
+    requires horizon { 1 ≤ inquiry.horizon × inquiry.horizon ≤ HORIZON_LIMIT }
     requires output { has_failed output.old ≡ false }
     requires errors { has_failed errors.old ≡ false }
     ensures { MatchResult result
@@ -57,7 +58,7 @@ fn identify_each<S: Shelf, I: Read, O: Write, E: Write>(
 
 /// Tells what the pattern of each word is, in the order of the words: of `-` that of the RLE text that standard input
 /// has left, and of any other word that of the file of this path. Without a word it is standard input's alone. The
-/// bound is 1 to 100,000 generations.
+/// bound is 1 to 100,000 generations, and the horizon 1 to 10,000.
 ///
 /// The block of a text goes to standard output, after the line `file WORD` where the word isn't `-`; an empty line
 /// parts it from the block before it. Where a text has a fault, is longer than 67,108,864 bytes or can't be read, a
@@ -77,6 +78,7 @@ pub fn identify<S: Shelf, I: Read, O: Write, E: Write>(
     errors: &mut Watched<E>,
 ) -> u8
     requires bound { 1 ≤ inquiry.bound × inquiry.bound ≤ BOUND_LIMIT }
+    requires horizon { 1 ≤ inquiry.horizon × inquiry.horizon ≤ HORIZON_LIMIT }
     requires output { has_failed output.old ≡ false }
     requires errors { has_failed errors.old ≡ false }
     ensures { Identifies ((S.tellings shelf.now).held []) inquiry (map (λ s. s.now) words.now) result

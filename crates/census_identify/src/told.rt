@@ -5,7 +5,7 @@ ghost use Rattle.census_identify.specs.Telling.{block_with_head, message_line, t
 
 use crate::bytes::Bytes;
 use crate::heard::{Heard, is_input};
-use census_blocks::{Inquiry, block};
+use census_blocks::{HORIZON_LIMIT, Inquiry, block};
 use census_bundle::Text;
 use life_faults::fault_line;
 use life_orbit::BOUND_LIMIT;
@@ -75,7 +75,8 @@ fn told_of_text(
     text: &[u8],
     inquiry: Inquiry,
 ) -> Result<Told, AllocError>
-    requires { 1 ≤ inquiry.bound × inquiry.bound ≤ BOUND_LIMIT }
+    requires bound { 1 ≤ inquiry.bound × inquiry.bound ≤ BOUND_LIMIT }
+    requires horizon { 1 ≤ inquiry.horizon × inquiry.horizon ≤ HORIZON_LIMIT }
     ensures { IfOk result (λ told.
         told ≡ told_of_block word.now text.now (block_of inquiry text.now)) }
 {
@@ -88,8 +89,8 @@ fn told_of_text(
     }
 }
 
-/// What is told of a word, by what was got of it. The bound is 1 to 100,000 generations. `AllocError` is answered where a
-/// growth was refused.
+/// What is told of a word, by what was got of it. The bound is 1 to 100,000 generations, and the horizon 1 to 10,000.
+/// `AllocError` is answered where a growth was refused.
 ///
 /// Of a text that means a pattern it is its block, after the line `file WORD` where the word isn't `-`. Of any other
 /// text it is the line `census: WORD:LINE:COLUMN: WORDS (rle fault N at A)`, which asks for status 1; of one that is too
@@ -102,7 +103,8 @@ pub fn told_of(
     heard: &Heard,
     inquiry: Inquiry,
 ) -> Result<Told, AllocError>
-    requires { 1 ≤ inquiry.bound × inquiry.bound ≤ BOUND_LIMIT }
+    requires bound { 1 ≤ inquiry.bound × inquiry.bound ≤ BOUND_LIMIT }
+    requires horizon { 1 ≤ inquiry.horizon × inquiry.horizon ≤ HORIZON_LIMIT }
     ensures { IfOk result (λ told. told ≡ told_of inquiry word.now heard.now) }
 {
     match heard {
