@@ -8,8 +8,8 @@ _census() {
     fi
     case ${COMP_WORDS[1]} in
     run) options='-b --bound -w --workers --cells --input -r --recursive -k --keep-going --explain --no-progress -h --help' kind=folders ;;
-    objects) options='-b --bound -w --workers --cells --near --input -r --recursive -k --keep-going --explain --no-progress -h --help' kind=folders ;;
-    identify) options='-b --bound --near --explain -h --help' kind=files ;;
+    objects) options='-b --bound -w --workers --cells --near --horizon --input -r --recursive -k --keep-going --explain --no-progress -h --help' kind=folders ;;
+    identify) options='-b --bound --cells --near --horizon --explain -h --help' kind=files ;;
     advance) options='--explain -h --help' kind=files ;;
     draw) options='--rule --explain -h --help' kind=neither ;;
     merge) options='--explain -h --help' kind=files ;;
@@ -19,7 +19,7 @@ _census() {
     verify) options='--explain -h --help' kind=files ;;
     esac
     case $last in
-    --bound | --cells | --input | --rule | --workers | -b | -w) return ;;
+    --bound | --cells | --horizon | --input | --rule | --workers | -b | -w) return ;;
     esac
     case $word in
     -*) mapfile -t COMPREPLY < <(compgen -W "$options" -- "$word") ;;

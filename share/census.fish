@@ -16,6 +16,7 @@ complete -c census -n '__fish_seen_subcommand_from objects' -s b -l bound -x -d 
 complete -c census -n '__fish_seen_subcommand_from objects' -s w -l workers -x -d 'Threads that work, 1 to 16 [default: 4]'
 complete -c census -n '__fish_seen_subcommand_from objects' -l cells -x -d 'Live cells that a pattern may have, 1 to 4294967295 [default: 1000000]'
 complete -c census -n '__fish_seen_subcommand_from objects' -l near -d 'Count what comes within two cells as one object'
+complete -c census -n '__fish_seen_subcommand_from objects' -l horizon -x -d 'Generations within which growth is looked for, 1 to 10000 [default: 1000]'
 complete -c census -n '__fish_seen_subcommand_from objects' -l input -x -d 'Bytes that the files of the FOLDERs may have together, 1 to 9223372036854775807 [default: no limit]'
 complete -c census -n '__fish_seen_subcommand_from objects' -s r -l recursive -d 'Take the folders below each FOLDER too that have *.rle files'
 complete -c census -n '__fish_seen_subcommand_from objects' -s k -l keep-going -d 'Go on past what can'\''t be read, and exit with status 4 then. A file that can'\''t be read has FAULT 0 in the report'
@@ -25,7 +26,9 @@ complete -c census -n '__fish_seen_subcommand_from objects' -s h -l help -d 'Pri
 complete -c census -n '__fish_seen_subcommand_from objects' -a '(__fish_complete_directories)'
 complete -c census -n __fish_use_subcommand -a identify -d 'Read RLE texts and tell of each what its pattern is'
 complete -c census -n '__fish_seen_subcommand_from identify' -s b -l bound -x -d 'Generations that are searched, 1 to 100000 [default: 10000]'
+complete -c census -n '__fish_seen_subcommand_from identify' -l cells -x -d 'Live cells that a pattern may have, 1 to 4294967295 [default: 1000000]'
 complete -c census -n '__fish_seen_subcommand_from identify' -l near -d 'Count what comes within two cells as one object'
+complete -c census -n '__fish_seen_subcommand_from identify' -l horizon -x -d 'Generations within which growth is looked for, 1 to 10000 [default: 1000]'
 complete -c census -n '__fish_seen_subcommand_from identify' -l explain -d 'Tell of each fault on standard error also where it is, what is wrong and what would be right'
 complete -c census -n '__fish_seen_subcommand_from identify' -s h -l help -d 'Print help'
 complete -c census -n '__fish_seen_subcommand_from identify' -F
