@@ -6,6 +6,7 @@ pub mod LaterParts
 pub mod PartsFound
 pub mod MovedCodes
 pub mod SmallEnough
+pub mod Early
 pub mod Taken
 pub mod Emissions
 pub mod OneByOne

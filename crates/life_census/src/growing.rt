@@ -10,6 +10,7 @@ ghost use Rattle.life_growth.specs.Growth.{IsGrowth};
 ghost use Rattle.life_census.specs.Grown.{IsGrownWithin, IsSeenWithin, NeverGrows, NeverGrowsThen};
 
 use crate::allowed::allowed_bound;
+use crate::trend::{rises_steadily, trend_length};
 use life_cells::{CellList, Rule};
 use life_growing::{Growth, growth_of};
 use life_orbit::BOUND_LIMIT;
@@ -19,6 +20,9 @@ use std::alloc::{AllocError, Global};
 
 /// How many generations the first film has that is looked at. Each further one has twice as many as the one before it.
 const FIRST_LENGTH: u32 = 32;
+
+/// Below this horizon short films are looked at in any case.
+const SHORT: u32 = 64;
 
 /// The plane of a generation of a pattern.
 fn plane_at<P: Plane>(
@@ -61,6 +65,52 @@ fn growth_soon<P: Plane>(
     Ok(None)
 }
 
+/// The same, where the population seems to rise steadily or the horizon is short. Films are dear where nothing grows.
+fn growth_if_rising<P: Plane>(
+    alloc: Global,
+    plane: &P,
+    rule: &Rule,
+    horizon: u32,
+) -> Result<Option<Growth>, AllocError>
+    requires horizon { horizon ≤ WAY_LIMIT }
+    requires age { P.steps_made plane.now + 4 * horizon ≤ ash_age_limit }
+    ensures { IfOk result (λ found. IfSome found (IsSeenWithin rule.now horizon (P.members plane.now))) }
+{
+    let length = trend_length(plane.age());
+    if horizon >= SHORT && !rises_steadily(alloc, plane, rule, length)? {
+        return Ok(None);
+    }
+    growth_soon(alloc, plane, rule, horizon)
+}
+
+/// The growth that a generation on the way to some bound shows soon, if one does. It is that of the pattern within each bound
+/// that is no less than the age of this generation, 1 to 100,000; and it is `None` where some generation up to four times that
+/// age has more cells than the limit. The horizon is 1 to 10,000.
+pub fn growth_on_the_way<P: Plane>(
+    alloc: Global,
+    plane: &P,
+    rule: &Rule,
+    cells: &CellList,
+    limit: Option<u32>,
+    horizon: u32,
+) -> Result<Option<Growth>, AllocError>
+    requires age { 1 ≤ P.steps_made plane.now × P.steps_made plane.now ≤ BOUND_LIMIT }
+    requires horizon { horizon ≤ WAY_LIMIT }
+    requires fits { All (IsWithin 0) (generations.cells cells.now) }
+    requires cells { P.members plane.now ≡ generation rule.now cells.now (P.steps_made plane.now) }
+    ensures { IfOk result (λ found. IfSome found (λ growth. (b : ℕ) → P.steps_made plane.now ≤ b →
+        IsGrownWithin rule.now cells.now (allowed_bound limit rule.now cells.now b) horizon growth)) }
+{
+    let age = plane.age();
+    let Some(growth) = growth_if_rising(alloc, plane, rule, horizon.min(age))? else {
+        return Ok(None);
+    };
+    if allowed_bound::<P>(alloc, rule, cells, age, limit)? < age {
+        return Ok(None);
+    }
+    Ok(Some(growth))
+}
+
 /// The growth of a plane's cells within the horizon, if there is one. Short films are looked at first, and the last one, which
 /// has twice as many generations as the horizon, tells exactly.
 fn growth_up_to<P: Plane>(
@@ -74,7 +124,7 @@ fn growth_up_to<P: Plane>(
     ensures some { IfOk result (λ found. IfSome found (IsSeenWithin rule.now horizon (P.members plane.now))) }
     ensures none { IfOk result (λ found. IfNone found (NeverGrows rule.now horizon (P.members plane.now))) }
 {
-    if let Some(growth) = growth_soon(alloc, plane, rule, horizon)? {
+    if let Some(growth) = growth_if_rising(alloc, plane, rule, horizon)? {
         return Ok(Some(growth));
     }
     growth_of(alloc, plane, rule, 2 * horizon, horizon)

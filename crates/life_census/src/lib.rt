@@ -16,6 +16,7 @@ mod known_sets;
 mod parts;
 mod pattern;
 mod telling;
+mod trend;
 
 pub use answering::answer;
 pub use code::code_of;

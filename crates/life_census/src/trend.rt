@@ -1,0 +1,72 @@
+//! Whether a pattern seems to grow steadily.
+ghost use Rattle.std.specs.Prelude.{◌+◌, ◌*◌, ◌≤◌, length};
+
+use life_cells::Rule;
+use life_plane::{AGE_LIMIT, Plane};
+use std::alloc::{AllocError, Global};
+
+/// Of how many generations at least the populations are compared.
+const LEAST: u32 = 128;
+
+/// How many generations of a plane of this age are enough to see a trend.
+pub fn trend_length(age: u32) -> u32
+    ensures { result ≤ age + 128 }
+{
+    (age / 4).max(LEAST)
+}
+
+/// Whether the counts rise by the same in each period, phase by phase.
+fn rise_alike(counts: &[u64], period: usize) -> bool
+    requires { 2 * period ≤ length counts.now }
+{
+    for n in 0..counts.len() - 2 * period {
+        let next = u128::from(counts[n + period]);
+        if u128::from(counts[n]) + u128::from(counts[n + 2 * period]) != 2 * next {
+            return false;
+        }
+    }
+    true
+}
+
+/// Whether the counts of the second period are more than those of the first together.
+fn have_risen(counts: &[u64], period: usize) -> bool
+    requires { 2 * period ≤ length counts.now }
+{
+    let mut first = 0_u64;
+    let mut second = 0_u64;
+    for n in 0..period {
+        first = first.saturating_add(counts[n]);
+        second = second.saturating_add(counts[n + period]);
+    }
+    first < second
+}
+
+/// Whether the counts rise steadily: with the least period, up to a third of their number, in which they rise by the same
+/// each time, phase by phase, they do rise.
+fn is_rising(counts: &[u64]) -> bool {
+    for period in 1..counts.len() / 3 + 1 {
+        if rise_alike(counts, period) {
+            return have_risen(counts, period);
+        }
+    }
+    false
+}
+
+/// Whether the population of a plane's cells seems to rise steadily, as the next generations show, so many of them. That it
+/// says yes or no tells nothing for certain.
+pub fn rises_steadily<P: Plane>(
+    alloc: Global,
+    plane: &P,
+    rule: &Rule,
+    length: u32,
+) -> Result<bool, AllocError>
+    requires { P.steps_made plane.now + length ≤ AGE_LIMIT }
+{
+    let mut later = plane.copy()?;
+    let mut counts = Vec::new(alloc);
+    'steps: for _ in 0..length {
+        counts.push(later.population())?;
+        later.step(rule)?;
+    }
+    Ok(is_rising(counts.as_slice()))
+}
