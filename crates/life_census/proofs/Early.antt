@@ -1,12 +1,21 @@
--- Growth that is seen on the way to a bound.
-use Rattle.std.proofs.Common.{◌≡◌, ℕ, ◌*◌, ◌≤◌, min, Option, sym, subst, arith}
+-- Growth that is seen on the way to a bound, and what is told of it.
+use Rattle.std.proofs.Common.{◌≡◌, ℕ, ◌*◌, ◌≤◌, min, Bool, List, Option, None, Some, sym, ap, subst, ◌∙◌, arith}
 use Rattle.life_model.specs.Evolution.{generation}
 use Rattle.life_model.specs.Generation.{Generation}
 use Rattle.life_model.specs.Rule.{Rule}
+use Rattle.life_model.proofs.Recurrences.{generation-add}
+use Rattle.life_objects.specs.Ash.{HasFallenApart, IsAsh}
+use Rattle.life_objects.specs.Union.{generations}
+use Rattle.life_objects.proofs.Ashes.{IsAsh-after}
 use Rattle.life_answer.specs.Growing.{allowed_bound}
 use Rattle.life_answer.specs.Limited.{StaysWithin}
+use Rattle.life_answer.specs.Told.{growth_told, told_of_engines}
+use Rattle.life_answer.specs.declared.tale.Engines.{Engines}
+use Rattle.life_answer.proofs.Ashes.{ash_no_growth}
 use Rattle.life_answer.proofs.Growing.{allowed_most, allowed_small, allowed_within}
-use Rattle.life_growing.specs.Growths.{Growth, IsGrowthOf}
+use Rattle.life_answer.proofs.Told.{growth_later_told, told_nothing}
+use Rattle.life_ash.specs.Fates.{EndsLater}
+use Rattle.life_growing.specs.Growths.{Growth, IsGrowthOf, starts_of}
 use Rattle.life_census.specs.Grown.{IsGrownWithin, IsSeenWithin}
 
 -- Growth of a generation, up to four times whose age none has more cells than it may have, is that of each greater bound.
@@ -29,3 +38,25 @@ grown_early R G H limit age b horizon least g some by_then small here soon early
         growth = subst (λ K. IsGrowthOf R seen.bound K g) here seen.growth;
       };
     }
+
+-- what is told of growth that is seen early
+pub told_grown : (near : Bool) (R : Rule) (G : Generation) (c horizon : ℕ) (g : Growth) (lines : List Engines) →
+    IsGrownWithin R G c horizon g →
+    ((S : Rule) (b : ℕ) (H : Generation) → IsGrowthOf S b H g → lines ≡ told_of_engines near S b (starts_of g.engines)) →
+    growth_told near R (min horizon c) (generation R G c) ≡ Some lines
+told_grown near R G c horizon g lines grown told =
+    let seen = grown.seen in
+    growth_later_told near R seen.bound (min horizon c) grown.age c G seen.soon grown.early (starts_of g.engines)
+    seen.growth.set seen.growth.growth
+    ∙ sym (ap Some (told R seen.bound (generation R G grown.age) seen.growth))
+
+-- nothing is told of the growth of what is ash later
+pub nothing_told : (near : Bool) (R : Rule) (G : Generation) (h c : ℕ) → EndsLater R G →
+    growth_told near R h (generation R G c) ≡ None
+nothing_told near R G h c ends =
+    let b : ℕ = ends.0 in
+    let n : ℕ = ends.1 in
+    let last = generations R ends.2 b in
+    let fallen : HasFallenApart R b (generation R G n) last =
+    subst (λ H. IsAsh R b H last) (sym (generation-add R G n b)) (IsAsh-after R b n b G ends.2 ends.3) in
+    told_nothing near R h (generation R G c) (λ S Es growth. ash_no_growth near R b h n c G last Es S fallen growth)

@@ -7,6 +7,7 @@ pub mod PartsFound
 pub mod MovedCodes
 pub mod SmallEnough
 pub mod Early
+pub mod Walking
 pub mod Taken
 pub mod Emissions
 pub mod OneByOne

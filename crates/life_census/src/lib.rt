@@ -15,8 +15,10 @@ mod known_set;
 mod known_sets;
 mod parts;
 mod pattern;
+mod seen;
 mod telling;
 mod trend;
+mod walk;
 
 pub use answering::answer;
 pub use code::code_of;

@@ -6,17 +6,20 @@ ghost use Rattle.life_cells.specs.Limits.{IsWithin};
 ghost use Rattle.life_objects.specs.Ash.{IsAsh};
 ghost use Rattle.life_answer.specs.Census.{census_of};
 ghost use Rattle.life_answer.specs.Growing.{allowed_bound, growing_or};
-ghost use Rattle.life_answer.specs.Questions.{finding_to};
+ghost use Rattle.life_answer.specs.Questions.{finding_to, outcome_to};
 ghost use Rattle.life_answer.specs.Told.{growth_told};
 ghost use Rattle.life_answer.specs.declared.question.Question.TheVariants.{Objects};
 ghost use Rattle.life_apart.specs.Sets.{IsCourseBy, sets_of};
 ghost use Rattle.life_onset.specs.Moments.{IsMomentOf};
+ghost use Rattle.life_ash.specs.Fates.{IsFate};
 
 use crate::growing::growth_within;
 use crate::parts::parts_of;
+use crate::seen::Seen;
 use crate::telling::told;
+use crate::walk::seen;
 use life_answer::{EngineList, Finding, Outcome};
-use life_ash::{Ash, Fate, fate};
+use life_ash::{Ash, Fate};
 use life_cells::{CellList, Rule};
 use life_onset::{Trail, onset};
 use life_orbit::BOUND_LIMIT;
@@ -85,6 +88,40 @@ fn growing_or(engines: Option<EngineList>, outcome: Outcome) -> Outcome
     }
 }
 
+/// The outcome of a pattern of which this becomes. What is ash never grows, so no growth is looked for in what is seen to end.
+fn outcome_of_fate<P: Plane>(
+    alloc: Global,
+    rule: &Rule,
+    cells: &CellList,
+    fate: Fate,
+    bound: u32,
+    limit: Option<u32>,
+    near: bool,
+    horizon: u32,
+) -> Result<Outcome, AllocError>
+    requires bound { 1 ≤ bound × bound ≤ BOUND_LIMIT }
+    requires horizon { 1 ≤ horizon × horizon ≤ WAY_LIMIT }
+    requires fits { All (IsWithin 0) (generations.cells cells.now) }
+    requires fate { IsFate rule.now cells.now bound limit fate }
+    ensures { IfOk result (λ outcome.
+        outcome ≡ outcome_to (Objects bound limit near horizon) rule.now cells.now) }
+{
+    match fate {
+        Fate::Ash { ash, age, trail } => {
+            outcome_of_ash::<P>(alloc, rule, cells, &ash, age, &trail, near)
+        }
+        Fate::Unresolved { ends: true } => Ok(Outcome::Unresolved),
+        Fate::Unresolved { ends: false } => {
+            let engines = engines_within::<P>(alloc, rule, cells, bound, limit, near, horizon)?;
+            Ok(growing_or(engines, Outcome::Unresolved))
+        }
+        Fate::Large { generation } => {
+            let engines = engines_within::<P>(alloc, rule, cells, bound, limit, near, horizon)?;
+            Ok(growing_or(engines, Outcome::Large { generation }))
+        }
+    }
+}
+
 /// What a pattern falls apart into within the bound, counted by codes, and the first generation that is ash: `Ash` exactly
 /// where it does. Else the engines by which it grows, counted by what is told of each, and with the codes of what it emits:
 /// `Grows` exactly where it does so within the horizon, as it is seen within the greatest bound, up to this one, such that no
@@ -108,17 +145,12 @@ pub fn census<P: Plane>(
         (λ found. found ≡ finding_to (Objects bound limit near horizon) rule.now cells.now) }
 {
     let population = cells.len() as u64;
-    let outcome = match fate::<P>(alloc, rule, cells, bound, limit)? {
-        Fate::Ash { ash, age, trail } => {
-            outcome_of_ash::<P>(alloc, rule, cells, &ash, age, &trail, near)?
-        }
-        Fate::Unresolved { .. } => {
-            let engines = engines_within::<P>(alloc, rule, cells, bound, limit, near, horizon)?;
-            growing_or(engines, Outcome::Unresolved)
-        }
-        Fate::Large { generation } => {
-            let engines = engines_within::<P>(alloc, rule, cells, bound, limit, near, horizon)?;
-            growing_or(engines, Outcome::Large { generation })
+    let outcome = match seen::<P>(alloc, rule, cells, bound, limit, horizon)? {
+        Seen::Grows { growth } => Outcome::Grows {
+            engines: told(alloc, &growth, near)?,
+        },
+        Seen::Becomes { fate } => {
+            outcome_of_fate::<P>(alloc, rule, cells, fate, bound, limit, near, horizon)?
         }
     };
     Ok(Finding {

@@ -1,4 +1,4 @@
-use Rattle.std.proofs.Common.{◌≡◌, ◌≤◌, sym, ap, subst, ◌∙◌, arith}
+use Rattle.std.proofs.Common.{ap, arith}
 use Rattle.life_answer.specs.Growing.{allowed_bound}
 use Rattle.life_ash.proofs.Finding.{of_some}
 use Rattle.life_census.specs.Grown.{IsSeenWithin}

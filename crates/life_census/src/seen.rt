@@ -1,0 +1,18 @@
+//! What may be seen of a pattern on the way to the bound.
+use life_ash::Fate;
+use life_growing::Growth;
+
+/// What is seen of a pattern within a bound, if no generation may have more cells than some number.
+#[derive(Drop)]
+pub enum Seen {
+    /// It grows.
+    Grows {
+        /// Its growth.
+        growth: Growth,
+    },
+    /// This becomes of it, and whether it grows is open.
+    Becomes {
+        /// Its fate.
+        fate: Fate,
+    },
+}

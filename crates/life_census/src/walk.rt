@@ -1,0 +1,99 @@
+//! The walk of a pattern to the bound, on which one looks for ash and for growth.
+ghost use Rattle.std.specs.Prelude.{◌≡◌, ◌+◌, ◌≤◌, All, IfNone, IfOk, IfSome};
+ghost use Rattle.life_model.specs.Generation.{Generation};
+ghost use Rattle.life_model.specs.Generation as generations;
+ghost use Rattle.life_cells.specs.Limits.{IsWithin};
+ghost use Rattle.life_ash.specs.Fates.{IsFate};
+ghost use Rattle.life_census.specs.OnTheWay.{IsOnTheWay, IsSeen};
+
+use crate::growing::growth_on_the_way;
+use crate::seen::Seen;
+use life_ash::{Ash, Fate, Found, Known, fate_past, walk_on};
+use life_cells::{CellList, Rule};
+use life_onset::Trail;
+use life_orbit::BOUND_LIMIT;
+use life_plane::Plane;
+use life_tally::Pace;
+use life_things::WAY_LIMIT;
+use std::alloc::{AllocError, Global};
+use std::mem;
+
+/// The first age at which one looks for growth. Each further one is twice the one before it.
+const FIRST_LOOK: u32 = 512;
+
+/// Walks on to an age up to the bound. What becomes of the pattern, where that is found before: then the trail is spent.
+fn fate_before<P: Plane>(
+    alloc: Global,
+    plane: &mut P,
+    met: &mut Known,
+    pace: &mut Pace,
+    trail: &mut Trail,
+    limit: Option<u32>,
+    end: u32,
+) -> Result<Option<Fate>, AllocError>
+    requires start { P.steps_made plane.old ≤ end }
+    requires end { end ≤ met.old.bound }
+    requires way { (G : Generation) ×
+        IsOnTheWay met.old.rule G limit (P.members plane.old) (P.steps_made plane.old) trail.old }
+    ensures same { met.new ≡ met.old }
+    ensures some { IfOk result (λ found. IfSome found (λ fate. (G : Generation) →
+        IsOnTheWay met.old.rule G limit (P.members plane.old) (P.steps_made plane.old) trail.old →
+        IsFate met.old.rule G met.old.bound limit fate)) }
+    ensures none { IfOk result (λ found. IfNone found ((G : Generation) →
+        IsOnTheWay met.old.rule G limit (P.members plane.old) (P.steps_made plane.old) trail.old →
+        IsOnTheWay met.old.rule G limit (P.members plane.new) (P.steps_made plane.new) trail.new)) }
+    ensures age { IfOk result (λ found. IfNone found (P.steps_made plane.new ≡ end)) }
+{
+    let last = 3 * met.bound();
+    match walk_on(alloc, plane, met, pace, trail, limit, end, last)? {
+        Found::Large { generation } => Ok(Some(Fate::Large { generation })),
+        Found::Parts { parts, age } => {
+            Ok(Some(Fate::Ash {
+                ash: Ash::of(parts),
+                age,
+                trail: mem::replace(trail, Trail::new(alloc)),
+            }))
+        }
+        Found::Nothing => Ok(None),
+    }
+}
+
+/// What is seen of a pattern within the bound. On the way there one looks now and then whether it has fallen apart, and each
+/// time that the age has doubled whether it grows, where its population rises steadily.
+pub fn seen<P: Plane>(
+    alloc: Global,
+    rule: &Rule,
+    cells: &CellList,
+    bound: u32,
+    limit: Option<u32>,
+    horizon: u32,
+) -> Result<Seen, AllocError>
+    requires bound { 1 ≤ bound × bound ≤ BOUND_LIMIT }
+    requires horizon { horizon ≤ WAY_LIMIT }
+    requires fits { All (IsWithin 0) (generations.cells cells.now) }
+    ensures { IfOk result (IsSeen rule.now cells.now bound limit horizon) }
+{
+    let mut plane = P::from_cells(alloc, cells)?;
+    let mut met = Known::new(alloc, rule, bound);
+    let mut pace = Pace::new();
+    let mut trail = Trail::new(alloc);
+    let mut next = FIRST_LOOK;
+    'looks: while next < bound {
+        if let Some(fate) = fate_before(
+            alloc, &mut plane, &mut met, &mut pace, &mut trail, limit, next,
+        )? {
+            return Ok(Seen::Becomes { fate });
+        }
+        if let Some(growth) = growth_on_the_way(alloc, &plane, rule, cells, limit, horizon)? {
+            return Ok(Seen::Grows { growth });
+        }
+        next *= 2;
+    }
+    if let Some(fate) = fate_before(
+        alloc, &mut plane, &mut met, &mut pace, &mut trail, limit, bound,
+    )? {
+        return Ok(Seen::Becomes { fate });
+    }
+    let fate = fate_past(alloc, &plane, &mut met, &mut pace, trail, limit)?;
+    Ok(Seen::Becomes { fate })
+}
