@@ -10,7 +10,7 @@ ghost use Rattle.life_growth.specs.Growth.{IsGrowth};
 ghost use Rattle.life_census.specs.Grown.{IsGrownWithin, IsSeenWithin, NeverGrows, NeverGrowsThen};
 
 use crate::allowed::allowed_bound;
-use crate::trend::{rises_steadily, trend_length};
+use crate::trend::{LEAST_TREND, rises_steadily};
 use life_cells::{CellList, Rule};
 use life_growing::{Growth, growth_of};
 use life_orbit::BOUND_LIMIT;
@@ -65,18 +65,20 @@ fn growth_soon<P: Plane>(
     Ok(None)
 }
 
-/// The same, where the population seems to rise steadily or the horizon is short. Films are dear where nothing grows.
+/// The same, where the population seems to rise steadily over so many generations or the horizon is short. Films are dear
+/// where nothing grows.
 fn growth_if_rising<P: Plane>(
     alloc: Global,
     plane: &P,
     rule: &Rule,
+    length: u32,
     horizon: u32,
 ) -> Result<Option<Growth>, AllocError>
+    requires length { length ≤ BOUND_LIMIT }
     requires horizon { horizon ≤ WAY_LIMIT }
     requires age { P.steps_made plane.now + 4 * horizon ≤ ash_age_limit }
     ensures { IfOk result (λ found. IfSome found (IsSeenWithin rule.now horizon (P.members plane.now))) }
 {
-    let length = trend_length(plane.age());
     if horizon >= SHORT && !rises_steadily(alloc, plane, rule, length)? {
         return Ok(None);
     }
@@ -102,7 +104,8 @@ pub fn growth_on_the_way<P: Plane>(
         IsGrownWithin rule.now cells.now (allowed_bound limit rule.now cells.now b) horizon growth)) }
 {
     let age = plane.age();
-    let Some(growth) = growth_if_rising(alloc, plane, rule, horizon.min(age))? else {
+    let length = (age / 8).max(LEAST_TREND);
+    let Some(growth) = growth_if_rising(alloc, plane, rule, length, horizon.min(age))? else {
         return Ok(None);
     };
     if allowed_bound::<P>(alloc, rule, cells, age, limit)? < age {
@@ -124,7 +127,8 @@ fn growth_up_to<P: Plane>(
     ensures some { IfOk result (λ found. IfSome found (IsSeenWithin rule.now horizon (P.members plane.now))) }
     ensures none { IfOk result (λ found. IfNone found (NeverGrows rule.now horizon (P.members plane.now))) }
 {
-    if let Some(growth) = growth_if_rising(alloc, plane, rule, horizon)? {
+    let length = horizon.max(LEAST_TREND);
+    if let Some(growth) = growth_if_rising(alloc, plane, rule, length, horizon)? {
         return Ok(Some(growth));
     }
     growth_of(alloc, plane, rule, 2 * horizon, horizon)

@@ -1,7 +1,7 @@
 //! The census of a pattern: the objects that it falls apart into, or the independent parts of these, counted by codes, or the
 //! engines by which it grows.
 //!
-//! Tested in `tests_objects`.
+//! Tested in `tests_objects` and `tests_growth`.
 #![tactic(auto)]
 
 mod allowed;
@@ -26,3 +26,4 @@ pub use growing::growth_within;
 pub use parts::parts_of;
 pub use pattern::census;
 pub use telling::told;
+pub use trend::rises_steadily;

@@ -5,15 +5,8 @@ use life_cells::Rule;
 use life_plane::{AGE_LIMIT, Plane};
 use std::alloc::{AllocError, Global};
 
-/// Of how many generations at least the populations are compared.
-const LEAST: u32 = 128;
-
-/// How many generations of a plane of this age are enough to see a trend.
-pub fn trend_length(age: u32) -> u32
-    ensures { result ≤ age + 128 }
-{
-    (age / 4).max(LEAST)
-}
+/// In how many generations at least one looks for a trend.
+pub const LEAST_TREND: u32 = 128;
 
 /// Whether the counts rise by the same in each period, phase by phase.
 fn rise_alike(counts: &[u64], period: usize) -> bool

@@ -1,5 +1,5 @@
 //! What is told of the engines of patterns.
-use crate::patterns::{BLOCK, BLOCKED, GUN, GUNS, PUFFER, RAKE, ROW, SMALL};
+use crate::patterns::{ACORN, BLOCK, BLOCKED, GUN, GUNS, PUFFER, R_PENTOMINO, RAKE, ROW, SMALL};
 use life_answer::{Answer, Engines, Outcome, Part};
 use life_census::answer;
 use std::alloc::Global;
@@ -245,6 +245,37 @@ fn growth_is_told_under_a_limit_that_lets_it_be_seen(rt: HostRuntime) -> Result<
         }
         _ => Err(Fail::new("not large")),
     }
+}
+
+// Generation 2,048 has 401 cells, and generation 2,300 has 434. So with at most 420 the gun is seen on the way, at generation
+// 512, and with at most 300 only in a generation before that.
+#[test]
+fn growth_is_told_where_a_later_generation_is_too_large(rt: HostRuntime) -> Result<(), Fail> {
+    for most in [420, 300] {
+        let asked = Asked {
+            limit: Some(most),
+            ..within(10_000)
+        };
+        grows(&rt, rt.alloc(), GUN, asked, ONE_GUN)?;
+    }
+    Ok(())
+}
+
+#[test]
+fn growth_is_seen_on_the_way_to_a_great_bound(rt: HostRuntime) -> Result<(), Fail> {
+    grows(&rt, rt.alloc(), GUN, within(10_000), ONE_GUN)?;
+    grows(&rt, rt.alloc(), GUNS, within(10_000), TWO_GUNS)?;
+    let short = Asked {
+        horizon: 100,
+        ..within(10_000)
+    };
+    grows(&rt, rt.alloc(), GUN, short, ONE_GUN)
+}
+
+#[test]
+fn what_is_ash_later_is_open(rt: HostRuntime) -> Result<(), Fail> {
+    is_open(&rt, rt.alloc(), R_PENTOMINO, within(1000))?;
+    is_open(&rt, rt.alloc(), ACORN, within(2000))
 }
 
 #[test]

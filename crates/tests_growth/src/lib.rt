@@ -5,3 +5,5 @@
 mod growing;
 #[cfg(test)]
 mod patterns;
+#[cfg(test)]
+mod rising;

@@ -44,3 +44,25 @@ pub const SMALL: &[u8] = b"x = 3, y = 3, rule = B2/S0
 pub const BLOCK: &[u8] = b"x = 2, y = 2, rule = B3/S23
 2o$2o!
 ";
+
+/// A blinker.
+pub const BLINKER: &[u8] = b"x = 3, y = 1
+3o!
+";
+
+/// The R-pentomino, which is ash from generation 1,103 on.
+pub const R_PENTOMINO: &[u8] = b"x = 3, y = 3
+b2o$2o$bo!
+";
+
+/// The acorn, which is ash from generation 5,206 on.
+pub const ACORN: &[u8] = b"x = 7, y = 3
+bo$3bo$2o2b3o!
+";
+
+/// A soup that is still busy at generation 200.
+pub const SOUP: &[u8] = b"x = 16, y = 16
+bbooboboobbbobbo$bbbbobbbooobbbob$obbobobbooboobob$obbooobbobbbbbbb$bobobooobboobbbb$bbbobobbbbbbobbb$
+bobobbobooboboob$obbbbobbbooboobo$oobbooooobooboob$oobbbobbobbooboo$oobbooboboboooob$ooobbbbooboooobo$
+bbooboboooobobbb$ooobbbobbobboboo$bobboobboboboooo$bbobbobooobbbbbo!
+";
