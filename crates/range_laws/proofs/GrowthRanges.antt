@@ -1,6 +1,6 @@
 -- What is told of engines has numbers in the range of a line.
-use Rattle.std.proofs.Common.{◌≡◌, ◌≢◌, ℕ, zero, suc, ◌+◌, ◌*◌, ◌<◌, ◌≤◌, ◌^◌, min, Bool, true, Option, Some, List, [], ◌∷◌, ◌++◌, length, map, sym, refl, ap, subst, ◌∙◌, arith}
-use Rattle.std.specs.List.{All, AllPairs, AllByRecursion as Each, Contains}
+use Rattle.std.proofs.Common.{◌≡◌, ◌≢◌, ℕ, zero, suc, ◌+◌, ◌*◌, ◌<◌, ◌≤◌, ◌^◌, Bool, Some, List, [], ◌∷◌, ◌++◌, length, map, sym, ap, subst, ◌∙◌, arith}
+use Rattle.std.specs.List.{All, AllByRecursion as Each, Contains}
 use Rattle.std.proofs.lemmas.List.{length-append, length-map}
 use Rattle.std.proofs.lemmas.List.Elements.{All-head, All-tail, All-weaker}
 use Rattle.census_readback.specs.Limits.{period_limit}
@@ -9,8 +9,8 @@ use Rattle.life_answer.specs.Counted.{code_bound, counted_as, counted_of}
 use Rattle.life_answer.specs.CountedTales.{engines_in}
 use Rattle.life_answer.specs.Parts.{objects_in}
 use Rattle.life_answer.specs.Ranges.{IsInRange}
-use Rattle.life_answer.specs.Tales.{tale_by, tale_of}
-use Rattle.life_answer.specs.Told.{growth_told, told_of_engines}
+use Rattle.life_answer.specs.Tales.{tale_of}
+use Rattle.life_answer.specs.Told.{growth_told}
 use Rattle.life_answer.specs.declared.part.Part.{Part}
 use Rattle.life_answer.specs.declared.tale.Engines.{Engines}
 use Rattle.life_answer.specs.declared.tale.Tale.{Tale}
@@ -21,18 +21,16 @@ use Rattle.life_answer.proofs.Tallying.{counted_all}
 use Rattle.life_answer.proofs.Told.{growth_is_so}
 use Rattle.life_independent.proofs.Found.{owned}
 use Rattle.life_ash.proofs.Places.{generation_within, place_of, subset_within}
-use Rattle.life_cells.specs.Limits.{IsWithin, age_limit}
+use Rattle.life_cells.specs.Limits.{IsWithin}
 use Rattle.life_growth.specs.Engine.{Emits, IsEngine, IsEngineWithin, Way, joined}
 use Rattle.life_growth.specs.Growth.{IsGrowth}
 use Rattle.life_growth.proofs.Emitting.{emits_some}
 use Rattle.life_growth.proofs.Growing.{generation-one}
 use Rattle.life_growth.proofs.OneGrowth.{IsUnsplit-engine, engines_apart}
-use Rattle.life_model.specs.Cell.{Cell}
-use Rattle.life_model.specs.Evolution.{generation, next}
+use Rattle.life_model.specs.Evolution.{generation}
 use Rattle.life_model.specs.Generation.{Generation, cells, contains, empty}
 use Rattle.life_model.specs.Rule.{Rule}
-use Rattle.life_objects.specs.Apart.{AreApart, AreApartForEver, AreDisjoint}
-use Rattle.life_objects.specs.Ash.{IsObject, RecursWithin}
+use Rattle.life_objects.specs.Apart.{AreApart, AreDisjoint}
 use Rattle.life_objects.specs.Limits.{objects_bound_limit}
 use Rattle.life_objects.specs.Union.{union, union_of}
 use Rattle.life_objects.proofs.Distances.{disjoint_from_apart}

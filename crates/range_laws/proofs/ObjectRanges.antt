@@ -1,8 +1,6 @@
 -- What is found of patterns whose objects are asked for has numbers in the range of a line.
-use Rattle.std.proofs.Common.{◌≡◌, ℕ, suc, ◌+◌, ◌*◌, ◌<◌, ◌≤◌, ◌^◌, min, Bool, true, false, cond, inl, inr, Option, Some, None, Result, Ok, Err, List, [], ◌∷◌, ◌++◌, codes, length, map, slice_get, refl, sym, ap, subst, ◌∙◌, arith}
-use Rattle.std.specs.List.{All, AllByRecursion as Each, Contains, fold}
-use Rattle.std.specs.declared.cmp.Ordering.{Ordering}
-use Rattle.std.specs.declared.cmp.Ordering.TheVariants.{Less, Equal, Greater}
+use Rattle.std.proofs.Common.{◌≡◌, ℕ, suc, ◌+◌, ◌*◌, ◌<◌, ◌≤◌, ◌^◌, min, Bool, true, false, cond, Option, Some, None, Result, Ok, Err, List, [], ◌∷◌, length, map, slice_get, refl, sym, subst, arith}
+use Rattle.std.specs.List.{All, AllByRecursion as Each}
 use Rattle.std.proofs.lemmas.List.{length-append, length-map}
 use Rattle.census_bundle.specs.Sizes.{IsWithinCounts, count_limit}
 use Rattle.census_bundle.specs.declared.bundle.Entry.{Entry}
@@ -11,17 +9,15 @@ use Rattle.census_format.specs.Lines.{answer_to_entry, answers}
 use Rattle.census_format.specs.Objects.{objects, outcome_objects}
 use Rattle.census_format.proofs.AshParts.{length-part_objects}
 use Rattle.life_answer.specs.Answers.{fault_number}
-use Rattle.life_answer.specs.Apgcode.{bodies, code_of, prefix}
 use Rattle.life_answer.specs.Census.{ash_onset, census_found, census_of, counted_parts, part_code, parts_found}
 use Rattle.life_answer.specs.Counted.{code_bound, counted_of}
 use Rattle.life_answer.specs.Limited.{first_past, unless_large}
-use Rattle.life_answer.specs.Parts.{with_code_by_order, counted_codes, objects_in, with_code}
+use Rattle.life_answer.specs.Parts.{counted_codes, objects_in}
 use Rattle.life_answer.specs.Questions.{IsAnswered, answer_to, answer_to_question, finding_to, growth_horizon_limit}
 use Rattle.life_answer.specs.declared.finding.Answer.{Answer}
 use Rattle.life_answer.specs.declared.finding.Answer.TheVariants.{Found, Refused}
 use Rattle.life_answer.specs.declared.finding.Outcome.{Outcome}
 use Rattle.life_answer.specs.declared.finding.Outcome.TheVariants.{Recurs, Ash}
-use Rattle.life_answer.specs.declared.part.Part.{Part}
 use Rattle.life_answer.specs.declared.question.Question.{Question}
 use Rattle.life_answer.specs.declared.question.Question.TheVariants.{Objects}
 use Rattle.life_answer.proofs.Onsets.{ash_onset-within}
@@ -37,12 +33,7 @@ use Rattle.life_model.specs.Evolution.{generation}
 use Rattle.life_model.specs.Generation.{Generation, cells, contains, from_list, size}
 use Rattle.life_model.specs.Rule.{Rule}
 use Rattle.life_model.proofs.Generations.{cells-from_list}
-use Rattle.life_objects.specs.Ash.{RecursWithin}
 use Rattle.life_objects.specs.Limits.{objects_bound_limit}
-use Rattle.life_objects.proofs.Lists.{Contains-head, Contains-later}
-use Rattle.census_laws.proofs.CountedSets.{counted_recurs, counted_told}
-use Rattle.census_laws.proofs.PartCodes.{at_once, part_code-is}
-use Rattle.life_shape.specs.TextOrder.{least_text, shorter_cmp}
 use Rattle.life_text.specs.Picture.{picture_of}
 use Rattle.life_text.specs.Rle.{Token, body_tokens, cells_after, first_fault, header_rule, unless_fault, with_body}
 use Rattle.life_text.specs.declared.rle.RleFault.{RleFault}
