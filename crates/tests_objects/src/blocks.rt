@@ -1,6 +1,6 @@
 //! Texts and their blocks.
 
-use census_blocks::{Inquiry, block};
+use census_blocks::{HORIZON_LIMIT, Inquiry, block};
 use life_orbit::BOUND_LIMIT;
 use life_text::RleFault;
 use std::test::Fail;
@@ -19,6 +19,14 @@ const GUN: &[u8] = b"x = 36, y = 9, rule = B3/S23
 24bo$22bobo$12b2o6b2o12b2o$11bo3bo4b2o12b2o$2o8bo5bo3b2o$2o8bo3bob2o4b
 obo$10bo5bo7bo$11bo3bo$12b2o!
 ";
+
+// What is asked where the words say nothing else.
+const USUAL: Inquiry = Inquiry {
+    bound: 10_000,
+    cells: 1_000_000,
+    near: false,
+    horizon: 1_000,
+};
 
 /// A text, the bound, and the block, whether or not what is near is one object.
 type Case = (&'static [u8], u32, &'static str);
@@ -76,6 +84,7 @@ fn texts_have_their_blocks(rt: HostRuntime) -> Result<(), Fail> {
             let inquiry = Inquiry {
                 bound: *bound,
                 near: *near,
+                ..USUAL
             };
             let told = match block(rt.alloc(), text, inquiry)? {
                 Ok(block) => block.as_slice() == wanted.as_bytes(),
@@ -103,6 +112,7 @@ fn a_traffic_light_is_one_object_where_what_is_near_is_one(rt: HostRuntime) -> R
         let inquiry = Inquiry {
             bound: 100,
             near: *near,
+            ..USUAL
         };
         let told = match block(rt.alloc(), LIGHT, inquiry)? {
             Ok(block) => block.as_slice() == wanted.as_bytes(),
@@ -114,11 +124,46 @@ fn a_traffic_light_is_one_object_where_what_is_near_is_one(rt: HostRuntime) -> R
 }
 
 #[test]
+fn growth_is_told_within_the_horizon_and_the_cells(rt: HostRuntime) -> Result<(), Fail> {
+    const TOLD: &[(u32, u32, &str)] = &[
+        (
+            1_000_000,
+            31,
+            "rule B3/S23\npopulation 36\nbox 36 9\nengines 1\nengine 1 30 0 0 1\nemits 1 xq4_153 1\n",
+        ),
+        (
+            1_000_000,
+            20,
+            "rule B3/S23\npopulation 36\nbox 36 9\nunresolved 500\n",
+        ),
+        (
+            100,
+            1_000,
+            "rule B3/S23\npopulation 36\nbox 36 9\nengines 1\nengine 1 30 0 0 1\nemits 1 xq4_153 1\n",
+        ),
+        (60, 1_000, "rule B3/S23\npopulation 36\nbox 36 9\nlarge 8\n"),
+        (35, 1_000, "rule B3/S23\npopulation 36\nbox 36 9\nlarge 0\n"),
+    ];
+    for (cells, horizon, wanted) in TOLD {
+        assert!(rt; 1 <= *horizon && *horizon <= HORIZON_LIMIT);
+        let inquiry = Inquiry {
+            bound: 500,
+            cells: *cells,
+            horizon: *horizon,
+            ..USUAL
+        };
+        let told = match block(rt.alloc(), GUN, inquiry)? {
+            Ok(block) => block.as_slice() == wanted.as_bytes(),
+            Err(_fault) => false,
+        };
+        assert!(rt; told);
+    }
+    Ok(())
+}
+
+#[test]
 fn a_fault(rt: HostRuntime) -> Result<(), Fail> {
-    let inquiry = Inquiry {
-        bound: 10,
-        near: false,
-    };
+    let inquiry = Inquiry { bound: 10, ..USUAL };
     let fault = block(rt.alloc(), b"x = 3, y = 3\n3b?!", inquiry)?.err();
     assert!(rt; fault == Some(RleFault::BadChar { at: 15 }));
     Ok(())

@@ -103,7 +103,9 @@ fn words_are_told(rt: HostRuntime) -> Result<(), Fail> {
         let mut errors = Watched::new(Vec::new(rt.alloc()));
         let inquiry = Inquiry {
             bound: 10_000,
+            cells: 1_000_000,
             near: false,
+            horizon: 1_000,
         };
         let status = identify(
             &FILES,
