@@ -124,7 +124,7 @@ IsFilePlace error place = place ≡ nowhere
 abbrev pub IsPlaceOf : Tellings → Request → CommandError → Place → Type 0
 IsPlaceOf shelf (Run bound workers cells input recursive keep_going folders) (command.Run error) place =
     IsCensusPlace shelf (source_of (record { limit = input; recursive = recursive; keep_going = keep_going; words = map (λ s. s.now) folders.items })) error place
-IsPlaceOf shelf (Objects bound workers cells near input recursive keep_going folders) (command.Run error) place =
+IsPlaceOf shelf (Objects bound workers cells near horizon input recursive keep_going folders) (command.Run error) place =
     IsCensusPlace shelf (source_of (record { limit = input; recursive = recursive; keep_going = keep_going; words = map (λ s. s.now) folders.items })) error place
 IsPlaceOf shelf (Advance generations file) (command.Advance error) place = IsFilePlace error place
 IsPlaceOf shelf request error place = place ≡ nowhere
