@@ -1,7 +1,6 @@
 -- What each exit status says.
 use Rattle.std.proofs.Common.{◌≡◌, ◌⊎◌, ℕ, Bool, List, ◌++◌, Option, None, Some, map, option_map, true, false, inl, inr, ⊎_elim, refl, sym, ◌∙◌, arith, true≢false, string_bytes, ◌||◌}
 use Rattle.census_folders.specs.Sources.{Asked}
-use Rattle.census_blocks.specs.Known.{growth_horizon}
 use Rattle.census_cli.specs.Asking.{Asks, AsksToExplain}
 use Rattle.census_cli.specs.Refusing.{AreRefusedWords, AsksHelp, AsksText, RefusesWords}
 use Rattle.census_cli.specs.declared.fault.WordsFault.{WordsFault}
@@ -95,37 +94,37 @@ module _ (shelf : Tellings) (before after : State) where
       → Says before after (status_of error) (RefusesInput shelf request before after) (ReportsInPart shelf request before after) (DoesInPart shelf request before after)
       (StopsAtFolder shelf request)
   says (command.Run e) (Run bound workers cells input recursive keep_going folders) h = run_says shelf before after e (source_of (record { limit = input; recursive = recursive; keep_going = keep_going; words = map (λ s. s.now) folders.items })) (question.Settles bound cells) h
-  says (command.Run e) (Objects bound workers cells near input recursive keep_going folders) h = run_says shelf before after e (source_of (record { limit = input; recursive = recursive; keep_going = keep_going; words = map (λ s. s.now) folders.items })) (question.Objects bound (Some cells) near growth_horizon) h
+  says (command.Run e) (Objects bound workers cells near horizon input recursive keep_going folders) h = run_says shelf before after e (source_of (record { limit = input; recursive = recursive; keep_going = keep_going; words = map (λ s. s.now) folders.items })) (question.Objects bound (Some cells) near horizon) h
   says (command.Advance e) (Advance n file) h = advance_says shelf before after e (file_of (option_map (λ s. s.now) file)) n h
   says (command.Draw (draw.Rule fault)) (Draw code rule) h = inl (refl, inl (fault, h.0), record { written = h.1.written; sound = h.1.sound })
   says (command.Draw (draw.Code fault)) (Draw code rule) h = inl (refl, inr (fault, h.0.1), record { written = h.1.written; sound = h.1.sound })
   says (command.Draw draw.Memory) (Draw code rule) h = inr (inl (refl, inl h.1.written, h.1.sound))
   says (command.Draw draw.Write) (Draw code rule) h = inr (inr (refl, inl (inr h.1.write), inr h.0, unread_flag shelf before after h.1.read))
   says (command.Run e) (Advance n file) h = absurd h
-  says (command.Run e) (Identify bound near files) h = absurd h
+  says (command.Run e) (Identify bound cells near horizon files) h = absurd h
   says (command.Run e) (Draw code rule) h = absurd h
-  says (command.Advance e) (Identify bound near files) h = absurd h
+  says (command.Advance e) (Identify bound cells near horizon files) h = absurd h
   says (command.Advance e) (Run bound workers cells input recursive keep_going folders) h = absurd h
-  says (command.Advance e) (Objects bound workers cells near input recursive keep_going folders) h = absurd h
+  says (command.Advance e) (Objects bound workers cells near horizon input recursive keep_going folders) h = absurd h
   says (command.Advance e) (Draw code rule) h = absurd h
   says (command.Draw e) (Run bound workers cells input recursive keep_going folders) h = absurd h
-  says (command.Draw e) (Objects bound workers cells near input recursive keep_going folders) h = absurd h
+  says (command.Draw e) (Objects bound workers cells near horizon input recursive keep_going folders) h = absurd h
   says (command.Draw e) (Advance n file) h = absurd h
-  says (command.Draw e) (Identify bound near files) h = absurd h
+  says (command.Draw e) (Identify bound cells near horizon files) h = absurd h
   says command.Arguments (Run bound workers cells input recursive keep_going folders) h = absurd h
-  says command.Arguments (Objects bound workers cells near input recursive keep_going folders) h = absurd h
+  says command.Arguments (Objects bound workers cells near horizon input recursive keep_going folders) h = absurd h
   says command.Arguments (Advance n file) h = absurd h
-  says command.Arguments (Identify bound near files) h = absurd h
+  says command.Arguments (Identify bound cells near horizon files) h = absurd h
   says command.Arguments (Draw code rule) h = absurd h
   says command.Memory (Run bound workers cells input recursive keep_going folders) h = absurd h
-  says command.Memory (Objects bound workers cells near input recursive keep_going folders) h = absurd h
+  says command.Memory (Objects bound workers cells near horizon input recursive keep_going folders) h = absurd h
   says command.Memory (Advance n file) h = absurd h
-  says command.Memory (Identify bound near files) h = absurd h
+  says command.Memory (Identify bound cells near horizon files) h = absurd h
   says command.Memory (Draw code rule) h = absurd h
   says command.Write (Run bound workers cells input recursive keep_going folders) h = absurd h
-  says command.Write (Objects bound workers cells near input recursive keep_going folders) h = absurd h
+  says command.Write (Objects bound workers cells near horizon input recursive keep_going folders) h = absurd h
   says command.Write (Advance n file) h = absurd h
-  says command.Write (Identify bound near files) h = absurd h
+  says command.Write (Identify bound cells near horizon files) h = absurd h
   says command.Write (Draw code rule) h = absurd h
   says (command.Run e) (Merge reports) h = absurd h
   says (command.Run e) (Table subject format reports) h = absurd h
@@ -158,9 +157,9 @@ module _ (shelf : Tellings) (before after : State) where
   says command.Write (Same json reports) h = absurd h
   says command.Write (Verify claims reports) h = absurd h
   says (command.Reports e) (Run bound workers cells input recursive keep_going folders) h = absurd h
-  says (command.Reports e) (Objects bound workers cells near input recursive keep_going folders) h = absurd h
+  says (command.Reports e) (Objects bound workers cells near horizon input recursive keep_going folders) h = absurd h
   says (command.Reports e) (Advance n file) h = absurd h
-  says (command.Reports e) (Identify bound near files) h = absurd h
+  says (command.Reports e) (Identify bound cells near horizon files) h = absurd h
   says (command.Reports e) (Draw code rule) h = absurd h
   says (command.Reports e) (Merge reports) h = absurd h
   says (command.Reports e) (Table subject format reports) h = absurd h

@@ -1,6 +1,5 @@
 -- The census that a request asks for.
 use Rattle.std.specs.Prelude.{◌≡◌, Some, map}
-use Rattle.census_blocks.specs.Known.{growth_horizon}
 use Rattle.census_cli.specs.declared.request.Request.{Request}
 use Rattle.census_cli.specs.declared.request.Request.TheVariants.{Run, Objects}
 use Rattle.census_command.specs.declared.census.Census.{Census}
@@ -14,15 +13,15 @@ abbrev pub IsAsked : Request → Census → Type 0
 IsAsked (Run bound workers cells input recursive keep_going folders) census =
     (census.question ≡ question.Settles bound cells) × (census.limit ≡ input) × (census.recursive ≡ recursive)
     × (census.keep_going ≡ keep_going) × (census.folders.now ≡ folders.items) × (census.workers ≡ workers)
-IsAsked (Objects bound workers cells near input recursive keep_going folders) census =
-    (census.question ≡ question.Objects bound (Some cells) near growth_horizon) × (census.limit ≡ input) × (census.recursive ≡ recursive)
+IsAsked (Objects bound workers cells near horizon input recursive keep_going folders) census =
+    (census.question ≡ question.Objects bound (Some cells) near horizon) × (census.limit ≡ input) × (census.recursive ≡ recursive)
     × (census.keep_going ≡ keep_going) × (census.folders.now ≡ folders.items) × (census.workers ≡ workers)
 IsAsked request census = ⊥
 
 -- The request asks for no census.
 abbrev pub AsksForNone : Request → Type 0
 AsksForNone (Run bound workers cells input recursive keep_going folders) = ⊥
-AsksForNone (Objects bound workers cells near input recursive keep_going folders) = ⊥
+AsksForNone (Objects bound workers cells near horizon input recursive keep_going folders) = ⊥
 AsksForNone request = Unit {0}
 
 -- the folders of a census

@@ -12,7 +12,6 @@ use Rattle.life_text.specs.declared.rle.RleFault.{RleFault}
 use Rattle.census_bundle.specs.declared.fault.BundleFault.{BundleFault}
 use Rattle.census_bundle.specs.Sizes.{input_limit}
 use Rattle.census_crew.specs.Bytes.{ReadsFault}
-use Rattle.census_blocks.specs.Known.{growth_horizon}
 use Rattle.census_cli.specs.Asking.{Asks, AsksToExplain, IsMatched}
 use Rattle.census_cli.specs.Refusing.{AreRefusedWords, AsksHelp, AsksText}
 use Rattle.census_cli.specs.declared.fault.WordsFault.{WordsFault}
@@ -95,7 +94,7 @@ RefusesText shelf (Some path) before after =
 -- what a request is to be done with is refused
 abbrev pub RefusesInput : Tellings → Request → State → State → Type 0
 RefusesInput shelf (Run bound workers cells input recursive keep_going folders) before after = RefusesCollections shelf (source_of (record { limit = input; recursive = recursive; keep_going = keep_going; words = map (λ s. s.now) folders.items })) before after
-RefusesInput shelf (Objects bound workers cells near input recursive keep_going folders) before after = RefusesCollections shelf (source_of (record { limit = input; recursive = recursive; keep_going = keep_going; words = map (λ s. s.now) folders.items })) before after
+RefusesInput shelf (Objects bound workers cells near horizon input recursive keep_going folders) before after = RefusesCollections shelf (source_of (record { limit = input; recursive = recursive; keep_going = keep_going; words = map (λ s. s.now) folders.items })) before after
 RefusesInput shelf (Advance generations file) before after = RefusesText shelf (file_of (option_map (λ s. s.now) file)) before after
 RefusesInput shelf (Draw code rule) before after =
     ((fault : RuleFault) × (rule_of rule.now ≡ Err fault))
@@ -125,7 +124,7 @@ pub record HelpsInPart (words : List (List ℕ)) (before after : State) : Type 0
 
 abbrev pub ReportsInPart : Tellings → Request → State → State → Type 0
 ReportsInPart shelf (Run bound workers cells input recursive keep_going folders) before after = RunsInPart shelf (source_of (record { limit = input; recursive = recursive; keep_going = keep_going; words = map (λ s. s.now) folders.items })) (question.Settles bound cells) before after
-ReportsInPart shelf (Objects bound workers cells near input recursive keep_going folders) before after = RunsInPart shelf (source_of (record { limit = input; recursive = recursive; keep_going = keep_going; words = map (λ s. s.now) folders.items })) (question.Objects bound (Some cells) near growth_horizon) before after
+ReportsInPart shelf (Objects bound workers cells near horizon input recursive keep_going folders) before after = RunsInPart shelf (source_of (record { limit = input; recursive = recursive; keep_going = keep_going; words = map (λ s. s.now) folders.items })) (question.Objects bound (Some cells) near horizon) before after
 ReportsInPart shelf request before after = ⊥
 
 -- The words ask for a census, and a prefix of its report was written.
@@ -146,7 +145,7 @@ MissesSource shelf (Folders asked) = FailsInFolders shelf asked run.Read
 
 abbrev pub StopsAtFolder : Tellings → Request → Type 0
 StopsAtFolder shelf (Run bound workers cells input recursive keep_going folders) = MissesSource shelf (source_of (record { limit = input; recursive = recursive; keep_going = keep_going; words = map (λ s. s.now) folders.items }))
-StopsAtFolder shelf (Objects bound workers cells near input recursive keep_going folders) = MissesSource shelf (source_of (record { limit = input; recursive = recursive; keep_going = keep_going; words = map (λ s. s.now) folders.items }))
+StopsAtFolder shelf (Objects bound workers cells near horizon input recursive keep_going folders) = MissesSource shelf (source_of (record { limit = input; recursive = recursive; keep_going = keep_going; words = map (λ s. s.now) folders.items }))
 StopsAtFolder shelf (Advance generations file) = MissesFile shelf (file_of (option_map (λ s. s.now) file))
 StopsAtFolder shelf _ = ⊥
 
@@ -195,8 +194,8 @@ pub record TellsRefusal (words : List (List ℕ)) (before after : State) (old ne
 
 -- the request asks this of the patterns of these files
 abbrev pub IsIdentify : Request → Inquiry → List (List ℕ) → Type 0
-IsIdentify (Identify bound near files) inquiry words =
-    (inquiry ≡ record { bound = bound; near = near }) × (words ≡ map (λ s. s.now) files.items)
+IsIdentify (Identify bound cells near horizon files) inquiry words =
+    (inquiry ≡ record { bound = bound; cells = cells; near = near; horizon = horizon }) × (words ≡ map (λ s. s.now) files.items)
 IsIdentify request inquiry words = ⊥
 
 -- the words ask this of the patterns of these files
@@ -248,8 +247,8 @@ pub record VerifiesAsked (shelf : Tellings) (words : List (List ℕ)) (status : 
 abbrev pub IsKeeping : Request → KeptCensus → Type 0
 IsKeeping (Run bound workers cells input recursive keep_going folders) keeping =
     (source_of (record { limit = input; recursive = recursive; keep_going = keep_going; words = map (λ s. s.now) folders.items }) ≡ Folders keeping.asked) × (keeping.asked.on_loss ≡ Keep) × (keeping.question ≡ question.Settles bound cells)
-IsKeeping (Objects bound workers cells near input recursive keep_going folders) keeping =
-    (source_of (record { limit = input; recursive = recursive; keep_going = keep_going; words = map (λ s. s.now) folders.items }) ≡ Folders keeping.asked) × (keeping.asked.on_loss ≡ Keep) × (keeping.question ≡ question.Objects bound (Some cells) near growth_horizon)
+IsKeeping (Objects bound workers cells near horizon input recursive keep_going folders) keeping =
+    (source_of (record { limit = input; recursive = recursive; keep_going = keep_going; words = map (λ s. s.now) folders.items }) ≡ Folders keeping.asked) × (keeping.asked.on_loss ≡ Keep) × (keeping.question ≡ question.Objects bound (Some cells) near horizon)
 IsKeeping request keeping = ⊥
 
 -- The words ask for such a census. What could be read was reported, or an error ended it.

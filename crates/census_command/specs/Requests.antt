@@ -1,9 +1,8 @@
 -- What is done where something is asked for, and what each error says.
 use Rattle.std.specs.Prelude.{◌≡◌, ℕ, ◌≤◌, Bool, List, [], Some, map, option_map}
-use Rattle.census_blocks.specs.Known.{growth_horizon}
 use Rattle.census_cli.specs.declared.request.Request.{Request}
 use Rattle.census_cli.specs.declared.request.Request.TheVariants.{Run, Objects, Identify, Advance, Draw, Merge, Table, Page, Same, Verify}
-use Rattle.census_cli.specs.Limits.{generation_limit, objects_bound_limit, settles_bound_limit, worker_limit}
+use Rattle.census_cli.specs.Limits.{generation_limit, horizon_limit, objects_bound_limit, settles_bound_limit, worker_limit}
 use Rattle.life_answer.specs.declared.question.Question.TheVariants as question
 use Rattle.census_command.specs.Advances.{AdvanceFromFails, AdvancesFrom, AdvancesFromInPart}
 use Rattle.census_errors.specs.Files.{file_of}
@@ -18,15 +17,16 @@ use Rattle.census_errors.specs.declared.error.CommandError.TheVariants as error
 -- its numbers are in their ranges
 abbrev pub IsLawful : Request → Type 0
 IsLawful (Run bound workers cells input recursive keep_going folders) = ((1 ≤ bound) × (bound ≤ settles_bound_limit)) × ((1 ≤ workers) × (workers ≤ worker_limit))
-IsLawful (Objects bound workers cells near input recursive keep_going folders) = ((1 ≤ bound) × (bound ≤ objects_bound_limit)) × ((1 ≤ workers) × (workers ≤ worker_limit))
-IsLawful (Identify bound near files) = (1 ≤ bound) × (bound ≤ objects_bound_limit)
+IsLawful (Objects bound workers cells near horizon input recursive keep_going folders) =
+    ((1 ≤ bound) × (bound ≤ objects_bound_limit)) × ((1 ≤ workers) × (workers ≤ worker_limit)) × ((1 ≤ horizon) × (horizon ≤ horizon_limit))
+IsLawful (Identify bound cells near horizon files) = ((1 ≤ bound) × (bound ≤ objects_bound_limit)) × ((1 ≤ horizon) × (horizon ≤ horizon_limit))
 IsLawful (Advance generations file) = generations ≤ generation_limit
 IsLawful _ = Unit {0}
 
 -- the first thing that can't be read ends it
 abbrev pub EndsAtFirst : Request → Type 0
 EndsAtFirst (Run bound workers cells input recursive keep_going folders) = StopsAtFirstLoss (source_of (record { limit = input; recursive = recursive; keep_going = keep_going; words = map (λ s. s.now) folders.items }))
-EndsAtFirst (Objects bound workers cells near input recursive keep_going folders) = StopsAtFirstLoss (source_of (record { limit = input; recursive = recursive; keep_going = keep_going; words = map (λ s. s.now) folders.items }))
+EndsAtFirst (Objects bound workers cells near horizon input recursive keep_going folders) = StopsAtFirstLoss (source_of (record { limit = input; recursive = recursive; keep_going = keep_going; words = map (λ s. s.now) folders.items }))
 EndsAtFirst request = Unit {0}
 
 -- nothing is to be made of reports alone
@@ -40,7 +40,7 @@ MakesNothing request = Unit {0}
 -- neither what patterns are is asked for, nor what is made of reports, nor what claims say of them, nor to go on past what can't be read, which have
 -- outcomes of their own
 abbrev pub IsDone : Request → Type 0
-IsDone (Identify bound near files) = ⊥
+IsDone (Identify bound cells near horizon files) = ⊥
 IsDone (Merge reports) = ⊥
 IsDone (Table subject format reports) = ⊥
 IsDone (Page reports) = ⊥
@@ -52,8 +52,8 @@ IsDone request = EndsAtFirst request
 abbrev pub Does : Tellings → Request → Bool → List ℕ → State → State → Type 0
 Does shelf (Run bound workers cells input recursive keep_going folders) explain lines before after =
     Runs shelf (source_of (record { limit = input; recursive = recursive; keep_going = keep_going; words = map (λ s. s.now) folders.items })) (question.Settles bound cells) explain lines before after
-Does shelf (Objects bound workers cells near input recursive keep_going folders) explain lines before after =
-    Runs shelf (source_of (record { limit = input; recursive = recursive; keep_going = keep_going; words = map (λ s. s.now) folders.items })) (question.Objects bound (Some cells) near growth_horizon) explain lines before after
+Does shelf (Objects bound workers cells near horizon input recursive keep_going folders) explain lines before after =
+    Runs shelf (source_of (record { limit = input; recursive = recursive; keep_going = keep_going; words = map (λ s. s.now) folders.items })) (question.Objects bound (Some cells) near horizon) explain lines before after
 Does shelf (Advance generations file) explain lines before after =
     (lines ≡ []) × AdvancesFrom shelf (file_of (option_map (λ s. s.now) file)) generations before after
 Does shelf (Draw code rule) explain lines before after = (lines ≡ []) × Draws (record { code = code.now; rule = rule.now }) before after
@@ -62,7 +62,7 @@ Does shelf _ explain lines before after = ⊥
 -- it was done as far as the writer took it
 abbrev pub DoesInPart : Tellings → Request → State → State → Type 0
 DoesInPart shelf (Run bound workers cells input recursive keep_going folders) before after = RunsInPart shelf (source_of (record { limit = input; recursive = recursive; keep_going = keep_going; words = map (λ s. s.now) folders.items })) (question.Settles bound cells) before after
-DoesInPart shelf (Objects bound workers cells near input recursive keep_going folders) before after = RunsInPart shelf (source_of (record { limit = input; recursive = recursive; keep_going = keep_going; words = map (λ s. s.now) folders.items })) (question.Objects bound (Some cells) near growth_horizon) before after
+DoesInPart shelf (Objects bound workers cells near horizon input recursive keep_going folders) before after = RunsInPart shelf (source_of (record { limit = input; recursive = recursive; keep_going = keep_going; words = map (λ s. s.now) folders.items })) (question.Objects bound (Some cells) near horizon) before after
 DoesInPart shelf (Advance generations file) before after = AdvancesFromInPart shelf (file_of (option_map (λ s. s.now) file)) generations before after
 DoesInPart shelf (Draw code rule) before after = DrawsInPart (record { code = code.now; rule = rule.now }) before after
 DoesInPart shelf _ before after = ⊥
@@ -70,7 +70,7 @@ DoesInPart shelf _ before after = ⊥
 -- it was not done whole, for this error
 abbrev pub Fails : CommandError → Tellings → Request → State → State → Type 0
 Fails (error.Run e) shelf (Run bound workers cells input recursive keep_going folders) before after = RunFails e shelf (source_of (record { limit = input; recursive = recursive; keep_going = keep_going; words = map (λ s. s.now) folders.items })) (question.Settles bound cells) before after
-Fails (error.Run e) shelf (Objects bound workers cells near input recursive keep_going folders) before after = RunFails e shelf (source_of (record { limit = input; recursive = recursive; keep_going = keep_going; words = map (λ s. s.now) folders.items })) (question.Objects bound (Some cells) near growth_horizon) before after
+Fails (error.Run e) shelf (Objects bound workers cells near horizon input recursive keep_going folders) before after = RunFails e shelf (source_of (record { limit = input; recursive = recursive; keep_going = keep_going; words = map (λ s. s.now) folders.items })) (question.Objects bound (Some cells) near horizon) before after
 Fails (error.Advance e) shelf (Advance generations file) before after =
     AdvanceFromFails e shelf (file_of (option_map (λ s. s.now) file)) generations before after
 Fails (error.Draw e) shelf (Draw code rule) before after = DrawFails e (record { code = code.now; rule = rule.now }) before after

@@ -7,7 +7,6 @@ ghost use Rattle.census_command.specs.Outcomes.{IsKeeping};
 ghost use Rattle.census_command.specs.Requests.{EndsAtFirst, IsLawful};
 ghost use Rattle.census_bundle.specs.Sizes.{worker_limit};
 
-use census_blocks::GROWTH_HORIZON;
 use census_cli::Request;
 use census_folders::{OnLoss, Source};
 use life_answer::Question;
@@ -77,6 +76,7 @@ pub fn census_of<'r, 'a>(request: &'r Request<'a>) -> Option<Census<'r, 'a>>
             workers,
             cells,
             near,
+            horizon,
             input,
             recursive,
             keep_going,
@@ -86,7 +86,7 @@ pub fn census_of<'r, 'a>(request: &'r Request<'a>) -> Option<Census<'r, 'a>>
                 bound: *bound,
                 cells: Some(*cells),
                 near: *near,
-                horizon: GROWTH_HORIZON,
+                horizon: *horizon,
             },
             workers: *workers,
             limit: *input,

@@ -229,12 +229,21 @@ pub fn dispatch<S: Shelf, I: Read, O: Write, E: Write, G: Gate, R: Threads + Wai
         let reports = reports.as_slice();
         return verify(shelf, alloc, *claims, reports, explain, streams, errors);
     }
-    if let Request::Identify { bound, near, files } = request {
+    if let Request::Identify {
+        bound,
+        cells,
+        near,
+        horizon,
+        files,
+    } = request
+    {
         let Streams { input, output } = streams;
         let told = &mut errors.inner;
         let inquiry = Inquiry {
             bound: *bound,
+            cells: *cells,
             near: *near,
+            horizon: *horizon,
         };
         return identify(shelf, alloc, inquiry, files.as_slice(), input, output, told);
     }

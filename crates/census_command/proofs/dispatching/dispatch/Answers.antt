@@ -14,7 +14,7 @@ returns-in-Err g c = inr (inr (inr (ends_answered _ _ _ _ _ _ _ c.in-Err.fault c
 pub returns-in-Identify : goal.returns-in-Identify
 returns-in-Identify g c =
     let words = map (λ s. s.now) c.as_slice.result.now in
-    let inquiry : Inquiry = record { bound = c.in-Identify.bound; near = c.in-Identify.near } in
+    let inquiry : Inquiry = record { bound = c.in-Identify.bound; cells = c.in-Identify.cells; near = c.in-Identify.near; horizon = c.in-Identify.horizon } in
     rw (← c.streams.view_is, ← c.errors.view_is)
     (inl (record {
       inquiry = inquiry;
