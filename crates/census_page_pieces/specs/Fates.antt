@@ -1,8 +1,6 @@
 -- What becomes of patterns that do not recur.
-use Rattle.std.specs.Prelude.{ℕ, Bool, true, false, Option, Some, None as Nothing, if◌then◌else◌, ◌==◌, List, [], ◌++◌, codes, decimal}
-use Rattle.life_faults.specs.Sentences.{sentence_of}
-use Rattle.life_text.specs.declared.rle.RleFault.{RleFault}
-use Rattle.life_text.specs.declared.rle.RleFault.TheVariants as rle
+use Rattle.std.specs.Prelude.{ℕ, Bool, true, false, if◌then◌else◌, List, [], ◌++◌, codes}
+use Rattle.life_faults.specs.Reported.{fault_words}
 use Rattle.census_rows.specs.declared.row.Finding.{Finding}
 use Rattle.census_rows.specs.declared.row.Finding.TheVariants.{Ok, Ash, Unresolved, Large, Grows}
 use Rattle.census_rows.specs.declared.row.Outcome.{Outcome}
@@ -11,25 +9,6 @@ use Rattle.census_rows.specs.declared.row.Row.{Row}
 use Rattle.census_page_pieces.specs.Escapes.{escaped_text, name_element, told_text}
 use Rattle.census_page_pieces.specs.Growth.{growth_text}
 use Rattle.census_page_pieces.specs.Numbers.{grouped, labelled, plural}
-
--- the fault that a report names by this number, without its place
-abbrev pub fault_of : ℕ → Option RleFault
-fault_of number =
-    if number == 1 then Some rle.NoHeader else
-    (if number == 2 then Some rle.BadHeader else
-    (if number == 3 then Some rle.RuleNotLifeLike else
-    (if number == 4 then Some rle.RuleHasB0 else
-    (if number == 5 then Some (rle.ManyStates 0) else
-    (if number == 6 then Some (rle.BadChar 0) else
-    (if number == 7 then Some (rle.BadRun 0) else
-    (if number == 8 then Some (rle.TooFar 0) else
-    (if number == 9 then Some (rle.TooMany 0) else
-    (if number == 10 then Some rle.NoEnd else Nothing)))))))))
-
--- the sentence for a fault, or its number where it has none
-abbrev pub fault_words : ℕ → Option RleFault → List ℕ
-fault_words number (Some fault) = escaped_text (sentence_of fault)
-fault_words number Nothing = if number == 0 then codes "the file can&#39;t be read" else codes "fault " ++ decimal number
 
 abbrev pub finding_words : Finding → List ℕ
 finding_words (Ok onset period dx dy code) = []
@@ -44,7 +23,7 @@ found_cells rule population finding =
     codes " <small>" ++ told_text rule ++ codes "</small></th><td>" ++ grouped population ++ codes "</td><td>" ++ finding_words finding
 
 abbrev pub refused_cells : ℕ → List ℕ
-refused_cells number = codes "</th><td></td><td>refused: " ++ fault_words number (fault_of number)
+refused_cells number = codes "</th><td></td><td>refused: " ++ escaped_text (fault_words number)
 
 -- what stands after a name: its rule and its cells, and what becomes of it
 abbrev pub fate_cells : Outcome → List ℕ

@@ -1,55 +1,15 @@
 //! What becomes of patterns that do not recur.
-ghost use Rattle.std.specs.Prelude.{◌≡◌, ◌++◌, OnOk, decimal};
+ghost use Rattle.std.specs.Prelude.{◌≡◌, ◌++◌, OnOk};
 ghost use Rattle.census_readback.specs.Grouped.{rows_lent};
-ghost use Rattle.census_page_pieces.specs.Fates.{fate_cells, fate_row, fault_of, fault_words, finding_words, found_cells, recurs, refused_cells};
+ghost use Rattle.census_page_pieces.specs.Fates.{fate_cells, fate_row, finding_words, found_cells, recurs, refused_cells};
 ghost use Rattle.census_rows.specs.declared.row.Finding.TheVariants.{Ash, Large};
 
 use crate::escape::{push_escaped, push_text, push_told};
 use crate::growth::push_growth;
-use crate::numbers::{push_grouped, push_labelled, push_number, push_plural};
+use crate::numbers::{push_grouped, push_labelled, push_plural};
 use census_rows::{Finding, Outcome, Row};
-use life_faults::sentence;
-use life_text::RleFault;
+use life_faults::fault_words;
 use std::alloc::{AllocError, Global};
-
-// The fault that a report names by this number, without its place.
-fn fault_of(number: u64) -> Option<RleFault>
-    ensures { result ≡ fault_of number }
-{
-    match number {
-        1 => Some(RleFault::NoHeader),
-        2 => Some(RleFault::BadHeader),
-        3 => Some(RleFault::RuleNotLifeLike),
-        4 => Some(RleFault::RuleHasB0),
-        5 => Some(RleFault::ManyStates { at: 0 }),
-        6 => Some(RleFault::BadChar { at: 0 }),
-        7 => Some(RleFault::BadRun { at: 0 }),
-        8 => Some(RleFault::TooFar { at: 0 }),
-        9 => Some(RleFault::TooMany { at: 0 }),
-        10 => Some(RleFault::NoEnd),
-        _ => None,
-    }
-}
-
-// Adds a number behind words.
-fn push_numbered(text: &mut Vec<u8>, words: &[u8], number: u64) -> Result<(), AllocError>
-    ensures { OnOk result (text.new.items ≡ text.old.items ++ (words.now ++ decimal number)) }
-{
-    text.extend_from_slice(words)?;
-    push_number(text, number)?;
-    Ok(())
-}
-
-// Adds the sentence for a fault, or its number where it has none.
-fn push_fault(text: &mut Vec<u8>, number: u64, fault: &Option<RleFault>) -> Result<(), AllocError>
-    ensures { OnOk result (text.new.items ≡ text.old.items ++ fault_words number fault.now) }
-{
-    match fault {
-        Some(fault) => push_escaped(text, sentence(*fault).as_bytes()),
-        None if number == 0 => text.extend_from_slice(b"the file can&#39;t be read"),
-        None => push_numbered(text, b"fault ", number),
-    }
-}
 
 // Adds that a pattern has fallen apart.
 fn push_ash(text: &mut Vec<u8>, onset: u64, objects: u64) -> Result<(), AllocError>
@@ -106,11 +66,12 @@ fn push_found(
 }
 
 // Adds why a pattern was refused.
-fn push_refused(text: &mut Vec<u8>, number: u64) -> Result<(), AllocError>
+fn push_refused(alloc: Global, text: &mut Vec<u8>, number: u64) -> Result<(), AllocError>
     ensures { OnOk result (text.new.items ≡ text.old.items ++ refused_cells number) }
 {
     text.extend_from_slice(b"</th><td></td><td>refused: ")?;
-    push_fault(text, number, &fault_of(number))?;
+    let words = fault_words(alloc, number)?;
+    push_escaped(text, words.as_slice())?;
     Ok(())
 }
 
@@ -124,7 +85,7 @@ fn push_fate(alloc: Global, text: &mut Vec<u8>, outcome: &Outcome) -> Result<(),
             population,
             finding,
         } => push_found(alloc, text, *rule, *population, finding),
-        Outcome::Bad { fault } => push_refused(text, *fault),
+        Outcome::Bad { fault } => push_refused(alloc, text, *fault),
     }
 }
 

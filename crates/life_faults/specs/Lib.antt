@@ -4,5 +4,6 @@ pub mod Rules
 pub mod Sentences
 pub mod Lines
 pub mod Refused
+pub mod Reported
 pub use Rattle.life_text.specs.Rle
 pub use Rattle.texts.specs.Bytes

@@ -9,6 +9,7 @@ mod header;
 mod kinds;
 mod line;
 mod places;
+mod reported;
 mod sentences;
 mod told;
 
@@ -18,6 +19,7 @@ pub use kinds::{RuleKind, rule_kind};
 pub use life_text::RleFault;
 pub use line::{line_and_column, place_of};
 pub use places::Place;
+pub use reported::fault_words;
 pub use sentences::{
     file_sentence, refused_rules_are_told, rule_sentence, sentence, sentences_differ, words_of,
 };

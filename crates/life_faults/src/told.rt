@@ -10,7 +10,7 @@ use life_text::RleFault;
 use std::alloc::{AllocError, Global};
 
 // Appends a number.
-fn push_number(line: &mut Vec<u8>, number: u64) -> Result<(), AllocError>
+pub fn push_number(line: &mut Vec<u8>, number: u64) -> Result<(), AllocError>
     ensures { OnOk result (line.new.items ≡ line.old.items ++ decimal number) }
 {
     let mut buffer = Buffer::new();
