@@ -1,11 +1,12 @@
 -- A table of codes of patterns that are put in order, and where there is none.
 use Rattle.std.proofs.Common.{◌≡◌, Bor, ℕ, Bool, true, false, not, ◌||◌, if◌then◌else◌, true≢false, sym, List, [], ◌∷◌, ◌++◌, codes, refl, ap, ap₂}
 use Rattle.std.specs.Prelude.{None}
-use Rattle.std.specs.List.{list_any, take_while}
+use Rattle.std.specs.List.{list_any}
 use Rattle.census_rows.specs.declared.row.Outcome.{Outcome}
 use Rattle.census_rows.specs.declared.row.Row.{Row}
 use Rattle.census_rows.specs.declared.row.Row.TheVariants.{Open, Line, Part, Engine, Emits, Code, Close, End}
-use Rattle.census_rows.specs.Lines.{describes_growth}
+use Rattle.census_rows.specs.declared.kinds.Behind.TheVariants as behind
+use Rattle.census_readback.specs.Following.{rows_behind}
 use Rattle.census_page_pieces.specs.Escapes.{name_element}
 use Rattle.census_page_pieces.specs.Fates.{fate_cells, recurs}
 use Rattle.census_page_pieces.specs.Growth.{growth_text}
@@ -92,7 +93,7 @@ pub list-is : (rows : List Row) → list_any is_stray rows ≡ true → stray_li
 list-is [] some = absurd (true≢false (sym some))
 list-is (Open collection patterns name ∷ rows) some = list-is rows some
 list-is (Line collection pattern outcome name ∷ rows) some =
-    some-row (recurs outcome) (list_any is_stray rows) name.now (stray_rows rows) outcome (take_while describes_growth rows) some (list-is rows)
+    some-row (recurs outcome) (list_any is_stray rows) name.now (stray_rows rows) outcome (rows_behind behind.Engines rows) some (list-is rows)
 list-is (Part collection pattern code count ∷ rows) some = list-is rows some
 list-is (Engine collection pattern number period dx dy count ∷ rows) some = list-is rows some
 list-is (Emits collection pattern engine code count ∷ rows) some = list-is rows some
@@ -104,7 +105,7 @@ pub list-none : (rows : List Row) → list_any is_stray rows ≡ false → stray
 list-none [] none = refl
 list-none (Open collection patterns name ∷ rows) none = list-none rows none
 list-none (Line collection pattern outcome name ∷ rows) none =
-    no-stray (recurs outcome) (list_any is_stray rows) name.now (stray_rows rows) outcome (take_while describes_growth rows) none (list-none rows)
+    no-stray (recurs outcome) (list_any is_stray rows) name.now (stray_rows rows) outcome (rows_behind behind.Engines rows) none (list-none rows)
 list-none (Part collection pattern code count ∷ rows) none = list-none rows none
 list-none (Engine collection pattern number period dx dy count ∷ rows) none = list-none rows none
 list-none (Emits collection pattern engine code count ∷ rows) none = list-none rows none

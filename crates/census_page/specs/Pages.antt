@@ -1,11 +1,12 @@
 -- The text of a page.
 use Rattle.std.specs.Prelude.{ℕ, ◌+◌, Bool, true, false, not, if◌then◌else◌, Option, Some, None as Nothing, is_some, List, [], ◌∷◌, ◌++◌, codes, decimal, length}
-use Rattle.std.specs.List.{count_by, take_while}
+use Rattle.std.specs.List.{count_by}
 use Rattle.life_model.specs.Generation.{Generation}
 use Rattle.census_rows.specs.declared.row.Row.{Row}
 use Rattle.census_rows.specs.declared.row.Row.TheVariants.{Open, Line, Code, Close}
 use Rattle.census_rows.specs.Kinds.{is_refused, is_resolved, is_unresolved}
-use Rattle.census_rows.specs.Lines.{describes_growth}
+use Rattle.census_rows.specs.declared.kinds.Behind.TheVariants as behind
+use Rattle.census_readback.specs.Following.{rows_behind}
 use Rattle.census_readback.specs.Grouped.{collections_of}
 use Rattle.census_readback.specs.Shapes.{any_outcome, is_line}
 use Rattle.census_page_pieces.specs.declared.kind.Kind.{Kind}
@@ -90,7 +91,7 @@ code_rows holders (row ∷ rows) = code_row holders row ++ code_rows holders row
 
 -- the row of a table for a row of a report that stands before these
 abbrev pub stray_row : Row → List Row → List ℕ
-stray_row (Line collection pattern outcome name) rows = fate_row name.now outcome (take_while describes_growth rows)
+stray_row (Line collection pattern outcome name) rows = fate_row name.now outcome (rows_behind behind.Engines rows)
 stray_row _ rows = []
 
 abbrev pub stray_rows : List Row → List ℕ

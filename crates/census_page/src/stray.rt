@@ -1,48 +1,16 @@
 //! Rows of the table of the patterns that do not recur.
-ghost use Rattle.std.specs.Prelude.{◌≡◌, ◌≤◌, ◌++◌, MatchResult, OnOk, length};
-ghost use Rattle.std.specs.List.{prefix_len, take_while};
+ghost use Rattle.std.specs.Prelude.{◌≡◌, ◌++◌, MatchResult, OnOk};
 ghost use Rattle.gathered.specs.Telling.{TellsAfter, TellsFront, sheet};
-ghost use Rattle.census_rows.specs.Lines.{describes_growth};
 ghost use Rattle.census_readback.specs.Grouped.{rows_lent};
 ghost use Rattle.census_page.specs.Pages.{stray_row, stray_rows};
 
 use census_page_pieces::push_fate_row;
-use census_rows::Row;
+use census_readback::rows_behind;
+use census_rows::{Behind, Row};
 use gathered::{Block, put};
 use std::alloc::{AllocError, Global};
 use std::io::Write;
 use watched::Watched;
-
-// Whether a row tells of growth.
-fn describes_growth(row: &Row) -> bool
-    ensures { result ≡ describes_growth row.now }
-{
-    match row {
-        Row::Engine { .. } => true,
-        Row::Emits { .. } => true,
-        _ => false,
-    }
-}
-
-// How many rows from the first on tell of growth.
-fn count_growth(rows: &[&Row]) -> usize
-    ensures value { result ≡ prefix_len describes_growth (rows_lent rows.now) }
-    ensures within { result ≤ length rows.now }
-{
-    for (index, row) in rows.iter().enumerate() {
-        if !describes_growth(*row) {
-            return index;
-        }
-    }
-    rows.len()
-}
-
-// The rows from the first on that tell of growth.
-fn growth_first<'c, 'b, 'a>(rows: &'c [&'b Row<'a>]) -> &'c [&'b Row<'a>]
-    ensures { rows_lent result.now ≡ take_while describes_growth (rows_lent rows.now) }
-{
-    &rows[..count_growth(rows)]
-}
 
 // Adds the table row for a row that tells of a pattern that does not recur, and stands before these.
 fn push_stray_row(
@@ -56,7 +24,8 @@ fn push_stray_row(
 {
     match row {
         Row::Line { outcome, name, .. } => {
-            push_fate_row(alloc, text, *name, outcome, growth_first(rows))
+            let growth = rows_behind(Behind::Engines, rows);
+            push_fate_row(alloc, text, *name, outcome, growth)
         }
         _ => Ok(()),
     }

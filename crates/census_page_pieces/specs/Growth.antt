@@ -5,17 +5,13 @@ use Rattle.std.specs.List.{list_all, take_while}
 use Rattle.std.specs.Ordering.{int_eq}
 use Rattle.census_rows.specs.declared.row.Row.{Row}
 use Rattle.census_rows.specs.declared.row.Row.TheVariants.{Engine, Emits}
+use Rattle.census_readback.specs.Following.{is_emits}
 use Rattle.census_page_pieces.specs.declared.engine.EngineKind.{EngineKind}
 use Rattle.census_page_pieces.specs.declared.engine.EngineKind.TheVariants.{Gun, Rake, Puffer}
 use Rattle.census_page_pieces.specs.declared.kind.Kind.TheVariants.{Spaceship}
 use Rattle.census_page_pieces.specs.Escapes.{code_element}
 use Rattle.census_page_pieces.specs.Kinds.{is_kind, kind_of}
 use Rattle.census_page_pieces.specs.Numbers.{grouped, labelled, plural}
-
--- the row tells what an engine emits
-abbrev pub is_emits : Row → Bool
-is_emits (Emits collection pattern engine code count) = true
-is_emits _ = false
 
 -- it emits spaceships
 abbrev pub emits_ship : Row → Bool

@@ -1,9 +1,9 @@
 //! What engines are.
-ghost use Rattle.std.specs.Prelude.{◌≡◌, ◌≤◌, ◌&&◌, length, pos};
-ghost use Rattle.std.specs.List.{list_all, prefix_len, take_while};
+ghost use Rattle.std.specs.Prelude.{◌≡◌, ◌&&◌, pos};
+ghost use Rattle.std.specs.List.{list_all};
 ghost use Rattle.std.specs.Ordering.{int_eq};
 ghost use Rattle.census_readback.specs.Grouped.{rows_lent};
-ghost use Rattle.census_page_pieces.specs.Growth.{emits_ship, engine_kind, engine_name, is_emits};
+ghost use Rattle.census_page_pieces.specs.Growth.{emits_ship, engine_kind, engine_name};
 
 use crate::kind::{Kind, is_kind, kind_of};
 use census_rows::Row;
@@ -17,36 +17,6 @@ pub enum EngineKind {
     Rake,
     /// It moves, and leaves other objects.
     Puffer,
-}
-
-// Whether a row tells what an engine emits.
-fn is_emits(row: &Row) -> bool
-    ensures { result ≡ is_emits row.now }
-{
-    match row {
-        Row::Emits { .. } => true,
-        _ => false,
-    }
-}
-
-// How many rows from the first on tell what an engine emits.
-fn count_emits(rows: &[&Row]) -> usize
-    ensures value { result ≡ prefix_len is_emits (rows_lent rows.now) }
-    ensures within { result ≤ length rows.now }
-{
-    for (index, row) in rows.iter().enumerate() {
-        if !is_emits(*row) {
-            return index;
-        }
-    }
-    rows.len()
-}
-
-/// The rows from the first on that tell what an engine emits.
-pub fn emits_first<'c, 'b, 'a>(rows: &'c [&'b Row<'a>]) -> &'c [&'b Row<'a>]
-    ensures { rows_lent result.now ≡ take_while is_emits (rows_lent rows.now) }
-{
-    &rows[..count_emits(rows)]
 }
 
 // Whether a row tells that an engine emits spaceships.

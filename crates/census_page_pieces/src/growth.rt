@@ -4,8 +4,9 @@ ghost use Rattle.census_readback.specs.Grouped.{rows_lent};
 ghost use Rattle.census_page_pieces.specs.Growth.{all_emitted, deeds, emitted, engine_head, engine_text, growth_text, moves, several, verb};
 
 use crate::code::push_code;
-use crate::engine::{EngineKind, emits_first, engine_kind, engine_name};
+use crate::engine::{EngineKind, engine_kind, engine_name};
 use crate::numbers::{push_grouped, push_labelled, push_plural, push_signed};
+use census_readback::emits_first;
 use census_rows::Row;
 use std::alloc::{AllocError, Global};
 

@@ -10,6 +10,7 @@ pub mod Rules
 pub mod Codes
 pub mod Lawful
 pub mod Engines
+pub mod Following
 pub mod Told
 pub mod Counts
 pub mod ObjectCode

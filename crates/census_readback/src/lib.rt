@@ -6,6 +6,7 @@
 mod code;
 mod counts;
 mod engines;
+mod following;
 mod lawful;
 mod limits;
 mod lines;
@@ -17,6 +18,7 @@ mod rules;
 mod sectioning;
 mod told;
 
+pub use following::{emits_first, rows_behind};
 pub use limits::COUNT_LIMIT;
 pub use lines::{First, behind_line, first_row};
 pub use reading::{fault_of, read_report};

@@ -65,7 +65,7 @@ fn with_line<'a>(mut tally: Tally<'a>, outcome: &Outcome<'a>) -> Result<Tally<'a
     })
 }
 
-fn same_behind(one: Behind, other: Behind) -> bool
+pub fn same_behind(one: Behind, other: Behind) -> bool
     ensures { result ≡ same_behind one other }
 {
     match (one, other) {

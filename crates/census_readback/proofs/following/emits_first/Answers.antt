@@ -1,7 +1,7 @@
 use Rattle.std.proofs.Common.{ap, ◌∙◌, sym, take}
 use Rattle.std.proofs.lemmas.List.{take-map}
 use Rattle.census_readback.specs.Grouped.{rows_lent}
-use Rattle.census_page_pieces.proofs.engine.emits_first.Goals as goal
+use Rattle.census_readback.proofs.following.emits_first.Goals as goal
 
 pub returns : goal.returns
 returns c =
