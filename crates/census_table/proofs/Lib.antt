@@ -1,5 +1,6 @@
 pub mod Sums
 pub mod Hex
 pub mod Counts
+pub mod Patterned
 pub mod Floatless
 pub mod Texts

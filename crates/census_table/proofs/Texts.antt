@@ -1,12 +1,15 @@
 -- The text of rows, of which some stand before others.
-use Rattle.std.proofs.Common.{◌≡◌, ℕ, ◌+◌, ◌-◌, ◌<◌, List, [], ◌∷◌, ◌++◌, Bor, Option, Some, None, length, map, take, drop, get_or, refl, sym, ap, ◌∙◌, append_assoc, drop-cons, suc, arith}
-use Rattle.std.proofs.lemmas.List.{drop-drop, map-append, take-append-drop}
+use Rattle.std.proofs.Common.{◌≡◌, ℕ, zero, ◌+◌, ◌-◌, ◌<◌, Bool, List, [], ◌∷◌, ◌++◌, Bor, Option, Some, None, length, map, take, drop, get_or, refl, sym, ap, ◌∙◌, append_assoc, drop-cons, suc, arith, subst}
+use Rattle.std.specs.Option.{option_map}
+use Rattle.std.proofs.lemmas.List.{drop-drop, drop-map, length-drop, map-append, take-append-drop, take_all}
 use Rattle.std.specs.declared.vec.Vec.{Vec}
 use Rattle.census_rows.specs.declared.row.Row.{Row}
 use Rattle.census_readback.specs.Grouped.{sections_lent, rows_lent}
-use Rattle.census_table.specs.Entries.{all_entries, entry_before, entry_of_row, lines_under, section_entries}
+use Rattle.census_table.specs.Lists.{told_before}
+use Rattle.census_table.specs.Patterns.{Pattern, all_patterns, first_patterns, pattern_before, pattern_of_row, patterns_under, section_patterns}
 use Rattle.csv.specs.Writing.{default_writer, row_text}
-use Rattle.census_table.specs.Columns.{pattern_row}
+use Rattle.census_table.specs.Columns.{columns, entry_row, pattern_row}
+use Rattle.census_table.specs.Entries.{entry_before, entry_of_row, lines_under}
 use Rattle.census_table.specs.Contents.{Member}
 use Rattle.census_table.specs.ObjectColumns.{object_row}
 use Rattle.census_table.specs.Objects.{all_objects, section_objects}
@@ -32,16 +35,6 @@ mapped-append : {X : Type 0} (format : Format) (row : X → List Member) (xs ys 
     → rows_text format (map row (xs ++ ys)) ≡ rows_text format (map row xs) ++ rows_text format (map row ys)
 mapped-append format row xs ys = ap (rows_text format) (map-append row xs ys) ∙ rows-append format (map row xs) (map row ys)
 
-before-append : (entry : Option Entry) (xs ys : List Entry) → entry_before entry (xs ++ ys) ≡ entry_before entry xs ++ ys
-before-append None xs ys = refl
-before-append (Some entry) xs ys = refl
-
-under-append : (number : ℕ) (heading : Row) (xs ys : List Row) → lines_under number heading (xs ++ ys) ≡ lines_under number heading xs ++ lines_under number heading ys
-under-append number heading [] ys = refl
-under-append number heading (x ∷ xs) ys =
-    ap (λ (es : List Entry). entry_before (entry_of_row number heading x) es) (under-append number heading xs ys)
-    ∙ before-append (entry_of_row number heading x) (lines_under number heading xs) (lines_under number heading ys)
-
 -- some elements from a place on, and those behind them
 pub drop-cut : {X : Type 0} (xs : List X) (start count : ℕ) → drop start xs ≡ take (start + count - start) (drop start xs) ++ drop (start + count) xs
 drop-cut xs start count =
@@ -49,16 +42,83 @@ drop-cut xs start count =
     sym (take-append-drop k (drop start xs))
     ∙ ap (λ t. take k (drop start xs) ++ t) (drop-drop k start xs ∙ ap (λ n. drop n xs) (let e : start + k ≡ start + count = omega arith in e))
 
+told-append : (told : Option Pattern) (xs ys : List Pattern) → told_before told (xs ++ ys) ≡ told_before told xs ++ ys
+told-append None xs ys = refl
+told-append (Some told) xs ys = refl
+
+-- the patterns of the first rows, and those of the rows behind them
+first-cut : (count number : ℕ) (heading : Row) (rows : List Row)
+    → patterns_under number heading rows ≡ first_patterns count number heading rows ++ patterns_under number heading (drop count rows)
+first-cut zero number heading rows = refl
+first-cut (suc count) number heading [] = refl
+first-cut (suc count) number heading (row ∷ rows) =
+    let told = pattern_of_row number heading row rows in
+    ap (λ (ps : List Pattern). told_before told ps) (first-cut count number heading rows)
+    ∙ told-append told (first_patterns count number heading rows) (patterns_under number heading (drop count rows))
+
+-- the rest of a list is taken whole
+pub rest-whole : {X : Type 0} (n : ℕ) (xs : List X) → take (length xs - n) (drop n xs) ≡ drop n xs
+rest-whole n xs = take_all (length xs - n) (drop n xs) (omega (arith, length-drop n xs))
+
 -- some rows of a collection, and those behind them
-pub rows-cut : (format : Format) (number : ℕ) (heading : Row) (rows some others : List (Bor Row)) (entries : List Entry) → rows ≡ some ++ others
-    → entries ≡ lines_under number heading (rows_lent some)
-    → rows_text format (map pattern_row (lines_under number heading (rows_lent rows)))
-    ≡ rows_text format (map pattern_row entries) ++ rows_text format (map pattern_row (lines_under number heading (rows_lent others)))
-rows-cut format number heading rows some others entries e are =
-    ap (λ rows. rows_text format (map pattern_row (lines_under number heading rows))) (ap rows_lent e ∙ map-append (λ row. row.now) some others)
-    ∙ ap (λ es. rows_text format (map pattern_row es)) (under-append number heading (rows_lent some) (rows_lent others))
-    ∙ mapped-append format pattern_row (lines_under number heading (rows_lent some)) (lines_under number heading (rows_lent others))
-    ∙ ap (λ es. rows_text format (map pattern_row es) ++ rows_text format (map pattern_row (lines_under number heading (rows_lent others)))) (sym are)
+pub rows-cut : (format : Format) (number : ℕ) (heading : Row) (all : List (Bor Row)) (start count : ℕ) (from : List (Bor Row)) → from ≡ drop start all
+    → rows_text format (map (pattern_row format) (patterns_under number heading (rows_lent (drop start all))))
+    ≡ rows_text format (map (pattern_row format) (first_patterns count number heading (rows_lent from)))
+    ++ rows_text format (map (pattern_row format) (patterns_under number heading (rows_lent (drop (start + count) all))))
+rows-cut format number heading all start count from is =
+    let rows = rows_lent (drop start all) in
+    let others = patterns_under number heading (rows_lent (drop (start + count) all)) in
+    let behind : drop count rows ≡ rows_lent (drop (start + count) all) = drop-map (λ row. row.now) count (drop start all) ∙ ap rows_lent (drop-drop count start all) in
+    let told = ap (λ list. rows_text format (map (pattern_row format) list)) (first-cut count number heading rows)
+    ∙ mapped-append format (pattern_row format) (first_patterns count number heading rows) (patterns_under number heading (drop count rows)) in
+    told
+    ∙ ap (λ rows'. rows_text format (map (pattern_row format) (first_patterns count number heading rows)) ++ rows_text format (map (pattern_row format) (patterns_under number heading rows'))) behind
+    ∙ ap (λ from. rows_text format (map (pattern_row format) (first_patterns count number heading (rows_lent from))) ++ rows_text format (map (pattern_row format) others)) (sym is)
+
+record-first : (safe : Bool) (entry : Option Entry) (rows : List Row) (list : List Pattern) (entries : List Entry)
+    → map (pattern_row (Csv safe)) list ≡ map (entry_row columns) entries
+    → map (pattern_row (Csv safe)) (told_before (option_map (λ e. pattern_before e rows) entry) list) ≡ map (entry_row columns) (entry_before entry entries)
+record-first safe None rows list entries same = same
+record-first safe (Some entry) rows list entries same = ap (λ told. entry_row columns entry ∷ told) same
+
+-- the rows of the patterns of the first rows, as CSV
+pub first-records : (safe : Bool) (count number : ℕ) (heading : Row) (rows : List Row)
+    → map (pattern_row (Csv safe)) (first_patterns count number heading rows) ≡ map (entry_row columns) (lines_under number heading (take count rows))
+first-records safe zero number heading rows = refl
+first-records safe (suc count) number heading [] = refl
+first-records safe (suc count) number heading (row ∷ rows) =
+    record-first safe (entry_of_row number heading row) rows (first_patterns count number heading rows) (lines_under number heading (take count rows))
+    (first-records safe count number heading rows)
+
+-- the patterns of one row more
+first-more : (count number : ℕ) (heading row : Row) (rows rest : List Row) → drop count rows ≡ row ∷ rest
+    → first_patterns (suc count) number heading rows ≡ first_patterns count number heading rows ++ told_before (pattern_of_row number heading row rest) []
+first-more zero number heading row rows rest e =
+    subst (λ w. first_patterns 1 number heading w ≡ told_before (pattern_of_row number heading row rest) []) (sym e) refl
+first-more (suc count) number heading row [] rest e = absurd (cc)
+first-more (suc count) number heading row (r ∷ rows) rest e =
+    let told = pattern_of_row number heading r rows in
+    ap (λ (ps : List Pattern). told_before told ps) (first-more count number heading row rows rest e)
+    ∙ told-append told (first_patterns count number heading rows) (told_before (pattern_of_row number heading row rest) [])
+
+-- a text with the line of one pattern more, as JSON
+pub lines-more : (i number : ℕ) (heading : Row) (rows : List (Bor Row)) (d : Bor Row) (rest : List (Bor Row)) (old new : List ℕ)
+    → i < length rows → rest ≡ drop (i + 1) rows
+    → old ≡ json_rows (map (pattern_row Json) (first_patterns i number heading (rows_lent rows)))
+    → new ≡ old ++ json_rows (map (pattern_row Json) (told_before (pattern_of_row number heading (get_or rows i d).now (rows_lent rest)) []))
+    → new ≡ json_rows (map (pattern_row Json) (first_patterns (i + 1) number heading (rows_lent rows)))
+lines-more i number heading rows d rest old new less is so_far more =
+    let row = (get_or rows i d).now in
+    let one = told_before (pattern_of_row number heading row (rows_lent rest)) [] in
+    let some = first_patterns i number heading (rows_lent rows) in
+    let next : suc i ≡ i + 1 = omega arith in
+    let here : drop i rows ≡ get_or rows i d ∷ rest =
+    drop-cons rows i d less ∙ ap (λ k. get_or rows i d ∷ drop k rows) next ∙ ap (λ w. get_or rows i d ∷ w) (sym is) in
+    let lent : drop i (rows_lent rows) ≡ row ∷ rows_lent rest = drop-map (λ row. row.now) i rows ∙ ap rows_lent here in
+    more ∙ ap (λ t. t ++ json_rows (map (pattern_row Json) one)) so_far
+    ∙ sym (ap (λ list. json_rows (map (pattern_row Json) list))
+    (ap (λ k. first_patterns k number heading (rows_lent rows)) (sym next) ∙ first-more i number heading row (rows_lent rows) (rows_lent rest) lent)
+    ∙ mapped-append Json (pattern_row Json) some one)
 
 -- some objects, and those behind them
 pub objects-cut : (format : Format) (columns : List ObjectColumn) (objects some others chosen : List Object) → objects ≡ some ++ others → chosen ≡ some
@@ -70,19 +130,19 @@ objects-cut format columns objects some others chosen e are =
 -- a collection, and those behind it
 pub sections-cut : {A : Type 0} (format : Format) (sections : List (Vec (Bor Row) A)) (i : ℕ) (d : Vec (Bor Row) A) (rows : List (Bor Row)) → i < length sections
     → rows ≡ (get_or sections i d).items
-    → rows_text format (map pattern_row (all_entries (i + 1) (sections_lent (drop i sections))))
-    ≡ rows_text format (map pattern_row (section_entries (i + 1) (rows_lent rows)))
-    ++ rows_text format (map pattern_row (all_entries (i + 1 + 1) (sections_lent (drop (i + 1) sections))))
+    → rows_text format (map (pattern_row format) (all_patterns (i + 1) (sections_lent (drop i sections))))
+    ≡ rows_text format (map (pattern_row format) (section_patterns (i + 1) (rows_lent rows)))
+    ++ rows_text format (map (pattern_row format) (all_patterns (i + 1 + 1) (sections_lent (drop (i + 1) sections))))
 sections-cut format sections i d rows less are =
     let behind = drop (i + 1) sections in
     let next : drop i sections ≡ get_or sections i d ∷ behind =
     drop-cons sections i d less ∙ ap (λ k. get_or sections i d ∷ drop k sections) (let e : suc i ≡ i + 1 = omega arith in e) in
-    ap (λ s. rows_text format (map pattern_row (all_entries (i + 1) (sections_lent s)))) next
-    ∙ mapped-append format pattern_row (section_entries (i + 1) (rows_lent (get_or sections i d).items)) (all_entries (i + 1 + 1) (sections_lent behind))
-    ∙ ap (λ r. rows_text format (map pattern_row (section_entries (i + 1) (rows_lent r))) ++ rows_text format (map pattern_row (all_entries (i + 1 + 1) (sections_lent behind)))) (sym are)
+    ap (λ s. rows_text format (map (pattern_row format) (all_patterns (i + 1) (sections_lent s)))) next
+    ∙ mapped-append format (pattern_row format) (section_patterns (i + 1) (rows_lent (get_or sections i d).items)) (all_patterns (i + 1 + 1) (sections_lent behind))
+    ∙ ap (λ r. rows_text format (map (pattern_row format) (section_patterns (i + 1) (rows_lent r))) ++ rows_text format (map (pattern_row format) (all_patterns (i + 1 + 1) (sections_lent behind)))) (sym are)
 
 -- a collection without rows
-pub section-empty : (format : Format) (number : ℕ) (rows : List (Bor Row)) → length rows < 1 → rows_text format (map pattern_row (section_entries number (rows_lent rows))) ≡ []
+pub section-empty : (format : Format) (number : ℕ) (rows : List (Bor Row)) → length rows < 1 → rows_text format (map (pattern_row format) (section_patterns number (rows_lent rows))) ≡ []
 section-empty (Csv safe) number [] none = refl
 section-empty Json number [] none = refl
 section-empty format number (r ∷ rows) none = absurd (omega arith)

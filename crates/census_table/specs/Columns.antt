@@ -1,19 +1,27 @@
 -- The columns of a table of patterns.
-use Rattle.std.specs.Prelude.{ℕ, Option, Some, None, List, [], ◌∷◌, codes, map}
+use Rattle.std.specs.Prelude.{ℕ, Option, Some, None, List, [], ◌∷◌, ◌++◌, codes, map}
 use Rattle.census_rows.specs.declared.kinds.Label.{Label}
 use Rattle.census_rows.specs.declared.kinds.Label.TheVariants as label
 use Rattle.census_rows.specs.declared.kinds.Value.{Value}
 use Rattle.census_rows.specs.declared.kinds.Value.TheVariants.{Number, Signed, Text}
 use Rattle.census_rows.specs.declared.row.Outcome.{Outcome}
 use Rattle.census_rows.specs.Kinds.{said, value_at}
+use Rattle.life_faults.specs.Reported.{fault_words}
 use Rattle.census_table.specs.declared.column.Column.{Column}
 use Rattle.census_table.specs.declared.column.Column.TheVariants as column
 use Rattle.census_table.specs.declared.entry.Entry.{Entry}
+use Rattle.census_table.specs.declared.table.Format.{Format}
+use Rattle.census_table.specs.declared.table.Format.TheVariants.{Csv, Json}
 use Rattle.census_table.specs.Contents.{Content, Member, nothing, count, shift, text, hex}
+use Rattle.census_table.specs.Patterns.{Pattern}
 
 -- all columns, in their order
 abbrev pub columns : List Column
-columns = column.Collection ∷ column.CollectionName ∷ column.Pattern ∷ column.Name ∷ column.Status ∷ column.Rule ∷ column.Population ∷ column.Onset ∷ column.Period ∷ column.Dx ∷ column.Dy ∷ column.Code ∷ column.Fault ∷ column.CollectionNameHex ∷ column.NameHex ∷ column.Objects ∷ column.Generation ∷ column.Engines ∷ []
+columns = column.Collection ∷ column.CollectionName ∷ column.Pattern ∷ column.Name ∷ column.Status ∷ column.Rule ∷ column.Population ∷ column.Onset ∷ column.Period ∷ column.Dx ∷ column.Dy ∷ column.Code ∷ column.Fault ∷ column.CollectionNameHex ∷ column.NameHex ∷ column.Objects ∷ column.Generation ∷ column.Engines ∷ column.FaultText ∷ []
+
+-- all but the engines, of which JSON has a list
+abbrev pub single_columns : List Column
+single_columns = column.Collection ∷ column.CollectionName ∷ column.Pattern ∷ column.Name ∷ column.Status ∷ column.Rule ∷ column.Population ∷ column.Onset ∷ column.Period ∷ column.Dx ∷ column.Dy ∷ column.Code ∷ column.Fault ∷ column.CollectionNameHex ∷ column.NameHex ∷ column.Objects ∷ column.Generation ∷ column.FaultText ∷ []
 
 -- what a column is called
 abbrev pub name_of : Column → List ℕ
@@ -35,6 +43,7 @@ name_of column.NameHex = codes "name_hex"
 name_of column.Objects = codes "objects"
 name_of column.Generation = codes "generation"
 name_of column.Engines = codes "engines"
+name_of column.FaultText = codes "fault_text"
 
 abbrev pub value_content : Value → Content
 value_content (Number n) = count n
@@ -48,6 +57,10 @@ content_or_nothing (Some value) = value_content value
 -- what the field with a label has
 abbrev pub field_content : Outcome → Label → Content
 field_content outcome label = content_or_nothing (value_at label (said outcome).fields)
+
+abbrev pub fault_content : Option Value → Content
+fault_content (Some (Number n)) = text (fault_words n)
+fault_content _ = nothing
 
 -- what the row of a pattern has in a column
 abbrev pub content_in_column : Column → Entry → Content
@@ -69,7 +82,18 @@ content_in_column column.NameHex entry = hex entry.name.now
 content_in_column column.Objects entry = field_content entry.outcome label.Objects
 content_in_column column.Generation entry = field_content entry.outcome label.Generation
 content_in_column column.Engines entry = field_content entry.outcome label.Engines
+content_in_column column.FaultText entry = fault_content (value_at label.Fault (said entry.outcome).fields)
+
+-- what the row of a pattern has in these columns
+abbrev pub entry_row : List Column → Entry → List Member
+entry_row columns entry = map (λ column. record { name = name_of column; content = content_in_column column entry }) columns
+
+-- the lists that it has in JSON
+abbrev pub list_members : Pattern → List Member
+list_members pattern =
+    record { name = codes "engines"; content = pattern.engines } ∷ record { name = codes "parts"; content = pattern.parts } ∷ []
 
 -- the row of a pattern
-abbrev pub pattern_row : Entry → List Member
-pattern_row entry = map (λ column. record { name = name_of column; content = content_in_column column entry }) columns
+abbrev pub pattern_row : Format → Pattern → List Member
+pattern_row (Csv safe) pattern = entry_row columns pattern.entry
+pattern_row Json pattern = entry_row single_columns pattern.entry ++ list_members pattern

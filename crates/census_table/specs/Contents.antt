@@ -5,19 +5,25 @@ use Rattle.std.specs.List.{list_any}
 use Rattle.std.specs.Str.{is_utf8}
 use Rattle.std.specs.Str.Lossy.{utf8_lossy}
 use Rattle.hex.specs.Hex.{encode_lower}
-use Rattle.serde_json.specs.Data.{Data, null, number, string, unsigned}
+use Rattle.serde_json.specs.Data.{Data, array, item, no_items, no_members, null, number, object, put, string, unsigned}
 use Rattle.serde_json.specs.Find.{of_integer}
+use Rattle.serde_json.specs.View.{items_of}
+use Rattle.life_faults.specs.Reported.{fault_words}
+use Rattle.census_table.specs.Lists.{Engines}
 use Rattle.census_table.specs.declared.cell.Cell.{Cell}
-use Rattle.census_table.specs.declared.cell.Cell.TheVariants.{Empty, Count, Shift, Text, Hex}
+use Rattle.census_table.specs.declared.cell.Cell.TheVariants.{Empty, Count, Shift, Text, Hex, Fault}
 use Rattle.census_table.specs.declared.cell.Field.{Field}
+use Rattle.census_table.specs.declared.lists.Portion.{Portion}
 
--- nothing, a number, a signed number, a text, or the bytes of a text in hex where it isn't UTF-8
+-- nothing, a number, a signed number, a text, the bytes of a text in hex where it isn't UTF-8, or a list of engines or parts
 pub data Content : Type 0 where
   nothing : Content
   count : ℕ → Content
   shift : ℤ → Content
   text : List ℕ → Content
   hex : List ℕ → Content
+  engines : List Engines → Content
+  parts : List Portion → Content
 
 abbrev pub content_of : Cell → Content
 content_of Empty = nothing
@@ -25,6 +31,7 @@ content_of (Count n) = count n
 content_of (Shift z) = shift z
 content_of (Text bytes) = text bytes.now
 content_of (Hex bytes) = hex bytes.now
+content_of (Fault n) = text (fault_words n)
 
 -- what a column is called, and what a row has in it
 pub record Member : Type 0 where
@@ -50,13 +57,15 @@ begins_formula (byte ∷ bytes) = list_any (λ sign. sign == byte) (codes "=+-@\
 abbrev pub text_bytes : Bool → List ℕ → List ℕ
 text_bytes safe bytes = if safe && begins_formula bytes then 39 ∷ bytes else bytes
 
--- the text of a field, where texts are to be safe or not
+-- the text of a field, where texts are to be safe or not; lists stand in JSON alone
 abbrev pub content_bytes : Bool → Content → List ℕ
 content_bytes safe nothing = []
 content_bytes safe (count n) = decimal n
 content_bytes safe (shift z) = signed_decimal z
 content_bytes safe (text bytes) = text_bytes safe (utf8_lossy bytes)
 content_bytes safe (hex bytes) = unwrap_or (hex_of bytes) []
+content_bytes safe (engines list) = []
+content_bytes safe (parts list) = []
 
 -- no text of a field that is to be safe begins as a formula does
 abbrev pub TextsAreSafe : Type 0
@@ -66,6 +75,24 @@ abbrev pub data_or_null : Option (List ℕ) → Data
 data_or_null None = null
 data_or_null (Some bytes) = string bytes
 
+-- so many objects with a code
+abbrev pub portion_data : Portion → Data
+portion_data portion =
+    object (put (codes "count") (number (unsigned portion.count)) (put (codes "code") (string (utf8_lossy portion.code.now)) no_members))
+
+abbrev pub portions_data : List Portion → Data
+portions_data portions = array (items_of (map portion_data portions))
+
+-- how far to the right and down
+abbrev pub displacement_data : ℤ → ℤ → Data
+displacement_data dx dy = array (item (number (of_integer dx)) (item (number (of_integer dy)) no_items))
+
+-- engines of which the same is told
+abbrev pub engines_data : Engines → Data
+engines_data told =
+    object (put (codes "period") (number (unsigned told.period)) (put (codes "emits") (portions_data told.emits)
+    (put (codes "displacement") (displacement_data told.dx told.dy) (put (codes "count") (number (unsigned told.count)) no_members))))
+
 -- the value of an object's member
 abbrev pub content_data : Content → Data
 content_data nothing = null
@@ -73,3 +100,5 @@ content_data (count n) = number (unsigned n)
 content_data (shift z) = number (of_integer z)
 content_data (text bytes) = string (utf8_lossy bytes)
 content_data (hex bytes) = data_or_null (hex_of bytes)
+content_data (engines list) = array (items_of (map engines_data list))
+content_data (parts list) = portions_data list

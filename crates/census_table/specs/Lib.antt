@@ -3,8 +3,10 @@ pub mod Contents
 pub mod Entries
 pub mod Grouping
 pub mod Kinds
+pub mod Lists
 pub mod ObjectColumns
 pub mod Objects
+pub mod Patterns
 pub mod Tables
 pub mod Told
 pub mod Written

@@ -3,7 +3,7 @@ use Rattle.std.specs.Prelude.{◌≡◌, ℕ, Bool, List, [], ◌∷◌, ◌++�
 use Rattle.bstr.specs.Find.{matches}
 use Rattle.bstr.specs.Text.{replaced_at}
 use Rattle.csv.specs.Writing.{default_writer, row_text}
-use Rattle.serde_json.specs.Data.{Members, no_members, object, put}
+use Rattle.serde_json.specs.Data.{Data, Members, no_members, object, put}
 use Rattle.serde_json.specs.Written.{compact_text}
 use Rattle.census_rows.specs.Kinds.{said}
 use Rattle.census_rows.specs.declared.kinds.Behind.TheVariants as behind
@@ -12,11 +12,10 @@ use Rattle.census_readback.specs.Grouped.{sections_lent}
 use Rattle.census_readback.specs.Sections.{same_behind}
 use Rattle.census_table.specs.Columns.{columns, name_of, pattern_row}
 use Rattle.census_table.specs.Contents.{Member, content_bytes, content_data}
-use Rattle.census_table.specs.Entries.{all_entries, entries_of}
 use Rattle.census_table.specs.Kinds.{AreKinds}
 use Rattle.census_table.specs.ObjectColumns.{code_columns, object_row, part_columns, title_of}
 use Rattle.census_table.specs.Objects.{objects_of}
-use Rattle.census_table.specs.declared.entry.Entry.{Entry}
+use Rattle.census_table.specs.Patterns.{Pattern, all_patterns, patterns_of}
 use Rattle.census_table.specs.declared.object.Object.{Object}
 use Rattle.census_table.specs.declared.object_column.ObjectColumn.{ObjectColumn}
 use Rattle.census_table.specs.declared.subject.Subject.{Subject}
@@ -28,22 +27,14 @@ use Rattle.census_table.specs.declared.table.Format.TheVariants.{Csv, Json}
 
 -- # What stands in a table
 
--- what the columns are called, and the rows
-pub record Listing : Type 0 where
-  pub names : List (List ℕ)
-  pub rows : List (List Member)
-
--- a row for each pattern
-abbrev pub pattern_listing : List Entry → Listing
-pattern_listing entries = record { names = map name_of columns; rows = map pattern_row entries }
-
--- a row for each object, with these columns
-abbrev pub object_listing : List ObjectColumn → List Object → Listing
-object_listing columns objects = record { names = map title_of columns; rows = map (object_row columns) objects }
+-- these patterns, or these columns of objects
+pub data Listing : Type 0 where
+  patterns : List Pattern → Listing
+  objects : List ObjectColumn → List Object → Listing
 
 abbrev pub listing_of : Table → Listing
-listing_of (table.Patterns sections) = pattern_listing (all_entries 1 (sections_lent sections.items))
-listing_of (table.Objects columns objects) = object_listing columns.now objects.items
+listing_of (table.Patterns sections) = patterns (all_patterns 1 (sections_lent sections.items))
+listing_of (table.Objects columns list) = objects columns.now list.items
 
 -- the object is one of several that a pattern has fallen apart into
 abbrev pub is_part : Object → Bool
@@ -51,9 +42,9 @@ is_part o = same_behind (said o.first.outcome).behind behind.Parts
 
 -- a row for each pattern, for each `part` row, or for each rule and code
 abbrev pub IsListingOf : Subject → List Row → Listing → Type 0
-IsListingOf Patterns rows listing = listing ≡ pattern_listing (entries_of rows)
-IsListingOf Parts rows listing = listing ≡ object_listing part_columns (filter is_part (objects_of rows))
-IsListingOf Codes rows listing = (kinds : List Object) × AreKinds (objects_of rows) kinds × (listing ≡ object_listing code_columns kinds)
+IsListingOf Patterns rows listing = listing ≡ patterns (patterns_of rows)
+IsListingOf Parts rows listing = listing ≡ objects part_columns (filter is_part (objects_of rows))
+IsListingOf Codes rows listing = (kinds : List Object) × AreKinds (objects_of rows) kinds × (listing ≡ objects code_columns kinds)
 
 -- # How it is written
 
@@ -81,9 +72,13 @@ with_line_ends_escaped json =
     replaced (226 ∷ 128 ∷ 169 ∷ []) (codes "\\u2029")
     (replaced (226 ∷ 128 ∷ 168 ∷ []) (codes "\\u2028") (replaced (194 ∷ 133 ∷ []) (codes "\\u0085") json))
 
--- an object, as `serde_json` writes it without blanks, and an LF
+-- JSON, as `serde_json` writes it without blanks, and an LF
+abbrev pub data_line : Data → List ℕ
+data_line value = with_line_ends_escaped (compact_text value) ++ 10 ∷ []
+
+-- the object of a row
 abbrev pub json_line : List Member → List ℕ
-json_line row = with_line_ends_escaped (compact_text (object (with_row row no_members))) ++ 10 ∷ []
+json_line row = data_line (object (with_row row no_members))
 
 -- one for each row
 abbrev pub json_rows : List (List Member) → List ℕ
@@ -100,11 +95,21 @@ abbrev pub rows_text : Format → List (List Member) → List ℕ
 rows_text (Csv safe) rows = csv_records safe rows
 rows_text Json rows = json_rows rows
 
+-- what its columns are called
+abbrev pub names_in : Listing → List (List ℕ)
+names_in (patterns list) = map name_of columns
+names_in (objects columns list) = map title_of columns
+
+-- a row for each pattern or object
+abbrev pub members_in : Format → Listing → List (List Member)
+members_in format (patterns list) = map (pattern_row format) list
+members_in format (objects columns list) = map (object_row columns) list
+
 -- the whole table
 abbrev pub listing_text : Format → Listing → List ℕ
-listing_text format listing = head_text format listing.names ++ rows_text format listing.rows
+listing_text format listing = head_text format (names_in listing) ++ rows_text format (members_in format listing)
 
 -- # Tables of patterns
 
-abbrev pub table_text : Format → List Entry → List ℕ
-table_text format entries = listing_text format (pattern_listing entries)
+abbrev pub table_text : Format → List Pattern → List ℕ
+table_text format list = listing_text format (patterns list)

@@ -1,9 +1,12 @@
 //! What a row of a table has in one column.
 ghost use Rattle.std.specs.Prelude.{◌≡◌, IfOk, option_map, string_bytes};
+ghost use Rattle.std.specs.Str.Lossy.{utf8_lossy};
 ghost use Rattle.serde_json.specs.View.{view};
+ghost use Rattle.life_faults.specs.Reported.{fault_words};
 ghost use Rattle.census_table.specs.Contents.{TextsAreSafe, begins_formula, content_bytes, content_data, content_of, hex_of, text_bytes};
 
 use itoa::Buffer;
+use life_faults::fault_words;
 use serde_json::Value;
 use std::alloc::{AllocError, Global};
 
@@ -20,6 +23,8 @@ pub enum Cell<'a> {
     Text(&'a [u8]),
     /// The bytes of a text in hex, where it is not UTF-8, and else nothing.
     Hex(&'a [u8]),
+    /// What a report means that names a fault by this number.
+    Fault(u64),
 }
 
 /// What a row has in the column of a name.
@@ -62,6 +67,14 @@ fn text_of(alloc: Global, safe: bool, text: String) -> Result<String, AllocError
     Ok(told)
 }
 
+// What a report means that names a fault by a number.
+fn fault_text(alloc: Global, number: u64) -> Result<String, AllocError>
+    ensures { IfOk result (λ text. string_bytes text ≡ utf8_lossy (fault_words number)) }
+{
+    let words = fault_words(alloc, number)?;
+    String::from_utf8_lossy(alloc, words.as_slice())
+}
+
 /// No text of a field that is to be safe begins as a formula does.
 pub fn safe_texts_are_no_formulas()
     ensures { TextsAreSafe }
@@ -81,6 +94,7 @@ impl Cell<'_> {
             Cell::Shift(number) => String::from_str(alloc, buffer.format(*number)),
             Cell::Text(bytes) => text_of(alloc, safe, String::from_utf8_lossy(alloc, bytes)?),
             Cell::Hex(bytes) => Ok(hex_of(alloc, bytes)?.unwrap_or(String::new(alloc))),
+            Cell::Fault(number) => text_of(alloc, safe, fault_text(alloc, *number)?),
         }
     }
 
@@ -97,6 +111,7 @@ impl Cell<'_> {
                 Some(text) => Value::String(text),
                 None => Value::Null,
             }),
+            Cell::Fault(number) => Ok(Value::String(fault_text(alloc, *number)?)),
         }
     }
 }

@@ -1,6 +1,8 @@
 //! The columns of a table.
 ghost use Rattle.std.specs.Prelude.{◌≡◌, IfOk};
-ghost use Rattle.census_table.specs.Columns.{content_in_column, field_content, name_of, pattern_row, value_content};
+ghost use Rattle.census_rows.specs.Kinds.{said, value_at};
+ghost use Rattle.census_rows.specs.declared.kinds.Label.TheVariants as label;
+ghost use Rattle.census_table.specs.Columns.{content_in_column, entry_row, fault_content, field_content, name_of, value_content};
 ghost use Rattle.census_table.specs.Contents.{content_of, row_of};
 
 use crate::cell::{Cell, Field};
@@ -47,6 +49,8 @@ pub enum Column {
     Generation,
     /// How many engines it has, where it is `grows`.
     Engines,
+    /// What its fault is, where it is `bad`.
+    FaultText,
 }
 
 // What a row has of a field.
@@ -70,9 +74,19 @@ fn field_cell<'a>(outcome: &Outcome<'a>, label: Label) -> Cell<'a>
     }
 }
 
+// What a row has of the words of a fault.
+fn fault_cell<'a>(outcome: &Outcome<'a>) -> Cell<'a>
+    ensures { content_of result ≡ fault_content (value_at label.Fault (said outcome.now).fields) }
+{
+    match outcome.value(Label::Fault) {
+        Some(Value::Number(number)) => Cell::Fault(number),
+        _ => Cell::Empty,
+    }
+}
+
 impl Column {
     /// All columns, in their order.
-    pub const ALL: [Column; 18] = [
+    pub const ALL: [Column; 19] = [
         Column::Collection,
         Column::CollectionName,
         Column::Pattern,
@@ -91,6 +105,29 @@ impl Column {
         Column::Objects,
         Column::Generation,
         Column::Engines,
+        Column::FaultText,
+    ];
+
+    /// All but the engines, of which JSON has a list.
+    pub const SINGLE: [Column; 18] = [
+        Column::Collection,
+        Column::CollectionName,
+        Column::Pattern,
+        Column::Name,
+        Column::Status,
+        Column::Rule,
+        Column::Population,
+        Column::Onset,
+        Column::Period,
+        Column::Dx,
+        Column::Dy,
+        Column::Code,
+        Column::Fault,
+        Column::CollectionNameHex,
+        Column::NameHex,
+        Column::Objects,
+        Column::Generation,
+        Column::FaultText,
     ];
 
     /// What the column is called: lowercase letters and `_`.
@@ -116,6 +153,7 @@ impl Column {
             Column::Objects => "objects",
             Column::Generation => "generation",
             Column::Engines => "engines",
+            Column::FaultText => "fault_text",
         }
     }
 
@@ -142,16 +180,21 @@ impl Column {
             Column::Objects => field_cell(&entry.outcome, Label::Objects),
             Column::Generation => field_cell(&entry.outcome, Label::Generation),
             Column::Engines => field_cell(&entry.outcome, Label::Engines),
+            Column::FaultText => fault_cell(&entry.outcome),
         }
     }
 }
 
-/// The row of a pattern. The only error is out of memory.
-pub fn pattern_row<'a>(alloc: Global, entry: &Entry<'a>) -> Result<Vec<Field<'a>>, AllocError>
-    ensures { IfOk result (λ row. row_of row.items ≡ pattern_row entry.now) }
+/// What the row of a pattern has in these columns. The only error is out of memory.
+pub fn entry_row<'a>(
+    alloc: Global,
+    columns: &[Column],
+    entry: &Entry<'a>,
+) -> Result<Vec<Field<'a>>, AllocError>
+    ensures { IfOk result (λ row. row_of row.items ≡ entry_row columns.now entry.now) }
 {
-    let mut row = Vec::with_capacity(alloc, Column::ALL.len())?;
-    for column in &Column::ALL {
+    let mut row = Vec::with_capacity(alloc, columns.len())?;
+    for column in columns {
         row.push(Field {
             name: column.name(),
             cell: column.cell(entry),

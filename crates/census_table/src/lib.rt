@@ -9,13 +9,15 @@ mod comma;
 mod counting;
 mod entry;
 mod json_lines;
+mod lists;
 mod object;
 mod object_column;
+mod pattern;
 mod subject;
 mod table;
 
 pub use cell::{Cell, Field, safe_texts_are_no_formulas};
-pub use column::{Column, pattern_row};
+pub use column::{Column, entry_row};
 pub use counting::kinds;
 pub use entry::{Entry, entries_under};
 pub use json_lines::push_object;

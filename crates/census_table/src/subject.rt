@@ -3,7 +3,7 @@ ghost use Rattle.std.specs.Prelude.{◌≡◌, filter, map, IfOk};
 ghost use Rattle.census_readback.specs.Shapes.{AreReports};
 ghost use Rattle.census_table.specs.Columns.{columns, name_of};
 ghost use Rattle.census_table.specs.ObjectColumns.{title_of};
-ghost use Rattle.census_table.specs.Tables.{IsListingOf, is_part, listing_of};
+ghost use Rattle.census_table.specs.Tables.{IsListingOf, is_part, listing_of, names_in};
 
 use crate::column::Column;
 use crate::counting::kinds;
@@ -110,7 +110,7 @@ fn pattern_names(alloc: Global) -> Result<Vec<&'static str>, AllocError>
 impl Table<'_> {
     /// What the columns are called. The only error is out of memory.
     pub fn names(&self, alloc: Global) -> Result<Vec<&'static str>, AllocError>
-        ensures { IfOk result (λ names. map (λ s. s.now) names.items ≡ (listing_of self.now).names) }
+        ensures { IfOk result (λ names. map (λ s. s.now) names.items ≡ names_in (listing_of self.now)) }
     {
         match self {
             Table::Patterns(_) => pattern_names(alloc),

@@ -1,22 +1,24 @@
 //! Tables, told some rows at a time.
-ghost use Rattle.std.specs.Prelude.{◌≡◌, List, length, map, IfOk, MatchResult};
+ghost use Rattle.std.specs.Prelude.{◌≡◌, ◌≤◌, List, length, map, IfOk, MatchResult};
 ghost use Rattle.gathered.specs.Telling.{TellsAfter, TellsFront, sheet};
 ghost use Rattle.census_rows.specs.declared.row.Row.{Row};
 ghost use Rattle.census_readback.specs.Grouped.{sections_lent, rows_lent};
 ghost use Rattle.census_readback.specs.Shapes.{AreReports, any_outcome, lines_that};
-ghost use Rattle.census_table.specs.Columns.{pattern_row};
-ghost use Rattle.census_table.specs.Entries.{all_entries, entries_of, lines_under, section_entries};
+ghost use Rattle.census_table.specs.Columns.{columns, entry_row, pattern_row};
 ghost use Rattle.census_table.specs.ObjectColumns.{object_row};
-ghost use Rattle.census_table.specs.Tables.{head_text, listing_of, listing_text, rows_text, table_text};
+ghost use Rattle.census_table.specs.Patterns.{all_patterns, first_patterns, patterns_of, patterns_under, section_patterns};
+ghost use Rattle.census_table.specs.Tables.{head_text, listing_of, listing_text, members_in, rows_text, table_text};
 ghost use Rattle.census_table.specs.Told.{rows_in};
+ghost use Rattle.census_table.specs.declared.table.Format.TheVariants.{Csv};
 
 use crate::cell::Field;
-use crate::column::pattern_row;
+use crate::column::{Column, entry_row};
 use crate::comma::{header, records};
 use crate::entry::{Entry, entries_under};
 use crate::json_lines::lines;
 use crate::object::Object;
 use crate::object_column::{ObjectColumn, object_row};
+use crate::pattern::first_lines;
 use crate::subject::{Subject, Table, table_of};
 use census_rows::Row;
 use gathered::{Block, put};
@@ -34,7 +36,8 @@ pub enum Format {
         safe: bool,
     },
     /// As JSON: for each row one object on a line of its own, with a member for each column, in
-    /// the order of their names. Each line ends with LF.
+    /// the order of their names. Each line ends with LF. Of a pattern `engines` is a list, and so is a
+    /// member `parts`.
     Json,
 }
 
@@ -51,15 +54,52 @@ fn text_of(alloc: Global, format: Format, rows: &[Vec<Field>]) -> Result<Vec<u8>
     }
 }
 
-// The rows of these patterns.
-fn pattern_rows<'a>(alloc: Global, entries: &[Entry<'a>]) -> Result<Vec<Vec<Field<'a>>>, AllocError>
-    ensures { IfOk result (λ rows. rows_in rows.items ≡ map pattern_row entries.now) }
+// The rows of these patterns, in all columns.
+fn entry_rows<'a>(alloc: Global, entries: &[Entry<'a>]) -> Result<Vec<Vec<Field<'a>>>, AllocError>
+    ensures { IfOk result (λ rows. rows_in rows.items ≡ map (entry_row columns) entries.now) }
 {
     let mut rows = Vec::new(alloc);
     for entry in entries {
-        rows.push(pattern_row(alloc, entry)?)?;
+        rows.push(entry_row(alloc, &Column::ALL, entry)?)?;
     }
     Ok(rows)
+}
+
+// A record for each pattern of the first so many rows, in the collection that a row opens and that has this number.
+fn first_records<'a>(
+    alloc: Global,
+    safe: bool,
+    number: u64,
+    heading: &Row<'a>,
+    rows: &[&Row<'a>],
+    count: usize,
+) -> Result<Vec<u8>, AllocError>
+    requires { count ≤ length rows.now }
+    ensures { IfOk result (λ text. text.items ≡ rows_text (Csv safe)
+        (map (pattern_row (Csv safe)) (first_patterns count number heading.now (rows_lent rows.now)))) }
+{
+    let entries = entries_under(alloc, number, heading, &rows[..count])?;
+    let rows = entry_rows(alloc, entries.as_slice())?;
+    records(alloc, safe, rows.as_slice())
+}
+
+// The rows of the patterns of the first so many rows, in the collection that a row opens and that has this number.
+fn patterns_text<'a>(
+    alloc: Global,
+    format: Format,
+    number: u64,
+    heading: &Row<'a>,
+    rows: &[&Row<'a>],
+    count: usize,
+) -> Result<Vec<u8>, AllocError>
+    requires { count ≤ length rows.now }
+    ensures { IfOk result (λ text. text.items ≡ rows_text format
+        (map (pattern_row format) (first_patterns count number heading.now (rows_lent rows.now)))) }
+{
+    match format {
+        Format::Csv { safe } => first_records(alloc, safe, number, heading, rows, count),
+        Format::Json => first_lines(alloc, number, heading, rows, count),
+    }
 }
 
 // The rows of these objects, in these columns.
@@ -117,25 +157,30 @@ fn put_rows<W: Write>(
     Ok(())
 }
 
-// Tells the rows of these patterns. For a writer that has failed no text is made.
-fn put_entries<W: Write>(
+// Tells the rows of the patterns of the first so many rows. For a writer that has failed no text is made.
+fn put_patterns<'a, W: Write>(
     alloc: Global,
     format: Format,
-    entries: &[Entry],
+    number: u64,
+    heading: &Row<'a>,
+    rows: &[&Row<'a>],
+    count: usize,
     block: &mut Block,
     writer: &mut Watched<W>,
 ) -> Result<(), AllocError>
+    requires { count ≤ length rows.now }
     ensures { MatchResult result
-        (λ _. TellsAfter (rows_text format (map pattern_row entries.now))
+        (λ _. TellsAfter (rows_text format (map (pattern_row format) (first_patterns count number heading.now (rows_lent rows.now))))
         (sheet W.contents block.old writer.old) (sheet W.contents block.new writer.new))
-        (λ _. TellsFront (rows_text format (map pattern_row entries.now))
+        (λ _. TellsFront (rows_text format (map (pattern_row format) (first_patterns count number heading.now (rows_lent rows.now))))
         (sheet W.contents block.old writer.old) (sheet W.contents block.new writer.new)) }
 {
     if writer.failed() {
         return Ok(());
     }
-    let rows = pattern_rows(alloc, entries)?;
-    put_rows(alloc, format, rows.as_slice(), block, writer)
+    let text = patterns_text(alloc, format, number, heading, rows, count)?;
+    put(text.as_slice(), block, writer);
+    Ok(())
 }
 
 // Tells the rows of some of these objects. For a writer that has failed no text is made.
@@ -195,17 +240,17 @@ fn put_lines<'a, W: Write>(
     writer: &mut Watched<W>,
 ) -> Result<(), AllocError>
     ensures { MatchResult result
-        (λ _. TellsAfter (rows_text format (map pattern_row (lines_under number heading.now (rows_lent rows.now))))
+        (λ _. TellsAfter (rows_text format (map (pattern_row format) (patterns_under number heading.now (rows_lent rows.now))))
         (sheet W.contents block.old writer.old) (sheet W.contents block.new writer.new))
-        (λ _. TellsFront (rows_text format (map pattern_row (lines_under number heading.now (rows_lent rows.now))))
+        (λ _. TellsFront (rows_text format (map (pattern_row format) (patterns_under number heading.now (rows_lent rows.now))))
         (sheet W.contents block.old writer.old) (sheet W.contents block.new writer.new)) }
 {
     let mut start = 0;
     while start < rows.len() {
-        let end = start + (rows.len() - start).min(SOME);
-        let entries = entries_under(alloc, number, heading, &rows[start..end])?;
-        put_entries(alloc, format, entries.as_slice(), block, writer)?;
-        start = end;
+        let count = (rows.len() - start).min(SOME);
+        let from = &rows[start..];
+        put_patterns(alloc, format, number, heading, from, count, block, writer)?;
+        start += count;
     }
     Ok(())
 }
@@ -220,9 +265,9 @@ fn put_section<'a, W: Write>(
     writer: &mut Watched<W>,
 ) -> Result<(), AllocError>
     ensures { MatchResult result
-        (λ _. TellsAfter (rows_text format (map pattern_row (section_entries number (rows_lent rows.now))))
+        (λ _. TellsAfter (rows_text format (map (pattern_row format) (section_patterns number (rows_lent rows.now))))
         (sheet W.contents block.old writer.old) (sheet W.contents block.new writer.new))
-        (λ _. TellsFront (rows_text format (map pattern_row (section_entries number (rows_lent rows.now))))
+        (λ _. TellsFront (rows_text format (map (pattern_row format) (section_patterns number (rows_lent rows.now))))
         (sheet W.contents block.old writer.old) (sheet W.contents block.new writer.new)) }
 {
     match rows {
@@ -240,9 +285,9 @@ fn put_sections<W: Write>(
     writer: &mut Watched<W>,
 ) -> Result<(), AllocError>
     ensures { MatchResult result
-        (λ _. TellsAfter (rows_text format (map pattern_row (all_entries 1 (sections_lent sections.now))))
+        (λ _. TellsAfter (rows_text format (map (pattern_row format) (all_patterns 1 (sections_lent sections.now))))
         (sheet W.contents block.old writer.old) (sheet W.contents block.new writer.new))
-        (λ _. TellsFront (rows_text format (map pattern_row (all_entries 1 (sections_lent sections.now))))
+        (λ _. TellsFront (rows_text format (map (pattern_row format) (all_patterns 1 (sections_lent sections.now))))
         (sheet W.contents block.old writer.old) (sheet W.contents block.new writer.new)) }
 {
     for index in 0..sections.len() {
@@ -268,9 +313,9 @@ fn put_body<W: Write>(
     writer: &mut Watched<W>,
 ) -> Result<(), AllocError>
     ensures { MatchResult result
-        (λ _. TellsAfter (rows_text format (listing_of table.now).rows)
+        (λ _. TellsAfter (rows_text format (members_in format (listing_of table.now)))
         (sheet W.contents block.old writer.old) (sheet W.contents block.new writer.new))
-        (λ _. TellsFront (rows_text format (listing_of table.now).rows)
+        (λ _. TellsFront (rows_text format (members_in format (listing_of table.now)))
         (sheet W.contents block.old writer.old) (sheet W.contents block.new writer.new)) }
 {
     match table {
@@ -321,9 +366,9 @@ pub fn put_table<W: Write>(
 ) -> Result<(), AllocError>
     requires { AreReports rows.now }
     ensures { MatchResult result
-        (λ _. TellsAfter (table_text format (entries_of rows.now))
+        (λ _. TellsAfter (table_text format (patterns_of rows.now))
         (sheet W.contents block.old writer.old) (sheet W.contents block.new writer.new))
-        (λ _. TellsFront (table_text format (entries_of rows.now))
+        (λ _. TellsFront (table_text format (patterns_of rows.now))
         (sheet W.contents block.old writer.old) (sheet W.contents block.new writer.new)) }
 {
     let table = table_of(alloc, Subject::Patterns, rows)?;
@@ -333,5 +378,5 @@ pub fn put_table<W: Write>(
 /// A table of patterns has as many rows as its reports have `line` rows.
 pub fn each_line_has_a_row()
     ensures { (rows : List Row) → AreReports rows
-        → length (entries_of rows) ≡ lines_that any_outcome rows }
+        → length (patterns_of rows) ≡ lines_that any_outcome rows }
 {}

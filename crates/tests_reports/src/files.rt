@@ -43,14 +43,14 @@ end 3 3
 ";
 
 const CSV: &[u8] =
-    b"collection,collection_name,pattern,name,status,rule,population,onset,period,dx,dy,code,fault,collection_name_hex,name_hex,objects,generation,engines
-1,a,1,block,ok,B3/S23,4,0,1,0,0,xs4_33,,,,,,
-1,a,2,broken,bad,,,,,,,,10,,,,,
-2,b,1,r,none,B3/S23,5,,,,,,,,,,,
+    b"collection,collection_name,pattern,name,status,rule,population,onset,period,dx,dy,code,fault,collection_name_hex,name_hex,objects,generation,engines,fault_text
+1,a,1,block,ok,B3/S23,4,0,1,0,0,xs4_33,,,,,,,
+1,a,2,broken,bad,,,,,,,,10,,,,,,the text ends too early: its body must end with `!`
+2,b,1,r,none,B3/S23,5,,,,,,,,,,,,
 ";
 
 const JSON: &[u8] =
-    b"{\"code\":null,\"collection\":1,\"collection_name\":\"b\",\"collection_name_hex\":null,\"dx\":null,\"dy\":null,\"engines\":null,\"fault\":null,\"generation\":null,\"name\":\"r\",\"name_hex\":null,\"objects\":null,\"onset\":null,\"pattern\":1,\"period\":null,\"population\":5,\"rule\":\"B3/S23\",\"status\":\"none\"}
+    b"{\"code\":null,\"collection\":1,\"collection_name\":\"b\",\"collection_name_hex\":null,\"dx\":null,\"dy\":null,\"engines\":null,\"fault\":null,\"fault_text\":null,\"generation\":null,\"name\":\"r\",\"name_hex\":null,\"objects\":null,\"onset\":null,\"parts\":null,\"pattern\":1,\"period\":null,\"population\":5,\"rule\":\"B3/S23\",\"status\":\"none\"}
 ";
 
 const SHELF: Memory<'static> = Memory {

@@ -26,11 +26,11 @@ end 1 4
 ";
 
 const CSV: &str =
-    "collection,collection_name,pattern,name,status,rule,population,onset,period,dx,dy,code,fault,collection_name_hex,name_hex,objects,generation,engines
-1,c,1,gosper,grows,B3/S23,36,,,,,,,,,,,1
-1,c,2,row,grows,B3/S23,28,,,,,,,,,,,3
-1,c,3,b,ash,B3/S23,4,7,,,,,,,,2,,
-1,c,4,n,none,B3/S23,5,,,,,,,,,,,
+    "collection,collection_name,pattern,name,status,rule,population,onset,period,dx,dy,code,fault,collection_name_hex,name_hex,objects,generation,engines,fault_text
+1,c,1,gosper,grows,B3/S23,36,,,,,,,,,,,1,
+1,c,2,row,grows,B3/S23,28,,,,,,,,,,,3,
+1,c,3,b,ash,B3/S23,4,7,,,,,,,,2,,,
+1,c,4,n,none,B3/S23,5,,,,,,,,,,,,
 ";
 
 // What engines emit is no part of a pattern.

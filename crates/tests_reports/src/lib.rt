@@ -11,6 +11,8 @@ mod growth;
 #[cfg(test)]
 mod lines;
 #[cfg(test)]
+mod lists;
+#[cfg(test)]
 mod merging;
 #[cfg(test)]
 mod page;

@@ -32,33 +32,33 @@ end 1 1
 ";
 
 const CSV: &str =
-    "collection,collection_name,pattern,name,status,rule,population,onset,period,dx,dy,code,fault,collection_name_hex,name_hex,objects,generation,engines
-1,\"col,1\",1,a glider,ok,B3/S23,5,0,4,-1,1,xq4_153,,,,,,
-1,\"col,1\",2,\"a,b\",none,B3/S23,5,,,,,,,,,,,
-1,\"col,1\",3,wide,large,B36/S23,5,,,,,,,,,,100,
-1,\"col,1\",4,broken,bad,,,,,,,,10,,,,,
-1,\"col,1\",5,n\u{fffd}\u{e9},ok,B3/S23,4,0,1,0,0,xs4_33,,,6effc3a9,,,
-2,\u{fffd},1,last,bad,,,,,,,,3,c3,,,,
-3,apart,1,\"say \"\"hi\"\"\",ash,B3/S23,8,7,,,,,,,,2,,
+    "collection,collection_name,pattern,name,status,rule,population,onset,period,dx,dy,code,fault,collection_name_hex,name_hex,objects,generation,engines,fault_text
+1,\"col,1\",1,a glider,ok,B3/S23,5,0,4,-1,1,xq4_153,,,,,,,
+1,\"col,1\",2,\"a,b\",none,B3/S23,5,,,,,,,,,,,,
+1,\"col,1\",3,wide,large,B36/S23,5,,,,,,,,,,100,,
+1,\"col,1\",4,broken,bad,,,,,,,,10,,,,,,the text ends too early: its body must end with `!`
+1,\"col,1\",5,n\u{fffd}\u{e9},ok,B3/S23,4,0,1,0,0,xs4_33,,,6effc3a9,,,,
+2,\u{fffd},1,last,bad,,,,,,,,3,c3,,,,,\"the rule has no Life-like form: it must be written as `B3/S23`, `S23/B3` or `23/3`, with digits from 0 to 8\"
+3,apart,1,\"say \"\"hi\"\"\",ash,B3/S23,8,7,,,,,,,,2,,,
 ";
 
 const JSON: &str =
-    "{\"code\":\"xq4_153\",\"collection\":1,\"collection_name\":\"col,1\",\"collection_name_hex\":null,\"dx\":-1,\"dy\":1,\"engines\":null,\"fault\":null,\"generation\":null,\"name\":\"a glider\",\"name_hex\":null,\"objects\":null,\"onset\":0,\"pattern\":1,\"period\":4,\"population\":5,\"rule\":\"B3/S23\",\"status\":\"ok\"}
-{\"code\":null,\"collection\":1,\"collection_name\":\"col,1\",\"collection_name_hex\":null,\"dx\":null,\"dy\":null,\"engines\":null,\"fault\":null,\"generation\":null,\"name\":\"a,b\",\"name_hex\":null,\"objects\":null,\"onset\":null,\"pattern\":2,\"period\":null,\"population\":5,\"rule\":\"B3/S23\",\"status\":\"none\"}
-{\"code\":null,\"collection\":1,\"collection_name\":\"col,1\",\"collection_name_hex\":null,\"dx\":null,\"dy\":null,\"engines\":null,\"fault\":null,\"generation\":100,\"name\":\"wide\",\"name_hex\":null,\"objects\":null,\"onset\":null,\"pattern\":3,\"period\":null,\"population\":5,\"rule\":\"B36/S23\",\"status\":\"large\"}
-{\"code\":null,\"collection\":1,\"collection_name\":\"col,1\",\"collection_name_hex\":null,\"dx\":null,\"dy\":null,\"engines\":null,\"fault\":10,\"generation\":null,\"name\":\"broken\",\"name_hex\":null,\"objects\":null,\"onset\":null,\"pattern\":4,\"period\":null,\"population\":null,\"rule\":null,\"status\":\"bad\"}
-{\"code\":\"xs4_33\",\"collection\":1,\"collection_name\":\"col,1\",\"collection_name_hex\":null,\"dx\":0,\"dy\":0,\"engines\":null,\"fault\":null,\"generation\":null,\"name\":\"n\u{fffd}\u{e9}\",\"name_hex\":\"6effc3a9\",\"objects\":null,\"onset\":0,\"pattern\":5,\"period\":1,\"population\":4,\"rule\":\"B3/S23\",\"status\":\"ok\"}
-{\"code\":null,\"collection\":2,\"collection_name\":\"\u{fffd}\",\"collection_name_hex\":\"c3\",\"dx\":null,\"dy\":null,\"engines\":null,\"fault\":3,\"generation\":null,\"name\":\"last\",\"name_hex\":null,\"objects\":null,\"onset\":null,\"pattern\":1,\"period\":null,\"population\":null,\"rule\":null,\"status\":\"bad\"}
-{\"code\":null,\"collection\":3,\"collection_name\":\"apart\",\"collection_name_hex\":null,\"dx\":null,\"dy\":null,\"engines\":null,\"fault\":null,\"generation\":null,\"name\":\"say \\\"hi\\\"\",\"name_hex\":null,\"objects\":2,\"onset\":7,\"pattern\":1,\"period\":null,\"population\":8,\"rule\":\"B3/S23\",\"status\":\"ash\"}
+    "{\"code\":\"xq4_153\",\"collection\":1,\"collection_name\":\"col,1\",\"collection_name_hex\":null,\"dx\":-1,\"dy\":1,\"engines\":null,\"fault\":null,\"fault_text\":null,\"generation\":null,\"name\":\"a glider\",\"name_hex\":null,\"objects\":null,\"onset\":0,\"parts\":null,\"pattern\":1,\"period\":4,\"population\":5,\"rule\":\"B3/S23\",\"status\":\"ok\"}
+{\"code\":null,\"collection\":1,\"collection_name\":\"col,1\",\"collection_name_hex\":null,\"dx\":null,\"dy\":null,\"engines\":null,\"fault\":null,\"fault_text\":null,\"generation\":null,\"name\":\"a,b\",\"name_hex\":null,\"objects\":null,\"onset\":null,\"parts\":null,\"pattern\":2,\"period\":null,\"population\":5,\"rule\":\"B3/S23\",\"status\":\"none\"}
+{\"code\":null,\"collection\":1,\"collection_name\":\"col,1\",\"collection_name_hex\":null,\"dx\":null,\"dy\":null,\"engines\":null,\"fault\":null,\"fault_text\":null,\"generation\":100,\"name\":\"wide\",\"name_hex\":null,\"objects\":null,\"onset\":null,\"parts\":null,\"pattern\":3,\"period\":null,\"population\":5,\"rule\":\"B36/S23\",\"status\":\"large\"}
+{\"code\":null,\"collection\":1,\"collection_name\":\"col,1\",\"collection_name_hex\":null,\"dx\":null,\"dy\":null,\"engines\":null,\"fault\":10,\"fault_text\":\"the text ends too early: its body must end with `!`\",\"generation\":null,\"name\":\"broken\",\"name_hex\":null,\"objects\":null,\"onset\":null,\"parts\":null,\"pattern\":4,\"period\":null,\"population\":null,\"rule\":null,\"status\":\"bad\"}
+{\"code\":\"xs4_33\",\"collection\":1,\"collection_name\":\"col,1\",\"collection_name_hex\":null,\"dx\":0,\"dy\":0,\"engines\":null,\"fault\":null,\"fault_text\":null,\"generation\":null,\"name\":\"n\u{fffd}\u{e9}\",\"name_hex\":\"6effc3a9\",\"objects\":null,\"onset\":0,\"parts\":null,\"pattern\":5,\"period\":1,\"population\":4,\"rule\":\"B3/S23\",\"status\":\"ok\"}
+{\"code\":null,\"collection\":2,\"collection_name\":\"\u{fffd}\",\"collection_name_hex\":\"c3\",\"dx\":null,\"dy\":null,\"engines\":null,\"fault\":3,\"fault_text\":\"the rule has no Life-like form: it must be written as `B3/S23`, `S23/B3` or `23/3`, with digits from 0 to 8\",\"generation\":null,\"name\":\"last\",\"name_hex\":null,\"objects\":null,\"onset\":null,\"parts\":null,\"pattern\":1,\"period\":null,\"population\":null,\"rule\":null,\"status\":\"bad\"}
+{\"code\":null,\"collection\":3,\"collection_name\":\"apart\",\"collection_name_hex\":null,\"dx\":null,\"dy\":null,\"engines\":null,\"fault\":null,\"fault_text\":null,\"generation\":null,\"name\":\"say \\\"hi\\\"\",\"name_hex\":null,\"objects\":2,\"onset\":7,\"parts\":[{\"code\":\"xs4_33\",\"count\":2}],\"pattern\":1,\"period\":null,\"population\":8,\"rule\":\"B3/S23\",\"status\":\"ash\"}
 ";
 
 // The collections of `PARTS`, which are those of two reports, with one of no collection between them.
 const PARTS_CSV: &str =
-    "collection,collection_name,pattern,name,status,rule,population,onset,period,dx,dy,code,fault,collection_name_hex,name_hex,objects,generation,engines
-1,a,1,a block,ash,B3/S23,4,0,,,,,,,,1,,
-2,b,1,r,ash,B3/S23,5,1103,,,,,,,,4,,
-3,c,1,broken,bad,,,,,,,,10,,,,,
-3,c,2,d,ash,B36/S23,4,0,,,,,,,,1,,
+    "collection,collection_name,pattern,name,status,rule,population,onset,period,dx,dy,code,fault,collection_name_hex,name_hex,objects,generation,engines,fault_text
+1,a,1,a block,ash,B3/S23,4,0,,,,,,,,1,,,
+2,b,1,r,ash,B3/S23,5,1103,,,,,,,,4,,,
+3,c,1,broken,bad,,,,,,,,10,,,,,,the text ends too early: its body must end with `!`
+3,c,2,d,ash,B36/S23,4,0,,,,,,,,1,,,
 ";
 
 // The table of a report that has a row for each of these.
@@ -103,7 +103,7 @@ fn patterns_are_told_as_tables(rt: HostRuntime) -> Result<(), AllocError> {
     assert!(rt; json.as_slice() == JSON.as_bytes());
     let csv = table(rt.alloc(), Format::Csv { safe: false }, b"end 0 0\n")?;
     let json = table(rt.alloc(), Format::Json, b"end 0 0\n")?;
-    assert!(rt; csv.len() == 149 && json.is_empty());
+    assert!(rt; csv.len() == 160 && json.is_empty());
     Ok(())
 }
 
@@ -126,13 +126,13 @@ end 1 1
 ";
 
 const SAFE_PATTERNS: &str =
-    "collection,collection_name,pattern,name,status,rule,population,onset,period,dx,dy,code,fault,collection_name_hex,name_hex,objects,generation,engines
-1,\"'=sum(a,b)\",1,'-glider,ok,B3/S23,5,0,4,-1,1,xq4_153,,,,,,
-1,\"'=sum(a,b)\",2,'@a,none,B3/S23,5,,,,,,,,,,,
-1,\"'=sum(a,b)\",3,a=b,none,B3/S23,5,,,,,,,,,,,
-1,\"'=sum(a,b)\",4,'=c,none,B3/S23,5,,,,,,,,,,,
-1,\"'=sum(a,b)\",5,'=\u{fffd},bad,,,,,,,,10,,3dff,,,
-2,'-,1,\"'+\"\"1\"\"\",ash,B3/S23,8,7,,,,,,,,2,,
+    "collection,collection_name,pattern,name,status,rule,population,onset,period,dx,dy,code,fault,collection_name_hex,name_hex,objects,generation,engines,fault_text
+1,\"'=sum(a,b)\",1,'-glider,ok,B3/S23,5,0,4,-1,1,xq4_153,,,,,,,
+1,\"'=sum(a,b)\",2,'@a,none,B3/S23,5,,,,,,,,,,,,
+1,\"'=sum(a,b)\",3,a=b,none,B3/S23,5,,,,,,,,,,,,
+1,\"'=sum(a,b)\",4,'=c,none,B3/S23,5,,,,,,,,,,,,
+1,\"'=sum(a,b)\",5,'=\u{fffd},bad,,,,,,,,10,,3dff,,,,the text ends too early: its body must end with `!`
+2,'-,1,\"'+\"\"1\"\"\",ash,B3/S23,8,7,,,,,,,,2,,,
 ";
 
 const SAFE_PARTS: &str = "collection,collection_name,pattern,name,rule,code,count
@@ -178,10 +178,10 @@ fn collections_are_numbered_on(rt: HostRuntime) -> Result<(), AllocError> {
 fn many_patterns_of_one_collection(rt: HostRuntime) -> Result<(), Fail> {
     let alloc = rt.alloc();
     let mut report = String::from_str(alloc, "open 1 700 x\n")?;
-    let mut wanted = String::from_str(alloc, &CSV[..149])?;
+    let mut wanted = String::from_str(alloc, &CSV[..160])?;
     for pattern in 1..=700 {
         write!(report, "line 1 {} none B3/S23 5 p\n", pattern)?;
-        write!(wanted, "1,x,{},p,none,B3/S23,5,,,,,,,,,,,\n", pattern)?;
+        write!(wanted, "1,x,{},p,none,B3/S23,5,,,,,,,,,,,,\n", pattern)?;
     }
     report.push_str("close 1 700 0 700 0\nend 1 700\n")?;
     let csv = table(alloc, Format::Csv { safe: false }, report.as_bytes())?;

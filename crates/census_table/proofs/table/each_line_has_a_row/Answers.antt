@@ -1,5 +1,5 @@
-use Rattle.census_table.proofs.Counts.{entries-size}
+use Rattle.census_table.proofs.Patterned.{patterns-size}
 use Rattle.census_table.proofs.table.each_line_has_a_row.Goals as goal
 
 pub returns : goal.returns
-returns c = entries-size
+returns c = patterns-size

@@ -1,7 +1,7 @@
 use Rattle.std.proofs.Common.{MatchResult, ap, subst}
 use Rattle.std.proofs.lemmas.Result.{err_from_is_err_and}
 use Rattle.gathered.specs.Telling.{TellsAfter, TellsFront, sheet}
-use Rattle.census_table.specs.Entries.{entries_of}
+use Rattle.census_table.specs.Patterns.{patterns_of}
 use Rattle.census_table.specs.Tables.{listing_text, table_text}
 use Rattle.gathered.proofs.Fronts.{front_none}
 use Rattle.census_table.proofs.table.put_table.Goals as goal
@@ -9,7 +9,7 @@ use Rattle.census_table.proofs.table.put_table.Goals as goal
 pub returns-in_err-table : goal.returns-in_err-table
 returns-in_err-table g c =
     let p = err_from_is_err_and c.from_residual.result c.from_residual.ensures.1 in
-    rw p.1 (front_none (table_text c.args.format (entries_of c.args.rows.now)) (sheet g.W.Write.contents c.args.block.now c.args.writer.now))
+    rw p.1 (front_none (table_text c.args.format (patterns_of c.args.rows.now)) (sheet g.W.Write.contents c.args.block.now c.args.writer.now))
 
 pub returns : goal.returns
 returns g c =

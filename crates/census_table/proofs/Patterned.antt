@@ -1,0 +1,49 @@
+-- A table of patterns has as many rows as a report has `line` rows, and its patterns are those of the report.
+use Rattle.std.proofs.Common.{◌≡◌, ℕ, ◌+◌, Option, Some, None, List, [], ◌∷◌, ◌++◌, map, length, suc, refl, ap, ap₂, ◌∙◌, sym, arith, append_assoc}
+use Rattle.std.specs.Option.{option_map}
+use Rattle.std.proofs.lemmas.List.{length-map, map-append}
+use Rattle.census_rows.specs.declared.row.Row.{Row}
+use Rattle.census_readback.specs.Shapes.{AreReports, any_outcome, lines_that}
+use Rattle.census_readback.specs.Grouped.{collections_of}
+use Rattle.census_table.specs.Entries.{all_entries, entries_of, entry_before, entry_of_row, lines_under, section_entries}
+use Rattle.census_table.specs.Lists.{told_before}
+use Rattle.census_table.specs.Patterns.{Pattern, all_patterns, pattern_before, patterns_of, patterns_under, section_patterns}
+use Rattle.census_table.specs.declared.entry.Entry.{Entry}
+use Rattle.census_table.proofs.Counts.{entries-size}
+
+abbrev pub entries_in : List Pattern → List Entry
+entries_in patterns = map (λ p. p.entry) patterns
+
+entry-in : (entry : Option Entry) (rows : List Row) (patterns : List Pattern) (entries : List Entry) → entries_in patterns ≡ entries
+    → entries_in (told_before (option_map (λ e. pattern_before e rows) entry) patterns) ≡ entry_before entry entries
+entry-in None rows patterns entries same = same
+entry-in (Some entry) rows patterns entries same = ap (λ es. entry ∷ es) same
+
+under-in : (number : ℕ) (heading : Row) (rows : List Row) → entries_in (patterns_under number heading rows) ≡ lines_under number heading rows
+under-in number heading [] = refl
+under-in number heading (row ∷ rows) =
+    entry-in (entry_of_row number heading row) rows (patterns_under number heading rows) (lines_under number heading rows) (under-in number heading rows)
+
+section-in : (number : ℕ) (rows : List Row) → entries_in (section_patterns number rows) ≡ section_entries number rows
+section-in number [] = refl
+section-in number (heading ∷ rows) = under-in number heading rows
+
+all-in : (number : ℕ) (sections : List (List Row)) → entries_in (all_patterns number sections) ≡ all_entries number sections
+all-in number [] = refl
+all-in number (rows ∷ sections) =
+    map-append (λ p. p.entry) (section_patterns number rows) (all_patterns (number + 1) sections)
+    ∙ ap₂ (λ (es fs : List Entry). es ++ fs) (section-in number rows) (all-in (number + 1) sections)
+
+-- the patterns of a report are those of its table
+pub patterns-entries : (rows : List Row) → entries_in (patterns_of rows) ≡ entries_of rows
+patterns-entries rows = all-in 1 (collections_of [] rows)
+
+pub patterns-append : (m : ℕ) (xs ys : List (List Row)) → all_patterns m (xs ++ ys) ≡ all_patterns m xs ++ all_patterns (m + length xs) ys
+patterns-append m [] ys = ap (λ k. all_patterns k ys) (let e : m ≡ m + 0 = omega arith in e)
+patterns-append m (x ∷ xs) ys =
+    ap (λ t. section_patterns m x ++ t) (patterns-append (m + 1) xs ys)
+    ∙ sym (append_assoc (section_patterns m x) (all_patterns (m + 1) xs) (all_patterns (m + 1 + length xs) ys))
+    ∙ ap (λ k. (section_patterns m x ++ all_patterns (m + 1) xs) ++ all_patterns k ys) (let e : m + 1 + length xs ≡ m + suc (length xs) = omega arith in e)
+
+pub patterns-size : (rows : List Row) → AreReports rows → length (patterns_of rows) ≡ lines_that any_outcome rows
+patterns-size rows is = sym (length-map (patterns_of rows) (λ p. p.entry)) ∙ ap length (patterns-entries rows) ∙ entries-size rows is

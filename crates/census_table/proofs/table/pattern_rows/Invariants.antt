@@ -1,7 +1,0 @@
-use Rattle.std.proofs.Common.{◌≡◌, map, take}
-use Rattle.census_table.specs.Columns.{pattern_row}
-use Rattle.census_table.specs.Told.{rows_in}
-use Rattle.census_table.proofs.table.pattern_rows.Given as goal
-
-abbrev pub invariant-loop-entry : goal.invariant-loop-entry
-invariant-loop-entry l = rows_in l.rows.items ≡ map pattern_row (take l.entry-index l.entries)
