@@ -1,5 +1,6 @@
 -- The table of reports is that of the report that they are merged to.
-use Rattle.std.proofs.Common.{◌≡◌, ℕ, zero, suc, ◌+◌, ◌<◌, ◌≤◌, true, false, eqb, Option, Some, None as Nothing, List, [], ◌∷◌, ◌++◌, map, length, ap, ◌∙◌, sym, refl, subst, arith, append_assoc, append-nil, inl, inr}
+use Rattle.std.proofs.Common.{◌≡◌, ℕ, zero, suc, ◌+◌, ◌<◌, ◌≤◌, true, false, eqb, Option, Some, None as Nothing, List, [], ◌∷◌, ◌++◌, map, length, ap, ap₂, ◌∙◌, sym, refl, subst, arith, append_assoc, append-nil, inl, inr}
+use Rattle.std.specs.Option.{option_map}
 use Rattle.std.proofs.lemmas.Bool.{cases_Bool}
 use Rattle.census_rows.specs.declared.row.Row.{Row}
 use Rattle.census_rows.specs.declared.row.Row.TheVariants.{Open, Line, Part, Engine, Emits, Code, Close, End}
@@ -11,8 +12,13 @@ use Rattle.census_readback.specs.Shapes.{AreOfCollections, AreReports, AreWhole,
 use Rattle.census_readback.specs.Grouped.{collections_of, sections_of}
 use Rattle.census_readback.proofs.Kept.{of-append, rows-append}
 use Rattle.census_readback.proofs.Sorted.{sections-size}
-use Rattle.census_table.specs.Entries.{all_entries, entries_of, entry_before, entry_of_row, lines_under, section_entries}
-use Rattle.census_table.proofs.Counts.{all-append, collections-body, rows-one}
+use Rattle.census_table.specs.Entries.{entries_of, entry_of_row}
+use Rattle.census_table.specs.Lists.{told_before}
+use Rattle.census_table.specs.Patterns.{Pattern, all_patterns, pattern_before, pattern_of_row, patterns_of, patterns_under, section_patterns}
+use Rattle.census_table.specs.declared.entry.Entry.{Entry}
+use Rattle.census_table.proofs.Counts.{collections-body, rows-one}
+use Rattle.census_table.proofs.Patterned.{entries_in, patterns-append, patterns-entries}
+use Rattle.census_reports.proofs.SameLists.{before-same}
 
 -- # Rows under another number of their collection
 
@@ -33,13 +39,20 @@ entry-same k b h (Code c rule code n) = refl
 entry-same k b h (Close c n x y z) = refl
 entry-same k b h (End c n) = refl
 
-under-same : (k b : ℕ) (h : Row) (rows : List Row) → lines_under k (renumbered_row b h) (map (renumbered_row b) rows) ≡ lines_under k h rows
+pattern-same : (k b : ℕ) (h r : Row) (rows : List Row) → pattern_of_row k (renumbered_row b h) (renumbered_row b r) (map (renumbered_row b) rows) ≡ pattern_of_row k h r rows
+pattern-same k b h r rows =
+    ap (option_map (λ e. pattern_before e (map (renumbered_row b) rows))) (entry-same k b h r) ∙ mapped (entry_of_row k h r)
+  where
+    mapped : (o : Option Entry) → option_map (λ e. pattern_before e (map (renumbered_row b) rows)) o ≡ option_map (λ e. pattern_before e rows) o
+    mapped Nothing = refl
+    mapped (Some e) = ap (λ (p : Pattern). Some p) (before-same e b rows)
+
+under-same : (k b : ℕ) (h : Row) (rows : List Row) → patterns_under k (renumbered_row b h) (map (renumbered_row b) rows) ≡ patterns_under k h rows
 under-same k b h [] = refl
 under-same k b h (r ∷ rows) =
-    ap (λ e. entry_before e (lines_under k (renumbered_row b h) (map (renumbered_row b) rows))) (entry-same k b h r)
-    ∙ ap (λ es. entry_before (entry_of_row k h r) es) (under-same k b h rows)
+    ap₂ (λ (o : Option Pattern) (others : List Pattern). told_before o others) (pattern-same k b h r rows) (under-same k b h rows)
 
-section-same : (k b : ℕ) (rows : List Row) → section_entries k (map (renumbered_row b) rows) ≡ section_entries k rows
+section-same : (k b : ℕ) (rows : List Row) → section_patterns k (map (renumbered_row b) rows) ≡ section_patterns k rows
 section-same k b [] = refl
 section-same k b (h ∷ rows) = under-same k b h rows
 
@@ -171,14 +184,14 @@ sections-split first (suc n) m rows =
 
 first-same : (k b first n : ℕ) (all body : List Row)
     → ((c : ℕ) → first ≤ c → c < first + n → rows_of (b + c) all ≡ map (renumbered_row b) (rows_of c body))
-    → all_entries k (sections_of (b + first) n all) ≡ all_entries k (sections_of first n body)
+    → all_patterns k (sections_of (b + first) n all) ≡ all_patterns k (sections_of first n body)
 first-same k b first zero all body each = refl
 first-same k b first (suc n) all body each =
-    let behind = all_entries (k + 1) (sections_of (suc (b + first)) n all) in
-    ap (λ w. section_entries k w ++ behind) (each first (omega arith) (omega arith))
+    let behind = all_patterns (k + 1) (sections_of (suc (b + first)) n all) in
+    ap (λ w. section_patterns k w ++ behind) (each first (omega arith) (omega arith))
     ∙ ap (λ w. w ++ behind) (section-same k b (rows_of first body))
-    ∙ ap (λ w. section_entries k (rows_of first body) ++ w)
-    (ap (λ m. all_entries (k + 1) (sections_of m n all)) (let e : suc (b + first) ≡ b + suc first = omega arith in e)
+    ∙ ap (λ w. section_patterns k (rows_of first body) ++ w)
+    (ap (λ m. all_patterns (k + 1) (sections_of m n all)) (let e : suc (b + first) ≡ b + suc first = omega arith in e)
     ∙ first-same (k + 1) b (suc first) n all body (λ c low high. each c (omega arith) (omega arith)))
 
 -- one report, and those behind it, where the rows of the reports before it stand in front
@@ -214,41 +227,44 @@ module _ (k b : ℕ) (front : List Row) (rows : List Row) (is : IsWholeReport ro
       ∙ shifted-rows b n c is.body is.owned
 
   pub same-step : (m : ℕ)
-      → all_entries (k + n) (sections_of (b + n + 1) m ((front ++ moved) ++ behind)) ≡ all_entries (k + n) (collections_of [] (all_rows reports))
-      → all_entries k (sections_of (b + 1) (n + m) all) ≡ all_entries k (collections_of [] (rows ++ all_rows reports))
+      → all_patterns (k + n) (sections_of (b + n + 1) m ((front ++ moved) ++ behind)) ≡ all_patterns (k + n) (collections_of [] (all_rows reports))
+      → all_patterns k (sections_of (b + 1) (n + m) all) ≡ all_patterns k (collections_of [] (rows ++ all_rows reports))
   same-step m others =
       let here = sections_of (b + 1) n all in
       let there = sections_of 1 n is.body in
       let rest = collections_of [] (all_rows reports) in
-      ap (all_entries k) (sections-split (b + 1) n m all)
-      ∙ all-append k here (sections_of (b + 1 + n) m all)
-      ∙ ap (λ w. w ++ all_entries (k + length here) (sections_of (b + 1 + n) m all)) (first-same k b 1 n all is.body own)
-      ∙ ap (λ j. all_entries k there ++ all_entries (k + j) (sections_of (b + 1 + n) m all)) (sections-size (b + 1) n all)
-      ∙ ap (λ j. all_entries k there ++ all_entries (k + n) (sections_of j m all)) (let e : b + 1 + n ≡ b + n + 1 = omega arith in e)
-      ∙ ap (λ w. all_entries k there ++ all_entries (k + n) (sections_of (b + n + 1) m w)) all-are
-      ∙ ap (λ w. all_entries k there ++ w) others
-      ∙ ap (λ j. all_entries k there ++ all_entries (k + j) rest) (sym (sections-size 1 n is.body))
-      ∙ sym (all-append k there rest)
-      ∙ ap (all_entries k) (sym (whole-collections rows is (all_rows reports)))
+      ap (all_patterns k) (sections-split (b + 1) n m all)
+      ∙ patterns-append k here (sections_of (b + 1 + n) m all)
+      ∙ ap (λ w. w ++ all_patterns (k + length here) (sections_of (b + 1 + n) m all)) (first-same k b 1 n all is.body own)
+      ∙ ap (λ j. all_patterns k there ++ all_patterns (k + j) (sections_of (b + 1 + n) m all)) (sections-size (b + 1) n all)
+      ∙ ap (λ j. all_patterns k there ++ all_patterns (k + n) (sections_of j m all)) (let e : b + 1 + n ≡ b + n + 1 = omega arith in e)
+      ∙ ap (λ w. all_patterns k there ++ all_patterns (k + n) (sections_of (b + n + 1) m w)) all-are
+      ∙ ap (λ w. all_patterns k there ++ w) others
+      ∙ ap (λ j. all_patterns k there ++ all_patterns (k + j) rest) (sym (sections-size 1 n is.body))
+      ∙ sym (patterns-append k there rest)
+      ∙ ap (all_patterns k) (sym (whole-collections rows is (all_rows reports)))
 
-same-entries : (k b : ℕ) (front : List Row) (reports : List (List Row)) (h : AreWhole reports) → ((c : ℕ) → b < c → rows_of c front ≡ [])
-    → all_entries k (sections_of (b + 1) (count reports h) (front ++ numbered_on b (all_rows reports))) ≡ all_entries k (collections_of [] (all_rows reports))
-same-entries k b front [] h above = refl
-same-entries k b front (rows ∷ reports) h above =
+same-patterns : (k b : ℕ) (front : List Row) (reports : List (List Row)) (h : AreWhole reports) → ((c : ℕ) → b < c → rows_of c front ≡ [])
+    → all_patterns k (sections_of (b + 1) (count reports h) (front ++ numbered_on b (all_rows reports))) ≡ all_patterns k (collections_of [] (all_rows reports))
+same-patterns k b front [] h above = refl
+same-patterns k b front (rows ∷ reports) h above =
     let is = h.0 in
     same-step k b front rows is reports h.1 above (count reports h.1)
-    (same-entries (k + is.collections) (b + is.collections) (front ++ map (renumbered_row b) is.body) reports h.1 (above-next k b front rows is reports h.1 above))
+    (same-patterns (k + is.collections) (b + is.collections) (front ++ map (renumbered_row b) is.body) reports h.1 (above-next k b front rows is reports h.1 above))
 
-pub same-table : (rows : List Row) → AreReports rows → entries_of (merged_rows rows) ≡ entries_of rows
+pub same-table : (rows : List Row) → AreReports rows → patterns_of (merged_rows rows) ≡ patterns_of rows
 same-table rows is =
     let reports = is.reports in
     let all = numbered_on 0 (all_rows reports) in
     let sums = sums_in no_sums (all_rows reports) in
     let size : sums.collections ≡ count reports is.each = (let e = sums-count no_sums reports is.each in omega (arith, e)) in
     let own : AreOfCollections (0 + count reports is.each) all = on-of 0 reports is.each in
-    let joined_same : entries_of (merged_rows (all_rows reports)) ≡ entries_of (all_rows reports) =
-    ap (all_entries 1) (collections-body [] all sums.collections sums.patterns (0 + count reports is.each) [] own)
-    ∙ ap (λ (w : List (List Row)). all_entries 1 w) (append-nil (sections_of 1 sums.collections all))
-    ∙ ap (λ m. all_entries 1 (sections_of 1 m all)) size
-    ∙ same-entries 1 0 [] reports is.each (λ c less. refl) in
-    subst (λ w. entries_of (merged_rows w) ≡ entries_of w) (sym is.whole) joined_same
+    let joined_same : patterns_of (merged_rows (all_rows reports)) ≡ patterns_of (all_rows reports) =
+    ap (all_patterns 1) (collections-body [] all sums.collections sums.patterns (0 + count reports is.each) [] own)
+    ∙ ap (λ (w : List (List Row)). all_patterns 1 w) (append-nil (sections_of 1 sums.collections all))
+    ∙ ap (λ m. all_patterns 1 (sections_of 1 m all)) size
+    ∙ same-patterns 1 0 [] reports is.each (λ c less. refl) in
+    subst (λ w. patterns_of (merged_rows w) ≡ patterns_of w) (sym is.whole) joined_same
+
+pub same-entries : (rows : List Row) → AreReports rows → entries_of (merged_rows rows) ≡ entries_of rows
+same-entries rows is = sym (patterns-entries (merged_rows rows)) ∙ ap entries_in (same-table rows is) ∙ patterns-entries rows

@@ -5,6 +5,7 @@ ghost use Rattle.census_identify.specs.Streams.{sink};
 ghost use Rattle.census_readback.specs.Shapes.{AreReports};
 ghost use Rattle.census_merge.specs.Merged.{merged_rows};
 ghost use Rattle.census_table.specs.Entries.{entries_of};
+ghost use Rattle.census_table.specs.Patterns.{patterns_of};
 ghost use Rattle.census_verify.specs.Claims.{claims_in, claims_read};
 ghost use Rattle.census_reports.specs.Written.{FailsRows, WritesRows};
 
@@ -155,6 +156,8 @@ pub fn write_verdict<O: Write>(
 
 /// A table of the patterns of reports is that of the one report that they are merged to: each collection has the same number in both.
 pub fn merging_changes_no_table()
-    ensures { (rows : List Row) → AreReports rows →
+    ensures patterns { (rows : List Row) → AreReports rows →
+        patterns_of (merged_rows rows) ≡ patterns_of rows }
+    ensures entries { (rows : List Row) → AreReports rows →
         entries_of (merged_rows rows) ≡ entries_of rows }
 {}
