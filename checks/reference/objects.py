@@ -1,15 +1,11 @@
-#!/usr/bin/env python3
-"""What `objects` answers, worked out by a program that shares nothing with `census`; all else as patterns.py answers it.
-
-    checks/reference/objects.py objects [--bound N] [--workers N] [FOLDER..]
+"""The objects that a pattern leaves, and what `objects` reports, worked out by a program that shares nothing with `census`; the command is
+that of parts.py.
 
 `ash` decides by the definition, with the whole bound: the finest splitting that stays apart, what lives on of it, and whether the
 parts so found recur, are one piece and stay apart for ever. `ash_early` looks for the ash of an earlier generation, which tells the same.
 Both tell the onset too, by its definition: the first generation that has an ash.
 """
 import hashlib
-import os
-import sys
 from collections import Counter
 from fractions import Fraction
 from math import ceil, floor, gcd
@@ -17,6 +13,8 @@ from math import ceil, floor, gcd
 import patterns as R
 
 OBJECTS_BOUND_LIMIT = 100_000
+HORIZON_LIMIT = 10_000
+COUNTS = {**R.COUNTS, '--horizon': '--horizon'}
 
 
 # ------------------------------------------------------------------ shapes: sets up to moving
@@ -492,42 +490,53 @@ def counts_of(rule, parts):
 _known = {}
 
 
-def answer(text, bound, decide):
-    """('bad', n), ('none', rule, pop) or ('ash', rule, pop, onset, [(code, count)])."""
-    tag = (hashlib.blake2b(text).digest(), bound, decide)
+def answer(text, bound, horizon, decide):
+    """('bad', n), ('none', rule, pop), ('ash', rule, pop, onset, [(code, count)]) or ('grows', rule, pop, [(tale, count)]), where a tale is
+    (period, dx, dy, [(code, count)])."""
+    tag = (hashlib.blake2b(text).digest(), bound, horizon, decide)
     if tag not in _known:
         try:
             rule, cells = R.read_rle(text)
         except R.Fault as f:
             _known[tag] = ('bad', f.number)
         else:
-            found = decide(rule, cells, bound)
-            _known[tag] = (('none', R.rule_text(rule), len(cells)) if found is None else
-                           ('ash', R.rule_text(rule), len(cells), found[0], counts_of(rule, found[1])))
+            kind, *told = decide(rule, cells, bound, horizon)
+            _known[tag] = (kind, R.rule_text(rule), len(cells), *told)
     return _known[tag]
 
 
-def section(c, folder, bound, decide):
-    name, entries = folder
-    lines = [b'open %d %d %s' % (c, len(entries), name)]
-    totals, kinds = {}, Counter()
-    for i, (entry, text) in enumerate(entries, 1):
-        a = answer(text, bound, decide)
-        kinds[a[0]] += 1
-        if a[0] == 'ash':
-            lines.append(('line %d %d ash %s %d %d %d ' % (c, i, *a[1:4], sum(n for _, n in a[4]))).encode() + entry)
-            for code, n in a[4]:
-                lines.append(('part %d %d %s %d' % (c, i, code, n)).encode())
-                totals[a[1], code] = totals.get((a[1], code), 0) + n
-        else:
-            lines.append(b'line %d %d %s %s' % (c, i, ' '.join(map(str, a)).encode(), entry))
-    lines += [('code %d %s %s %d' % (c, r, k, n)).encode() for (r, k), n in totals.items()]
-    lines.append(b'close %d %d %d %d %d' % (c, len(entries), kinds['ash'], kinds['none'], kinds['bad']))
+def lines_of(c, i, entry, a):
+    """The lines of entry i of collection c, of which `a` is told."""
+    if a[0] not in ('ash', 'grows'):
+        return [b'line %d %d %s %s' % (c, i, ' '.join(map(str, a)).encode(), entry)]
+    *head, counts = a
+    lines = [('line %d %d %s %d ' % (c, i, ' '.join(map(str, head)), sum(n for _, n in counts))).encode() + entry]
+    if a[0] == 'ash':
+        return lines + [('part %d %d %s %d' % (c, i, code, n)).encode() for code, n in counts]
+    for e, ((period, dx, dy, emits), count) in enumerate(counts, 1):
+        lines.append(b'engine %d %d %d %d %d %d %d' % (c, i, e, period, dx, dy, count))
+        lines += [('emits %d %d %d %s %d' % (c, i, e, code, n)).encode() for code, n in emits]
     return lines
 
 
-def report(bundle, bound, decide=ash_early):
-    sections = [section(c, f, bound, decide) for c, f in enumerate(bundle, 1)]
+def section(c, folder, bound, horizon, decide):
+    name, entries = folder
+    lines = [b'open %d %d %s' % (c, len(entries), name)]
+    totals, kinds = Counter(), Counter()                # of codes, in the order in which they come first
+    for i, (entry, text) in enumerate(entries, 1):
+        a = answer(text, bound, horizon, decide)
+        kinds[a[0]] += 1
+        lines += lines_of(c, i, entry, a)
+        if a[0] == 'ash':
+            for code, n in a[4]:
+                totals[a[1], code] += n
+    lines += [('code %d %s %s %d' % (c, r, k, n)).encode() for (r, k), n in totals.items()]
+    lines.append(b'close %d %d %d %d %d' % (c, len(entries), kinds['ash'] + kinds['grows'], kinds['none'], kinds['bad']))
+    return lines
+
+
+def report(bundle, bound, horizon, decide):
+    sections = [section(c, f, bound, horizon, decide) for c, f in enumerate(bundle, 1)]
     out = []
     for s, (_, entries) in zip(sections, bundle):
         out += s if not entries else s[:1]
@@ -537,22 +546,12 @@ def report(bundle, bound, decide=ash_early):
     return b''.join(l + b'\n' for l in out)
 
 
-_dispatch = R.dispatch
-
-
-def dispatch(args, stdin, decide=ash_early):
-    if args[:1] != ['objects']:
-        return _dispatch(args, stdin)
-    opts, rest = R.words_of(args[1:], R.COUNTS, 0, True)
+def dispatch(args, stdin, decide):
+    """The report of `objects`, where `decide` gives what becomes of a set: ('none',), ('ash', onset, [(code, count)]) or
+    ('grows', [(tale, count)])."""
+    opts, rest = R.words_of(args, COUNTS, 0, True)
     bound = R.number(opts.get('--bound', '10000'), 1, OBJECTS_BOUND_LIMIT)
+    horizon = R.number(opts.get('--horizon', '1000'), 1, HORIZON_LIMIT)
     R.number(opts.get('--workers', '4'), 1, R.WORKER_LIMIT)
     bundle = R.folders_of(rest) if rest else R.read_bundle(R.read_limited(stdin))
-    return report(bundle, bound, decide)
-
-
-if __name__ == '__main__':
-    R.dispatch = dispatch
-    status = R.main()
-    sys.stdout.flush()
-    sys.stderr.flush()
-    os._exit(status)
+    return report(bundle, bound, horizon, decide)

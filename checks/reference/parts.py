@@ -2,15 +2,17 @@
 """What `objects` answers with `--near` and without, worked out by a program that shares nothing with `census`; all else as patterns.py
 answers it.
 
-    checks/reference/parts.py objects [--near] [--bound N] [--workers N] [FOLDER..]
+    checks/reference/parts.py objects [--near] [--bound N] [--horizon N] [--workers N] [FOLDER..]
 
-With `--near` it is what objects.py counts. Without it, it is the independent parts of these objects, by the definition: cells are tied
-that touch, that stay, or that bear one another, and so are sets that would make of a place, each by itself, something else than is made
-of it; and the parts are the classes of what is tied, which are followed round the cycle until they come back.
+With `--near` it tells the objects of objects.py, and those that the engines of growth.py leave. Without it, it tells the independent
+parts of these objects, by the definition: cells are tied that touch, that stay, or that bear one another, and so are sets that would
+make of a place, each by itself, something else than is made of it; and the parts are the classes of what is tied, which are followed
+round the cycle until they come back.
 """
 import os
 import sys
 
+import growth as G
 import objects as O
 import patterns as R
 
@@ -193,10 +195,9 @@ def parts_of(rule, P):
     return [O.Part([(s, i + x, j + y) for s, i, j in part.phases], part.dx, part.dy) for part in _parts[key]]
 
 
-def ash_in_parts(rule, cells, b):
-    """The onset of the ash of generation b within b, and the independent parts of its objects; or None."""
-    found = O.ash_early(rule, cells, b)
-    return None if found is None else (found[0], [part for P in found[1] for part in parts_of(rule, P)])
+def decide_in_parts(rule, cells, bound, horizon):
+    """What becomes of a set, told in independent parts."""
+    return G.decide(rule, cells, bound, horizon, parts_of)
 
 
 # ------------------------------------------------------------------ words
@@ -205,7 +206,7 @@ def without_near(words):
     plain, rest, is_near = False, [], False
     for word in words:
         plain = plain or word == "--"
-        if word == "--near" and not plain and (not rest or rest[-1] not in R.COUNTS):
+        if word == "--near" and not plain and (not rest or rest[-1] not in O.COUNTS):
             if is_near:
                 raise R.Usage()
             is_near = True
@@ -214,11 +215,14 @@ def without_near(words):
     return rest, is_near
 
 
+_dispatch = R.dispatch
+
+
 def dispatch(args, stdin):
     if args[:1] != ["objects"]:
-        return O.dispatch(args, stdin)
+        return _dispatch(args, stdin)
     words, is_near = without_near(args[1:])
-    return O.dispatch(["objects", *words], stdin, O.ash_early if is_near else ash_in_parts)
+    return O.dispatch(words, stdin, G.decide if is_near else decide_in_parts)
 
 
 if __name__ == "__main__":
