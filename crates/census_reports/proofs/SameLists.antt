@@ -1,6 +1,8 @@
 -- What rows tell of engines and parts doesn't depend on the number of their collection.
-use Rattle.std.proofs.Common.{◌≡◌, ℕ, Bool, true, false, if◌then◌else◌, Option, Some, None, List, [], ◌∷◌, map, ap, ap₂, ◌∙◌, refl}
+use Rattle.std.proofs.Common.{◌≡◌, ℕ, Bool, true, false, Option, Some, None, List, [], ◌∷◌, map, ap, ap₂, ◌∙◌, refl, sym}
 use Rattle.std.specs.List.{take_while}
+use Rattle.std.proofs.Math.Bool.{cond}
+use Rattle.std.proofs.lemmas.List.Sums.{take_while-cons}
 use Rattle.census_rows.specs.declared.kinds.Behind.{Behind}
 use Rattle.census_rows.specs.declared.kinds.Behind.TheVariants as behind
 use Rattle.census_rows.specs.declared.row.Row.{Row}
@@ -16,16 +18,18 @@ use Rattle.census_table.specs.declared.lists.Portion.{Portion}
 
 -- # The rows from the first on of which this is so
 
-if-map : (f : Row → Row) (is : Bool) (row : Row) (rows : List Row) → (if is then f row ∷ map f rows else []) ≡ map f (if is then row ∷ rows else [])
-if-map f true row rows = refl
-if-map f false row rows = refl
+cond-map : (f : Row → Row) (is : Bool) (row : Row) (rows : List Row) → cond is (f row ∷ map f rows) [] ≡ map f (cond is (row ∷ rows) [])
+cond-map f true row rows = refl
+cond-map f false row rows = refl
 
 while-same : (is : Row → Bool) (b : ℕ) → ((r : Row) → is (renumbered_row b r) ≡ is r) → (rows : List Row)
     → take_while is (map (renumbered_row b) rows) ≡ map (renumbered_row b) (take_while is rows)
 while-same is b same [] = refl
 while-same is b same (r ∷ rows) =
-    ap₂ (λ (found : Bool) (others : List Row). if found then renumbered_row b r ∷ others else []) (same r) (while-same is b same rows)
-    ∙ if-map (renumbered_row b) (is r) r (take_while is rows)
+    take_while-cons is (renumbered_row b r) (map (renumbered_row b) rows)
+    ∙ ap₂ (λ (found : Bool) (others : List Row). cond found (renumbered_row b r ∷ others) []) (same r) (while-same is b same rows)
+    ∙ cond-map (renumbered_row b) (is r) r (take_while is rows)
+    ∙ ap (map (renumbered_row b)) (sym (take_while-cons is r rows))
 
 stands-same : (kind : Behind) (b : ℕ) (r : Row) → stands_behind kind (renumbered_row b r) ≡ stands_behind kind r
 stands-same kind b (Open c n t) = refl
