@@ -17,7 +17,7 @@ use crate::growing::growth_within;
 use crate::parts::parts_of;
 use crate::seen::Seen;
 use crate::telling::told;
-use crate::walk::seen;
+use crate::walk::{ends_late, seen};
 use life_answer::{EngineList, Finding, Outcome};
 use life_ash::{Ash, Fate};
 use life_cells::{CellList, Rule};
@@ -112,6 +112,9 @@ fn outcome_of_fate<P: Plane>(
         }
         Fate::Unresolved { ends: true } => Ok(Outcome::Unresolved),
         Fate::Unresolved { ends: false } => {
+            if ends_late::<P>(alloc, rule, cells, bound)? {
+                return Ok(Outcome::Unresolved);
+            }
             let engines = engines_within::<P>(alloc, rule, cells, bound, limit, near, horizon)?;
             Ok(growing_or(engines, Outcome::Unresolved))
         }

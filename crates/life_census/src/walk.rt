@@ -1,9 +1,10 @@
 //! The walk of a pattern to the bound, on which one looks for ash and for growth.
 ghost use Rattle.std.specs.Prelude.{◌≡◌, ◌+◌, ◌≤◌, All, IfNone, IfOk, IfSome};
+ghost use Rattle.std.specs.Bool.{OnTrue};
 ghost use Rattle.life_model.specs.Generation.{Generation};
 ghost use Rattle.life_model.specs.Generation as generations;
 ghost use Rattle.life_cells.specs.Limits.{IsWithin};
-ghost use Rattle.life_ash.specs.Fates.{IsFate};
+ghost use Rattle.life_ash.specs.Fates.{EndsLater, IsFate};
 ghost use Rattle.life_census.specs.OnTheWay.{IsOnTheWay, IsSeen};
 
 use crate::growing::growth_on_the_way;
@@ -20,6 +21,12 @@ use std::mem;
 
 /// The first age at which one looks for growth. Each further one is twice the one before it.
 const FIRST_LOOK: u32 = 512;
+
+/// For how many generations after the bound one looks whether a pattern falls apart late.
+const LATER: u32 = 16_000;
+
+/// What has more cells than this is not looked at after the bound.
+const MANY: u32 = 20_000;
 
 /// Walks on to an age up to the bound. What becomes of the pattern, where that is found before: then the trail is spent.
 fn fate_before<P: Plane>(
@@ -96,4 +103,38 @@ pub fn seen<P: Plane>(
     }
     let fate = fate_past(alloc, &plane, &mut met, &mut pace, trail, limit)?;
     Ok(Seen::Becomes { fate })
+}
+
+/// Whether a pattern is seen to fall apart some while after the bound, up to sixteen times the bound. It is looked at for no
+/// more than `LATER` generations after the bound, and only as long as it has no more than `MANY` cells.
+pub fn ends_late<P: Plane>(
+    alloc: Global,
+    rule: &Rule,
+    cells: &CellList,
+    bound: u32,
+) -> Result<bool, AllocError>
+    requires bound { 1 ≤ bound × bound ≤ BOUND_LIMIT }
+    requires fits { All (IsWithin 0) (generations.cells cells.now) }
+    ensures { IfOk result (λ ends. OnTrue ends (EndsLater rule.now cells.now)) }
+{
+    let late = BOUND_LIMIT.min(16 * bound).min(bound + LATER);
+    if late <= bound {
+        return Ok(false);
+    }
+    let mut plane = P::from_cells(alloc, cells)?;
+    let mut met = Known::new(alloc, rule, late);
+    let mut pace = Pace::new();
+    let mut trail = Trail::new(alloc);
+    match fate_before(
+        alloc,
+        &mut plane,
+        &mut met,
+        &mut pace,
+        &mut trail,
+        Some(MANY),
+        late,
+    )? {
+        Some(Fate::Ash { .. }) => Ok(true),
+        _ => Ok(false),
+    }
 }
