@@ -1,5 +1,6 @@
 -- Growth that is seen on the way to a bound, and what is told of it.
-use Rattle.std.proofs.Common.{◌≡◌, ℕ, ◌*◌, ◌≤◌, min, Bool, List, Option, None, Some, sym, ap, subst, ◌∙◌, arith}
+use Rattle.std.proofs.Common.{◌≡◌, ℕ, ◌*◌, ◌≤◌, min, Bool, true, List, Option, None, Some, sym, ap, subst, ◌∙◌, arith}
+use Rattle.std.proofs.lemmas.Option.{none-some}
 use Rattle.life_model.specs.Evolution.{generation}
 use Rattle.life_model.specs.Generation.{Generation}
 use Rattle.life_model.specs.Rule.{Rule}
@@ -16,7 +17,7 @@ use Rattle.life_answer.proofs.Growing.{allowed_most, allowed_small, allowed_with
 use Rattle.life_answer.proofs.Told.{growth_later_told, told_nothing}
 use Rattle.life_ash.specs.Fates.{EndsLater}
 use Rattle.life_growing.specs.Growths.{Growth, IsGrowthOf, starts_of}
-use Rattle.life_census.specs.Grown.{IsGrownWithin, IsSeenWithin}
+use Rattle.life_census.specs.Grown.{IsGrownWithin, IsSeenWithin, NeverGrowsThen}
 
 -- Growth of a generation, up to four times whose age none has more cells than it may have, is that of each greater bound.
 pub grown_early : (R : Rule) (G H : Generation) (limit : Option ℕ) (age b horizon least : ℕ) (g : Growth) → 1 ≤ age → age ≤ b →
@@ -60,3 +61,12 @@ nothing_told near R G h c ends =
     let fallen : HasFallenApart R b (generation R G n) last =
     subst (λ H. IsAsh R b H last) (sym (generation-add R G n b)) (IsAsh-after R b n b G ends.2 ends.3) in
     told_nothing near R h (generation R G c) (λ S Es growth. ash_no_growth near R b h n c G last Es S fallen growth)
+
+-- what does not grow at a bound does not grow at a lesser one
+pub never_sooner : (R : Rule) (G : Generation) (c b horizon : ℕ) → c ≤ b → NeverGrowsThen R G b horizon →
+    NeverGrowsThen R G c horizon
+never_sooner R G c b horizon le never Es S growth =
+    let soon : min horizon c ≤ min horizon b = omega arith in
+    let none = told_nothing true R (min horizon b) (generation R G b) (λ T Fs grows. never Fs T grows) in
+    let some = growth_later_told true R (min horizon c) (min horizon b) c b G soon le Es S growth in
+    none-some (told_of_engines true R (min horizon c) Es) (sym none ∙ some)

@@ -134,6 +134,25 @@ fn growth_up_to<P: Plane>(
     growth_of(alloc, plane, rule, 2 * horizon, horizon)
 }
 
+/// The growth that the generation of an age shows within the horizon and within that age, if there is one.
+fn growth_at<P: Plane>(
+    alloc: Global,
+    rule: &Rule,
+    cells: &CellList,
+    age: u32,
+    horizon: u32,
+) -> Result<Option<Growth>, AllocError>
+    requires age { 1 ≤ age × age ≤ BOUND_LIMIT }
+    requires horizon { 1 ≤ horizon × horizon ≤ WAY_LIMIT }
+    requires fits { All (IsWithin 0) (generations.cells cells.now) }
+    ensures some { IfOk result (λ found. IfSome found
+        (IsGrownWithin rule.now cells.now age horizon)) }
+    ensures none { IfOk result (λ found. IfNone found (NeverGrowsThen rule.now cells.now age horizon)) }
+{
+    let plane: P = plane_at(alloc, rule, cells, age)?;
+    growth_up_to(alloc, &plane, rule, horizon.min(age))
+}
+
 /// The growth of a pattern, looked for within the horizon in the generation of the greatest bound up to which it is small
 /// enough: no generation up to four times that bound may have more cells than the limit. The bound is 1 to 100,000
 /// generations, and the horizon 1 to 10,000, of which no more than that bound count.
@@ -157,6 +176,32 @@ pub fn growth_within<P: Plane>(
     if allowed == 0 {
         return Ok(None);
     }
-    let plane: P = plane_at(alloc, rule, cells, allowed)?;
-    growth_up_to(alloc, &plane, rule, horizon.min(allowed))
+    growth_at::<P>(alloc, rule, cells, allowed, horizon)
+}
+
+/// What `growth_within` finds, sooner where nothing grows: the generation of the bound is looked at first, and how many cells
+/// later ones have only where it grows. What grows earlier grows there too.
+pub fn growth_at_bound<P: Plane>(
+    alloc: Global,
+    rule: &Rule,
+    cells: &CellList,
+    bound: u32,
+    limit: Option<u32>,
+    horizon: u32,
+) -> Result<Option<Growth>, AllocError>
+    requires bound { 1 ≤ bound × bound ≤ BOUND_LIMIT }
+    requires horizon { 1 ≤ horizon × horizon ≤ WAY_LIMIT }
+    requires fits { All (IsWithin 0) (generations.cells cells.now) }
+    ensures some { IfOk result (λ found. IfSome found
+        (IsGrownWithin rule.now cells.now (allowed_bound limit rule.now cells.now bound) horizon)) }
+    ensures none { IfOk result (λ found. IfNone found
+        (NeverGrowsThen rule.now cells.now (allowed_bound limit rule.now cells.now bound) horizon)) }
+{
+    let Some(growth) = growth_at::<P>(alloc, rule, cells, bound, horizon)? else {
+        return Ok(None);
+    };
+    if allowed_bound::<P>(alloc, rule, cells, bound, limit)? < bound {
+        return growth_within::<P>(alloc, rule, cells, bound, limit, horizon);
+    }
+    Ok(Some(growth))
 }

@@ -1,6 +1,8 @@
 //! The census of patterns.
-ghost use Rattle.std.specs.Prelude.{◌≡◌, ℕ, ◌≤◌, All, IfOk, min};
+ghost use Rattle.std.specs.Prelude.{◌≡◌, ℕ, ◌≤◌, All, IfNone, IfOk, IfSome, min};
 ghost use Rattle.life_model.specs.Evolution.{generation};
+ghost use Rattle.life_model.specs.Generation.{Generation};
+ghost use Rattle.life_model.specs.Rule.{Rule as ModelRule};
 ghost use Rattle.life_model.specs.Generation as generations;
 ghost use Rattle.life_cells.specs.Limits.{IsWithin};
 ghost use Rattle.life_objects.specs.Ash.{IsAsh};
@@ -12,8 +14,9 @@ ghost use Rattle.life_answer.specs.declared.question.Question.TheVariants.{Objec
 ghost use Rattle.life_apart.specs.Sets.{IsCourseBy, sets_of};
 ghost use Rattle.life_onset.specs.Moments.{IsMomentOf};
 ghost use Rattle.life_ash.specs.Fates.{IsFate};
+ghost use Rattle.life_census.specs.Grown.{IsGrownWithin, NeverGrowsThen};
 
-use crate::growing::growth_within;
+use crate::growing::{growth_at_bound, growth_within};
 use crate::parts::parts_of;
 use crate::seen::Seen;
 use crate::telling::told;
@@ -21,6 +24,7 @@ use crate::walk::{ends_late, seen};
 use life_answer::{EngineList, Finding, Outcome};
 use life_ash::{Ash, Fate};
 use life_cells::{CellList, Rule};
+use life_growing::Growth;
 use life_onset::{Trail, onset};
 use life_orbit::BOUND_LIMIT;
 use life_plane::Plane;
@@ -55,24 +59,18 @@ fn outcome_of_ash<P: Plane>(
     })
 }
 
-/// By which engines a pattern grows, if it does, where it is looked at within the greatest bound up to which it is small enough.
-fn engines_within<P: Plane>(
+/// What is told of growth that was looked for within the greatest bound up to which a pattern is small enough.
+fn engines_of(
     alloc: Global,
-    rule: &Rule,
-    cells: &CellList,
-    bound: u32,
-    limit: Option<u32>,
+    growth: Option<Growth>,
     near: bool,
-    horizon: u32,
 ) -> Result<Option<EngineList>, AllocError>
-    requires bound { 1 ≤ bound × bound ≤ BOUND_LIMIT }
-    requires horizon { 1 ≤ horizon × horizon ≤ WAY_LIMIT }
-    requires fits { All (IsWithin 0) (generations.cells cells.now) }
-    ensures { IfOk result (λ found. found ≡ growth_told near rule.now
-        (min horizon (allowed_bound limit rule.now cells.now bound))
-        (generation rule.now cells.now (allowed_bound limit rule.now cells.now bound))) }
+    ensures { IfOk result (λ found. (R : ModelRule) (G : Generation) (allowed horizon : ℕ) →
+        IfSome growth (IsGrownWithin R G allowed horizon) →
+        IfNone growth (NeverGrowsThen R G allowed horizon) →
+        found ≡ growth_told near R (min horizon allowed) (generation R G allowed)) }
 {
-    match growth_within::<P>(alloc, rule, cells, bound, limit, horizon)? {
+    match growth {
         Some(growth) => Ok(Some(told(alloc, &growth, near)?)),
         None => Ok(None),
     }
@@ -112,14 +110,16 @@ fn outcome_of_fate<P: Plane>(
         }
         Fate::Unresolved { ends: true } => Ok(Outcome::Unresolved),
         Fate::Unresolved { ends: false } => {
-            if ends_late::<P>(alloc, rule, cells, bound)? {
+            if ends_late::<P>(alloc, rule, cells, bound, horizon)? {
                 return Ok(Outcome::Unresolved);
             }
-            let engines = engines_within::<P>(alloc, rule, cells, bound, limit, near, horizon)?;
+            let growth = growth_at_bound::<P>(alloc, rule, cells, bound, limit, horizon)?;
+            let engines = engines_of(alloc, growth, near)?;
             Ok(growing_or(engines, Outcome::Unresolved))
         }
         Fate::Large { generation } => {
-            let engines = engines_within::<P>(alloc, rule, cells, bound, limit, near, horizon)?;
+            let growth = growth_within::<P>(alloc, rule, cells, bound, limit, horizon)?;
+            let engines = engines_of(alloc, growth, near)?;
             Ok(growing_or(engines, Outcome::Large { generation }))
         }
     }

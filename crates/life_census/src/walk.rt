@@ -22,8 +22,9 @@ use std::mem;
 /// The first age at which one looks for growth. Each further one is twice the one before it.
 const FIRST_LOOK: u32 = 512;
 
-/// For how many generations after the bound one looks whether a pattern falls apart late.
-const LATER: u32 = 16_000;
+/// For how many times the horizon one looks after the bound whether a pattern falls apart late. That spares the look for its
+/// growth, which costs about as much.
+const LATER: u32 = 4;
 
 /// What has more cells than this is not looked at after the bound.
 const MANY: u32 = 20_000;
@@ -106,18 +107,20 @@ pub fn seen<P: Plane>(
 }
 
 /// Whether a pattern is seen to fall apart some while after the bound, up to sixteen times the bound. It is looked at for no
-/// more than `LATER` generations after the bound, and only as long as it has no more than `MANY` cells.
+/// more than `LATER` times the horizon after the bound, and only as long as it has no more than `MANY` cells.
 pub fn ends_late<P: Plane>(
     alloc: Global,
     rule: &Rule,
     cells: &CellList,
     bound: u32,
+    horizon: u32,
 ) -> Result<bool, AllocError>
     requires bound { 1 ≤ bound × bound ≤ BOUND_LIMIT }
+    requires horizon { horizon ≤ WAY_LIMIT }
     requires fits { All (IsWithin 0) (generations.cells cells.now) }
     ensures { IfOk result (λ ends. OnTrue ends (EndsLater rule.now cells.now)) }
 {
-    let late = BOUND_LIMIT.min(16 * bound).min(bound + LATER);
+    let late = BOUND_LIMIT.min(16 * bound).min(bound + LATER * horizon);
     if late <= bound {
         return Ok(false);
     }

@@ -51,7 +51,9 @@ returns-in_ok-engines-in-Unresolved-false g c =
     let unless : Option ℕ → Outcome = λ o. unless_large (census_of near R G b) o in
     let fate = subst (IsFate R G b limit) c.in-Unresolved-false.is c.requires.fate in
     let otherwise = sym (census_none near R b G fate.1) ∙ ap unless (sym fate.0) in
-    c.growing_or.ensures ∙ (λ i. growing_or (c.in_ok-engines-in-Unresolved-false.ensures i) (otherwise i))
+    let found = c.in_ok-growth-in-Unresolved-false.ensures in
+    let engines = c.in_ok-engines-in-Unresolved-false.ensures R G (allowed_bound limit R G b) c.args.horizon found.some found.none in
+    c.growing_or.ensures ∙ (λ i. growing_or (engines i) (otherwise i))
 
 pub returns-then-branch : goal.returns-then-branch
 returns-then-branch g c =
