@@ -1,5 +1,5 @@
 -- A plane on the way to a bound.
-use Rattle.std.proofs.Common.{◌≡◌, ℕ, List, [], Option, sym, ap, subst, ◌∙◌, arith}
+use Rattle.std.proofs.Common.{◌≡◌, ℕ, List, [], None, Option, sym, ap, subst, ◌∙◌, arith}
 use Rattle.std.proofs.lemmas.List.Elements.{All-nil}
 use Rattle.std.specs.List.{All}
 use Rattle.life_model.specs.Evolution.{generation}
@@ -17,6 +17,15 @@ pub way_begins : (R : Rule) (G : Generation) (limit : Option ℕ) (H : Generatio
 way_begins R G limit H n kept cells start none = record {
   cells = cells ∙ sym (ap (generation R G) start ∙ generation-zero R G);
   few = λ m h. absurd (omega arith);
+  trail = subst (All (IsMomentOf R G)) (sym none) (All-nil (IsMomentOf R G));
+}
+
+-- from any generation on, where none may have too many cells
+pub way_goes_on : (R : Rule) (G H : Generation) (n : ℕ) (kept : List Moment) → H ≡ generation R G n → kept ≡ [] →
+    IsOnTheWay R G None H n kept
+way_goes_on R G H n kept cells none = record {
+  cells = cells;
+  few = λ m h. tt;
   trail = subst (All (IsMomentOf R G)) (sym none) (All-nil (IsMomentOf R G));
 }
 

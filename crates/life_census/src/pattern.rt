@@ -20,7 +20,7 @@ use crate::growing::{growth_at_bound, growth_within};
 use crate::parts::parts_of;
 use crate::seen::Seen;
 use crate::telling::told;
-use crate::walk::{ends_late, seen};
+use crate::walk::seen;
 use life_answer::{EngineList, Finding, Outcome};
 use life_ash::{Ash, Fate};
 use life_cells::{CellList, Rule};
@@ -110,9 +110,6 @@ fn outcome_of_fate<P: Plane>(
         }
         Fate::Unresolved { ends: true } => Ok(Outcome::Unresolved),
         Fate::Unresolved { ends: false } => {
-            if ends_late::<P>(alloc, rule, cells, bound, horizon)? {
-                return Ok(Outcome::Unresolved);
-            }
             let growth = growth_at_bound::<P>(alloc, rule, cells, bound, limit, horizon)?;
             let engines = engines_of(alloc, growth, near)?;
             Ok(growing_or(engines, Outcome::Unresolved))

@@ -1,5 +1,6 @@
 //! The walk of a pattern to the bound, on which one looks for ash and for growth.
-ghost use Rattle.std.specs.Prelude.{◌≡◌, ◌+◌, ◌≤◌, All, IfNone, IfOk, IfSome};
+ghost use Rattle.std.specs.Prelude.{◌≡◌, ℕ, ◌+◌, ◌≤◌, All, IfNone, IfOk, IfSome, Option};
+ghost use Rattle.life_model.specs.Evolution.{generation};
 ghost use Rattle.std.specs.Bool.{OnTrue};
 ghost use Rattle.life_model.specs.Generation.{Generation};
 ghost use Rattle.life_model.specs.Generation as generations;
@@ -24,10 +25,10 @@ const FIRST_LOOK: u32 = 512;
 
 /// For how many times the horizon one looks after the bound whether a pattern falls apart late. That spares the look for its
 /// growth, which costs about as much.
-const LATER: u32 = 4;
+const LATER: u32 = 2;
 
 /// What has more cells than this is not looked at after the bound.
-const MANY: u32 = 20_000;
+const MANY: u64 = 20_000;
 
 /// Walks on to an age up to the bound. What becomes of the pattern, where that is found before: then the trail is spent.
 fn fate_before<P: Plane>(
@@ -63,6 +64,62 @@ fn fate_before<P: Plane>(
             }))
         }
         Found::Nothing => Ok(None),
+    }
+}
+
+/// Whether a pattern is seen to fall apart in the next generations after that of a plane, up to sixteen times the plane's age
+/// and to `LATER` times the horizon more. What has more cells than `MANY` is not looked at.
+fn ends_late<P: Plane>(
+    alloc: Global,
+    plane: P,
+    rule: &Rule,
+    horizon: u32,
+) -> Result<bool, AllocError>
+    requires age { 1 ≤ P.steps_made plane × P.steps_made plane ≤ BOUND_LIMIT }
+    requires horizon { horizon ≤ WAY_LIMIT }
+    requires way { (G : Generation) × (P.members plane ≡ generation rule.now G (P.steps_made plane)) }
+    ensures { IfOk result (λ ends. (G : Generation) → P.members plane ≡ generation rule.now G (P.steps_made plane) →
+        OnTrue ends (EndsLater rule.now G)) }
+{
+    let age = plane.age();
+    if plane.population() > MANY {
+        return Ok(false);
+    }
+    let late = BOUND_LIMIT.min(16 * age).min(age + LATER * horizon);
+    let mut later = plane;
+    let mut met = Known::new(alloc, rule, late);
+    let mut pace = Pace::new();
+    let mut trail = Trail::new(alloc);
+    match fate_before(
+        alloc, &mut later, &mut met, &mut pace, &mut trail, None, late,
+    )? {
+        Some(Fate::Ash { .. }) => Ok(true),
+        _ => Ok(false),
+    }
+}
+
+/// What becomes of a pattern, of which a plane has a generation, with what is seen of it later where it has not fallen apart.
+fn with_late_end<P: Plane>(
+    alloc: Global,
+    plane: P,
+    rule: &Rule,
+    fate: Fate,
+    horizon: u32,
+) -> Result<Fate, AllocError>
+    requires age { 1 ≤ P.steps_made plane × P.steps_made plane ≤ BOUND_LIMIT }
+    requires horizon { horizon ≤ WAY_LIMIT }
+    requires way { (G : Generation) × (P.members plane ≡ generation rule.now G (P.steps_made plane)) }
+    ensures { IfOk result (λ later. (G : Generation) (b : ℕ) (limit : Option ℕ) →
+        P.members plane ≡ generation rule.now G (P.steps_made plane) → IsFate rule.now G b limit fate →
+        IsFate rule.now G b limit later) }
+{
+    match fate {
+        Fate::Unresolved { ends: false } => {
+            Ok(Fate::Unresolved {
+                ends: ends_late(alloc, plane, rule, horizon)?,
+            })
+        }
+        fate => Ok(fate),
     }
 }
 
@@ -103,41 +160,6 @@ pub fn seen<P: Plane>(
         return Ok(Seen::Becomes { fate });
     }
     let fate = fate_past(alloc, &plane, &mut met, &mut pace, trail, limit)?;
+    let fate = with_late_end(alloc, plane, rule, fate, horizon)?;
     Ok(Seen::Becomes { fate })
-}
-
-/// Whether a pattern is seen to fall apart some while after the bound, up to sixteen times the bound. It is looked at for no
-/// more than `LATER` times the horizon after the bound, and only as long as it has no more than `MANY` cells.
-pub fn ends_late<P: Plane>(
-    alloc: Global,
-    rule: &Rule,
-    cells: &CellList,
-    bound: u32,
-    horizon: u32,
-) -> Result<bool, AllocError>
-    requires bound { 1 ≤ bound × bound ≤ BOUND_LIMIT }
-    requires horizon { horizon ≤ WAY_LIMIT }
-    requires fits { All (IsWithin 0) (generations.cells cells.now) }
-    ensures { IfOk result (λ ends. OnTrue ends (EndsLater rule.now cells.now)) }
-{
-    let late = BOUND_LIMIT.min(16 * bound).min(bound + LATER * horizon);
-    if late <= bound {
-        return Ok(false);
-    }
-    let mut plane = P::from_cells(alloc, cells)?;
-    let mut met = Known::new(alloc, rule, late);
-    let mut pace = Pace::new();
-    let mut trail = Trail::new(alloc);
-    match fate_before(
-        alloc,
-        &mut plane,
-        &mut met,
-        &mut pace,
-        &mut trail,
-        Some(MANY),
-        late,
-    )? {
-        Some(Fate::Ash { .. }) => Ok(true),
-        _ => Ok(false),
-    }
 }

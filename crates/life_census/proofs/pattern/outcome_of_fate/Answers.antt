@@ -54,18 +54,3 @@ returns-in_ok-engines-in-Unresolved-false g c =
     let found = c.in_ok-growth-in-Unresolved-false.ensures in
     let engines = c.in_ok-engines-in-Unresolved-false.ensures R G (allowed_bound limit R G b) c.args.horizon found.some found.none in
     c.growing_or.ensures ∙ (λ i. growing_or (engines i) (otherwise i))
-
-pub returns-then-branch : goal.returns-then-branch
-returns-then-branch g c =
-    let R = c.args.rule.now in
-    let G = c.args.cells.now in
-    let b = c.args.bound in
-    let near = c.args.near in
-    let limit = c.args.limit in
-    let allowed = allowed_bound limit R G b in
-    let unless : Option ℕ → Outcome = λ o. unless_large (census_of near R G b) o in
-    let fate = subst (IsFate R G b limit) c.in-Unresolved-false.is c.requires.fate in
-    let ends : EndsLater R G =
-    subst (λ e. OnTrue e (EndsLater R G)) c.if-branch.true c.in_ok-ends_late-in-Unresolved-false.ensures in
-    sym (census_none near R b G fate.1) ∙ ap unless (sym fate.0)
-    ∙ sym (outcome_by near limit R G b c.args.horizon None (nothing_told near R G (min c.args.horizon allowed) allowed ends))

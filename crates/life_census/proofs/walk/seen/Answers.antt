@@ -1,5 +1,11 @@
-use Rattle.std.proofs.Common.{sym, subst, arith}
+use Rattle.std.proofs.Common.{◌≡◌, ℕ, sym, subst, arith}
+use Rattle.std.specs.List.{All}
+use Rattle.life_model.specs.Evolution.{generation}
+use Rattle.life_model.specs.Rule.{Rule}
+use Rattle.life_ash.specs.Fates.{IsFate}
+use Rattle.life_ash.specs.Met.{Terms}
 use Rattle.life_ash.proofs.Finding.{of_none}
+use Rattle.life_onset.specs.Moments.{IsMomentOf}
 use Rattle.life_census.specs.OnTheWay.{IsOnTheWay}
 use Rattle.life_census.proofs.Walking.{way_begins, way_ends}
 use Rattle.life_census.proofs.walk.seen.Goals as goal
@@ -45,3 +51,42 @@ fate_past-requires-clause-later g c =
     c.looks.invariant.bound (of_none c.in_default-3.is c.in_ok-fate-2.ensures.age)
     (of_none c.in_default-3.is c.in_ok-fate-2.ensures.none G before) in
     (G, both.0, both.1)
+
+pub with_late_end-requires-clause-way : goal.with_late_end-requires-clause-way
+with_late_end-requires-clause-way g c =
+    let G = c.args.cells.now in
+    let before =
+    subst (λ R. IsOnTheWay R G c.args.limit (g.P.Plane.members c.looks.plane) (g.P.Plane.steps_made c.looks.plane) c.looks.trail)
+    (sym c.looks.invariant.rule) c.looks.invariant.way in
+    let way = of_none c.in_default-3.is c.in_ok-fate-2.ensures.none G before in (
+      G,
+      subst
+      (λ (R : Rule). g.P.Plane.members c.fate_before-2.new.plane ≡ generation R G (g.P.Plane.steps_made c.fate_before-2.new.plane))
+      c.looks.invariant.rule way.cells,
+    )
+
+pub returns : goal.returns
+returns g c =
+    let G = c.args.cells.now in
+    let limit = c.args.limit in
+    let t = c.looks.met in
+    let met = c.fate_before-2.new.met in
+    let same = c.fate_before-2.ensures.same in
+    let before =
+    subst (λ R. IsOnTheWay R G limit (g.P.Plane.members c.looks.plane) (g.P.Plane.steps_made c.looks.plane) c.looks.trail)
+    (sym c.looks.invariant.rule) c.looks.invariant.way in
+    let way = of_none c.in_default-3.is c.in_ok-fate-2.ensures.none G before in
+    let both =
+    way_ends t met c.args.bound G limit (g.P.Plane.members c.fate_before-2.new.plane)
+    (g.P.Plane.steps_made c.fate_before-2.new.plane) c.fate_before-2.new.trail same c.looks.invariant.bound
+    (of_none c.in_default-3.is c.in_ok-fate-2.ensures.age) way in
+    let kept = subst (λ (u : Terms). All (IsMomentOf u.rule G) c.fate_before-2.new.trail) (sym same) way.trail in
+    let fate = c.in_ok-fate-3.ensures G both.0 both.1 kept in
+    let then = subst (λ (u : Terms). IsFate u.rule G u.bound limit c.in_ok-fate-3.fate) same fate in
+    let bounded = subst (λ (b : ℕ). IsFate t.rule G b limit c.in_ok-fate-3.fate) c.looks.invariant.bound then in
+    let ruled = subst (λ (R : Rule). IsFate R G c.args.bound limit c.in_ok-fate-3.fate) c.looks.invariant.rule bounded in
+    let cells =
+    subst
+    (λ (R : Rule). g.P.Plane.members c.fate_before-2.new.plane ≡ generation R G (g.P.Plane.steps_made c.fate_before-2.new.plane))
+    c.looks.invariant.rule way.cells in
+    c.in_ok-fate-4.ensures G c.args.bound limit cells ruled
