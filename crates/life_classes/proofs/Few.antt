@@ -1,13 +1,11 @@
 -- Where at most one class lives, the cells are undivided, and no sooner.
-use Rattle.std.proofs.Common.{◌≡◌, ◌≢◌, ℕ, ◌+◌, ◌<◌, ◌≤◌, ◌↔◌, List, length, get_or, inl, inr, refl, sym, ap, subst, ◌∙◌, arith}
+use Rattle.std.proofs.Common.{◌≡◌, ℕ, ◌<◌, ◌≤◌, ◌↔◌, List, length, refl, sym, ap, subst, ◌∙◌, arith}
 use Rattle.std.specs.List.{All, AllPairs}
-use Rattle.std.proofs.lemmas.List.{get_or-map, get_or_default, length-map}
-use Rattle.std.proofs.lemmas.Bool.{cases_lt}
+use Rattle.std.proofs.lemmas.List.{get_or-map, length-map}
 use Rattle.std.proofs.lemmas.List.Elements.{All-map}
 use Rattle.life_model.specs.Rule.{Rule}
-use Rattle.life_model.specs.Generation.{Generation, contains, empty}
+use Rattle.life_model.specs.Generation.{Generation}
 use Rattle.life_model.specs.Evolution.{generation}
-use Rattle.life_model.proofs.Moves.{nothing_or_some}
 use Rattle.life_objects.specs.Apart.{AreApartFor}
 use Rattle.life_objects.specs.Piece.{IsUndivided}
 use Rattle.life_objects.specs.Whole.{StaysWhole}
@@ -15,36 +13,9 @@ use Rattle.life_objects.proofs.Ashes.{IsUndivided-wider}
 use Rattle.life_objects.proofs.Dividing.{few_by_undivided}
 use Rattle.life_objects.proofs.Lists.{AllPairs-map}
 use Rattle.life_objects.proofs.Staying.{NotBothLive, undivided_by_few}
-use Rattle.life_objects.proofs.Unions.{in_empty}
 use Rattle.life_classes.specs.declared.class.Class.{Class}
-use Rattle.life_classes.specs.Tracking.{AreApartNow, AreFew, AreTracked, HaveDied, first_sets}
+use Rattle.life_classes.specs.Tracking.{AreApartNow, AreFew, AreTracked, first_sets}
 use Rattle.life_classes.proofs.Later.{end_apart}
-
--- what is not said to live has died
-stable : (G : Generation) → ¬ (G ≢ empty) → G ≡ empty
-stable G not_living =
-    elim (nothing_or_some G) [
-      | inl none ↦ none
-      | inr some ↦ absurd (not_living (λ gone. in_empty some.0 (ap (λ H. contains H some.0) (sym gone) ∙ some.1)))
-    ]
-
--- where all classes before the n-th have died, and that one lives
-module _ (cs : List Class) (n : ℕ) (c : Class) (below : n < length cs) (at : c ≡ get_or cs n c) (lives : c.last ≢ empty)
-    (before : (k : ℕ) (d : Class) → k < n → (get_or cs k d).last ≡ empty) where
-  few_by_dead : HaveDied cs (n + 1) → AreFew cs
-  few_by_dead dead i j d h k live other =
-      elim (cases_lt i n) [
-        | inl less ↦ live (before i d less)
-        | inr more ↦ other (dead j d (omega arith) k)
-      ]
-
-  dead_by_few : AreFew cs → HaveDied cs (n + 1)
-  dead_by_few few k d h l =
-      stable (get_or cs k d).last (few n k d (omega arith) l
-      (λ gone. lives (ap (λ (e : Class). e.last) (at ∙ get_or_default cs n c d below) ∙ gone)))
-
-  pub few_by_living : HaveDied cs (n + 1) ↔ AreFew cs
-  few_by_living = (few_by_dead, dead_by_few)
 
 -- ---- classes that are tracked
 

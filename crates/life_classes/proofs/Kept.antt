@@ -1,10 +1,8 @@
 -- The cells of a set that pass a test.
 use Rattle.std.proofs.Common.{◌≡◌, Bool, true, false, cond, ◌&&◌, ◌||◌, List, [], ◌∷◌, filter, sym, refl, ap, ◌∙◌}
-use Rattle.std.proofs.lemmas.Bool.{and_from, and_parts}
 use Rattle.life_model.specs.Cell.{Cell, same_cell}
-use Rattle.life_model.specs.Generation.{Generation, cells, contains, from_list, keep}
+use Rattle.life_model.specs.Generation.{Generation, cells, from_list, keep}
 use Rattle.life_model.proofs.Cells.{same_cell-is}
-use Rattle.life_objects.proofs.Sides.{within_each_other}
 use Rattle.life_classes.specs.Nearness.{lists_cell}
 use Rattle.life_model.proofs.Generations.{contains-cells, contains-from_list, contains-keep, same_members}
 
@@ -20,7 +18,7 @@ has-cond : (b : Bool) (xs ys : List Cell) (c : Cell) → lists_cell (cond b xs y
 has-cond true xs ys c = refl
 has-cond false xs ys c = refl
 
-has-filter : (p : Cell → Bool) (cs : List Cell) (c : Cell) → lists_cell (filter p cs) c ≡ (lists_cell cs c && p c)
+pub has-filter : (p : Cell → Bool) (cs : List Cell) (c : Cell) → lists_cell (filter p cs) c ≡ (lists_cell cs c && p c)
 has-filter p [] c = refl
 has-filter p (d ∷ ds) c =
     has-cond (p d) (d ∷ filter p ds) (filter p ds) c
@@ -31,15 +29,3 @@ pub from_list-filter : (p : Cell → Bool) (G : Generation) → from_list (filte
 from_list-filter p G = same_members _ _ (λ c.
     contains-from_list (filter p (cells G)) c ∙ has-filter p (cells G) c
     ∙ ap (λ b. b && p c) (sym (contains-cells G c)) ∙ sym (contains-keep G p c))
-
--- two sets of which the same cells pass a test
-pub same_kept : (p : Cell → Bool) (P G : Generation) → ((c : Cell) → contains P c ≡ true → contains G c ≡ true) →
-    ((c : Cell) → contains G c ≡ true → p c ≡ true → contains P c ≡ true) → keep P p ≡ keep G p
-same_kept p P G only all =
-    within_each_other (keep P p) (keep G p)
-    (λ c h.
-    let parts = and_parts (contains P c) (p c) (sym (contains-keep P p c) ∙ h) in
-    contains-keep G p c ∙ and_from (contains G c) (p c) (only c parts.0) parts.1)
-    (λ c h.
-    let parts = and_parts (contains G c) (p c) (sym (contains-keep G p c) ∙ h) in
-    contains-keep P p c ∙ and_from (contains P c) (p c) (all c parts.0 parts.1) parts.1)

@@ -3,7 +3,7 @@ use Rattle.std.proofs.Common.{◌≡◌, ℕ, suc, ◌<◌, List, [], ◌∷◌,
 use Rattle.std.proofs.Common.{append_assoc}
 use Rattle.std.specs.List.{remove}
 use Rattle.std.proofs.Math.Seq.{drop-cons}
-use Rattle.std.proofs.lemmas.List.{append-nil, take-append-drop}
+use Rattle.std.proofs.lemmas.List.{take-append-drop}
 use Rattle.life_objects.specs.Apart.{AreApart}
 use Rattle.life_objects.specs.Union.{union}
 use Rattle.life_classes.specs.declared.class.Class.{Class}
@@ -25,20 +25,9 @@ lead_back c cs ds R b n G rest h t =
     (from_front R b n G c cs (ds ++ rest)
     (subst (λ es. AreTracked R b n G (c ∷ es)) (append_assoc cs ds rest) t))
 
-pub lead_end : (c : Class) (cs : List Class) → LeadTo (c ∷ cs) (cs ++ (c ∷ []))
-lead_end c cs = subst (λ es. LeadTo (c ∷ es) (cs ++ (c ∷ []))) (append-nil cs) (lead_back c cs [])
-
 -- ---- a class taken from others
 
--- the last of those that are left goes before those that are done
-pub last_first : (done left less : List Class) (c : Class) → left ≡ less ++ (c ∷ []) →
-    LeadTo (done ++ left) ((c ∷ done) ++ less)
-last_first done left less c is =
-    subst (λ es. LeadTo es (c ∷ (done ++ less))) (append_assoc done less (c ∷ []) ∙ ap (λ es. done ++ es) (sym is))
-    (subst (λ es. LeadTo ((done ++ less) ++ (c ∷ [])) (c ∷ es)) (append-nil (done ++ less))
-    (lead_front c (done ++ less) []))
-
-parted : (cs : List Class) (n : ℕ) (d : Class) → n < length cs → d ≡ get_or cs n d →
+pub parted : (cs : List Class) (n : ℕ) (d : Class) → n < length cs → d ≡ get_or cs n d →
     cs ≡ take n cs ++ (d ∷ drop (suc n) cs)
 parted cs n d h at =
     sym (take-append-drop n cs)
@@ -65,11 +54,3 @@ lead_gathered c d e cs n h at first last meet =
     (halves_tracked one cs one (d ∷ rest) (lead_same one) (taken_first cs n d h at))
     (in_turn (c ∷ (d ∷ rest)) (d ∷ (c ∷ rest)) (e ∷ rest) (lead_front d one rest)
     (lead_joined c d e rest first last meet))
-
--- ---- where one of two lists is replaced
-
-pub lead_all : (done done' left less : List Class) (c : Class) → left ≡ less ++ (c ∷ []) → LeadTo (c ∷ done) done' →
-    LeadTo (done ++ left) (done' ++ less)
-lead_all done done' left less c is leads =
-    in_turn (done ++ left) ((c ∷ done) ++ less) (done' ++ less) (last_first done left less c is)
-    (halves_tracked (c ∷ done) less done' less leads (lead_same less))

@@ -10,7 +10,6 @@ use Rattle.life_model.specs.Cell.{Cell, IsNear, same_cell}
 use Rattle.life_model.specs.Generation.{Generation, cells, contains}
 use Rattle.life_model.proofs.Cells.{same_cell-is}
 use Rattle.life_model.proofs.Generations.{contains-cells}
-use Rattle.life_objects.specs.Apart.{AreApart}
 use Rattle.life_classes.specs.Nearness.{are_within, reaches}
 
 abs_small : (x : ℤ) (r : ℕ) → unsigned_abs x ≤ r → (neg_ℤ (pos r) ≤ℤ x) × (x ≤ℤ pos r)
@@ -104,19 +103,6 @@ touched_by P c h =
 pub touching : (P : Generation) (c d : Cell) → contains P d ≡ true → IsNear c d → reaches 1 P c ≡ true
 touching P c d h near =
     reaching 1 P c d h (record { left = near.left; right = near.right; above = near.above; below = near.below })
-
--- a set of which some cell is reached from two away is near
-pub near_by_test : (P Q : Generation) → list_any (reaches 2 Q) (cells P) ≡ true → ¬ AreApart P Q
-near_by_test P Q h far =
-    let c = passing_member (reaches 2 Q) P h in
-    let d = reached_by 2 Q c.0 c.2 in
-    let w = d.2 in
-    far c.0 d.0 c.1 d.1 (record { left = w.left; right = w.right; above = w.above; below = w.below })
-
-pub apart_by_test : (P Q : Generation) → list_any (reaches 2 Q) (cells P) ≡ false → AreApart P Q
-apart_by_test P Q h c d x y near =
-    true≢false (sym (member_passes (reaches 2 Q) P c x
-    (reaching 2 Q c d y (record { left = near.left; right = near.right; above = near.above; below = near.below }))) ∙ h)
 
 -- a cell that is reached stands in a row that is as near
 pub row_within : (r : ℕ) (c d : Cell) → are_within r c d ≡ true → ((c.1 -ℤ pos r) ≤ℤ d.1) × (d.1 ≤ℤ (c.1 +ℤ pos r))

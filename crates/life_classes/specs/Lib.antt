@@ -1,7 +1,8 @@
 pub mod Nearness
 pub mod Tracking
 pub mod Tags
-pub mod Gathering
-pub mod Pieces
-pub mod Reaching
-pub mod Grown
+pub mod Forest
+pub mod Labels
+pub mod Ties
+pub mod Grouped
+pub mod Splits

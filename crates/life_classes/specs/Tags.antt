@@ -1,28 +1,16 @@
--- The cells of classes in order, each with the place of its class.
-use Rattle.std.specs.Prelude.{◌≡◌, ℕ, ◌+◌, ◌<◌, ◌≤◌, ◌^◌, ℤ, pos, neg_ℤ, ◌+ℤ◌, ◌*ℤ◌, ◌<ℤ◌, ◌≤ℤ◌, true, List, length, get_or}
-use Rattle.std.specs.List.{All, Contains}
+-- Cells in order, each with a label.
+use Rattle.std.specs.Prelude.{◌≡◌, ◌⊎◌, ℕ, ◌+◌, ◌<◌, ◌≤◌, ◌^◌, ℤ, pos, neg_ℤ, ◌+ℤ◌, ◌*ℤ◌, ◌<ℤ◌, ◌≤ℤ◌, List, length, get_or}
 use Rattle.life_model.specs.Cell.{Cell}
-use Rattle.life_model.specs.Generation.{contains}
-use Rattle.life_cells.specs.Limits.{IsPlace}
-use Rattle.life_classes.specs.declared.class.Class.{Class}
 use Rattle.life_classes.specs.declared.tags.Tag.{Tag}
 
 -- a number that rises along each row and from row to row
 abbrev pub place_number : Cell → ℤ
 place_number c = (c.1 *ℤ pos (2 ^ 31)) +ℤ c.0
 
-abbrev pub tag_of : ℕ → Cell → Tag
-tag_of place c = record { number = place_number c; place = place }
-
 -- the number is one of a cell
 pub record IsNumbered (t : Tag) : Type 0 where
   pub low : neg_ℤ (pos (2 ^ 62 + 2 ^ 31)) ≤ℤ t.number
   pub high : t.number ≤ℤ pos (2 ^ 62 + 2 ^ 31)
-
--- each cell of what is left of a class is there, with the place of the class
-abbrev pub AreTags : List Class → List Tag → Type 0
-AreTags cs ts = (i : ℕ) (d : Class) (c : Cell) → i < length cs → contains (get_or cs i d).last c ≡ true →
-    Contains ts (tag_of i c)
 
 -- no number is less than one that stands before it
 abbrev pub AreRisingTags : List Tag → Type 0
@@ -32,31 +20,37 @@ AreRisingTags ts = (i j : ℕ) (d : Tag) → i ≤ j → j < length ts → (get_
 abbrev pub AreLess : List Tag → ℕ → ℤ → Type 0
 AreLess ts n low = (k : ℕ) (d : Tag) → k < n → k < length ts → (get_or ts k d).number <ℤ low
 
--- those with a number up to this one are of one class
-abbrev pub AreOfUpTo : ℤ → ℕ → List Tag → Type 0
-AreOfUpTo high place ts = All (λ t. t.number ≤ℤ high → t.place ≡ place) ts
+-- those from place n on have numbers that are not less
+abbrev pub AreFrom : List Tag → ℕ → ℤ → Type 0
+AreFrom ts n low = (k : ℕ) (d : Tag) → n ≤ k → k < length ts → low ≤ℤ (get_or ts k d).number
 
--- those with a number from this one to four more are of one class
-abbrev pub AreOfOneClass : ℤ → ℕ → List Tag → Type 0
-AreOfOneClass low place ts = All (λ t. low ≤ℤ t.number → t.number ≤ℤ (low +ℤ pos 4) → t.place ≡ place) ts
+-- the first n tags have the numbers of the cells
+abbrev pub AreNumbersOf : List Cell → ℕ → List Tag → Type 0
+AreNumbersOf cs n ts = (k : ℕ) (d : Tag) (e : Cell) → k < n → (get_or ts k d).number ≡ place_number (get_or cs k e)
 
--- those that may be near the cell, in its row and in the two below it, are of its class
-pub record IsAlone (t : Tag) (ts : List Tag) : Type 0 where
-  pub here : AreOfOneClass (t.number +ℤ neg_ℤ (pos 2)) t.place ts
-  pub below : AreOfOneClass (t.number +ℤ pos (2 ^ 31) +ℤ neg_ℤ (pos 2)) t.place ts
-  pub further : AreOfOneClass (t.number +ℤ pos (2 ^ 32) +ℤ neg_ℤ (pos 2)) t.place ts
+-- the first n tags have their places as labels
+abbrev pub AreOwnLabels : ℕ → List Tag → Type 0
+AreOwnLabels n ts = (k : ℕ) (d : Tag) → k < n → (get_or ts k d).label ≡ k
 
--- the tag is that of a cell of its class
-pub record IsOwned (cs : List Class) (t : Tag) : Type 0 where
-  pub cell : Cell
-  pub placed : IsPlace cell
-  pub number : t.number ≡ place_number cell
-  pub within : t.place < length cs
-  pub owned : (d : Class) → contains (get_or cs t.place d).last cell ≡ true
+-- the tag in this place has a number from this one to two more
+pub record IsFrom (ts : List Tag) (low : ℤ) (place : ℕ) : Type 0 where
+  pub inside : place < length ts
+  pub first : (d : Tag) → low ≤ℤ (get_or ts place d).number
+  pub last : (d : Tag) → (get_or ts place d).number ≤ℤ (low +ℤ pos 2)
 
--- these are the cells of what is left of the classes, in order
-pub record AreTagged (cs : List Class) (ts : List Tag) : Type 0 where
-  pub each : AreTags cs ts
-  pub rising : AreRisingTags ts
-  pub numbered : All IsNumbered ts
-  pub owned : All (IsOwned cs) ts
+-- no tag has
+abbrev pub HasNoneFrom : List Tag → ℤ → Type 0
+HasNoneFrom ts low = (k : ℕ) (d : Tag) → k < length ts → low ≤ℤ (get_or ts k d).number →
+    (get_or ts k d).number ≤ℤ (low +ℤ pos 2) → ⊥
+
+-- the tag in this place has a number that is at most one from this one, or from those of the cells above and below it
+pub record IsBeside (ts : List Tag) (number : ℤ) (place : ℕ) : Type 0 where
+  pub row : ℤ
+  pub rows : (row ≡ pos 0) ⊎ ((row ≡ pos (2 ^ 31)) ⊎ (row ≡ neg_ℤ (pos (2 ^ 31))))
+  pub from : IsFrom ts (number +ℤ row +ℤ neg_ℤ (pos 1)) place
+
+-- no tag has
+pub record HasNoneBeside (ts : List Tag) (number : ℤ) : Type 0 where
+  pub level : HasNoneFrom ts (number +ℤ neg_ℤ (pos 1))
+  pub above : HasNoneFrom ts (number +ℤ neg_ℤ (pos (2 ^ 31)) +ℤ neg_ℤ (pos 1))
+  pub below : HasNoneFrom ts (number +ℤ pos (2 ^ 31) +ℤ neg_ℤ (pos 1))

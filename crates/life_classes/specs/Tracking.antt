@@ -1,5 +1,5 @@
 -- Classes as they are followed from generation to generation.
-use Rattle.std.specs.Prelude.{◌≡◌, ◌≢◌, ℕ, ◌≤◌, ◌<◌, length, get_or, List, [], ◌∷◌, ◌++◌, map}
+use Rattle.std.specs.Prelude.{◌≡◌, ◌≢◌, ℕ, ◌≤◌, List, [], ◌∷◌, ◌++◌, map}
 use Rattle.std.specs.List.{All, AllPairs}
 use Rattle.life_model.specs.Cell.{Cell}
 use Rattle.life_model.specs.Rule.{Rule}
@@ -40,10 +40,6 @@ pub record AreTracked (R : Rule) (b n : ℕ) (G : Generation) (cs : List Class) 
   pub whole : All (λ c. StaysWhole R b G c.first) cs
   pub before : AllPairs (λ c d. AreApartBefore R n c.first d.first) cs
   pub later : All (λ c. c.last ≡ generation R c.first n) cs
-
--- nothing is left of the classes from place n on
-abbrev pub HaveDied : List Class → ℕ → Type 0
-HaveDied cs n = (k : ℕ) (d : Class) → n ≤ k → k < length cs → (get_or cs k d).last ≡ empty
 
 -- of no two classes is something left
 abbrev pub AreFew : List Class → Type 0

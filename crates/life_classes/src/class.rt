@@ -1,5 +1,4 @@
 //! Sets of a pattern's cells, and what has become of them.
-use crate::tags::Tag;
 use life_cells::CellList;
 
 /// A class: its cells at first, and those that have become of them.
@@ -7,11 +6,4 @@ use life_cells::CellList;
 pub struct Class {
     pub first: CellList,
     pub last: CellList,
-}
-
-/// Classes, and the cells of what is left of them, in order, where they were put in order.
-#[derive(Drop)]
-pub struct Split {
-    pub classes: Vec<Class>,
-    pub tags: Option<Vec<Tag>>,
 }

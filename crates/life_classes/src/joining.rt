@@ -1,174 +1,165 @@
-//! Classes that are near each other become one.
-ghost use Rattle.std.specs.Prelude.{◌≡◌, ◌∷◌, All, IfOk, IfSome, OnOk};
-ghost use Rattle.life_objects.specs.Union.{union};
-ghost use Rattle.life_classes.specs.Tags.{AreRisingTags, AreTagged, IsNumbered};
-ghost use Rattle.life_classes.specs.Tracking.{AreApartNow, LeadTo};
+//! Labels of cells that are near each other become one.
+ghost use Rattle.std.specs.Prelude.{◌≡◌, ◌+◌, ◌-◌, ◌≤◌, ◌<◌, ◌^◌, ◌+ℤ◌, ◌-ℤ◌, ◌≤ℤ◌, neg_ℤ, pos, length, get_or};
+ghost use Rattle.life_classes.specs.declared.tags.Tag.{Tag as ModelTag};
+ghost use Rattle.life_classes.specs.Labels.{AreLabelled, AreNearAt, IsTagged};
+ghost use Rattle.life_classes.specs.Tags.{AreFrom, AreLess};
+ghost use Rattle.life_classes.specs.Ties.{AreOne, AreTiedUpTo, IsAbove, IsTied, IsTiedAround, IsTiedAt};
 
-use crate::class::{Class, Split};
-use crate::gathering::{gathered, in_ranks};
-use crate::meeting::turns;
-use crate::nearness::sets_are_near;
-use crate::tags::{Tag, stand_apart, tags_in_order};
-use life_cells::{CellList, put_in_order};
-use std::alloc::{AllocError, Global};
+use crate::forest::join;
+use crate::labels::Labelled;
+use crate::tags::{ROW, place_of};
 
-/// Up to so many classes are compared each with each, which takes fewer steps than to put their cells in order.
-const FEW: usize = 16;
-
-/// Classes with so many cells together are not compared each with each.
-const CELLS: usize = 512;
-
-/// The cells of two sets together.
-pub fn union(alloc: Global, one: &CellList, other: &CellList) -> Result<CellList, AllocError>
-    ensures { IfOk result (λ list. list ≡ union one.now other.now) }
-{
-    let mut items = one.as_slice().to_vec(alloc)?;
-    items.extend_from_slice(other.as_slice())?;
-    put_in_order(&mut items);
-    Ok(CellList::from_ordered(items))
+/// Where tags were found that may be near the last one, in the two rows above it.
+#[derive(Drop)]
+struct Cursors {
+    above: usize,
+    further: usize,
 }
 
-/// Two classes as one.
-fn joined(alloc: Global, one: &Class, other: &Class) -> Result<Class, AllocError>
-    ensures first { IfOk result (λ class. class.first ≡ union one.now.first other.now.first) }
-    ensures last { IfOk result (λ class. class.last ≡ union one.now.last other.now.last) }
+/// Joins the labels of two cells that are near each other.
+fn tie(forest: &mut Vec<usize>, cells: &Labelled, one: usize, other: usize)
+    requires labelled { AreLabelled cells.now forest.old.items }
+    requires one { one < length cells.now.tags.items }
+    requires other { other < length cells.now.tags.items }
+    requires near { AreNearAt cells.now one other }
+    ensures tied { IsTied cells.now forest.old.items forest.new.items }
+    ensures one { AreOne cells.now.tags.items forest.new.items one other }
 {
-    Ok(Class {
-        first: union(alloc, &one.first, &other.first)?,
-        last: union(alloc, &one.last, &other.last)?,
-    })
-}
-
-/// Adds a class, joined with those of the classes that it is near.
-fn add(alloc: Global, classes: &mut Vec<Class>, class: Class) -> Result<(), AllocError>
-    ensures tracked { OnOk result (LeadTo (class ∷ classes.old.items) classes.new.items) }
-    ensures apart { OnOk result (AreApartNow classes.old.items → AreApartNow classes.new.items) }
-{
-    let mut class = class;
-    let mut n = 0;
-    while n < classes.len() {
-        if sets_are_near(&classes[n].last, &class.last) {
-            let other = classes.remove(n);
-            class = joined(alloc, &other, &class)?;
-        } else {
-            n += 1;
-        }
-    }
-    classes.push(class)?;
-    Ok(())
-}
-
-/// The classes with those joined that are near each other, each compared with each.
-fn each_joined(alloc: Global, classes: Vec<Class>) -> Result<Vec<Class>, AllocError>
-    ensures tracked { IfOk result (λ all. LeadTo classes.items all.items) }
-    ensures apart { IfOk result (λ all. AreApartNow all.items) }
-{
-    let mut classes = classes;
-    let mut apart = Vec::new(alloc);
-    while let Some(class) = classes.pop() {
-        add(alloc, &mut apart, class)?;
-    }
-    Ok(apart)
-}
-
-/// The classes with those joined that are seen to hang together, where these are the cells of all.
-fn gathered_by(alloc: Global, classes: Vec<Class>, tags: &[Tag]) -> Result<Vec<Class>, AllocError>
-    requires rising { AreRisingTags tags.now }
-    requires numbered { All IsNumbered tags.now }
-    ensures { IfOk result (λ all. LeadTo classes.items all.items) }
-{
-    let turns = turns(alloc, classes.len(), tags)?;
-    let ranked = in_ranks(alloc, classes, turns.as_slice())?;
-    gathered(alloc, ranked.as_slice())
-}
-
-/// The classes with those joined that are near each other, each compared with each, and no cells in order.
-fn each_joined_of(alloc: Global, classes: Vec<Class>) -> Result<Split, AllocError>
-    ensures tracked { IfOk result (λ all. LeadTo classes.items all.classes.items) }
-    ensures apart { IfOk result (λ all. AreApartNow all.classes.items) }
-    ensures tagged { IfOk result (λ all. IfSome all.tags (λ tags. AreTagged all.classes.items tags.items)) }
-{
-    let classes = each_joined(alloc, classes)?;
-    Ok(Split {
-        classes,
-        tags: None,
-    })
-}
-
-/// The classes with those joined that are near each other, where these are their cells in order and some are near.
-fn joined_by(alloc: Global, classes: Vec<Class>, tags: &[Tag]) -> Result<Split, AllocError>
-    requires rising { AreRisingTags tags.now }
-    requires numbered { All IsNumbered tags.now }
-    ensures tracked { IfOk result (λ all. LeadTo classes.items all.classes.items) }
-    ensures apart { IfOk result (λ all. AreApartNow all.classes.items) }
-    ensures tagged { IfOk result (λ all. IfSome all.tags (λ tags. AreTagged all.classes.items tags.items)) }
-{
-    let all = gathered_by(alloc, classes, tags)?;
-    let tags = tags_in_order(alloc, all.as_slice())?;
-    if stand_apart(tags.as_slice()) {
-        return Ok(Split {
-            classes: all,
-            tags: Some(tags),
-        });
-    }
-    each_joined_of(alloc, all)
-}
-
-/// The cells of what is left of the classes in order, which are put in order where they are not yet.
-pub fn tags_of(
-    alloc: Global,
-    classes: &[Class],
-    tags: Option<Vec<Tag>>,
-) -> Result<Vec<Tag>, AllocError>
-    requires { IfSome tags (λ made. AreTagged classes.now made.items) }
-    ensures { IfOk result (λ made. AreTagged classes.now made.items) }
-{
-    match tags {
-        Some(made) => Ok(made),
-        None => tags_in_order(alloc, classes),
+    let first = cells.tags[one].label;
+    let second = cells.tags[other].label;
+    if first != second {
+        join(forest, first, second);
     }
 }
 
-/// The classes with those joined that are near each other, where each is looked up among those that may be near it. What
-/// is found so is tested, and where it isn't all, each is compared with each.
-fn all_joined_in_order(alloc: Global, split: Split) -> Result<Split, AllocError>
-    requires { IfSome split.tags (λ tags. AreTagged split.classes.items tags.items) }
-    ensures tracked { IfOk result (λ all. LeadTo split.classes.items all.classes.items) }
-    ensures apart { IfOk result (λ all. AreApartNow all.classes.items) }
-    ensures tagged { IfOk result (λ all. IfSome all.tags (λ tags. AreTagged all.classes.items tags.items)) }
+/// The number of the cell in a place.
+fn number_at(cells: &Labelled, n: usize) -> i64
+    requires tagged { IsTagged cells.now }
+    requires inside { n < length cells.now.tags.items }
+    ensures same { (d : ModelTag) → result ≡ (get_or cells.now.tags.items n d).number }
+    ensures low { neg_ℤ (pos (2 ^ 62 + 2 ^ 31)) ≤ℤ result }
+    ensures high { result ≤ℤ pos (2 ^ 62 + 2 ^ 31) }
 {
-    let classes = split.classes;
-    let tags = tags_of(alloc, classes.as_slice(), split.tags)?;
-    if stand_apart(tags.as_slice()) {
-        return Ok(Split {
-            classes,
-            tags: Some(tags),
-        });
-    }
-    joined_by(alloc, classes, tags.as_slice())
+    cells.tags[n].number
 }
 
-/// Whether the classes are so few and small that each is soon compared with each.
-pub fn are_small(classes: &[Class]) -> bool {
-    if classes.len() > FEW {
-        return false;
+/// Joins the label of a cell, whose number this is, with that of the one before it, where that is near.
+fn tie_before(forest: &mut Vec<usize>, cells: &Labelled, n: usize, number: i64)
+    requires labelled { AreLabelled cells.now forest.old.items }
+    requires inside { n < length cells.now.tags.items }
+    requires same { (d : ModelTag) → number ≡ (get_or cells.now.tags.items n d).number }
+    requires low { neg_ℤ (pos (2 ^ 62 + 2 ^ 31)) ≤ℤ number }
+    ensures tied { IsTied cells.now forest.old.items forest.new.items }
+    ensures before { (d : ModelTag) → 0 < n →
+        ((get_or cells.now.tags.items n d).number -ℤ pos 2) ≤ℤ (get_or cells.now.tags.items (n - 1) d).number →
+        AreOne cells.now.tags.items forest.new.items (n - 1) n }
+{
+    if n == 0 {
+        return;
     }
-    let mut left = CELLS;
-    for class in classes {
-        left = left.saturating_sub(class.last.len());
+    let tags = cells.tags.as_slice();
+    if tags[n - 1].number < number - 2 {
+        return;
     }
-    left > 0
+    tie(forest, cells, n - 1, n);
 }
 
-/// The classes with those joined that are near each other.
-pub fn all_joined(alloc: Global, split: Split) -> Result<Split, AllocError>
-    requires { IfSome split.tags (λ tags. AreTagged split.classes.items tags.items) }
-    ensures tracked { IfOk result (λ all. LeadTo split.classes.items all.classes.items) }
-    ensures apart { IfOk result (λ all. AreApartNow all.classes.items) }
-    ensures tagged { IfOk result (λ all. IfSome all.tags (λ tags. AreTagged all.classes.items tags.items)) }
+/// Joins the label of a cell with that of the cell in a place, the first whose number is not less than this one, where it is
+/// near.
+fn tie_next(forest: &mut Vec<usize>, cells: &Labelled, n: usize, number: i64, at: usize)
+    requires labelled { AreLabelled cells.now forest.old.items }
+    requires inside { n < length cells.now.tags.items }
+    requires above { IsAbove cells.now.tags.items n number }
+    requires low { neg_ℤ (pos (2 ^ 62 + 2 ^ 33)) ≤ℤ number }
+    requires high { number ≤ℤ pos (2 ^ 62 + 2 ^ 33) }
+    requires least { AreFrom cells.now.tags.items at number }
+    ensures tied { IsTied cells.now forest.old.items forest.new.items }
+    ensures next { (d : ModelTag) → at < length cells.now.tags.items →
+        (get_or cells.now.tags.items at d).number ≤ℤ (number +ℤ pos 2) →
+        AreOne cells.now.tags.items forest.new.items at n }
 {
-    if are_small(split.classes.as_slice()) {
-        return each_joined_of(alloc, split.classes);
+    let tags = cells.tags.as_slice();
+    if at >= tags.len() {
+        return;
     }
-    all_joined_in_order(alloc, split)
+    if tags[at].number > number + 2 {
+        return;
+    }
+    tie(forest, cells, at, n);
+}
+
+/// Joins the label of a cell with that of the cell before a place, the last whose number is less than this one, where it is
+/// near.
+fn tie_last(forest: &mut Vec<usize>, cells: &Labelled, n: usize, number: i64, at: usize)
+    requires labelled { AreLabelled cells.now forest.old.items }
+    requires inside { n < length cells.now.tags.items }
+    requires within { at ≤ length cells.now.tags.items }
+    requires above { IsAbove cells.now.tags.items n number }
+    requires low { neg_ℤ (pos (2 ^ 62 + 2 ^ 33)) ≤ℤ number }
+    requires high { number ≤ℤ pos (2 ^ 62 + 2 ^ 33) }
+    requires less { AreLess cells.now.tags.items at number }
+    ensures tied { IsTied cells.now forest.old.items forest.new.items }
+    ensures last { (d : ModelTag) → 0 < at →
+        (number -ℤ pos 2) ≤ℤ (get_or cells.now.tags.items (at - 1) d).number →
+        AreOne cells.now.tags.items forest.new.items (at - 1) n }
+{
+    if at == 0 {
+        return;
+    }
+    let tags = cells.tags.as_slice();
+    if tags[at - 1].number < number - 2 {
+        return;
+    }
+    tie(forest, cells, at - 1, n);
+}
+
+/// Joins the label of a cell with those of the cells next to this number, where they are near. It is that of a place in a row
+/// above the cell.
+fn tie_around(forest: &mut Vec<usize>, cells: &Labelled, n: usize, number: i64, cursor: &mut usize)
+    requires labelled { AreLabelled cells.now forest.old.items }
+    requires inside { n < length cells.now.tags.items }
+    requires within { cursor.old ≤ length cells.now.tags.items }
+    requires above { IsAbove cells.now.tags.items n number }
+    requires low { neg_ℤ (pos (2 ^ 62 + 2 ^ 33)) ≤ℤ number }
+    requires high { number ≤ℤ pos (2 ^ 62 + 2 ^ 33) }
+    ensures within { cursor.new ≤ length cells.now.tags.items }
+    ensures tied { IsTied cells.now forest.old.items forest.new.items }
+    ensures around { IsTiedAround cells.now.tags.items forest.new.items n number }
+{
+    let at = place_of(cells.tags.as_slice(), *cursor, number);
+    *cursor = at;
+    tie_next(forest, cells, n, number, at);
+    tie_last(forest, cells, n, number, at);
+}
+
+/// Joins the label of a cell with those of the cells before it that are near.
+fn tie_at(forest: &mut Vec<usize>, cells: &Labelled, n: usize, cursors: &mut Cursors)
+    requires labelled { AreLabelled cells.now forest.old.items }
+    requires inside { n < length cells.now.tags.items }
+    requires above { cursors.old.above ≤ length cells.now.tags.items }
+    requires further { cursors.old.further ≤ length cells.now.tags.items }
+    ensures above { cursors.new.above ≤ length cells.now.tags.items }
+    ensures further { cursors.new.further ≤ length cells.now.tags.items }
+    ensures tied { IsTied cells.now forest.old.items forest.new.items }
+    ensures at { IsTiedAt cells.now.tags.items forest.new.items n }
+{
+    let number = number_at(cells, n);
+    tie_before(forest, cells, n, number);
+    tie_around(forest, cells, n, number - ROW, &mut cursors.above);
+    tie_around(forest, cells, n, number - 2 * ROW, &mut cursors.further);
+}
+
+/// Joins the labels of those of the cells that are near each other.
+pub fn join_near(forest: &mut Vec<usize>, cells: &Labelled)
+    requires labelled { AreLabelled cells.now forest.old.items }
+    ensures tied { IsTied cells.now forest.old.items forest.new.items }
+    ensures all { AreTiedUpTo cells.now.tags.items forest.new.items (length cells.now.tags.items) }
+{
+    let mut cursors = Cursors {
+        above: 0,
+        further: 0,
+    };
+    for n in 0..cells.tags.len() {
+        tie_at(forest, cells, n, &mut cursors);
+    }
 }

@@ -4,22 +4,21 @@
 #![tactic(auto)]
 
 mod class;
-mod following;
-mod gathering;
-mod giving;
+mod collecting;
+mod forest;
+mod inheriting;
 mod joining;
-mod meeting;
+mod labels;
 mod nearness;
-mod pieces;
 mod rows;
 mod splitting;
-mod stepping;
-mod sweeping;
 mod tags;
 mod undivided;
+mod unions;
 
 pub use class::Class;
-pub use joining::union;
+pub use forest::{join, root};
 pub use nearness::reaches;
 pub use splitting::{classes, classes_of, first_classes};
 pub use undivided::{hold_together, is_undivided};
+pub use unions::union;

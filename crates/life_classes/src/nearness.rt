@@ -1,13 +1,13 @@
 //! Which cells are near each other.
 ghost use Rattle.std.specs.Prelude.{◌≡◌};
 ghost use Rattle.std.specs.List.{list_any};
-ghost use Rattle.life_classes.specs.Nearness.{are_within, reaches, sets_are_near};
+ghost use Rattle.life_classes.specs.Nearness.{are_within, reaches};
 
-use crate::rows::{rows, rows_about};
+use crate::rows::rows;
 use life_cells::CellList;
 
 /// Whether two cells are at most so far from each other in both directions.
-pub fn are_within(reach: u32, cell: (i32, i32), other: (i32, i32)) -> bool
+fn are_within(reach: u32, cell: (i32, i32), other: (i32, i32)) -> bool
     ensures { result ≡ are_within reach cell other }
 {
     cell.0.abs_diff(other.0) <= reach && cell.1.abs_diff(other.1) <= reach
@@ -31,26 +31,4 @@ pub fn reaches(reach: u32, set: &CellList, cell: (i32, i32)) -> bool
         rows(set.as_slice(), row - reach_rows, row + reach_rows),
         cell,
     )
-}
-
-/// Whether a set reaches some of the cells.
-fn is_any_reached(reach: u32, set: &CellList, cells: &[(i32, i32)]) -> bool
-    ensures { result ≡ list_any (reaches reach set.now) cells.now }
-{
-    cells.iter().any(|cell| reaches(reach, set, *cell))
-}
-
-/// Whether some cell of the one set is near a cell of the other.
-pub fn sets_are_near(one: &CellList, other: &CellList) -> bool
-    ensures { result ≡ sets_are_near one.now other.now }
-{
-    let (top, bottom) = rows_about(2, other);
-    let (first, last) = rows_about(0, one);
-    if last < top {
-        return false;
-    }
-    if bottom < first {
-        return false;
-    }
-    is_any_reached(2, other, rows(one.as_slice(), top, bottom))
 }

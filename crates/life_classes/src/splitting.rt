@@ -1,44 +1,98 @@
 //! The finest splitting of a plane's cells into classes that stay apart.
-ghost use Rattle.std.specs.Prelude.{◌≡◌, ◌≤◌, ◌+◌, All, AllPairs, IfOk, IfSome, map};
+ghost use Rattle.std.specs.Prelude.{◌≡◌, ◌≤◌, ◌+◌, ◌<◌, ◌∷◌, ℕ, [], All, AllPairs, IfOk, get_or, length, map};
+ghost use Rattle.std.specs.Bool.{OnTrue};
+ghost use Rattle.life_model.specs.Evolution.{generation};
+ghost use Rattle.life_model.specs.Generation as generation_sets;
 ghost use Rattle.life_cells.specs.Limits.{IsPlace};
 ghost use Rattle.life_objects.specs.Apart.{AreApartFor};
 ghost use Rattle.life_objects.specs.Union.{generations, union_of};
 ghost use Rattle.life_objects.specs.Whole.{StaysWhole};
-ghost use Rattle.life_classes.specs.Tags.{AreTagged};
-ghost use Rattle.life_classes.specs.Tracking.{AreApartNow, LeadTo, class_of_cell, first_sets, last_sets};
+ghost use Rattle.life_classes.specs.declared.class.Class.{Class as ModelClass};
+ghost use Rattle.life_classes.specs.Forest.{root};
+ghost use Rattle.life_classes.specs.Labels.{AreReached};
+ghost use Rattle.life_classes.specs.Splits.{IsLabelledSplit, classes_of_split};
+ghost use Rattle.life_classes.specs.Tracking.{AreApartNow, LeadTo, class_of_cell, first_sets, last_sets, moved_on};
 
-use crate::class::{Class, Split};
-use crate::following::follow_on;
-use crate::joining::all_joined;
-use crate::pieces::{as_one, pieces};
-use crate::stepping::stepped;
-use life_cells::Rule;
+use crate::class::Class;
+use crate::collecting::{collected, set_of};
+use crate::inheriting::inherited;
+use crate::joining::join_near;
+use crate::labels::{Labelled, first_labels};
+use life_cells::{CellList, Rule};
 use life_plane::{AGE_LIMIT, Plane};
 use std::alloc::{AllocError, Global};
 
-/// The cells as classes of those that are near each other.
-pub fn first_split(alloc: Global, cells: &[(i32, i32)]) -> Result<Split, AllocError>
-    requires { All IsPlace cells.now }
-    ensures tracked { IfOk result
-        (λ all. LeadTo (map class_of_cell cells.now) all.classes.items) }
-    ensures apart { IfOk result (λ all. AreApartNow all.classes.items) }
-    ensures tagged { IfOk result
-        (λ all. IfSome all.tags (λ tags. AreTagged all.classes.items tags.items)) }
+/// The cells of a pattern at first and those that have become of them, with labels, and a forest that joins the labels.
+#[derive(Drop)]
+pub struct Split {
+    pub first: Labelled,
+    pub last: Labelled,
+    pub forest: Vec<usize>,
+}
+
+/// So many numbers, each of which is a root.
+fn roots(alloc: Global, count: usize) -> Result<Vec<usize>, AllocError>
+    ensures long { IfOk result (λ forest. length forest.items ≡ count) }
+    ensures roots { IfOk result (λ forest. (k : ℕ) → root forest.items k ≡ k) }
 {
-    if cells.len() > 0 && follow_on(cells) {
-        return Ok(Split {
-            classes: vec![in alloc; as_one(alloc, cells)?]?,
-            tags: None,
-        });
+    let mut forest = Vec::with_capacity(alloc, count)?;
+    for n in 0..count {
+        forest.push(n)?;
     }
-    let classes = pieces(alloc, cells)?;
-    all_joined(
-        alloc,
-        Split {
-            classes,
-            tags: None,
-        },
-    )
+    Ok(forest)
+}
+
+/// The cells as classes of those that are near each other. The list is taken twice.
+pub fn first_split(alloc: Global, first: CellList, last: CellList) -> Result<Split, AllocError>
+    requires { last ≡ first }
+    ensures first { IfOk result (λ split. split.first.cells ≡ first) }
+    ensures cells { IfOk result (λ split. split.last.cells ≡ first) }
+    ensures labelled { IfOk result IsLabelledSplit }
+    ensures tracked { IfOk result
+        (λ split. LeadTo (map class_of_cell (generation_sets.cells first)) (classes_of_split split)) }
+    ensures apart { IfOk result (λ split. AreApartNow (classes_of_split split)) }
+{
+    let mut forest = roots(alloc, first.as_slice().len())?;
+    let first = first_labels(alloc, first)?;
+    let last = first_labels(alloc, last)?;
+    join_near(&mut forest, &last);
+    Ok(Split {
+        first,
+        last,
+        forest,
+    })
+}
+
+/// The classes a generation later, where these are all cells of that generation, with those joined that are near each other.
+pub fn followed(alloc: Global, split: Split, cells: CellList) -> Result<Split, AllocError>
+    requires labelled { IsLabelledSplit split }
+    requires apart { AreApartNow (classes_of_split split) }
+    requires reached { AreReached split.last cells }
+    ensures first { IfOk result (λ later. later.first ≡ split.first) }
+    ensures cells { IfOk result (λ later. later.last.cells ≡ cells) }
+    ensures labelled { IfOk result IsLabelledSplit }
+    ensures tracked { IfOk result
+        (λ later. LeadTo (map (moved_on cells) (classes_of_split split)) (classes_of_split later)) }
+    ensures apart { IfOk result (λ later. AreApartNow (classes_of_split later)) }
+{
+    let mut forest = split.forest;
+    let last = inherited(alloc, &split.last, forest.as_slice(), cells)?;
+    join_near(&mut forest, &last);
+    Ok(Split {
+        first: split.first,
+        last,
+        forest,
+    })
+}
+
+/// The classes that have a cell at first.
+fn classes_in(alloc: Global, split: &Split) -> Result<Vec<Class>, AllocError>
+    requires { IsLabelledSplit split.now }
+    ensures tracked { IfOk result (λ all. LeadTo (classes_of_split split.now) all.items) }
+    ensures apart { IfOk result
+        (λ all. AreApartNow (classes_of_split split.now) → AreApartNow all.items) }
+{
+    collected(alloc, split.forest.as_slice(), &split.first, &split.last)
 }
 
 /// The cells as classes of those that are near each other.
@@ -47,8 +101,51 @@ pub fn first_classes(alloc: Global, cells: &[(i32, i32)]) -> Result<Vec<Class>, 
     ensures tracked { IfOk result (λ all. LeadTo (map class_of_cell cells.now) all.items) }
     ensures apart { IfOk result (λ all. AreApartNow all.items) }
 {
-    let split = first_split(alloc, cells)?;
-    Ok(split.classes)
+    let first = set_of(alloc, cells)?;
+    let last = set_of(alloc, cells)?;
+    let split = first_split(alloc, first, last)?;
+    let all = classes_in(alloc, &split)?;
+    Ok(all)
+}
+
+/// Whether there are numbers, and all have one root.
+fn are_one(forest: &[usize]) -> bool
+    ensures some { OnTrue result (0 < length forest.now) }
+    ensures one { OnTrue result ((k : ℕ) → k < length forest.now → root forest.now k ≡ 0) }
+{
+    if forest.is_empty() {
+        return false;
+    }
+    for n in 1..forest.len() {
+        if forest[n] >= n {
+            return false;
+        }
+    }
+    true
+}
+
+/// A class whose cells at first are these, and of which the plane's cells have become so many generations later.
+fn one_class<P: Plane>(
+    alloc: Global,
+    first: Labelled,
+    plane: P,
+    rule: &Rule,
+    left: u32,
+) -> Result<Vec<Class>, AllocError>
+    requires young { P.steps_made plane + left ≤ AGE_LIMIT }
+    ensures { IfOk result (λ all. all.items ≡
+        (record { first = first.cells; last = generation rule.now (P.members plane) left } ∷ [])) }
+{
+    let mut plane = plane;
+    for _ in 0..left {
+        plane.step(rule)?;
+    }
+    Ok(vec![in alloc;
+        Class {
+            first: first.cells,
+            last: plane.cells()?,
+        },
+    ]?)
 }
 
 /// The classes of a plane's cells that stay apart for so many generations, torn as finely as can be: however the cells
@@ -70,12 +167,20 @@ pub fn classes<P: Plane>(
         (λ all. last_sets all.items ≡ generations rule.now (first_sets all.items) bound) }
 {
     let mut plane = plane;
-    let mut split = first_split(alloc, plane.cells()?.as_slice())?;
-    for _ in 0..bound {
+    let first = plane.cells()?;
+    let last = plane.cells()?;
+    let mut split = first_split(alloc, first, last)?;
+    for n in 0..bound {
+        if are_one(split.forest.as_slice()) {
+            let all = one_class(alloc, split.first, plane, rule, bound - n)?;
+            return Ok(all);
+        }
         plane.step(rule)?;
-        split = all_joined(alloc, stepped(alloc, split, &plane.cells()?)?)?;
+        let cells = plane.cells()?;
+        split = followed(alloc, split, cells)?;
     }
-    Ok(split.classes)
+    let all = classes_in(alloc, &split)?;
+    Ok(all)
 }
 
 /// The same of a plane that stays as it is. It is copied only where a generation is made.

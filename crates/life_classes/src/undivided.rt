@@ -2,22 +2,24 @@
 ghost use Rattle.std.specs.Prelude.{ℕ, ◌≤◌, ◌+◌, ◌↔◌, IfOk, IsTrue};
 ghost use Rattle.life_model.specs.Rule.{Rule as ModelRule};
 ghost use Rattle.life_objects.specs.Piece.{IsUndivided};
-ghost use Rattle.life_classes.specs.Tracking.{AreFew, HaveDied};
+ghost use Rattle.life_classes.specs.Labels.{AreLabelled, HasOneRoot};
+ghost use Rattle.life_classes.specs.Splits.{IsLabelledSplit, classes_of_split};
+ghost use Rattle.life_classes.specs.Tracking.{AreFew};
 
-use crate::class::Class;
-use crate::joining::all_joined;
-use crate::splitting::{first_classes, first_split};
-use crate::stepping::stepped;
+use crate::forest::root;
+use crate::labels::Labelled;
+use crate::splitting::{Split, first_classes, first_split, followed};
 use life_cells::{CellList, Rule};
 use life_plane::{AGE_LIMIT, Plane};
 use std::alloc::{AllocError, Global};
 
-/// Whether nothing is left of the classes from a place on.
-fn have_died(classes: &[Class], from: usize) -> bool
-    ensures { IsTrue result ↔ HaveDied classes.now from }
+/// Whether the labels of the cells have one root.
+fn have_one_root(forest: &[usize], cells: &Labelled) -> bool
+    ensures { IsTrue result ↔ HasOneRoot cells.now.tags.items forest.now }
 {
-    for n in from..classes.len() {
-        if !classes[n].last.is_empty() {
+    let tags = cells.tags.as_slice();
+    for n in 1..tags.len() {
+        if root(forest, tags[n].label) != root(forest, tags[0].label) {
             return false;
         }
     }
@@ -25,15 +27,11 @@ fn have_died(classes: &[Class], from: usize) -> bool
 }
 
 /// Whether something is left of at most one of the classes.
-fn are_few(classes: &[Class]) -> bool
-    ensures { IsTrue result ↔ AreFew classes.now }
+fn are_few(split: &Split) -> bool
+    requires { IsLabelledSplit split.now }
+    ensures { IsTrue result ↔ AreFew (classes_of_split split.now) }
 {
-    for n in 0..classes.len() {
-        if !classes[n].last.is_empty() {
-            return have_died(classes, n + 1);
-        }
-    }
-    true
+    have_one_root(split.forest.as_slice(), &split.last)
 }
 
 /// Whether cells are one class from the first. Then they are undivided under each rule and for each bound.
@@ -57,13 +55,16 @@ pub fn is_undivided<P: Plane>(
     ensures { IfOk result (λ is. IsTrue is ↔ IsUndivided rule.now bound (P.members plane)) }
 {
     let mut plane = plane;
-    let mut split = first_split(alloc, plane.cells()?.as_slice())?;
+    let first = plane.cells()?;
+    let last = plane.cells()?;
+    let mut split = first_split(alloc, first, last)?;
     for _ in 0..bound {
-        if are_few(split.classes.as_slice()) {
+        if are_few(&split) {
             return Ok(true);
         }
         plane.step(rule)?;
-        split = all_joined(alloc, stepped(alloc, split, &plane.cells()?)?)?;
+        let cells = plane.cells()?;
+        split = followed(alloc, split, cells)?;
     }
-    Ok(are_few(split.classes.as_slice()))
+    Ok(are_few(&split))
 }

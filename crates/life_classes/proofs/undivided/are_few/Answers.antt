@@ -1,11 +1,14 @@
-use Rattle.std.proofs.Common.{◌∙◌, ap, sym, true≢false}
-use Rattle.life_classes.proofs.Few.{few_by_living}
+use Rattle.std.proofs.Common.{subst, sym}
+use Rattle.life_classes.specs.Labels.{HasOneRoot}
+use Rattle.life_classes.proofs.Wholes.{few_by_root, one_root_by_few}
 use Rattle.life_classes.proofs.undivided.are_few.Goals as goal
 
-pub returns-then-not-is_empty : goal.returns-then-not-is_empty
-returns-then-not-is_empty c =
-    let few = few_by_living c.args.classes.now c.loop-n.n c.index-classes-n.result c.loop-n-test.true c.index-classes-n.is
-    (λ gone. true≢false (sym (c.is_empty.ensures.1 (ap (λ d. d.last) (sym c.index-classes-n.is) ∙ gone)) ∙ c.if-not-is_empty.true)) c.loop-n.invariant in (
-      λ t. few.0 (c.have_died.ensures.0 t),
-      λ pairs. c.have_died.ensures.1 (few.1 pairs),
+pub returns : goal.returns
+returns c =
+    let s = c.args.split.now in
+    let l = s.last in
+    let same = c.as_slice.ensures.value in
+    let decided = c.have_one_root.ensures in (
+      λ t. few_by_root l s.forest.items c.requires.last s.first (subst (HasOneRoot l.tags.items) same (decided.0 t)),
+      λ few. decided.1 (subst (HasOneRoot l.tags.items) (sym same) (one_root_by_few l s.forest.items c.requires.last s.first few)),
     )

@@ -1,0 +1,8 @@
+use Rattle.std.proofs.Common.{arith}
+use Rattle.life_classes.proofs.Grouping.{one_cell_put}
+use Rattle.life_classes.proofs.collecting.give.Goals as goal
+
+pub returns : goal.returns
+returns c =
+    one_cell_put c.args.all.now.items c.args.place c.index_mut.result.now c.push.new.self c.args.cell (omega arith)
+    c.index_mut.ensures.value c.in_ok-push.ensures.items

@@ -1,6 +1,0 @@
-use Rattle.life_classes.specs.Tags.{AreLess}
-use Rattle.life_classes.proofs.tags.place_from.Given as goal
-
--- those passed have lesser numbers
-abbrev pub invariant-loop-at : goal.invariant-loop-at
-invariant-loop-at l = AreLess l.tags l.from l.low → AreLess l.tags l.at l.low

@@ -1,0 +1,45 @@
+-- Labels that are joined where their cells are near each other.
+use Rattle.std.specs.Prelude.{◌≡◌, ◌⊎◌, ℕ, ◌-◌, ◌<◌, ◌≤◌, ◌^◌, ℤ, pos, ◌+ℤ◌, ◌-ℤ◌, ◌≤ℤ◌, List, length, get_or}
+use Rattle.life_classes.specs.declared.labels.Labelled.{Labelled}
+use Rattle.life_classes.specs.declared.tags.Tag.{Tag}
+use Rattle.life_classes.specs.Forest.{root}
+use Rattle.life_classes.specs.Labels.{classes_by}
+use Rattle.life_classes.specs.Tags.{AreFrom, AreLess}
+use Rattle.life_classes.specs.Tracking.{LeadTo}
+
+-- Labels are joined where their classes are near each other.
+pub record IsTied (l : Labelled) (old new : List ℕ) : Type 0 where
+  pub long : length new ≡ length old
+  pub coarser : (k m : ℕ) → root old k ≡ root old m → root new k ≡ root new m
+  pub leads : (a : Labelled) → LeadTo (classes_by a l old) (classes_by a l new)
+
+-- the labels of the tags in two places are joined
+abbrev pub AreOne : List Tag → List ℕ → ℕ → ℕ → Type 0
+AreOne ts f i j = (d e : Tag) → root f (get_or ts i d).label ≡ root f (get_or ts j e).label
+
+-- The first tag from a number on, and the last before it, have labels that are joined with that of the n-th, unless their
+-- numbers are more than two away from it.
+pub record IsTiedAround (ts : List Tag) (f : List ℕ) (n : ℕ) (number : ℤ) : Type 0 where
+  pub place : ℕ
+  pub within : place ≤ length ts
+  pub less : AreLess ts place number
+  pub least : AreFrom ts place number
+  pub next : (d : Tag) → place < length ts → (get_or ts place d).number ≤ℤ (number +ℤ pos 2) → AreOne ts f place n
+  pub last : (d : Tag) → 0 < place → (number -ℤ pos 2) ≤ℤ (get_or ts (place - 1) d).number →
+      AreOne ts f (place - 1) n
+
+-- the label of the tag in this place is joined with those that are near it, before it and in the two rows above it
+pub record IsTiedAt (ts : List Tag) (f : List ℕ) (n : ℕ) : Type 0 where
+  pub before : (d : Tag) → 0 < n → ((get_or ts n d).number -ℤ pos 2) ≤ℤ (get_or ts (n - 1) d).number → AreOne ts f (n - 1) n
+  pub above : (d : Tag) → IsTiedAround ts f n ((get_or ts n d).number -ℤ pos (2 ^ 31))
+  pub further : (d : Tag) → IsTiedAround ts f n ((get_or ts n d).number -ℤ pos (2 ^ 32))
+
+-- those in the first n places are
+abbrev pub AreTiedUpTo : List Tag → List ℕ → ℕ → Type 0
+AreTiedUpTo ts f n = (k : ℕ) → k < n → IsTiedAt ts f k
+
+-- the number is that of the place one row or two rows above the n-th tag
+pub record IsAbove (ts : List Tag) (n : ℕ) (number : ℤ) : Type 0 where
+  pub row : ℤ
+  pub rows : (row ≡ pos (2 ^ 31)) ⊎ (row ≡ pos (2 ^ 32))
+  pub is : (d : Tag) → number ≡ (get_or ts n d).number -ℤ row
