@@ -2,8 +2,8 @@
 use Rattle.std.proofs.Common.{◌≡◌, ℕ, true, ◌<◌, List, length, length-set, get_or, inl, inr, sym, refl, ap, ◌∙◌, arith}
 use Rattle.std.proofs.Math.ListN.{set}
 use Rattle.std.proofs.lemmas.List.{get_or_default}
-use Rattle.life_islands.specs.Forest.{IsJoined, root}
-use Rattle.life_islands.proofs.Forests.{root-root, root-set_within, root-up, sum-set-le}
+use Rattle.life_classes.specs.Forest.{IsJoined, root}
+use Rattle.life_classes.proofs.Forests.{root-root, root-set_within, root-up, sum-set-le}
 use Rattle.life_frames.specs.Ties.{AreSameRoots, IsUnited}
 
 pub same_roots : (f : List ℕ) → AreSameRoots f f

@@ -19,9 +19,9 @@ use Rattle.life_classes.proofs.Owners.{owner}
 use Rattle.life_growth.specs.Unsplit.{AreClasses}
 use Rattle.life_film.specs.Film.{AreLinked, AreSeparate, bearing, itself, swapped, through, within}
 use Rattle.life_film.specs.Film as film
-use Rattle.life_islands.specs.Forest.{root}
+use Rattle.life_classes.specs.Forest.{root}
 use Rattle.life_islands.specs.Labels.{AreThoseWithCells, joined_sets, mark_of}
-use Rattle.life_islands.proofs.Forests.{root-le}
+use Rattle.life_classes.proofs.Forests.{root-le}
 use Rattle.life_islands.proofs.Labelled.{in_set, listed_cell, mark-at, of_listed, of_set, place_in_list, sets_make_up}
 use Rattle.life_frames.specs.Bearers.{IsBearer}
 use Rattle.life_frames.specs.Frames.{AreParents, IsBeside, IsParent}

@@ -7,8 +7,8 @@ use Rattle.std.proofs.lemmas.List.Elements.{Contains-get_or, at_from_Contains}
 use Rattle.std.proofs.lemmas.List.FromFn.{get_or-range_with_len, length-range_with_len}
 use Rattle.life_model.specs.Cell.{Cell, origin}
 use Rattle.life_model.specs.Generation.{Generation, cells, contains, empty}
-use Rattle.life_islands.specs.Forest.{root}
-use Rattle.life_islands.proofs.Forests.{root-past, root-stays}
+use Rattle.life_classes.specs.Forest.{root}
+use Rattle.life_classes.proofs.Forests.{root-past, root-stays}
 use Rattle.life_islands.proofs.Labelled.{place_in_list}
 use Rattle.life_frames.specs.Bearers.{IsBearer}
 use Rattle.life_frames.specs.Ties.{AreSameRoots, AreTied, HasRootOf, IsFurther, IsJoined, IsUnited, JoinsTied, bearing, itself, swapped, through}

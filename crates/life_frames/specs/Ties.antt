@@ -3,7 +3,7 @@ use Rattle.std.specs.Prelude.{◌≡◌, ◌⊎◌, ℕ, ◌≤◌, true, List, 
 use Rattle.std.specs.List.{Contains, sum}
 use Rattle.life_model.specs.Cell.{Cell}
 use Rattle.life_model.specs.Generation.{Generation, contains}
-use Rattle.life_islands.specs.Forest.{AreAs, root}
+use Rattle.life_classes.specs.Forest.{AreAs, root}
 use Rattle.life_frames.specs.Bearers.{IsBearer, IsTouched}
 
 -- each number has the root that it had

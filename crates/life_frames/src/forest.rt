@@ -1,7 +1,7 @@
 //! Numbers that are joined: a forest in which each number goes to a lesser one, or is a root.
 ghost use Rattle.std.specs.Prelude.{◌≡◌, ℕ, ◌<◌, ◌≤◌, length};
 ghost use Rattle.std.specs.List.{sum};
-ghost use Rattle.life_islands.specs.Forest.{moved, root};
+ghost use Rattle.life_classes.specs.Forest.{moved, root};
 ghost use Rattle.life_frames.specs.Ties.{AreSameRoots, IsUnited};
 
 /// The root of a number. On the way each second number is let go to the next but one, so that later walks are short.

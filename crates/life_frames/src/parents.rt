@@ -11,7 +11,7 @@ ghost use Rattle.life_frames.specs.Ties.{AreTouched};
 
 use crate::bearers::{bearer, has, place_number};
 use life_cells::CellList;
-use life_islands::root;
+use life_classes::root;
 use std::alloc::{AllocError, Global};
 
 /// Whether the first cell of a set has at most this number.

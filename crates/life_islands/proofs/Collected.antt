@@ -19,7 +19,7 @@ use Rattle.life_objects.specs.Union.{union, union_of}
 use Rattle.life_objects.proofs.Lists.{AllPairs-head, AllPairs-nil, AllPairs-tail, Contains-head, Contains-later, head_or_later}
 use Rattle.life_objects.proofs.Unions.{in_empty, union-comm, union-empty}
 use Rattle.life_classes.proofs.Kept.{from_list-filter}
-use Rattle.life_islands.specs.Forest.{root}
+use Rattle.life_classes.specs.Forest.{root}
 use Rattle.life_islands.specs.Collected.{by_roots, lists_of, of_root, some_of}
 use Rattle.life_islands.specs.Labels.{AreThoseWithCells, joined_sets, label_of}
 use Rattle.life_islands.proofs.Labelled.{label-at, length-sets, of_set, set_at}

@@ -11,9 +11,9 @@ use Rattle.life_model.specs.Rule.{Rule}
 use Rattle.life_model.specs.Generation.{Generation}
 use Rattle.life_parts.specs.Ties.{AreTied, swapped, through}
 use Rattle.life_islands.specs.declared.labels.Labels.{Labels}
-use Rattle.life_islands.specs.Forest.{IsJoined, root}
+use Rattle.life_classes.specs.Forest.{IsJoined, root}
 use Rattle.life_islands.specs.Labels.{AreJoinedFurther, AreTiedFirsts}
-use Rattle.life_islands.proofs.Forests.{root-le}
+use Rattle.life_classes.proofs.Forests.{root-le}
 use Rattle.life_islands.proofs.Further.{further_by_join, further_through, joined_so}
 
 -- ---- what is tied

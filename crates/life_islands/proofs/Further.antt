@@ -7,7 +7,7 @@ use Rattle.life_model.specs.Cell.{Cell}
 use Rattle.life_model.specs.Rule.{Rule}
 use Rattle.life_model.specs.Generation.{Generation, cells}
 use Rattle.life_islands.specs.declared.labels.Labels.{Labels}
-use Rattle.life_islands.specs.Forest.{IsJoined, root}
+use Rattle.life_classes.specs.Forest.{IsJoined, root}
 use Rattle.life_islands.specs.Labels.{AreJoinedFurther, AreTiedLabels, Fits, KeepsTied, label_of, mark_of, sets_by, sets_of}
 use Rattle.life_islands.specs.Splits.{AreLaidOut, AreOfWholeIslands}
 use Rattle.life_islands.proofs.Labelled.{make_up, mark_by_whole, whole_by_mark}

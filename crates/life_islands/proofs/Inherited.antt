@@ -18,14 +18,14 @@ use Rattle.life_parts.proofs.Around.{count_at-alike, next-born, next-stays}
 use Rattle.life_parts.proofs.Classed.{of_bearing, of_group, one_group_is_fair, to_group}
 use Rattle.life_islands.specs.declared.colours.Seat.{Seat}
 use Rattle.life_islands.specs.declared.labels.Labels.{Labels}
-use Rattle.life_islands.specs.Forest.{root}
+use Rattle.life_classes.specs.Forest.{root}
 use Rattle.life_islands.specs.Heirs.{IsBorneBy, IsHeir}
 use Rattle.life_islands.specs.Labels.{Fits, label_of, mark_of, sets_of}
 use Rattle.life_islands.specs.Reach.{IsInReach}
 use Rattle.life_islands.specs.Seats.{AreSeats, bears_at, cell_at, count_colour, listed, seat, set_at}
 use Rattle.life_islands.specs.Splits.{AreTiedWithin}
 use Rattle.life_islands.proofs.Colouring.{count_to-alike}
-use Rattle.life_islands.proofs.Forests.{root-root}
+use Rattle.life_classes.proofs.Forests.{root-root}
 use Rattle.life_islands.proofs.Labelled.{contains-set, in_its_set, in_set, its_set_listed, length-sets, listed_cell, mark-at, mark_by_whole, marked, of_set, place_in_list, whole_by_mark}
 use Rattle.life_islands.proofs.Linked.{seat_around, seat_of_cell}
 use Rattle.life_islands.proofs.Seated.{count-numbered}

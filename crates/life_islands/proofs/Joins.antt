@@ -6,10 +6,10 @@ use Rattle.life_model.specs.Generation.{Generation, cells, contains, empty}
 use Rattle.life_model.specs.Evolution.{generation}
 use Rattle.life_parts.specs.Ties.{AreTied, swapped, through}
 use Rattle.life_islands.specs.declared.labels.Labels.{Labels}
-use Rattle.life_islands.specs.Forest.{IsJoined, root}
+use Rattle.life_classes.specs.Forest.{IsJoined, root}
 use Rattle.life_islands.specs.Labels.{AreTiedFirsts, AreTiedLabels, Fits, KeepsTied, mark_of, sets_of}
 use Rattle.life_islands.specs.Splits.{AreTiedWithin, IsLink}
-use Rattle.life_islands.proofs.Forests.{root-root}
+use Rattle.life_classes.proofs.Forests.{root-root}
 use Rattle.life_islands.proofs.Further.{joined_so}
 use Rattle.life_islands.proofs.Labelled.{length-sets, mark-at, of_listed, of_set, place_in_list}
 

@@ -18,10 +18,10 @@ use Rattle.life_objects.specs.Union.{union_of}
 use Rattle.life_objects.proofs.Unions.{contains-union_of}
 use Rattle.life_parts.specs.Apart.{HaveBoth}
 use Rattle.life_islands.specs.declared.labels.Labels.{Labels}
-use Rattle.life_islands.specs.Forest.{root}
+use Rattle.life_classes.specs.Forest.{root}
 use Rattle.life_islands.specs.Labels.{Fits, label_of, mark_of, sets_by}
 use Rattle.life_islands.specs.Splits.{MakeUp}
-use Rattle.life_islands.proofs.Forests.{root-le}
+use Rattle.life_classes.proofs.Forests.{root-le}
 
 -- ---- labels by place
 

@@ -1,4 +1,3 @@
-pub mod Forests
 pub mod Indexed
 pub mod Labelled
 pub mod Further

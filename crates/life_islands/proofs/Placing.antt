@@ -22,7 +22,7 @@ use Rattle.life_islands.specs.Reach.{IsInReach, IsWithinTwo}
 use Rattle.life_islands.specs.Splits.{AreLaidOut, AreOfWholeIslands, IsSettled, IsSettledNear}
 use Rattle.life_islands.proofs.Neighbours.{seated}
 use Rattle.life_islands.specs.declared.labels.Labels.{Labels}
-use Rattle.life_islands.specs.Forest.{root}
+use Rattle.life_classes.specs.Forest.{root}
 use Rattle.life_islands.specs.Labels.{Fits, mark_of, sets_of}
 use Rattle.life_islands.proofs.Labelled.{in_set, length-sets, listed_cell, mark-at, place_in_list, root_within_forest, whole_by_mark}
 

@@ -11,12 +11,12 @@ use Rattle.life_model.proofs.Cells.{pair, same_cell-is}
 use Rattle.life_cells.specs.Limits.{IsPlace}
 use Rattle.life_parts.specs.Ties.{AreTied, swapped, through, touching}
 use Rattle.life_islands.specs.declared.labels.Labels.{Labels}
-use Rattle.life_islands.specs.Forest.{IsJoined, root}
+use Rattle.life_classes.specs.Forest.{IsJoined, root}
 use Rattle.life_islands.specs.Labels.{AreJoinedByTouch, AreJoinedFurther, AreJoinedWithin, AreNumbered, AreOne, Fits, HasMet, KeepsTied, mark_of, sets_of}
 use Rattle.life_islands.specs.Reach.{IsInReach}
 use Rattle.life_islands.specs.Seats.{cell_at}
 use Rattle.life_islands.specs.Splits.{AreIslands, AreJoined, AreOfWholeIslands, alone, beside, chained, turned}
-use Rattle.life_islands.proofs.Forests.{root-stays}
+use Rattle.life_classes.proofs.Forests.{root-stays}
 use Rattle.life_islands.proofs.Further.{further_by_join, further_itself, further_through, joined_so, kept_itself, kept_through}
 use Rattle.life_islands.proofs.Labelled.{length-sets, listed_cell, make_up, mark_by_whole, mark-at, of_set, place_in_list, whole_by_mark}
 use Rattle.life_islands.proofs.Neighbours.{small}

@@ -1,7 +1,6 @@
 pub mod Reach
 pub mod Splits
 pub mod Seats
-pub mod Forest
 pub mod Labels
 pub mod Heirs
 pub mod Collected

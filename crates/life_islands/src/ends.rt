@@ -5,11 +5,11 @@ ghost use Rattle.life_model.specs.Cell.{Cell, origin};
 ghost use Rattle.life_model.specs.Generation.{Generation};
 ghost use Rattle.life_model.specs.Rule.{Rule};
 ghost use Rattle.life_parts.specs.Ties.{AreTied};
-ghost use Rattle.life_islands.specs.Forest.{root};
+ghost use Rattle.life_classes.specs.Forest.{root};
 ghost use Rattle.life_islands.specs.Labels.{AreJoinedFurther, AreTiedFirsts};
 
-use crate::forest::{join, root};
 use crate::labels::Labels;
+use life_classes::{join, root};
 use std::alloc::{AllocError, Global};
 
 /// The roots of all labels.

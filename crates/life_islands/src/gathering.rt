@@ -5,8 +5,8 @@ ghost use Rattle.life_cells.specs.Limits.{IsPlace};
 ghost use Rattle.life_islands.specs.Collected.{by_roots, lists_of, some_of};
 ghost use Rattle.life_islands.specs.Labels.{AreThoseWithCells, joined_sets};
 
-use crate::forest::root;
 use life_cells::CellList;
+use life_classes::root;
 use std::alloc::{AllocError, Global};
 
 /// So many lists without a cell.

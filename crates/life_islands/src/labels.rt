@@ -5,11 +5,11 @@ ghost use Rattle.life_model.specs.Cell.{Cell, origin};
 ghost use Rattle.life_model.specs.Generation.{cells, contains, is_rising};
 ghost use Rattle.life_cells.specs.Limits.{IsPlace};
 ghost use Rattle.life_classes.specs.Tags.{place_number};
-ghost use Rattle.life_islands.specs.Forest.{root};
+ghost use Rattle.life_classes.specs.Forest.{root};
 ghost use Rattle.life_islands.specs.Labels.{AreNumbered, IsParting};
 
-use crate::forest::root;
 use life_cells::CellList;
+use life_classes::root;
 use std::alloc::{AllocError, Global};
 
 /// A label for each cell of a generation, in their order, and which labels are joined.

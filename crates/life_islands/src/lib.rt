@@ -7,7 +7,6 @@
 mod around;
 mod colours;
 mod ends;
-mod forest;
 mod gathering;
 mod inheriting;
 mod labels;
@@ -16,7 +15,6 @@ mod seating;
 mod touching;
 
 pub use ends::join_ends;
-pub use forest::root;
 pub use gathering::gathered;
 pub use inheriting::heirs;
 pub use labels::{Labels, numbers};

@@ -6,18 +6,18 @@ ghost use Rattle.life_model.specs.Generation.{contains};
 ghost use Rattle.life_model.specs.Generation as generations;
 ghost use Rattle.life_parts.specs.Apart.{AreHeldApart};
 ghost use Rattle.life_classes.specs.Tags.{place_number};
-ghost use Rattle.life_islands.specs.Forest.{root};
+ghost use Rattle.life_classes.specs.Forest.{root};
 ghost use Rattle.life_islands.specs.Labels.{AreJoinedFurther, Fits, KeepsTied, sets_of};
 ghost use Rattle.life_islands.specs.Reach.{IsInReach, IsWithinTwo};
 ghost use Rattle.life_islands.specs.Splits.{AreLaidOut, IsSettled, IsSettledNear};
 
 use crate::around::neighbour;
 use crate::colours::AROUND;
-use crate::forest::join;
 use crate::labels::{Labels, ROW, has_in_row, place_number};
 use crate::seating::{ROWS, link_at, row_of, seats_around};
 use crate::touching::{islands, join_touching};
 use life_cells::{CellList, Rule};
+use life_classes::join;
 use std::alloc::{AllocError, Global};
 
 /// Joins two sets that a place in a row by this number joins, if it is none of the cells.

@@ -6,9 +6,9 @@ ghost use Rattle.life_islands.specs.Splits.{AreIslands, AreOfWholeIslands};
 ghost use Rattle.life_model.specs.Rule.{Rule};
 
 use crate::around::neighbour;
-use crate::forest::join;
 use crate::labels::{Labels, index_near};
 use life_cells::CellList;
+use life_classes::join;
 use std::alloc::{AllocError, Global};
 
 /// How many of the cells around a cell come before it.

@@ -1,7 +1,7 @@
 use Rattle.std.proofs.Common.{◌≡◌, get_or, sym, ap, ◌∙◌, arith}
 use Rattle.std.proofs.lemmas.List.{get_or_default}
-use Rattle.life_islands.specs.Forest.{root}
-use Rattle.life_islands.proofs.Forests.{root-past, root-stays, root-up}
+use Rattle.life_classes.specs.Forest.{root}
+use Rattle.life_classes.proofs.Forests.{root-past, root-stays, root-up}
 use Rattle.life_frames.proofs.Roots.{same_through, same_two_up, two_up}
 use Rattle.life_frames.proofs.forest.find.Goals as goal
 

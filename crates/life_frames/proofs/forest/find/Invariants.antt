@@ -1,5 +1,5 @@
 use Rattle.std.proofs.Common.{◌≡◌, ◌≤◌}
-use Rattle.life_islands.specs.Forest.{root}
+use Rattle.life_classes.specs.Forest.{root}
 use Rattle.life_frames.specs.Ties.{AreSameRoots}
 use Rattle.life_frames.proofs.forest.find.Given as goal
 

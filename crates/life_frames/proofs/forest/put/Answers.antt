@@ -1,5 +1,5 @@
 use Rattle.std.proofs.Common.{arith}
-use Rattle.life_islands.proofs.Forests.{is_root, root-set_roots, sum-set}
+use Rattle.life_classes.proofs.Forests.{is_root, root-set_roots, sum-set}
 use Rattle.life_frames.proofs.forest.put.Goals as goal
 
 pub returns-clause-moved : goal.returns-clause-moved

@@ -2,7 +2,7 @@ use Rattle.std.proofs.Common.{◌≡◌, ◌+◌, false, length, set, ap, refl, 
 use Rattle.std.proofs.lemmas.List.{length-map}
 use Rattle.std.proofs.lemmas.Result.{IfOk-at_ok}
 use Rattle.life_islands.specs.declared.labels.Labels.{Labels}
-use Rattle.life_islands.specs.Forest.{IsJoined, root}
+use Rattle.life_classes.specs.Forest.{IsJoined, root}
 use Rattle.life_islands.proofs.Ended.{AreEndedSo, both_within, ended_first, ended_join, ends_joined, mark_within, or_same, or_true, read_twice}
 use Rattle.life_islands.proofs.ends.join_ends.Goals as goal
 use Rattle.life_islands.proofs.ends.join_ends.Goals.{then-first-count, else-first-count+then-join, else-first-count+else-join}

@@ -1,5 +1,5 @@
 use Rattle.std.proofs.Common.{◌≡◌, map, take}
-use Rattle.life_islands.specs.Forest.{root}
+use Rattle.life_classes.specs.Forest.{root}
 use Rattle.life_islands.proofs.ends.marks.Given as goal
 
 abbrev pub invariant-loop-label : goal.invariant-loop-label

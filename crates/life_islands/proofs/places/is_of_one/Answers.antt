@@ -2,7 +2,7 @@ use Rattle.std.proofs.Common.{◌≡◌, get_or, inl, inr, ap, ◌∙◌, arith}
 use Rattle.std.proofs.lemmas.Int.{ints}
 use Rattle.life_model.specs.Cell.{origin}
 use Rattle.life_model.specs.Generation.{cells}
-use Rattle.life_islands.specs.Forest.{root}
+use Rattle.life_classes.specs.Forest.{root}
 use Rattle.life_classes.specs.Tags.{place_number}
 use Rattle.life_islands.proofs.Rows.{row_of}
 use Rattle.life_islands.proofs.places.is_of_one.Goals as goal

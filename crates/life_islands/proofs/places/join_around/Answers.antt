@@ -1,7 +1,7 @@
 use Rattle.std.proofs.Common.{◌≡◌, refl, ◌<◌, false, length, get_or, below_more, inl, sym, subst, ◌∙◌, arith, true≢false}
 use Rattle.life_model.specs.Cell.{origin}
 use Rattle.life_model.specs.Generation.{cells, contains}
-use Rattle.life_islands.specs.Forest.{root}
+use Rattle.life_classes.specs.Forest.{root}
 use Rattle.life_islands.specs.Labels.{AreJoinedFurther, sets_of}
 use Rattle.life_islands.specs.Seats.{cell_at}
 use Rattle.life_islands.specs.Splits.{IsSettled, IsSettledNear}

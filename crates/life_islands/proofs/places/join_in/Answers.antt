@@ -1,7 +1,7 @@
 use Rattle.std.proofs.Common.{subst, get_or}
 use Rattle.life_islands.specs.Labels.{AreJoinedFurther}
 use Rattle.life_islands.proofs.Further.{further_more, further_fits, further_whole, kept_through}
-use Rattle.life_islands.specs.Forest.{root}
+use Rattle.life_classes.specs.Forest.{root}
 use Rattle.life_islands.proofs.Placing.{held_as_one}
 use Rattle.life_islands.proofs.Labelled.{make_up}
 use Rattle.life_islands.proofs.Touched.{numbered_fits}

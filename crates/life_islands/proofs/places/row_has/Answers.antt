@@ -6,7 +6,7 @@ use Rattle.life_model.specs.Cell.{origin}
 use Rattle.life_classes.specs.Tags.{place_number}
 use Rattle.life_classes.proofs.Lookups.{less_by_test}
 use Rattle.life_classes.proofs.RowsRise.{numbers_rise, parted_above}
-use Rattle.life_islands.specs.Forest.{root}
+use Rattle.life_classes.specs.Forest.{root}
 use Rattle.life_islands.proofs.places.row_has.Goals as goal
 use Rattle.life_islands.proofs.places.row_has.Goals.{After-partition_point-start}
 

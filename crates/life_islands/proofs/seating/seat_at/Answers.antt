@@ -1,5 +1,5 @@
 use Rattle.std.proofs.Common.{true, get_or, sym, subst}
-use Rattle.life_islands.specs.Forest.{root}
+use Rattle.life_classes.specs.Forest.{root}
 use Rattle.life_islands.specs.Labels.{sets_of}
 use Rattle.life_islands.specs.Seats.{IsSeat}
 use Rattle.life_islands.proofs.Placing.{no_seat, seat_is}

@@ -2,7 +2,7 @@ use Rattle.std.proofs.Common.{◌≡◌, ◌<◌, length, get_or, ap, subst, ◌
 use Rattle.std.proofs.lemmas.List.{get_or_read}
 use Rattle.life_model.specs.Cell.{origin}
 use Rattle.life_model.specs.Generation.{cells}
-use Rattle.life_islands.specs.Forest.{IsJoined}
+use Rattle.life_classes.specs.Forest.{IsJoined}
 use Rattle.life_islands.specs.Seats.{cell_at}
 use Rattle.life_islands.proofs.Touched.{has_met, joined_by_touch, none_met}
 use Rattle.life_islands.proofs.touching.join_neighbour.Goals as goal
