@@ -4,6 +4,7 @@ ghost use Rattle.std.specs.List.{sum};
 ghost use Rattle.life_classes.specs.Forest.{IsJoined, moved, root};
 
 /// The root of a number.
+#[inline(always)]
 pub fn root(forest: &[usize], number: usize) -> usize
     ensures value { result ≡ root forest.now number }
     ensures less { result ≤ number }
@@ -46,6 +47,7 @@ fn put(forest: &mut Vec<usize>, high: usize, low: usize)
 }
 
 /// Joins two numbers. False where they are joined already.
+#[cold]
 pub fn join(forest: &mut Vec<usize>, one: usize, other: usize) -> bool
     requires { one < length forest.old.items × other < length forest.old.items }
     ensures { IsJoined forest.old.items forest.new.items one other result }

@@ -21,6 +21,7 @@ struct Cursors {
 }
 
 /// The place of the first tag whose number is from this one to two more, where there is one.
+#[inline(always)]
 fn place_from(tags: &[Tag], low: i64, cursor: &mut usize) -> Option<usize>
     requires rising { AreRisingTags tags.now }
     requires small { low ≤ℤ pos (2 ^ 63 - 3) }
@@ -41,6 +42,7 @@ fn place_from(tags: &[Tag], low: i64, cursor: &mut usize) -> Option<usize>
 }
 
 /// The place of a tag whose number is at most one from this one, or from those of the cells above and below it.
+#[inline(always)]
 fn place_beside(tags: &[Tag], number: i64, cursors: &mut Cursors) -> Option<usize>
     requires rising { AreRisingTags tags.now }
     requires low { neg_ℤ (pos (2 ^ 62 + 2 ^ 31)) ≤ℤ number }
@@ -68,6 +70,7 @@ fn place_beside(tags: &[Tag], number: i64, cursors: &mut Cursors) -> Option<usiz
 }
 
 /// The label of a cell that is at most one away from this one.
+#[inline(always)]
 fn label_of(old: &Labelled, cell: (i32, i32), cursors: &mut Cursors) -> usize
     requires tagged { IsTagged old.now }
     requires placed { IsPlace cell }

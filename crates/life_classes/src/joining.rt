@@ -17,6 +17,7 @@ struct Cursors {
 }
 
 /// Joins the labels of two cells that are near each other.
+#[inline(always)]
 fn tie(forest: &mut Vec<usize>, cells: &Labelled, one: usize, other: usize)
     requires labelled { AreLabelled cells.now forest.old.items }
     requires one { one < length cells.now.tags.items }
@@ -33,6 +34,7 @@ fn tie(forest: &mut Vec<usize>, cells: &Labelled, one: usize, other: usize)
 }
 
 /// The number of the cell in a place.
+#[inline(always)]
 fn number_at(cells: &Labelled, n: usize) -> i64
     requires tagged { IsTagged cells.now }
     requires inside { n < length cells.now.tags.items }
@@ -44,6 +46,7 @@ fn number_at(cells: &Labelled, n: usize) -> i64
 }
 
 /// Joins the label of a cell, whose number this is, with that of the one before it, where that is near.
+#[inline(always)]
 fn tie_before(forest: &mut Vec<usize>, cells: &Labelled, n: usize, number: i64)
     requires labelled { AreLabelled cells.now forest.old.items }
     requires inside { n < length cells.now.tags.items }
@@ -66,6 +69,7 @@ fn tie_before(forest: &mut Vec<usize>, cells: &Labelled, n: usize, number: i64)
 
 /// Joins the label of a cell with that of the cell in a place, the first whose number is not less than this one, where it is
 /// near.
+#[inline(always)]
 fn tie_next(forest: &mut Vec<usize>, cells: &Labelled, n: usize, number: i64, at: usize)
     requires labelled { AreLabelled cells.now forest.old.items }
     requires inside { n < length cells.now.tags.items }
@@ -90,6 +94,7 @@ fn tie_next(forest: &mut Vec<usize>, cells: &Labelled, n: usize, number: i64, at
 
 /// Joins the label of a cell with that of the cell before a place, the last whose number is less than this one, where it is
 /// near.
+#[inline(always)]
 fn tie_last(forest: &mut Vec<usize>, cells: &Labelled, n: usize, number: i64, at: usize)
     requires labelled { AreLabelled cells.now forest.old.items }
     requires inside { n < length cells.now.tags.items }
@@ -115,6 +120,7 @@ fn tie_last(forest: &mut Vec<usize>, cells: &Labelled, n: usize, number: i64, at
 
 /// Joins the label of a cell with those of the cells next to this number, where they are near. It is that of a place in a row
 /// above the cell.
+#[inline(always)]
 fn tie_around(forest: &mut Vec<usize>, cells: &Labelled, n: usize, number: i64, cursor: &mut usize)
     requires labelled { AreLabelled cells.now forest.old.items }
     requires inside { n < length cells.now.tags.items }
@@ -133,6 +139,7 @@ fn tie_around(forest: &mut Vec<usize>, cells: &Labelled, n: usize, number: i64, 
 }
 
 /// Joins the label of a cell with those of the cells before it that are near.
+#[inline(always)]
 fn tie_at(forest: &mut Vec<usize>, cells: &Labelled, n: usize, cursors: &mut Cursors)
     requires labelled { AreLabelled cells.now forest.old.items }
     requires inside { n < length cells.now.tags.items }

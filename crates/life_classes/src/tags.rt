@@ -24,6 +24,7 @@ pub fn place_number(cell: (i32, i32)) -> i64
 }
 
 /// A place before which each tag has a lesser number: one that may be near, or else the first.
+#[inline(always)]
 fn start_from(tags: &[Tag], near: usize, low: i64) -> usize
     requires rising { AreRisingTags tags.now }
     requires within { near ≤ length tags.now }
@@ -41,6 +42,7 @@ fn start_from(tags: &[Tag], near: usize, low: i64) -> usize
 
 /// The place of the first tag whose number is not less. It is looked for from a place on that may be near it, and mostly
 /// is where tags are asked for in order.
+#[inline(always)]
 pub fn place_of(tags: &[Tag], near: usize, low: i64) -> usize
     requires rising { AreRisingTags tags.now }
     requires within { near ≤ length tags.now }

@@ -23,6 +23,9 @@ const BLINKERS: &[(i32, i32)] = &[(0, 0), (1, 0), (2, 0), (0, 4), (1, 4), (2, 4)
 // Two cells that die, and a block.
 const SPARK: &[(i32, i32)] = &[(0, 0), (1, 0), (9, 9), (10, 9), (9, 10), (10, 10)];
 
+// A glider is one piece in each generation.
+const GLIDER: &[(i32, i32)] = &[(1, 0), (2, 1), (0, 2), (1, 2), (2, 2)];
+
 /// Cells, a bound, and how many cells each class has at first, and at last.
 type Case = (&'static [(i32, i32)], u32, &'static [(usize, usize)]);
 
@@ -30,6 +33,8 @@ const CASES: &[Case] = &[
     (APART, 100, &[(4, 4), (5, 5)]),
     (BLINKERS, 0, &[(3, 3), (3, 3)]),
     (BLINKERS, 1, &[(6, 6)]),
+    (GLIDER, 50, &[(5, 5)]),
+    (&[], 3, &[]),
     // What dies stays listed.
     (SPARK, 3, &[(2, 0), (4, 4)]),
 ];
