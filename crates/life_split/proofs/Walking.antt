@@ -19,11 +19,11 @@ use Rattle.life_parts.proofs.Deciding.{decided}
 use Rattle.life_parts.proofs.Ends.{both_in, contains-later}
 use Rattle.life_parts.proofs.Evolving.{at_first, in_at_first}
 use Rattle.life_islands.specs.declared.labels.Labels.{Labels}
-use Rattle.life_islands.specs.Forest.{root}
+use Rattle.life_classes.specs.Forest.{root}
 use Rattle.life_islands.specs.Heirs.{AreHeirs}
 use Rattle.life_islands.specs.Labels.{AreJoinedFurther, AreTiedFirsts, AreTiedLabels, Fits, KeepsTied, joined_sets, mark_of, sets_by, sets_of}
 use Rattle.life_islands.specs.Splits.{MakeUp}
-use Rattle.life_islands.proofs.Forests.{root-le, root-stays}
+use Rattle.life_classes.proofs.Forests.{root-le, root-stays}
 use Rattle.life_islands.proofs.Further.{further_fits, same_sets}
 use Rattle.life_islands.proofs.Labelled.{in_set, listed_cell, of_listed, of_set, place_in_list, sets_make_up}
 use Rattle.life_islands.proofs.Touched.{numbered_fits}

@@ -22,10 +22,10 @@ use Rattle.life_parts.specs.Ties.{AreTied, before, itself, swapped, through}
 use Rattle.life_parts.proofs.Apart.{AreSplitAt, split_next}
 use Rattle.life_parts.proofs.Evolving.{at_first, in_at_first}
 use Rattle.life_islands.specs.declared.labels.Labels.{Labels}
-use Rattle.life_islands.specs.Forest.{root}
+use Rattle.life_classes.specs.Forest.{root}
 use Rattle.life_islands.specs.Heirs.{AreHeirs, IsHeir}
 use Rattle.life_islands.specs.Labels.{AreTiedFirsts, AreTiedLabels, Fits, joined_sets, mark_of, sets_of}
-use Rattle.life_islands.proofs.Forests.{root-le}
+use Rattle.life_classes.proofs.Forests.{root-le}
 use Rattle.life_islands.proofs.Joins.{tied_within}
 use Rattle.life_islands.proofs.Labelled.{both_by_mark, in_its_set, in_set, its_set_listed, length-sets, listed_cell, make_up, mark-at, marked, of_listed, of_set, place_in_list}
 use Rattle.life_islands.proofs.Placing.{one_place}

@@ -6,12 +6,13 @@ ghost use Rattle.life_model.specs.Evolution.{generation};
 ghost use Rattle.life_model.specs.Generation.{cells};
 ghost use Rattle.life_parts.specs.Apart.{AreHeldApart};
 ghost use Rattle.std.specs.Bool.{OnTrue};
-ghost use Rattle.life_islands.specs.Forest.{root};
+ghost use Rattle.life_classes.specs.Forest.{root};
 ghost use Rattle.life_islands.specs.Heirs.{AreHeirs};
 ghost use Rattle.life_islands.specs.Labels.{Fits, sets_of};
 ghost use Rattle.life_split.specs.Rounds.{AreJoinedTied, AreParted, HaveWalked};
 
-use life_islands::{Labels, heirs, join_ends, join_in, numbers, root};
+use life_classes::root;
+use life_islands::{Labels, heirs, join_ends, join_in, numbers};
 use life_orbit::Orbit;
 use std::alloc::{AllocError, Global};
 

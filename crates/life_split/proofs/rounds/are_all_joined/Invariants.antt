@@ -1,5 +1,5 @@
 use Rattle.std.proofs.Common.{◌≡◌, ℕ, ◌<◌}
-use Rattle.life_islands.specs.Forest.{root}
+use Rattle.life_classes.specs.Forest.{root}
 use Rattle.life_split.proofs.rounds.are_all_joined.Given as goal
 
 -- those passed are joined with the first

@@ -5,7 +5,7 @@ use Rattle.life_model.specs.Generation.{cells}
 use Rattle.life_model.specs.Evolution.{generation}
 use Rattle.life_model.specs.Recurrence.{RecursBy}
 use Rattle.life_parts.specs.Apart.{AreHeldApart}
-use Rattle.life_islands.specs.Forest.{root}
+use Rattle.life_classes.specs.Forest.{root}
 use Rattle.life_islands.specs.Heirs.{AreHeirs}
 use Rattle.life_islands.specs.Labels.{Fits, KeepsTied, sets_of}
 use Rattle.life_islands.proofs.Further.{no_greater}
