@@ -61,8 +61,8 @@ with_late_end-requires-clause-way g c =
     let way = of_none c.in_default-3.is c.in_ok-fate-2.ensures.none G before in (
       G,
       subst
-      (λ (R : Rule). g.P.Plane.members c.fate_before-2.new.plane ≡ generation R G (g.P.Plane.steps_made c.fate_before-2.new.plane))
-      c.looks.invariant.rule way.cells,
+          (λ (R : Rule). g.P.Plane.members c.fate_before-2.new.plane ≡ generation R G (g.P.Plane.steps_made c.fate_before-2.new.plane))
+          c.looks.invariant.rule way.cells,
     )
 
 pub returns : goal.returns
