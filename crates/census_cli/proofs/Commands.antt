@@ -1,7 +1,7 @@
 -- Where clap refuses nothing, the words name a command of `census`, and its matches have what it needs.
 use Rattle.std.proofs.Common.{◌≡◌, ◌∙◌, ◌⊎◌, ◌||◌, ◌&&◌, ℕ, List, [], ◌∷◌, Bool, true, false, not, Option, Some, None, inl, inr, is_some, codes, drop, refl, sym, ap, subst, true≢false}
 use Rattle.std.specs.Prelude.{if◌then◌else◌, option_map}
-use Rattle.std.specs.List.{find}
+use Rattle.std.specs.List.{find, list_any}
 use Rattle.std.specs.Option.{option_map_or}
 use Rattle.std.specs.Str.{bytes_eq}
 use Rattle.std.proofs.lemmas.Slice.Eq.{bytes_eq-Decides}
@@ -16,7 +16,7 @@ use Rattle.clap.specs.declared.builder.value_parser.ValueParser.{ValueParser}
 use Rattle.clap.specs.declared.builder.value_parser.ValueParser.TheVariants as parser
 use Rattle.clap.proofs.ValueTestLemmas.{accepts-Accepts}
 use Rattle.census_cli.specs.Asking.{IsMatched}
-use Rattle.census_cli.specs.Holding.{HasAdvance, HasDraw, HasFlag, HasIdentify, HasLimit, HasMerge, HasNumberIn, HasObjects, HasRun, HasSame, HasTable, HasText, HasVerify, IsCommand}
+use Rattle.census_cli.specs.Holding.{HasAdvance, HasDraw, HasFlag, HasIdentify, HasLimit, HasNumberIn, HasObjects, HasPage, HasReports, HasRun, HasSame, HasTable, HasText, HasVerify, IsCommand}
 use Rattle.census_cli.specs.CommandLine.{advance_shape, census_app, draw_shape, identify_shape, merge_shape, objects_shape, page_shape, run_shape, same_shape, table_shape, verify_shape}
 use Rattle.census_cli.proofs.Passing.{Each, found_of_each, neither_true, not_cons}
 use Rattle.census_cli.proofs.Rows.{HasFirst, Reads, reads_of, reads_or_none, row_of_id}
@@ -81,22 +81,24 @@ IdentifyText id v =
     × (bytes_eq id (codes "cells") ≡ true → IsUnsignedIn 1 4294967295 v)
     × (bytes_eq id (codes "near") ≡ true → IsFlagText v)
     × (bytes_eq id (codes "horizon") ≡ true → IsUnsignedIn 1 horizon_limit v)
+    × (bytes_eq id (codes "json") ≡ true → IsFlagText v)
     × ExplainText id v
 
 abbrev AdvanceText : Text → Text → Type 0
 AdvanceText id v = (bytes_eq id (codes "generations") ≡ true → IsUnsignedIn 0 generation_limit v) × ExplainText id v
 
-abbrev TableText : Text → Text → Type 0
-TableText id v =
-    (bytes_eq id (codes "csv") ≡ true → IsFlagText v)
-    × (bytes_eq id (codes "json") ≡ true → IsFlagText v)
-    × (bytes_eq id (codes "safe") ≡ true → IsFlagText v)
-    × (bytes_eq id (codes "parts") ≡ true → IsFlagText v)
-    × (bytes_eq id (codes "codes") ≡ true → IsFlagText v)
-    × ExplainText id v
+-- the flags of the commands that read reports
+abbrev is_flag : Text → Bool
+is_flag id =
+    list_any (λ name. bytes_eq id name)
+    (codes "csv" ∷ codes "json" ∷ codes "safe" ∷ codes "parts" ∷ codes "codes" ∷ codes "links" ∷ codes "no-patterns" ∷ codes "cut" ∷ codes "explain" ∷ [])
 
-abbrev SameText : Text → Text → Type 0
-SameText id v = (bytes_eq id (codes "json") ≡ true → IsFlagText v) × ExplainText id v
+-- those of a command that reads reports
+abbrev ReportsText : Text → Text → Type 0
+ReportsText id v =
+    (is_flag id ≡ true → IsFlagText v)
+    × (bytes_eq id (codes "input") ≡ true → IsUnsignedIn 1 9223372036854775807 v)
+    × (bytes_eq id (codes "top") ≡ true → IsUnsignedIn 1 4294967295 v)
 
 absent : {A : Type 0} → false ≡ true → A
 absent e = absurd (true≢false (sym e))
@@ -203,18 +205,24 @@ objects_rules = (
 
 identify_rules : Each (RuleHolds IdentifyText) built_identify.rules
 identify_rules = (
-  record { own = λ v e. (λ _. unsigned_in 1 objects_bound_limit v e, absent, absent, absent, absent); usual = inr (refl, inl refl); plain = λ t. refl },
+  record { own = λ v e. (λ _. unsigned_in 1 objects_bound_limit v e, absent, absent, absent, absent, absent); usual = inr (refl, inl refl); plain = λ t. refl },
   (
-    record { own = λ v e. (absent, λ _. unsigned_in 1 4294967295 v e, absent, absent, absent); usual = inr (refl, inl refl); plain = λ t. refl },
+    record { own = λ v e. (absent, λ _. unsigned_in 1 4294967295 v e, absent, absent, absent, absent); usual = inr (refl, inl refl); plain = λ t. refl },
     (
-      record { own = λ v e. (absent, absent, λ _. flag_text v e, absent, absent); usual = inr (refl, inr true_given); plain = λ t. refl },
+      record { own = λ v e. (absent, absent, λ _. flag_text v e, absent, absent, absent); usual = inr (refl, inr true_given); plain = λ t. refl },
       (
-        record { own = λ v e. (absent, absent, absent, λ _. unsigned_in 1 horizon_limit v e, absent); usual = inr (refl, inl refl); plain = λ t. refl },
+        record { own = λ v e. (absent, absent, absent, λ _. unsigned_in 1 horizon_limit v e, absent, absent); usual = inr (refl, inl refl); plain = λ t. refl },
         (
-          record { own = λ v e. (absent, absent, absent, absent, λ _. flag_text v e); usual = inr (refl, inr true_given); plain = λ t. refl },
+          record { own = λ v e. (absent, absent, absent, absent, λ _. flag_text v e, absent); usual = inr (refl, inr true_given); plain = λ t. refl },
           (
-            record { own = λ v e. (absent, absent, absent, absent, absent); usual = inr (refl, inl refl); plain = λ t. refl },
-            (record { own = λ v e. (absent, absent, absent, absent, absent); usual = inl refl; plain = λ t. refl }, tt),
+            record { own = λ v e. (absent, absent, absent, absent, absent, absent); usual = inr (refl, inl refl); plain = λ t. refl },
+            (
+              record { own = λ v e. (absent, absent, absent, absent, absent, λ _. flag_text v e); usual = inr (refl, inr true_given); plain = λ t. refl },
+              (
+                record { own = λ v e. (absent, absent, absent, absent, absent, absent); usual = inr (refl, inl refl); plain = λ t. refl },
+                (record { own = λ v e. (absent, absent, absent, absent, absent, absent); usual = inl refl; plain = λ t. refl }, tt),
+              ),
+            ),
           ),
         ),
       ),
@@ -246,40 +254,59 @@ draw_rules = (
   ),
 )
 
-merge_rules : Each (RuleHolds ExplainText) built_merge.rules
-merge_rules = (
-  record { own = λ v e _. flag_text v e; usual = inr (refl, inr true_given); plain = λ t. refl },
+-- the last arguments of the commands that read reports, and their help
+reading_holds : Each (RuleHolds ReportsText) built_merge.rules
+reading_holds = (
+  record { own = λ v e. (λ _. flag_text v e, absent, absent); usual = inr (refl, inr true_given); plain = λ t. refl },
   (
-    record { own = λ v e. absent; usual = inr (refl, inl refl); plain = λ t. refl },
-    (record { own = λ v e. absent; usual = inl refl; plain = λ t. refl }, tt),
-  ),
-)
-
-page_rules : Each (RuleHolds ExplainText) built_page.rules
-page_rules = (
-  record { own = λ v e _. flag_text v e; usual = inr (refl, inr true_given); plain = λ t. refl },
-  (
-    record { own = λ v e. absent; usual = inr (refl, inl refl); plain = λ t. refl },
-    (record { own = λ v e. absent; usual = inl refl; plain = λ t. refl }, tt),
-  ),
-)
-
-table_rules : Each (RuleHolds TableText) built_table.rules
-table_rules = (
-  record { own = λ v e. (λ _. flag_text v e, absent, absent, absent, absent, absent); usual = inr (refl, inr true_given); plain = λ t. refl },
-  (
-    record { own = λ v e. (absent, λ _. flag_text v e, absent, absent, absent, absent); usual = inr (refl, inr true_given); plain = λ t. refl },
+    record { own = λ v e. (absent, λ _. unsigned_in 1 9223372036854775807 v e, absent); usual = inr (refl, inl refl); plain = λ t. refl },
     (
-      record { own = λ v e. (absent, absent, λ _. flag_text v e, absent, absent, absent); usual = inr (refl, inr true_given); plain = λ t. refl },
+      record { own = λ v e. (λ _. flag_text v e, absent, absent); usual = inr (refl, inr true_given); plain = λ t. refl },
       (
-        record { own = λ v e. (absent, absent, absent, λ _. flag_text v e, absent, absent); usual = inr (refl, inr true_given); plain = λ t. refl },
+        record { own = λ v e. (absent, absent, absent); usual = inr (refl, inl refl); plain = λ t. refl },
+        (record { own = λ v e. (absent, absent, absent); usual = inl refl; plain = λ t. refl }, tt),
+      ),
+    ),
+  ),
+)
+
+table_rules : Each (RuleHolds ReportsText) built_table.rules
+table_rules = (
+  record { own = λ v e. (λ _. flag_text v e, absent, absent); usual = inr (refl, inr true_given); plain = λ t. refl },
+  (
+    record { own = λ v e. (λ _. flag_text v e, absent, absent); usual = inr (refl, inr true_given); plain = λ t. refl },
+    (
+      record { own = λ v e. (λ _. flag_text v e, absent, absent); usual = inr (refl, inr true_given); plain = λ t. refl },
+      (
+        record { own = λ v e. (λ _. flag_text v e, absent, absent); usual = inr (refl, inr true_given); plain = λ t. refl },
         (
-          record { own = λ v e. (absent, absent, absent, absent, λ _. flag_text v e, absent); usual = inr (refl, inr true_given); plain = λ t. refl },
+          record { own = λ v e. (λ _. flag_text v e, absent, absent); usual = inr (refl, inr true_given); plain = λ t. refl },
           (
-            record { own = λ v e. (absent, absent, absent, absent, absent, λ _. flag_text v e); usual = inr (refl, inr true_given); plain = λ t. refl },
+            record { own = λ v e. (absent, absent, absent); usual = inr (refl, inl refl); plain = λ t. refl },
+            reading_holds,
+          ),
+        ),
+      ),
+    ),
+  ),
+)
+
+page_rules : Each (RuleHolds ReportsText) built_page.rules
+page_rules = (
+  record { own = λ v e. (absent, absent, absent); usual = inr (refl, inl refl); plain = λ t. refl },
+  (
+    record { own = λ v e. (absent, absent, absent); usual = inr (refl, inl refl); plain = λ t. refl },
+    (
+      record { own = λ v e. (absent, absent, absent); usual = inr (refl, inl refl); plain = λ t. refl },
+      (
+        record { own = λ v e. (absent, absent, λ _. unsigned_in 1 4294967295 v e); usual = inr (refl, inl refl); plain = λ t. refl },
+        (
+          record { own = λ v e. (absent, absent, absent); usual = inr (refl, inl refl); plain = λ t. refl },
+          (
+            record { own = λ v e. (λ _. flag_text v e, absent, absent); usual = inr (refl, inr true_given); plain = λ t. refl },
             (
-              record { own = λ v e. (absent, absent, absent, absent, absent, absent); usual = inr (refl, inl refl); plain = λ t. refl },
-              (record { own = λ v e. (absent, absent, absent, absent, absent, absent); usual = inl refl; plain = λ t. refl }, tt),
+              record { own = λ v e. (λ _. flag_text v e, absent, absent); usual = inr (refl, inr true_given); plain = λ t. refl },
+              reading_holds,
             ),
           ),
         ),
@@ -288,28 +315,16 @@ table_rules = (
   ),
 )
 
-same_rules : Each (RuleHolds SameText) built_same.rules
+same_rules : Each (RuleHolds ReportsText) built_same.rules
 same_rules = (
-  record { own = λ v e. (λ _. flag_text v e, absent); usual = inr (refl, inr true_given); plain = λ t. refl },
-  (
-    record { own = λ v e. (absent, λ _. flag_text v e); usual = inr (refl, inr true_given); plain = λ t. refl },
-    (
-      record { own = λ v e. (absent, absent); usual = inr (refl, inl refl); plain = λ t. refl },
-      (record { own = λ v e. (absent, absent); usual = inl refl; plain = λ t. refl }, tt),
-    ),
-  ),
+  record { own = λ v e. (λ _. flag_text v e, absent, absent); usual = inr (refl, inr true_given); plain = λ t. refl },
+  reading_holds,
 )
 
-verify_rules : Each (RuleHolds ExplainText) built_verify.rules
+verify_rules : Each (RuleHolds ReportsText) built_verify.rules
 verify_rules = (
-  record { own = λ v e. absent; usual = inr (refl, inl refl); plain = λ t. refl },
-  (
-    record { own = λ v e _. flag_text v e; usual = inr (refl, inr true_given); plain = λ t. refl },
-    (
-      record { own = λ v e. absent; usual = inr (refl, inl refl); plain = λ t. refl },
-      (record { own = λ v e. absent; usual = inl refl; plain = λ t. refl }, tt),
-    ),
-  ),
+  record { own = λ v e. (absent, absent, absent); usual = inr (refl, inl refl); plain = λ t. refl },
+  reading_holds,
 )
 
 -- ---- the matches of a command
@@ -407,8 +422,10 @@ identify_has words e = record {
       (read_by_default IdentifyText built_identify identify_rules words e (codes "near") (inr (inr (inl (refl, false_by_default))))) (λ v q. q.2 refl);
   horizon = number_in IdentifyText 1 horizon_limit (codes "horizon") _
       (read_by_default IdentifyText built_identify identify_rules words e (codes "horizon") (inr (inr (inr (inl (refl, record { first = codes "1000"; rest = []; is = refl })))))) (λ v q. q.3 refl);
+  json = flag_in IdentifyText (codes "json") _
+      (read_by_default IdentifyText built_identify identify_rules words e (codes "json") (inr (inr (inr (inr (inl (refl, false_by_default))))))) (λ v q. q.4 refl);
   explain = flag_in IdentifyText (codes "explain") _
-      (read_by_default IdentifyText built_identify identify_rules words e (codes "explain") (inr (inr (inr (inr (inl (refl, false_by_default))))))) (λ v q. q.4 refl);
+      (read_by_default IdentifyText built_identify identify_rules words e (codes "explain") (inr (inr (inr (inr (inr (inr (inl (refl, false_by_default))))))))) (λ v q. q.5 refl);
 }
 
 advance_has : (words : List Text) → Passes built_advance words → HasAdvance (rows_after built_advance.rules [] words)
@@ -436,49 +453,56 @@ draw_has words e =
           (read_by_default ExplainText built_draw draw_rules words e (codes "explain") (inr (inr (inl (refl, false_by_default))))) (λ v q. q refl);
     }
 
-merge_has : (words : List Text) → Passes built_merge words → HasMerge (rows_after built_merge.rules [] words)
-merge_has words e = record {
-  explain = flag_in ExplainText (codes "explain") _
-      (read_by_default ExplainText built_merge merge_rules words e (codes "explain") (inl (refl, false_by_default))) (λ v q. q refl);
+-- what a command that reads reports has of how they are read
+module _ (s : Shape) (rules : Each (RuleHolds ReportsText) s.rules) (words : List Text) (passes : Passes s words) where
+  flag_by_default : (id : Text) → is_flag id ≡ true → HasDefault id s.rules → HasFlag id (rows_after s.rules [] words)
+  flag_by_default id is there = flag_in ReportsText id _ (read_by_default ReportsText s rules words passes id there) (λ v q. q.0 is)
+
+  reads_reports : HasDefault (codes "cut") s.rules → HasDefault (codes "explain") s.rules → HasReports (rows_after s.rules [] words)
+  reads_reports cut_there explain_there = record {
+    cut = flag_by_default (codes "cut") refl cut_there;
+    input = limit_in ReportsText 9223372036854775807 (codes "input") _ (read_if_used ReportsText s rules words passes (codes "input")) (λ v q. q.1 refl);
+    explain = flag_by_default (codes "explain") refl explain_there;
+  }
+
+merge_has : (words : List Text) → Passes built_merge words → HasReports (rows_after built_merge.rules [] words)
+merge_has words e = reads_reports built_merge reading_holds words e (inl (refl, false_by_default)) (inr (inr (inl (refl, false_by_default))))
+
+table_has : (words : List Text) → Passes built_table words → HasTable (rows_after built_table.rules [] words)
+table_has words e = record {
+  csv = flag_by_default built_table table_rules words e (codes "csv") refl (inl (refl, false_by_default));
+  json = flag_by_default built_table table_rules words e (codes "json") refl (inr (inl (refl, false_by_default)));
+  safe = flag_by_default built_table table_rules words e (codes "safe") refl (inr (inr (inl (refl, false_by_default))));
+  of_parts = flag_by_default built_table table_rules words e (codes "parts") refl (inr (inr (inr (inl (refl, false_by_default)))));
+  of_codes = flag_by_default built_table table_rules words e (codes "codes") refl (inr (inr (inr (inr (inl (refl, false_by_default))))));
+  reports = reads_reports built_table table_rules words e (inr (inr (inr (inr (inr (inr (inl (refl, false_by_default)))))))) (inr (inr (inr (inr (inr (inr (inr (inr (inl (refl, false_by_default))))))))));
 }
 
-page_has : (words : List Text) → Passes built_page words → HasMerge (rows_after built_page.rules [] words)
+page_has : (words : List Text) → Passes built_page words → HasPage (rows_after built_page.rules [] words)
 page_has words e = record {
-  explain = flag_in ExplainText (codes "explain") _
-      (read_by_default ExplainText built_page page_rules words e (codes "explain") (inl (refl, false_by_default))) (λ v q. q refl);
+  sort = text_in ReportsText (codes "sort") _
+      (read_by_default ReportsText built_page page_rules words e (codes "sort") (inr (inr (inl (refl, record { first = codes "report"; rest = []; is = refl })))));
+  top = limit_in ReportsText 4294967295 (codes "top") _ (read_if_used ReportsText built_page page_rules words e (codes "top")) (λ v q. q.2 refl);
+  links = flag_by_default built_page page_rules words e (codes "links") refl (inr (inr (inr (inr (inr (inl (refl, false_by_default)))))));
+  no_patterns = flag_by_default built_page page_rules words e (codes "no-patterns") refl (inr (inr (inr (inr (inr (inr (inl (refl, false_by_default))))))));
+  reports = reads_reports built_page page_rules words e (inr (inr (inr (inr (inr (inr (inr (inl (refl, false_by_default))))))))) (inr (inr (inr (inr (inr (inr (inr (inr (inr (inl (refl, false_by_default)))))))))));
 }
 
 same_has : (words : List Text) → Passes built_same words → HasSame (rows_after built_same.rules [] words)
 same_has words e = record {
-  json = flag_in SameText (codes "json") _
-      (read_by_default SameText built_same same_rules words e (codes "json") (inl (refl, false_by_default))) (λ v q. q.0 refl);
-  explain = flag_in SameText (codes "explain") _
-      (read_by_default SameText built_same same_rules words e (codes "explain") (inr (inl (refl, false_by_default)))) (λ v q. q.1 refl);
+  json = flag_by_default built_same same_rules words e (codes "json") refl (inl (refl, false_by_default));
+  reports = reads_reports built_same same_rules words e (inr (inl (refl, false_by_default))) (inr (inr (inr (inl (refl, false_by_default)))));
 }
 
 verify_has : (words : List Text) → Passes built_verify words → HasVerify (rows_after built_verify.rules [] words)
 verify_has words e =
     let rows = rows_after built_verify.rules [] words in
-    let checks = checks_pass built_verify rows false (read_checks ExplainText built_verify verify_rules words e) in
+    let checks = checks_pass built_verify rows false (read_checks ReportsText built_verify verify_rules words e) in
     let given = is_true (is_given (codes "claims") rows) (neither_true (not (is_given (codes "claims") rows)) false checks.1).0 in
     record {
-      claims = text_in ExplainText (codes "claims") _ (read_as_given ExplainText built_verify verify_rules words e (codes "claims") given);
-      explain = flag_in ExplainText (codes "explain") _
-          (read_by_default ExplainText built_verify verify_rules words e (codes "explain") (inr (inl (refl, false_by_default)))) (λ v q. q refl);
+      claims = text_in ReportsText (codes "claims") _ (read_as_given ReportsText built_verify verify_rules words e (codes "claims") given);
+      reports = reads_reports built_verify verify_rules words e (inr (inl (refl, false_by_default))) (inr (inr (inr (inl (refl, false_by_default)))));
     }
-
-table_has : (words : List Text) → Passes built_table words → HasTable (rows_after built_table.rules [] words)
-table_has words e = record {
-  csv = flag_in TableText (codes "csv") _ (by_default (codes "csv") (inl (refl, false_by_default))) (λ v q. q.0 refl);
-  json = flag_in TableText (codes "json") _ (by_default (codes "json") (inr (inl (refl, false_by_default)))) (λ v q. q.1 refl);
-  safe = flag_in TableText (codes "safe") _ (by_default (codes "safe") (inr (inr (inl (refl, false_by_default))))) (λ v q. q.2 refl);
-  of_parts = flag_in TableText (codes "parts") _ (by_default (codes "parts") (inr (inr (inr (inl (refl, false_by_default)))))) (λ v q. q.3 refl);
-  of_codes = flag_in TableText (codes "codes") _ (by_default (codes "codes") (inr (inr (inr (inr (inl (refl, false_by_default))))))) (λ v q. q.4 refl);
-  explain = flag_in TableText (codes "explain") _ (by_default (codes "explain") (inr (inr (inr (inr (inr (inl (refl, false_by_default)))))))) (λ v q. q.5 refl);
-}
-  where
-    by_default : (id : Text) → HasDefault id built_table.rules → Reads TableText id (rows_after built_table.rules [] words)
-    by_default = read_by_default TableText built_table table_rules words e
 
 -- ---- the whole parse
 
@@ -608,6 +632,19 @@ advance_command rows (inr (inr (inr (inr (inr (inr (inr (inl h)))))))) = other_n
 advance_command rows (inr (inr (inr (inr (inr (inr (inr (inr (inl h))))))))) = other_name _ _ h.0 refl
 advance_command rows (inr (inr (inr (inr (inr (inr (inr (inr (inr h))))))))) = other_name _ _ h.0 refl
 
+-- the command `merge` has what says how reports are read
+pub merge_command : (rows : List Row) → IsCommand (Some (codes "merge", rows)) → HasReports rows
+merge_command rows (inl h) = other_name _ _ h.0 refl
+merge_command rows (inr (inl h)) = other_name _ _ h.0 refl
+merge_command rows (inr (inr (inl h))) = other_name _ _ h.0 refl
+merge_command rows (inr (inr (inr (inl h)))) = other_name _ _ h.0 refl
+merge_command rows (inr (inr (inr (inr (inl h))))) = other_name _ _ h.0 refl
+merge_command rows (inr (inr (inr (inr (inr (inl h)))))) = h.1
+merge_command rows (inr (inr (inr (inr (inr (inr (inl h))))))) = other_name _ _ h.0 refl
+merge_command rows (inr (inr (inr (inr (inr (inr (inr (inl h)))))))) = other_name _ _ h.0 refl
+merge_command rows (inr (inr (inr (inr (inr (inr (inr (inr (inl h))))))))) = other_name _ _ h.0 refl
+merge_command rows (inr (inr (inr (inr (inr (inr (inr (inr (inr h))))))))) = other_name _ _ h.0 refl
+
 -- the command `table` has its flags
 pub table_command : (rows : List Row) → IsCommand (Some (codes "table", rows)) → HasTable rows
 table_command rows (inl h) = other_name _ _ h.0 refl
@@ -620,6 +657,19 @@ table_command rows (inr (inr (inr (inr (inr (inr (inl h))))))) = h.1
 table_command rows (inr (inr (inr (inr (inr (inr (inr (inl h)))))))) = other_name _ _ h.0 refl
 table_command rows (inr (inr (inr (inr (inr (inr (inr (inr (inl h))))))))) = other_name _ _ h.0 refl
 table_command rows (inr (inr (inr (inr (inr (inr (inr (inr (inr h))))))))) = other_name _ _ h.0 refl
+
+-- the command `page` has its order, its limit and its flags
+pub page_command : (rows : List Row) → IsCommand (Some (codes "page", rows)) → HasPage rows
+page_command rows (inl h) = other_name _ _ h.0 refl
+page_command rows (inr (inl h)) = other_name _ _ h.0 refl
+page_command rows (inr (inr (inl h))) = other_name _ _ h.0 refl
+page_command rows (inr (inr (inr (inl h)))) = other_name _ _ h.0 refl
+page_command rows (inr (inr (inr (inr (inl h))))) = other_name _ _ h.0 refl
+page_command rows (inr (inr (inr (inr (inr (inl h)))))) = other_name _ _ h.0 refl
+page_command rows (inr (inr (inr (inr (inr (inr (inl h))))))) = other_name _ _ h.0 refl
+page_command rows (inr (inr (inr (inr (inr (inr (inr (inl h)))))))) = h.1
+page_command rows (inr (inr (inr (inr (inr (inr (inr (inr (inl h))))))))) = other_name _ _ h.0 refl
+page_command rows (inr (inr (inr (inr (inr (inr (inr (inr (inr h))))))))) = other_name _ _ h.0 refl
 
 -- the command `same` has its flags
 pub same_command : (rows : List Row) → IsCommand (Some (codes "same", rows)) → HasSame rows
@@ -655,10 +705,10 @@ explain_flag name rows (inr (inr (inl h))) = h.1.explain
 explain_flag name rows (inr (inr (inr (inl h)))) = h.1.explain
 explain_flag name rows (inr (inr (inr (inr (inl h))))) = h.1.explain
 explain_flag name rows (inr (inr (inr (inr (inr (inl h)))))) = h.1.explain
-explain_flag name rows (inr (inr (inr (inr (inr (inr (inl h))))))) = h.1.explain
-explain_flag name rows (inr (inr (inr (inr (inr (inr (inr (inl h)))))))) = h.1.explain
-explain_flag name rows (inr (inr (inr (inr (inr (inr (inr (inr (inl h))))))))) = h.1.explain
-explain_flag name rows (inr (inr (inr (inr (inr (inr (inr (inr (inr h))))))))) = h.1.explain
+explain_flag name rows (inr (inr (inr (inr (inr (inr (inl h))))))) = h.1.reports.explain
+explain_flag name rows (inr (inr (inr (inr (inr (inr (inr (inl h)))))))) = h.1.reports.explain
+explain_flag name rows (inr (inr (inr (inr (inr (inr (inr (inr (inl h))))))))) = h.1.reports.explain
+explain_flag name rows (inr (inr (inr (inr (inr (inr (inr (inr (inr h))))))))) = h.1.reports.explain
 
 pub explain_of : (command : Option (List ℕ × List Row)) (rows : List Row) → option_map (λ (p : List ℕ × List Row). p.1) command ≡ Some rows → IsCommand command
     → HasFlag (codes "explain") rows

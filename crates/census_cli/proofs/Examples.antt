@@ -5,7 +5,8 @@ use Rattle.clap.specs.declared.error.kind.ErrorKind.TheVariants.{ArgumentConflic
 use Rattle.clap.proofs.OnLiterals.{clap_on_literals}
 use Rattle.census_cli.specs.CommandLine.{census_app}
 use Rattle.census_cli.specs.Asking.{AsksAdvance, AsksDraw, AsksIdentify, AsksMerge, AsksObjects, AsksPage, AsksRun, AsksSame, AsksTable, AsksToExplain, AsksVerify}
-use Rattle.census_cli.specs.Refusing.{AsksTwoTables}
+use Rattle.census_cli.specs.Refusing.{AsksStrangePage, AsksTwoTables}
+use Rattle.census_cli.specs.declared.request.PageSort.TheVariants.{Report, Count}
 use Rattle.census_cli.specs.declared.request.TableSubject.TheVariants.{Patterns, Codes}
 use Rattle.census_cli.specs.declared.request.TableFormat.TheVariants.{Csv, Json}
 
@@ -33,17 +34,17 @@ objects_flags : AsksObjects (codes "objects" ∷ codes "-rb5" ∷ codes "a" ∷ 
 unfolding clap_on_literals
 objects_flags = (refl, record { rows = _; named = refl; bound_is = refl; bound_in = (lit≤ tt, lit≤ tt); workers_are = refl; workers_in = (lit≤ tt, lit≤ tt); cells_are = refl; cells_in = (lit≤ tt, lit≤ tt); near_is = refl; horizon_is = refl; horizon_in = (lit≤ tt, lit≤ tt); input_is = refl; input_in = tt; recursive_is = refl; keep_going_is = refl; folders_are = refl })
 
-identify_among : AsksIdentify (codes "identify" ∷ codes "a" ∷ codes "-b" ∷ codes "50" ∷ codes "-" ∷ []) 50 1000000 false 1000 (codes "a" ∷ codes "-" ∷ [])
+identify_among : AsksIdentify (codes "identify" ∷ codes "a" ∷ codes "-b" ∷ codes "50" ∷ codes "-" ∷ []) 50 1000000 false 1000 false None (codes "a" ∷ codes "-" ∷ [])
 unfolding clap_on_literals
-identify_among = (refl, record { rows = _; named = refl; bound_is = refl; bound_in = (lit≤ tt, lit≤ tt); cells_are = refl; cells_in = (lit≤ tt, lit≤ tt); near_is = refl; horizon_is = refl; horizon_in = (lit≤ tt, lit≤ tt); files_are = refl })
+identify_among = (refl, record { rows = _; named = refl; bound_is = refl; bound_in = (lit≤ tt, lit≤ tt); cells_are = refl; cells_in = (lit≤ tt, lit≤ tt); near_is = refl; horizon_is = refl; horizon_in = (lit≤ tt, lit≤ tt); json_is = refl; names_are = refl; files_are = refl })
 
-identify_near : AsksIdentify (codes "identify" ∷ codes "--near" ∷ []) 10000 1000000 true 1000 []
+identify_near : AsksIdentify (codes "identify" ∷ codes "--near" ∷ []) 10000 1000000 true 1000 false None []
 unfolding clap_on_literals
-identify_near = (refl, record { rows = _; named = refl; bound_is = refl; bound_in = (lit≤ tt, lit≤ tt); cells_are = refl; cells_in = (lit≤ tt, lit≤ tt); near_is = refl; horizon_is = refl; horizon_in = (lit≤ tt, lit≤ tt); files_are = refl })
+identify_near = (refl, record { rows = _; named = refl; bound_is = refl; bound_in = (lit≤ tt, lit≤ tt); cells_are = refl; cells_in = (lit≤ tt, lit≤ tt); near_is = refl; horizon_is = refl; horizon_in = (lit≤ tt, lit≤ tt); json_is = refl; names_are = refl; files_are = refl })
 
-identify_small : AsksIdentify (codes "identify" ∷ codes "--cells" ∷ codes "7" ∷ codes "a" ∷ codes "--horizon=20" ∷ []) 10000 7 false 20 (codes "a" ∷ [])
+identify_small : AsksIdentify (codes "identify" ∷ codes "--cells" ∷ codes "7" ∷ codes "a" ∷ codes "--horizon=20" ∷ []) 10000 7 false 20 false None (codes "a" ∷ [])
 unfolding clap_on_literals
-identify_small = (refl, record { rows = _; named = refl; bound_is = refl; bound_in = (lit≤ tt, lit≤ tt); cells_are = refl; cells_in = (lit≤ tt, lit≤ tt); near_is = refl; horizon_is = refl; horizon_in = (lit≤ tt, lit≤ tt); files_are = refl })
+identify_small = (refl, record { rows = _; named = refl; bound_is = refl; bound_in = (lit≤ tt, lit≤ tt); cells_are = refl; cells_in = (lit≤ tt, lit≤ tt); near_is = refl; horizon_is = refl; horizon_in = (lit≤ tt, lit≤ tt); json_is = refl; names_are = refl; files_are = refl })
 
 advance_file : AsksAdvance (codes "advance" ∷ codes "4" ∷ codes "a" ∷ []) 4 (Some (codes "a"))
 unfolding clap_on_literals
@@ -53,33 +54,57 @@ draw_glider : AsksDraw (codes "draw" ∷ codes "xq4_153" ∷ []) (codes "xq4_153
 unfolding clap_on_literals
 draw_glider = (refl, record { rows = _; named = refl; code_is = refl; rule_is = refl })
 
-merge_among : AsksMerge (codes "merge" ∷ codes "a" ∷ codes "-" ∷ []) (codes "a" ∷ codes "-" ∷ [])
+merge_among : AsksMerge (codes "merge" ∷ codes "a" ∷ codes "-" ∷ []) false None (codes "a" ∷ codes "-" ∷ [])
 unfolding clap_on_literals
-merge_among = (refl, record { rows = _; named = refl; reports_are = refl })
+merge_among = (refl, record { rows = _; named = refl; reading = record { cut_is = refl; input_is = refl; input_in = tt; reports_are = refl } })
 
-table_json : AsksTable (codes "table" ∷ codes "a" ∷ codes "--json" ∷ codes "b" ∷ []) Patterns Json (codes "a" ∷ codes "b" ∷ [])
+merge_small : AsksMerge (codes "merge" ∷ codes "--input=9" ∷ codes "--cut" ∷ codes "a" ∷ []) true (Some 9) (codes "a" ∷ [])
 unfolding clap_on_literals
-table_json = (refl, record { rows = _; named = refl; subject_is = (refl, refl); format_is = (refl, refl, refl); reports_are = refl })
+merge_small = (refl, record { rows = _; named = refl; reading = record { cut_is = refl; input_is = refl; input_in = (lit≤ tt, lit≤ tt); reports_are = refl } })
 
-table_codes : AsksTable (codes "table" ∷ codes "--codes" ∷ codes "a" ∷ []) Codes (Csv false) (codes "a" ∷ [])
+identify_named : AsksIdentify (codes "identify" ∷ codes "--json" ∷ codes "--names" ∷ codes "n.tsv" ∷ codes "a" ∷ []) 10000 1000000 false 1000 true (Some (codes "n.tsv")) (codes "a" ∷ [])
 unfolding clap_on_literals
-table_codes = (refl, record { rows = _; named = refl; subject_is = (refl, refl); format_is = (refl, refl); reports_are = refl })
+identify_named = (refl, record { rows = _; named = refl; bound_is = refl; bound_in = (lit≤ tt, lit≤ tt); cells_are = refl; cells_in = (lit≤ tt, lit≤ tt); near_is = refl; horizon_is = refl; horizon_in = (lit≤ tt, lit≤ tt); json_is = refl; names_are = refl; files_are = refl })
 
-table_safe : AsksTable (codes "table" ∷ codes "--safe" ∷ codes "a" ∷ codes "--csv" ∷ []) Patterns (Csv true) (codes "a" ∷ [])
+table_json : AsksTable (codes "table" ∷ codes "a" ∷ codes "--json" ∷ codes "b" ∷ []) Patterns Json None false None (codes "a" ∷ codes "b" ∷ [])
 unfolding clap_on_literals
-table_safe = (refl, record { rows = _; named = refl; subject_is = (refl, refl); format_is = (refl, refl); reports_are = refl })
+table_json = (refl, record { rows = _; named = refl; subject_is = (refl, refl); format_is = (refl, refl, refl); names_are = refl; reading = record { cut_is = refl; input_is = refl; input_in = tt; reports_are = refl } })
 
-page_among : AsksPage (codes "page" ∷ codes "a" ∷ codes "-" ∷ []) (codes "a" ∷ codes "-" ∷ [])
+table_codes : AsksTable (codes "table" ∷ codes "--codes" ∷ codes "a" ∷ []) Codes (Csv false) None false None (codes "a" ∷ [])
 unfolding clap_on_literals
-page_among = (refl, record { rows = _; named = refl; reports_are = refl })
+table_codes = (refl, record { rows = _; named = refl; subject_is = (refl, refl); format_is = (refl, refl); names_are = refl; reading = record { cut_is = refl; input_is = refl; input_in = tt; reports_are = refl } })
 
-same_among : AsksSame (codes "same" ∷ codes "--json" ∷ codes "a" ∷ codes "-" ∷ []) true (codes "a" ∷ codes "-" ∷ [])
+table_safe : AsksTable (codes "table" ∷ codes "--safe" ∷ codes "a" ∷ codes "--csv" ∷ []) Patterns (Csv true) None false None (codes "a" ∷ [])
 unfolding clap_on_literals
-same_among = (refl, record { rows = _; named = refl; json_is = refl; reports_are = refl })
+table_safe = (refl, record { rows = _; named = refl; subject_is = (refl, refl); format_is = (refl, refl); names_are = refl; reading = record { cut_is = refl; input_is = refl; input_in = tt; reports_are = refl } })
 
-verify_among : AsksVerify (codes "verify" ∷ codes "c.csv" ∷ codes "a" ∷ codes "-" ∷ []) (codes "c.csv") (codes "a" ∷ codes "-" ∷ [])
+page_among : AsksPage (codes "page" ∷ codes "a" ∷ codes "-" ∷ []) (record { title = None; note = None; sort = Report; top = None; base = None; links = false; patterns = true }) false None (codes "a" ∷ codes "-" ∷ [])
 unfolding clap_on_literals
-verify_among = (refl, record { rows = _; named = refl; claims_are = refl; reports_are = refl })
+page_among = (refl, record { rows = _; named = refl; title_is = refl; note_is = refl; sort_is = refl; top_is = refl; top_in = tt; base_is = refl; base_in = tt; links_is = refl; patterns_is = refl; reading = record { cut_is = refl; input_is = refl; input_in = tt; reports_are = refl } })
+
+page_sorted : AsksPage (codes "page" ∷ codes "--sort" ∷ codes "count" ∷ codes "--top=7" ∷ codes "--links" ∷ codes "--no-patterns" ∷ codes "--cut" ∷ []) (record { title = None; note = None; sort = Count; top = Some 7; base = None; links = true; patterns = false }) true None []
+unfolding clap_on_literals
+page_sorted = (refl, record { rows = _; named = refl; title_is = refl; note_is = refl; sort_is = refl; top_is = refl; top_in = (lit≤ tt, lit≤ tt); base_is = refl; base_in = tt; links_is = refl; patterns_is = refl; reading = record { cut_is = refl; input_is = refl; input_in = tt; reports_are = refl } })
+
+page_at : AsksPage (codes "page" ∷ codes "--base" ∷ codes "https://a.b" ∷ codes "a" ∷ []) (record { title = None; note = None; sort = Report; top = None; base = Some (record { ref_ptr = (0, 0); now = codes "https://a.b" }); links = false; patterns = true }) false None (codes "a" ∷ [])
+unfolding clap_on_literals
+page_at = (refl, record { rows = _; named = refl; title_is = refl; note_is = refl; sort_is = refl; top_is = refl; top_in = tt; base_is = refl; base_in = refl; links_is = refl; patterns_is = refl; reading = record { cut_is = refl; input_is = refl; input_in = tt; reports_are = refl } })
+
+page_in_no_order : AsksStrangePage (codes "page" ∷ codes "--sort=size" ∷ [])
+unfolding clap_on_literals
+page_in_no_order = (refl, record { rows = _; named = refl; strange = inl (codes "size", refl, refl) })
+
+page_at_no_address : AsksStrangePage (codes "page" ∷ codes "--base" ∷ codes "a.b" ∷ [])
+unfolding clap_on_literals
+page_at_no_address = (refl, record { rows = _; named = refl; strange = inr (codes "a.b", refl, refl) })
+
+same_among : AsksSame (codes "same" ∷ codes "--json" ∷ codes "a" ∷ codes "-" ∷ []) true false None (codes "a" ∷ codes "-" ∷ [])
+unfolding clap_on_literals
+same_among = (refl, record { rows = _; named = refl; json_is = refl; reading = record { cut_is = refl; input_is = refl; input_in = tt; reports_are = refl } })
+
+verify_among : AsksVerify (codes "verify" ∷ codes "c.csv" ∷ codes "a" ∷ codes "-" ∷ []) (codes "c.csv") false None (codes "a" ∷ codes "-" ∷ [])
+unfolding clap_on_literals
+verify_among = (refl, record { rows = _; named = refl; claims_are = refl; reading = record { cut_is = refl; input_is = refl; input_in = tt; reports_are = refl } })
 
 table_both : AsksTwoTables (codes "table" ∷ codes "--json" ∷ codes "--csv" ∷ [])
 unfolding clap_on_literals
@@ -92,6 +117,10 @@ table_json_safe = (refl, record { rows = _; named = refl; two = inl (refl, inr r
 run_explained : AsksToExplain (codes "run" ∷ codes "a" ∷ codes "--explain" ∷ []) true
 unfolding clap_on_literals
 run_explained = refl
+
+top_of_none : fault_of census_app (codes "page" ∷ codes "--top" ∷ codes "0" ∷ []) ≡ ValueValidation ∷ []
+unfolding clap_on_literals
+top_of_none = refl
 
 near_twice : fault_of census_app (codes "objects" ∷ codes "--near" ∷ codes "--near" ∷ []) ≡ ArgumentConflict ∷ []
 unfolding clap_on_literals

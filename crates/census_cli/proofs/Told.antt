@@ -31,5 +31,6 @@ refuses app words error fault same tells h =
 -- words that clap takes are refused as the command that they name is
 pub refuses_matched : (words : List (List ℕ)) (fault : WordsFault) → IsMatched words → RefusesCommand (subcommand_of census_app words) fault → RefusesWords words fault
 refuses_matched words (Help text) matched h = absurd h
-refuses_matched words (Refused text) matched h = inr (matched, h)
+refuses_matched words (Refused text) matched (inl tables) = inr (inl (matched, tables))
+refuses_matched words (Refused text) matched (inr page) = inr (inr (matched, page))
 refuses_matched words Memory matched h = tt

@@ -1,6 +1,8 @@
 -- What the words of a command line ask for, by the matches that clap gives for them.
-use Rattle.std.specs.Prelude.{◌≡◌, ◌⊎◌, ℕ, ◌≤◌, List, [], Bool, true, false, Option, Some, None, map, codes}
-use Rattle.std.specs.Prelude.{option_map, unwrap_or}
+use Rattle.std.specs.Prelude.{◌≡◌, ◌⊎◌, ◌||◌, ℕ, ◌≤◌, List, [], Bool, true, false, not, Option, Some, None, map, codes}
+use Rattle.std.specs.Prelude.{if◌then◌else◌, nat_eq, option_and_then, option_map, unwrap_or}
+use Rattle.std.specs.List.{starts_with}
+use Rattle.std.specs.Str.{bytes_eq}
 use Rattle.std.specs.Str.Parse.{digits_value, without_leading_plus}
 use Rattle.clap.specs.Faults.{fault_of}
 use Rattle.clap.specs.Simple.{subcommand_of}
@@ -8,6 +10,9 @@ use Rattle.clap.specs.Values.{bool_text}
 use Rattle.clap.specs.Walk.{Row, all_of, first_of, one_of}
 use Rattle.census_cli.specs.CommandLine.{census_app}
 use Rattle.census_cli.specs.declared.request.Asked.{Asked}
+use Rattle.census_cli.specs.declared.request.PageAsked.{PageAsked}
+use Rattle.census_cli.specs.declared.request.PageSort.{PageSort}
+use Rattle.census_cli.specs.declared.request.PageSort.TheVariants.{Report, Count, Code, Period, Name}
 use Rattle.census_cli.specs.declared.request.Request.{Request}
 use Rattle.census_cli.specs.declared.request.Request.TheVariants.{Run, Objects, Identify, Advance, Draw, Merge, Table, Page, Same, Verify}
 use Rattle.census_cli.specs.declared.request.TableFormat.{TableFormat}
@@ -46,6 +51,32 @@ abbrev pub IsSubject : TableSubject → List Row → Type 0
 IsSubject Patterns rows = IsFlag (codes "parts") rows false × IsFlag (codes "codes") rows false
 IsSubject Parts rows = IsFlag (codes "parts") rows true × IsFlag (codes "codes") rows false
 IsSubject Codes rows = IsFlag (codes "parts") rows false × IsFlag (codes "codes") rows true
+
+-- the order that a word names, where it names one
+abbrev pub order_of : List ℕ → Option PageSort
+order_of word =
+    if bytes_eq word (codes "report") then Some Report else
+    (if bytes_eq word (codes "count") then Some Count else
+    (if bytes_eq word (codes "code") then Some Code else
+    (if bytes_eq word (codes "period") then Some Period else
+    (if bytes_eq word (codes "name") then Some Name else None))))
+
+-- whether a text begins as the address of a page does
+abbrev pub is_address : List ℕ → Bool
+is_address text = starts_with nat_eq text (codes "http://") || starts_with nat_eq text (codes "https://")
+
+-- it is such a text, where there is one
+abbrev pub IsAddress : Option (List ℕ) → Type 0
+IsAddress None = Unit {0}
+IsAddress (Some text) = is_address text ≡ true
+
+-- The matches of a command that reads reports say whether one may have been cut, how many bytes all may have, and which they
+-- are, none for that of standard input.
+pub record GivesReports (rows : List Row) (cut : Bool) (input : Option ℕ) (reports : List (List ℕ)) : Type 0 where
+  pub cut_is : IsFlag (codes "cut") rows cut
+  pub input_is : argument_number (codes "input") rows ≡ input
+  pub input_in : IsLimit 9223372036854775807 input
+  pub reports_are : values_of (codes "report") rows ≡ reports
 
 -- The command and its matches are those of a census of these folders, or of the bundle on standard input where there is
 -- none.
@@ -87,7 +118,7 @@ pub record GivesObjects (command : Option (List ℕ × List Row)) (bound workers
 
 -- those of the blocks of these files, or, where there is none, of the block of standard input
 pub record GivesIdentify (command : Option (List ℕ × List Row)) (bound cells : ℕ) (near : Bool) (horizon : ℕ)
-    (files : List (List ℕ)) : Type 0 where
+    (json : Bool) (names : Option (List ℕ)) (files : List (List ℕ)) : Type 0 where
   pub rows : List Row
   pub named : command ≡ Some (codes "identify", rows)
   pub bound_is : argument_number (codes "bound") rows ≡ Some bound
@@ -97,6 +128,8 @@ pub record GivesIdentify (command : Option (List ℕ × List Row)) (bound cells 
   pub near_is : IsFlag (codes "near") rows near
   pub horizon_is : argument_number (codes "horizon") rows ≡ Some horizon
   pub horizon_in : (1 ≤ horizon) × (horizon ≤ horizon_limit)
+  pub json_is : IsFlag (codes "json") rows json
+  pub names_are : first_of (codes "names") rows ≡ names
   pub files_are : values_of (codes "file") rows ≡ files
 
 -- those of so many generations of this file, or, where there is none, of standard input
@@ -115,55 +148,74 @@ pub record GivesDraw (command : Option (List ℕ × List Row)) (code rule : List
   pub code_is : first_of (codes "code") rows ≡ Some code
   pub rule_is : first_of (codes "rule") rows ≡ Some rule
 
--- those of the one report that these reports make, or, where there is none, that of standard input
-pub record GivesMerge (command : Option (List ℕ × List Row)) (reports : List (List ℕ)) : Type 0 where
+-- those of the one report that these reports make
+pub record GivesMerge (command : Option (List ℕ × List Row)) (cut : Bool) (input : Option ℕ)
+    (reports : List (List ℕ)) : Type 0 where
   pub rows : List Row
   pub named : command ≡ Some (codes "merge", rows)
-  pub reports_are : values_of (codes "report") rows ≡ reports
+  pub reading : GivesReports rows cut input reports
 
--- those of the table of this in this format of these reports, or, where there is none, of that of standard input
+-- those of the table of this in this format of these reports, with names of codes or without
 pub record GivesTable (command : Option (List ℕ × List Row)) (subject : TableSubject) (format : TableFormat)
-    (reports : List (List ℕ)) : Type 0 where
+    (names : Option (List ℕ)) (cut : Bool) (input : Option ℕ) (reports : List (List ℕ)) : Type 0 where
   pub rows : List Row
   pub named : command ≡ Some (codes "table", rows)
   pub subject_is : IsSubject subject rows
   pub format_is : IsFormat format rows
-  pub reports_are : values_of (codes "report") rows ≡ reports
+  pub names_are : first_of (codes "names") rows ≡ names
+  pub reading : GivesReports rows cut input reports
 
--- those of the page of these reports, or, where there is none, of that of standard input
-pub record GivesPage (command : Option (List ℕ × List Row)) (reports : List (List ℕ)) : Type 0 where
+-- those of this page of these reports
+pub record GivesPage (command : Option (List ℕ × List Row)) (page : PageAsked) (cut : Bool) (input : Option ℕ)
+    (reports : List (List ℕ)) : Type 0 where
   pub rows : List Row
   pub named : command ≡ Some (codes "page", rows)
-  pub reports_are : values_of (codes "report") rows ≡ reports
+  pub title_is : first_of (codes "title") rows ≡ option_map (λ s. s.now) page.title
+  pub note_is : first_of (codes "note") rows ≡ option_map (λ s. s.now) page.note
+  pub sort_is : option_and_then order_of (first_of (codes "sort") rows) ≡ Some page.sort
+  pub top_is : argument_number (codes "top") rows ≡ page.top
+  pub top_in : IsLimit 4294967295 page.top
+  pub base_is : first_of (codes "base") rows ≡ option_map (λ s. s.now) page.base
+  pub base_in : IsAddress (option_map (λ s. s.now) page.base)
+  pub links_is : IsFlag (codes "links") rows page.links
+  pub patterns_is : IsFlag (codes "no-patterns") rows (not page.patterns)
+  pub reading : GivesReports rows cut input reports
 
--- those of the patterns of these reports that are one object, or, where there is none, of that of standard input
-pub record GivesSame (command : Option (List ℕ × List Row)) (json : Bool) (reports : List (List ℕ)) : Type 0 where
+-- those of the patterns of these reports that are one object
+pub record GivesSame (command : Option (List ℕ × List Row)) (json : Bool) (cut : Bool) (input : Option ℕ)
+    (reports : List (List ℕ)) : Type 0 where
   pub rows : List Row
   pub named : command ≡ Some (codes "same", rows)
   pub json_is : IsFlag (codes "json") rows json
-  pub reports_are : values_of (codes "report") rows ≡ reports
+  pub reading : GivesReports rows cut input reports
 
--- those of the claims of a file compared with these reports, or, where there is none, with that of standard input
-pub record GivesVerify (command : Option (List ℕ × List Row)) (claims : List ℕ) (reports : List (List ℕ)) : Type 0 where
+-- those of the claims of a file compared with these reports
+pub record GivesVerify (command : Option (List ℕ × List Row)) (claims : List ℕ) (cut : Bool) (input : Option ℕ)
+    (reports : List (List ℕ)) : Type 0 where
   pub rows : List Row
   pub named : command ≡ Some (codes "verify", rows)
   pub claims_are : first_of (codes "claims") rows ≡ Some claims
-  pub reports_are : values_of (codes "report") rows ≡ reports
+  pub reading : GivesReports rows cut input reports
 
 abbrev pub GivesRequest : Option (List ℕ × List Row) → Request → Type 0
 GivesRequest command (Run bound workers cells input recursive keep_going folders) =
     GivesRun command bound workers cells input recursive keep_going (map (λ s. s.now) folders.items)
 GivesRequest command (Objects bound workers cells near horizon input recursive keep_going folders) =
     GivesObjects command bound workers cells near horizon input recursive keep_going (map (λ s. s.now) folders.items)
-GivesRequest command (Identify bound cells near horizon files) =
-    GivesIdentify command bound cells near horizon (map (λ s. s.now) files.items)
+GivesRequest command (Identify bound cells near horizon json names files) =
+    GivesIdentify command bound cells near horizon json (option_map (λ s. s.now) names) (map (λ s. s.now) files.items)
 GivesRequest command (Advance generations file) = GivesAdvance command generations (option_map (λ s. s.now) file)
 GivesRequest command (Draw code rule) = GivesDraw command code.now rule.now
-GivesRequest command (Merge reports) = GivesMerge command (map (λ s. s.now) reports.items)
-GivesRequest command (Table subject format reports) = GivesTable command subject format (map (λ s. s.now) reports.items)
-GivesRequest command (Page reports) = GivesPage command (map (λ s. s.now) reports.items)
-GivesRequest command (Same json reports) = GivesSame command json (map (λ s. s.now) reports.items)
-GivesRequest command (Verify claims reports) = GivesVerify command claims.now (map (λ s. s.now) reports.items)
+GivesRequest command (Merge reports) = GivesMerge command reports.cut reports.input (map (λ s. s.now) reports.words.items)
+GivesRequest command (Table subject format names reports) =
+    GivesTable command subject format (option_map (λ s. s.now) names) reports.cut reports.input
+    (map (λ s. s.now) reports.words.items)
+GivesRequest command (Page page reports) =
+    GivesPage command page reports.cut reports.input (map (λ s. s.now) reports.words.items)
+GivesRequest command (Same json reports) =
+    GivesSame command json reports.cut reports.input (map (λ s. s.now) reports.words.items)
+GivesRequest command (Verify claims reports) =
+    GivesVerify command claims.now reports.cut reports.input (map (λ s. s.now) reports.words.items)
 
 -- whether the flag `--explain` of the command was used
 abbrev pub Explains : Option (List ℕ × List Row) → Bool → Type 0
@@ -203,9 +255,9 @@ AsksObjects words bound workers cells near horizon input recursive keep_going fo
     IsMatched words × GivesObjects (subcommand_of census_app words) bound workers cells near horizon input recursive keep_going folders
 
 -- for the blocks of these files, or, where there is none, for the block of standard input
-abbrev pub AsksIdentify : List (List ℕ) → ℕ → ℕ → Bool → ℕ → List (List ℕ) → Type 0
-AsksIdentify words bound cells near horizon files =
-    IsMatched words × GivesIdentify (subcommand_of census_app words) bound cells near horizon files
+abbrev pub AsksIdentify : List (List ℕ) → ℕ → ℕ → Bool → ℕ → Bool → Option (List ℕ) → List (List ℕ) → Type 0
+AsksIdentify words bound cells near horizon json names files =
+    IsMatched words × GivesIdentify (subcommand_of census_app words) bound cells near horizon json names files
 
 -- for so many generations of this file, or, where there is none, of standard input
 abbrev pub AsksAdvance : List (List ℕ) → ℕ → Option (List ℕ) → Type 0
@@ -215,25 +267,27 @@ AsksAdvance words generations file = IsMatched words × GivesAdvance (subcommand
 abbrev pub AsksDraw : List (List ℕ) → List ℕ → List ℕ → Type 0
 AsksDraw words code rule = IsMatched words × GivesDraw (subcommand_of census_app words) code rule
 
--- for the one report that these reports make, or, where there is none, that of standard input
-abbrev pub AsksMerge : List (List ℕ) → List (List ℕ) → Type 0
-AsksMerge words reports = IsMatched words × GivesMerge (subcommand_of census_app words) reports
+-- for the one report that these reports make
+abbrev pub AsksMerge : List (List ℕ) → Bool → Option ℕ → List (List ℕ) → Type 0
+AsksMerge words cut input reports = IsMatched words × GivesMerge (subcommand_of census_app words) cut input reports
 
--- for the table of this in this format of these reports, or, where there is none, of that of standard input
-abbrev pub AsksTable : List (List ℕ) → TableSubject → TableFormat → List (List ℕ) → Type 0
-AsksTable words subject format reports = IsMatched words × GivesTable (subcommand_of census_app words) subject format reports
+-- for the table of this in this format of these reports, with names of codes or without
+abbrev pub AsksTable : List (List ℕ) → TableSubject → TableFormat → Option (List ℕ) → Bool → Option ℕ → List (List ℕ) → Type 0
+AsksTable words subject format names cut input reports =
+    IsMatched words × GivesTable (subcommand_of census_app words) subject format names cut input reports
 
--- for the page of these reports, or, where there is none, of that of standard input
-abbrev pub AsksPage : List (List ℕ) → List (List ℕ) → Type 0
-AsksPage words reports = IsMatched words × GivesPage (subcommand_of census_app words) reports
+-- for this page of these reports
+abbrev pub AsksPage : List (List ℕ) → PageAsked → Bool → Option ℕ → List (List ℕ) → Type 0
+AsksPage words page cut input reports = IsMatched words × GivesPage (subcommand_of census_app words) page cut input reports
 
--- for the patterns of these reports that are one object, or, where there is none, of that of standard input
-abbrev pub AsksSame : List (List ℕ) → Bool → List (List ℕ) → Type 0
-AsksSame words json reports = IsMatched words × GivesSame (subcommand_of census_app words) json reports
+-- for the patterns of these reports that are one object
+abbrev pub AsksSame : List (List ℕ) → Bool → Bool → Option ℕ → List (List ℕ) → Type 0
+AsksSame words json cut input reports = IsMatched words × GivesSame (subcommand_of census_app words) json cut input reports
 
--- for the claims of a file compared with these reports, or, where there is none, with that of standard input
-abbrev pub AsksVerify : List (List ℕ) → List ℕ → List (List ℕ) → Type 0
-AsksVerify words claims reports = IsMatched words × GivesVerify (subcommand_of census_app words) claims reports
+-- for the claims of a file compared with these reports
+abbrev pub AsksVerify : List (List ℕ) → List ℕ → Bool → Option ℕ → List (List ℕ) → Type 0
+AsksVerify words claims cut input reports =
+    IsMatched words × GivesVerify (subcommand_of census_app words) claims cut input reports
 
 -- for this
 abbrev pub Asks : List (List ℕ) → Request → Type 0

@@ -1,8 +1,8 @@
 -- The command line of `census`, as clap reads it.
-use Rattle.std.specs.Prelude.{ℕ, List, [], ◌∷◌, Some, true, false, codes}
+use Rattle.std.specs.Prelude.{ℕ, List, [], ◌∷◌, Some, true, false, codes, fold}
 use Rattle.clap.specs.Lexer.{usize_max}
 use Rattle.clap.specs.Walk.{Rule}
-use Rattle.clap.specs.Simple.{App, Shape, new_rule, new_shape}
+use Rattle.clap.specs.Simple.{App, Shape, new_rule, new_shape, with_rule}
 use Rattle.clap.specs.declared.builder.action.ArgAction.TheVariants.{SetTrue}
 use Rattle.clap.specs.declared.builder.value_parser.ValueParser.TheVariants.{Unsigned}
 use Rattle.census_cli.specs.Limits.{generation_limit, horizon_limit, objects_bound_limit, settles_bound_limit, worker_limit}
@@ -158,7 +158,54 @@ parts_rule = record (new_rule (codes "parts")) { long = Some (codes "parts"); ac
 abbrev pub codes_rule : Rule
 codes_rule = record (new_rule (codes "codes")) { long = Some (codes "codes"); action = Some SetTrue }
 
--- the `REPORT..` of `merge`, of `table` and of `page`
+-- `--names FILE`
+abbrev pub names_rule : Rule
+names_rule = record (new_rule (codes "names")) { long = Some (codes "names"); value_names = 1 }
+
+-- `--title TEXT`
+abbrev pub title_rule : Rule
+title_rule = record (new_rule (codes "title")) { long = Some (codes "title"); value_names = 1 }
+
+-- `--note TEXT`
+abbrev pub note_rule : Rule
+note_rule = record (new_rule (codes "note")) { long = Some (codes "note"); value_names = 1 }
+
+-- `--sort ORDER`
+abbrev pub sort_rule : Rule
+sort_rule = record (new_rule (codes "sort")) {
+  long = Some (codes "sort");
+  value_names = 1;
+  defaults = codes "report" ∷ [];
+}
+
+-- `--top N`
+abbrev pub top_rule : Rule
+top_rule = record (new_rule (codes "top")) {
+  long = Some (codes "top");
+  value_names = 1;
+  parser = Some (Unsigned 1 4294967295);
+}
+
+-- `--base URL`
+abbrev pub base_rule : Rule
+base_rule = record (new_rule (codes "base")) { long = Some (codes "base"); value_names = 1 }
+
+-- `--links`
+abbrev pub links_rule : Rule
+links_rule = record (new_rule (codes "links")) { long = Some (codes "links"); action = Some SetTrue }
+
+-- `--no-patterns`
+abbrev pub no_patterns_rule : Rule
+no_patterns_rule = record (new_rule (codes "no-patterns")) {
+  long = Some (codes "no-patterns");
+  action = Some SetTrue;
+}
+
+-- `--cut`
+abbrev pub cut_rule : Rule
+cut_rule = record (new_rule (codes "cut")) { long = Some (codes "cut"); action = Some SetTrue }
+
+-- the `REPORT..` of the commands that read reports
 abbrev pub reports_rule : Rule
 reports_rule = record (new_rule (codes "report")) {
   value_names = 1;
@@ -173,6 +220,14 @@ claims_rule = record (new_rule (codes "claims")) { value_names = 1; required = t
 abbrev pub shape_with : List ℕ → List Rule → Shape
 shape_with name rules = record (new_shape name) { rules = rules }
 
+-- the last arguments of the commands that read reports: how they are read, and which they are
+abbrev pub reading_rules : List Rule
+reading_rules = cut_rule ∷ input_rule ∷ explain_rule ∷ reports_rule ∷ []
+
+-- a command with these after its own arguments
+abbrev pub with_reading : App → App
+with_reading app = fold with_rule app reading_rules
+
 abbrev pub run_shape : Shape
 run_shape = shape_with (codes "run")
     (bound_rule ∷ workers_rule ∷ limit_rule ∷ input_rule ∷ recursive_rule ∷ keep_going_rule
@@ -185,7 +240,7 @@ objects_shape = shape_with (codes "objects")
 
 abbrev pub identify_shape : Shape
 identify_shape = shape_with (codes "identify")
-    (search_rule ∷ cells_rule ∷ near_rule ∷ horizon_rule ∷ explain_rule ∷ files_rule ∷ [])
+    (search_rule ∷ cells_rule ∷ near_rule ∷ horizon_rule ∷ json_rule ∷ names_rule ∷ explain_rule ∷ files_rule ∷ [])
 
 abbrev pub advance_shape : Shape
 advance_shape = shape_with (codes "advance") (generations_rule ∷ explain_rule ∷ file_rule ∷ [])
@@ -194,19 +249,21 @@ abbrev pub draw_shape : Shape
 draw_shape = shape_with (codes "draw") (code_rule ∷ rule_rule ∷ explain_rule ∷ [])
 
 abbrev pub merge_shape : Shape
-merge_shape = shape_with (codes "merge") (explain_rule ∷ reports_rule ∷ [])
+merge_shape = shape_with (codes "merge") reading_rules
 
 abbrev pub table_shape : Shape
-table_shape = shape_with (codes "table") (csv_rule ∷ json_rule ∷ safe_rule ∷ parts_rule ∷ codes_rule ∷ explain_rule ∷ reports_rule ∷ [])
+table_shape = shape_with (codes "table")
+    (csv_rule ∷ json_rule ∷ safe_rule ∷ parts_rule ∷ codes_rule ∷ names_rule ∷ reading_rules)
 
 abbrev pub page_shape : Shape
-page_shape = shape_with (codes "page") (explain_rule ∷ reports_rule ∷ [])
+page_shape = shape_with (codes "page")
+    (title_rule ∷ note_rule ∷ sort_rule ∷ top_rule ∷ base_rule ∷ links_rule ∷ no_patterns_rule ∷ reading_rules)
 
 abbrev pub same_shape : Shape
-same_shape = shape_with (codes "same") (json_rule ∷ explain_rule ∷ reports_rule ∷ [])
+same_shape = shape_with (codes "same") (json_rule ∷ reading_rules)
 
 abbrev pub verify_shape : Shape
-verify_shape = shape_with (codes "verify") (claims_rule ∷ explain_rule ∷ reports_rule ∷ [])
+verify_shape = shape_with (codes "verify") (claims_rule ∷ reading_rules)
 
 -- `census` without its commands: it wants one, its words come without its own name, and it tells its version
 abbrev pub bare_app : App

@@ -55,6 +55,7 @@ pub record HasIdentify (rows : List Row) : Type 0 where
   pub cells : HasNumberIn 1 4294967295 (codes "cells") rows
   pub near : HasFlag (codes "near") rows
   pub horizon : HasNumberIn 1 horizon_limit (codes "horizon") rows
+  pub json : HasFlag (codes "json") rows
   pub explain : HasFlag (codes "explain") rows
 
 -- those of `advance` have theirs
@@ -68,8 +69,10 @@ pub record HasDraw (rows : List Row) : Type 0 where
   pub rule : HasText (codes "rule") rows
   pub explain : HasFlag (codes "explain") rows
 
--- those of `merge` have theirs
-pub record HasMerge (rows : List Row) : Type 0 where
+-- those of a command that reads reports have what says how: `merge` has no more
+pub record HasReports (rows : List Row) : Type 0 where
+  pub cut : HasFlag (codes "cut") rows
+  pub input : HasLimit 9223372036854775807 (codes "input") rows
   pub explain : HasFlag (codes "explain") rows
 
 -- those of `table` have theirs
@@ -79,17 +82,25 @@ pub record HasTable (rows : List Row) : Type 0 where
   pub safe : HasFlag (codes "safe") rows
   pub of_parts : HasFlag (codes "parts") rows
   pub of_codes : HasFlag (codes "codes") rows
-  pub explain : HasFlag (codes "explain") rows
+  pub reports : HasReports rows
+
+-- those of `page` have theirs
+pub record HasPage (rows : List Row) : Type 0 where
+  pub sort : HasText (codes "sort") rows
+  pub top : HasLimit 4294967295 (codes "top") rows
+  pub links : HasFlag (codes "links") rows
+  pub no_patterns : HasFlag (codes "no-patterns") rows
+  pub reports : HasReports rows
 
 -- those of `same` have theirs
 pub record HasSame (rows : List Row) : Type 0 where
   pub json : HasFlag (codes "json") rows
-  pub explain : HasFlag (codes "explain") rows
+  pub reports : HasReports rows
 
 -- those of `verify` have theirs
 pub record HasVerify (rows : List Row) : Type 0 where
   pub claims : HasText (codes "claims") rows
-  pub explain : HasFlag (codes "explain") rows
+  pub reports : HasReports rows
 
 -- a command with the matches that it has to have
 abbrev pub IsCommand : Option (List ℕ × List Row) → Type 0
@@ -100,8 +111,8 @@ IsCommand (Some (name, rows)) =
     ⊎ (((name ≡ codes "identify") × HasIdentify rows)
     ⊎ (((name ≡ codes "advance") × HasAdvance rows)
     ⊎ (((name ≡ codes "draw") × HasDraw rows)
-    ⊎ (((name ≡ codes "merge") × HasMerge rows)
+    ⊎ (((name ≡ codes "merge") × HasReports rows)
     ⊎ (((name ≡ codes "table") × HasTable rows)
-    ⊎ (((name ≡ codes "page") × HasMerge rows)
+    ⊎ (((name ≡ codes "page") × HasPage rows)
     ⊎ (((name ≡ codes "same") × HasSame rows)
     ⊎ ((name ≡ codes "verify") × HasVerify rows)))))))))

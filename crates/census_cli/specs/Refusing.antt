@@ -1,12 +1,12 @@
 -- Why the words of a command line are no request.
-use Rattle.std.specs.Prelude.{◌≡◌, ◌≢◌, ◌⊎◌, ℕ, List, Option, Some, None, true, codes, string_bytes}
+use Rattle.std.specs.Prelude.{◌≡◌, ◌≢◌, ◌⊎◌, ℕ, List, Option, Some, None, true, false, codes, string_bytes}
 use Rattle.clap.specs.Faults.{fault_of}
 use Rattle.clap.specs.Kinds.{IsAmong}
 use Rattle.clap.specs.Simple.{subcommand_of}
-use Rattle.clap.specs.Walk.{Row}
+use Rattle.clap.specs.Walk.{Row, first_of}
 use Rattle.clap.specs.declared.error.kind.ErrorKind.{ErrorKind}
 use Rattle.clap.specs.declared.error.kind.ErrorKind.TheVariants.{DisplayHelp, DisplayVersion, OutOfMemory}
-use Rattle.census_cli.specs.Asking.{IsFlag, IsFormat, IsMatched, IsSubject}
+use Rattle.census_cli.specs.Asking.{IsFlag, IsFormat, IsMatched, IsSubject, is_address, order_of}
 use Rattle.census_cli.specs.CommandLine.{census_app}
 use Rattle.census_cli.specs.declared.fault.WordsFault.{WordsFault}
 use Rattle.census_cli.specs.declared.fault.WordsFault.TheVariants.{Help, Refused, Memory}
@@ -50,6 +50,20 @@ pub record HasTwoTables (command : Option (List ℕ × List Row)) : Type 0 where
   pub named : command ≡ Some (codes "table", rows)
   pub two : HasTwoFormats rows ⊎ (IsFlag (codes "parts") rows true × IsFlag (codes "codes") rows true)
 
+-- the matches name an order of a page that there is none of
+abbrev pub HasNoOrder : List Row → Type 0
+HasNoOrder rows = (word : List ℕ) × (first_of (codes "sort") rows ≡ Some word) × (order_of word ≡ None)
+
+-- they name a base that does not begin as an address does
+abbrev pub HasNoAddress : List Row → Type 0
+HasNoAddress rows = (text : List ℕ) × (first_of (codes "base") rows ≡ Some text) × (is_address text ≡ false)
+
+-- The command and its matches are those of a page in no order that there is, or with a base that is no address.
+pub record HasStrangePage (command : Option (List ℕ × List Row)) : Type 0 where
+  pub rows : List Row
+  pub named : command ≡ Some (codes "page", rows)
+  pub strange : HasNoOrder rows ⊎ HasNoAddress rows
+
 -- the format of the table of matches, or none where they name two
 abbrev pub NamesFormat : List Row → Option TableFormat → Type 0
 NamesFormat rows (Some format) = IsFormat format rows
@@ -63,16 +77,20 @@ NamesSubject rows None = IsFlag (codes "parts") rows true × IsFlag (codes "code
 -- why a command and its matches are no request
 abbrev pub RefusesCommand : Option (List ℕ × List Row) → WordsFault → Type 0
 RefusesCommand command (Help text) = ⊥
-RefusesCommand command (Refused text) = HasTwoTables command
+RefusesCommand command (Refused text) = HasTwoTables command ⊎ HasStrangePage command
 RefusesCommand command Memory = Unit {0}
 
 -- the words ask for a table in two formats, or for two tables, which clap lets pass
 abbrev pub AsksTwoTables : List (List ℕ) → Type 0
 AsksTwoTables words = IsMatched words × HasTwoTables (subcommand_of census_app words)
 
+-- for a page in no order that there is, or with a base that is no address, which it lets pass too
+abbrev pub AsksStrangePage : List (List ℕ) → Type 0
+AsksStrangePage words = IsMatched words × HasStrangePage (subcommand_of census_app words)
+
 -- the words are refused
 abbrev pub AreRefusedWords : List (List ℕ) → Type 0
-AreRefusedWords words = IsUnmatched words ⊎ AsksTwoTables words
+AreRefusedWords words = IsUnmatched words ⊎ (AsksTwoTables words ⊎ AsksStrangePage words)
 
 -- why the words are no request
 abbrev pub RefusesWords : List (List ℕ) → WordsFault → Type 0

@@ -4,6 +4,7 @@ ghost use Rattle.clap.specs.Words.{app_of, rule_of, shape_of};
 ghost use Rattle.clap.specs.declared.builder.command.Command.TheViews.{out-Command};
 ghost use Rattle.census_cli.specs.CommandLine.{advance_shape, bare_app, census_app, draw_shape, identify_shape};
 ghost use Rattle.census_cli.specs.CommandLine.{merge_shape, objects_shape, page_shape, run_shape, same_shape, table_shape, verify_shape};
+ghost use Rattle.census_cli.specs.CommandLine.{base_rule, cut_rule, links_rule, names_rule, no_patterns_rule, note_rule, sort_rule, title_rule, top_rule, with_reading};
 ghost use Rattle.census_cli.specs.CommandLine.{bound_rule, cells_rule, claims_rule, code_rule, codes_rule, csv_rule, explain_rule, file_rule};
 ghost use Rattle.census_cli.specs.CommandLine.{files_rule, folder_rule, generations_rule, horizon_rule, input_rule, json_rule, keep_going_rule, limit_rule, near_rule};
 ghost use Rattle.census_cli.specs.CommandLine.{no_progress_rule, parts_rule, recursive_rule, reports_rule, rule_rule, safe_rule, search_rule, workers_rule};
@@ -260,6 +261,99 @@ fn reports<'a>(alloc: Global) -> Arg<'a>
         .help(help::REPORT)
 }
 
+fn names<'a>(alloc: Global) -> Arg<'a>
+    ensures { (rule_of result ≡ names_rule) × (result.global ≡ false) }
+{
+    Arg::new(alloc, "names")
+        .long("names")
+        .value_name("FILE")
+        .help(help::NAMES)
+}
+
+fn title<'a>(alloc: Global) -> Arg<'a>
+    ensures { (rule_of result ≡ title_rule) × (result.global ≡ false) }
+{
+    Arg::new(alloc, "title")
+        .long("title")
+        .value_name("TEXT")
+        .help("The title of the page [default: Census]")
+}
+
+fn note<'a>(alloc: Global) -> Arg<'a>
+    ensures { (rule_of result ≡ note_rule) × (result.global ≡ false) }
+{
+    Arg::new(alloc, "note")
+        .long("note")
+        .value_name("TEXT")
+        .help("A text under the title")
+}
+
+fn sort<'a>(alloc: Global) -> Arg<'a>
+    ensures { (rule_of result ≡ sort_rule) × (result.global ≡ false) }
+{
+    Arg::new(alloc, "sort")
+        .long("sort")
+        .value_name("ORDER")
+        .default_value("report")
+        .help("The order of the codes: report, count, code, period or name")
+}
+
+fn top<'a>(alloc: Global) -> Arg<'a>
+    ensures { (rule_of result ≡ top_rule) × (result.global ≡ false) }
+{
+    Arg::new(alloc, "top")
+        .long("top")
+        .value_name("N")
+        .value_parser(value_parser!(u64).range(1..=4_294_967_295))
+        .help("Codes of each collection, 1 to 4294967295 [default: all]")
+}
+
+fn base<'a>(alloc: Global) -> Arg<'a>
+    ensures { (rule_of result ≡ base_rule) × (result.global ≡ false) }
+{
+    Arg::new(alloc, "base")
+        .long("base")
+        .value_name("URL")
+        .help(help::BASE)
+}
+
+fn links<'a>(alloc: Global) -> Arg<'a>
+    ensures { (rule_of result ≡ links_rule) × (result.global ≡ false) }
+{
+    Arg::new(alloc, "links")
+        .long("links")
+        .action(ArgAction::SetTrue)
+        .help("Make each code a link to its page at Catagolue")
+}
+
+fn no_patterns<'a>(alloc: Global) -> Arg<'a>
+    ensures { (rule_of result ≡ no_patterns_rule) × (result.global ≡ false) }
+{
+    Arg::new(alloc, "no-patterns")
+        .long("no-patterns")
+        .action(ArgAction::SetTrue)
+        .help("Leave out the table of patterns")
+}
+
+fn cut<'a>(alloc: Global) -> Arg<'a>
+    ensures { (rule_of result ≡ cut_rule) × (result.global ≡ false) }
+{
+    Arg::new(alloc, "cut")
+        .long("cut")
+        .action(ArgAction::SetTrue)
+        .help(help::CUT)
+}
+
+fn report_input<'a>(alloc: Global) -> Arg<'a>
+    ensures { (rule_of result ≡ input_rule) × (result.global ≡ false) }
+{
+    Arg::new(alloc, "input")
+        .long("input")
+        .value_name("N")
+        .value_parser(value_parser!(u64).range(1..=9_223_372_036_854_775_807))
+        .help(help::REPORT_INPUT)
+}
+
 fn claims<'a>(alloc: Global) -> Arg<'a>
     ensures { (rule_of result ≡ claims_rule) × (result.global ≡ false) }
 {
@@ -317,6 +411,8 @@ fn identify<'a>(alloc: Global) -> Result<Command<'a>, AllocError>
         .arg(cells(alloc))?
         .arg(near(alloc))?
         .arg(horizon(alloc))?
+        .arg(json(alloc))?
+        .arg(names(alloc))?
         .arg(explain(alloc))?
         .arg(files(alloc))
 }
@@ -344,22 +440,34 @@ fn draw<'a>(alloc: Global) -> Result<Command<'a>, AllocError>
         .arg(explain(alloc))
 }
 
+// The command with the arguments of those that read reports after its own.
+fn with_reading<'a>(alloc: Global, command: Command<'a>) -> Result<Command<'a>, AllocError>
+    requires { (out-Command command).has_globals ≡ false }
+    ensures { IfOk result
+        (λ c. (app_of c ≡ with_reading (app_of command.entry)) × ((out-Command c).has_globals ≡ false)) }
+{
+    command
+        .arg(cut(alloc))?
+        .arg(report_input(alloc))?
+        .arg(explain(alloc))?
+        .arg(reports(alloc))
+}
+
 fn merge<'a>(alloc: Global) -> Result<Command<'a>, AllocError>
     ensures { IfOk result
         (λ c. (shape_of c ≡ merge_shape) × ((out-Command c).has_globals ≡ false)) }
 {
-    Command::new(alloc, "merge")
+    let merge = Command::new(alloc, "merge")
         .about("Make one report of several: all their collections, numbered on")
-        .after_help(help::MERGE)
-        .arg(explain(alloc))?
-        .arg(reports(alloc))
+        .after_help(help::MERGE);
+    with_reading(alloc, merge)
 }
 
 fn table<'a>(alloc: Global) -> Result<Command<'a>, AllocError>
     ensures { IfOk result
         (λ c. (shape_of c ≡ table_shape) × ((out-Command c).has_globals ≡ false)) }
 {
-    Command::new(alloc, "table")
+    let table = Command::new(alloc, "table")
         .about("Write a row for each pattern of reports")
         .after_help(help::TABLE)
         .arg(csv(alloc))?
@@ -367,41 +475,45 @@ fn table<'a>(alloc: Global) -> Result<Command<'a>, AllocError>
         .arg(safe(alloc))?
         .arg(parts(alloc))?
         .arg(codes(alloc))?
-        .arg(explain(alloc))?
-        .arg(reports(alloc))
+        .arg(names(alloc))?;
+    with_reading(alloc, table)
 }
 
 fn page<'a>(alloc: Global) -> Result<Command<'a>, AllocError>
     ensures { IfOk result (λ c. (shape_of c ≡ page_shape) × ((out-Command c).has_globals ≡ false)) }
 {
-    Command::new(alloc, "page")
+    let page = Command::new(alloc, "page")
         .about("Write one HTML page of reports, with pictures")
         .after_help(help::PAGE)
-        .arg(explain(alloc))?
-        .arg(reports(alloc))
+        .arg(title(alloc))?
+        .arg(note(alloc))?
+        .arg(sort(alloc))?
+        .arg(top(alloc))?
+        .arg(base(alloc))?
+        .arg(links(alloc))?
+        .arg(no_patterns(alloc))?;
+    with_reading(alloc, page)
 }
 
 fn same<'a>(alloc: Global) -> Result<Command<'a>, AllocError>
     ensures { IfOk result (λ c. (shape_of c ≡ same_shape) × ((out-Command c).has_globals ≡ false)) }
 {
-    Command::new(alloc, "same")
+    let same = Command::new(alloc, "same")
         .about("Tell which patterns of reports are one object")
         .after_help(help::SAME)
-        .arg(json(alloc))?
-        .arg(explain(alloc))?
-        .arg(reports(alloc))
+        .arg(json(alloc))?;
+    with_reading(alloc, same)
 }
 
 fn verify<'a>(alloc: Global) -> Result<Command<'a>, AllocError>
     ensures { IfOk result
         (λ c. (shape_of c ≡ verify_shape) × ((out-Command c).has_globals ≡ false)) }
 {
-    Command::new(alloc, "verify")
+    let verify = Command::new(alloc, "verify")
         .about("Compare claims about patterns with what reports say")
         .after_help(help::VERIFY)
-        .arg(claims(alloc))?
-        .arg(explain(alloc))?
-        .arg(reports(alloc))
+        .arg(claims(alloc))?;
+    with_reading(alloc, verify)
 }
 
 /// What is said of words that name both formats of a table.
@@ -418,6 +530,26 @@ pub(crate) fn conflict(alloc: Global, words: &str) -> Result<String, AllocError>
     let mut command = table(alloc)?.bin_name("census table")?;
     let error = command.error(ErrorKind::ArgumentConflict, words)?;
     format!(in alloc; "{error}")
+}
+
+// How clap says that `page` takes no such value of an option, in words that end with why.
+fn no_value(alloc: Global, value: &str, option: &str, why: &str) -> Result<String, AllocError> {
+    let words = format!(in alloc; "invalid value '{value}' for '{option}'{why}")?;
+    let mut command = page(alloc)?.bin_name("census page")?;
+    let error = command.error(ErrorKind::InvalidValue, words.as_str())?;
+    format!(in alloc; "{error}")
+}
+
+/// How it says that there is no such order of a page.
+pub(crate) fn no_order(alloc: Global, word: &str) -> Result<String, AllocError> {
+    let orders = "\n  [possible values: report, count, code, period, name]";
+    no_value(alloc, word, "--sort <ORDER>", orders)
+}
+
+/// How it says that a base of a page is no address.
+pub(crate) fn no_address(alloc: Global, text: &str) -> Result<String, AllocError> {
+    let start = ": it does not begin with http:// or https://";
+    no_value(alloc, text, "--base <URL>", start)
 }
 
 fn bare<'a>(alloc: Global) -> Result<Command<'a>, AllocError>

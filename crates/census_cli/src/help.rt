@@ -77,6 +77,26 @@ pub const INPUT: &str = "\
 Bytes that the files of the FOLDERs may have together, 1 to 9223372036854775807
 [default: no limit]";
 
+/// What `--names` does.
+pub const NAMES: &str = "\
+A file of names of codes, whose lines are a code, a tab and a name. Where a code
+has one it is told too. - is standard input";
+
+/// What `--base` does.
+pub const BASE: &str = "\
+Make each name a link to URL/COLLECTION_NAME/NAME; URL begins with http:// or
+https://";
+
+/// What `--cut` does.
+pub const CUT: &str = "\
+Take a report that was cut: collections that are whole are kept, and a line on
+standard error tells how much was left out";
+
+/// What `--input` does where reports are read.
+pub const REPORT_INPUT: &str = "\
+Bytes that the REPORTs may have together, 1 to 9223372036854775807
+[default: no limit]";
+
 /// What a FILE is.
 pub const FILE: &str = "An RLE text; - is standard input.\nWith no FILE standard input is read";
 

@@ -13,4 +13,6 @@ mod help;
 mod request;
 
 pub use fault::WordsFault;
-pub use request::{Asked, Request, TableFormat, TableSubject, read_words};
+pub use request::{
+    Asked, PageAsked, PageSort, Reports, Request, TableFormat, TableSubject, read_words,
+};

@@ -1,8 +1,9 @@
 //! What words ask for.
 ghost use Rattle.std.specs.Prelude.{◌≡◌, IfOk, MatchResult, Some, codes, map, option_map};
 ghost use Rattle.clap.specs.Words.{first_of, found_of, rows_of, subcommand_rows_of};
-ghost use Rattle.census_cli.specs.Asking.{AsksFor, Explains, GivesAsked, GivesRequest, IsFlag, IsQuiet, argument_number, values_of};
-ghost use Rattle.census_cli.specs.Holding.{HasFlag, HasIdentify, HasLimit, HasNumber, HasObjects, HasRun, HasTable, HasText};
+ghost use Rattle.census_cli.specs.Asking.{AsksFor, Explains, GivesAsked, GivesReports, GivesRequest, IsFlag, IsQuiet, argument_number, values_of};
+ghost use Rattle.census_cli.specs.Asking.{is_address, order_of};
+ghost use Rattle.census_cli.specs.Holding.{HasFlag, HasIdentify, HasLimit, HasNumber, HasObjects, HasPage, HasReports, HasRun, HasTable, HasText};
 ghost use Rattle.census_cli.specs.Holding.{IsCommand};
 ghost use Rattle.census_cli.specs.Refusing.{NamesFormat, NamesSubject, RefusesCommand, RefusesWords};
 
@@ -32,6 +33,51 @@ pub enum TableSubject {
     Parts,
     /// A rule and a code.
     Codes,
+}
+
+/// In which order the codes of a page stand.
+#[derive(Clone, Copy, Debug, PartialEq, Eq)]
+pub enum PageSort {
+    /// As in the reports.
+    Report,
+    /// By how often they occur.
+    Count,
+    /// By themselves.
+    Code,
+    /// By their periods.
+    Period,
+    /// By the names of patterns.
+    Name,
+}
+
+/// What a page has beside what the reports say.
+#[derive(Clone, Copy, Debug, PartialEq, Eq)]
+pub struct PageAsked<'a> {
+    /// Its title, where it has one of its own.
+    pub title: Option<&'a str>,
+    /// What stands under the title, where there is something.
+    pub note: Option<&'a str>,
+    /// In which order its codes stand.
+    pub sort: PageSort,
+    /// How many codes of a collection it has, 1 to 4,294,967,295, where there is such a limit.
+    pub top: Option<u32>,
+    /// Where the patterns are published, where its names are links: a text that begins with `http://` or `https://`.
+    pub base: Option<&'a str>,
+    /// Whether its codes are links.
+    pub links: bool,
+    /// Whether it has the table of patterns.
+    pub patterns: bool,
+}
+
+/// Which reports are read, and how.
+#[derive(Debug, PartialEq, Drop)]
+pub struct Reports<'a> {
+    /// Whether a report may have been cut.
+    pub cut: bool,
+    /// How many bytes the reports may have together, 1 to 9,223,372,036,854,775,807, where there is such a limit.
+    pub input: Option<u64>,
+    /// In the order of the words. `-` is standard input; where there is none that is read too.
+    pub words: Vec<&'a str>,
 }
 
 /// What words ask for.
@@ -88,6 +134,10 @@ pub enum Request<'a> {
         near: bool,
         /// Within how many generations growth is looked for, 1 to 10,000.
         horizon: u32,
+        /// Whether each is told as a JSON object.
+        json: bool,
+        /// The file of the names of codes, where there is one. `-` is standard input.
+        names: Option<&'a str>,
         /// In the order of the words. `-` is standard input.
         files: Vec<&'a str>,
     },
@@ -102,36 +152,34 @@ pub enum Request<'a> {
         code: &'a str,
         rule: &'a str,
     },
-    /// One report of all collections of these reports, or, where there is none, of that on standard input.
+    /// One report of all collections of reports.
     Merge {
-        /// In the order of the words. `-` is standard input.
-        reports: Vec<&'a str>,
+        reports: Reports<'a>,
     },
-    /// A row for each pattern, part or code of these reports, or, where there is none, of that on standard input.
+    /// A row for each pattern, part or code of reports.
     Table {
         subject: TableSubject,
         format: TableFormat,
-        /// In the order of the words. `-` is standard input.
-        reports: Vec<&'a str>,
+        /// The file of the names of codes, where there is one. `-` is standard input.
+        names: Option<&'a str>,
+        reports: Reports<'a>,
     },
-    /// One HTML page of these reports, or, where there is none, of that on standard input.
+    /// One HTML page of reports.
     Page {
-        /// In the order of the words. `-` is standard input.
-        reports: Vec<&'a str>,
+        page: PageAsked<'a>,
+        reports: Reports<'a>,
     },
-    /// The patterns of these reports, or, where there is none, of that on standard input, that are one object.
+    /// The patterns of reports that are one object.
     Same {
         /// Whether each is told as a JSON object.
         json: bool,
-        /// In the order of the words. `-` is standard input.
-        reports: Vec<&'a str>,
+        reports: Reports<'a>,
     },
-    /// What does not agree between claims and these reports, or, where there is none, that on standard input.
+    /// What does not agree between claims and reports.
     Verify {
         /// The file of the claims. `-` is standard input.
         claims: &'a str,
-        /// In the order of the words. `-` is standard input.
-        reports: Vec<&'a str>,
+        reports: Reports<'a>,
     },
 }
 
@@ -252,7 +300,23 @@ fn identify_of<'a>(alloc: Global, identify: &ArgMatches<'a>) -> Result<Request<'
         cells: number(identify, "cells"),
         near: flag(identify, "near"),
         horizon: number(identify, "horizon"),
+        json: flag(identify, "json"),
+        names: text_if_used(identify, "names"),
         files: texts(alloc, identify, "file")?,
+    })
+}
+
+// The reports that the matches of a command name, and how they are read.
+fn reports_of<'a>(alloc: Global, command: &ArgMatches<'a>) -> Result<Reports<'a>, AllocError>
+    requires { HasReports (rows_of (found_of command.now)) }
+    ensures { IfOk result
+        (λ reports. GivesReports (rows_of (found_of command.now)) reports.cut reports.input
+        (map (λ s. s.now) reports.words.items)) }
+{
+    Ok(Reports {
+        cut: flag(command, "cut"),
+        input: long_limit(command, "input"),
+        words: texts(alloc, command, "report")?,
     })
 }
 
@@ -301,7 +365,66 @@ fn table_of<'a>(alloc: Global, table: &ArgMatches<'a>) -> Result<Request<'a>, Wo
     Ok(Request::Table {
         subject,
         format,
-        reports: texts(alloc, table, "report")?,
+        names: text_if_used(table, "names"),
+        reports: reports_of(alloc, table)?,
+    })
+}
+
+// The order that a word names, where it names one.
+fn order(word: &str) -> Option<PageSort>
+    ensures { result ≡ order_of word.now }
+{
+    if word == "report" {
+        Some(PageSort::Report)
+    } else if word == "count" {
+        Some(PageSort::Count)
+    } else if word == "code" {
+        Some(PageSort::Code)
+    } else if word == "period" {
+        Some(PageSort::Period)
+    } else if word == "name" {
+        Some(PageSort::Name)
+    } else {
+        None
+    }
+}
+
+// Whether a text begins as the address of a page does.
+fn is_address(text: &str) -> bool
+    ensures { result ≡ is_address text.now }
+{
+    let text = text.as_bytes();
+    text.starts_with(b"http://") || text.starts_with(b"https://")
+}
+
+// What the matches of `page` ask for.
+fn page_of<'a>(alloc: Global, page: &ArgMatches<'a>) -> Result<Request<'a>, WordsFault>
+    requires { HasPage (rows_of (found_of page.now)) }
+    ensures { MatchResult result (GivesRequest (Some (codes "page", rows_of (found_of page.now))))
+        (RefusesCommand (Some (codes "page", rows_of (found_of page.now)))) }
+{
+    let word = text(page, "sort");
+    let Some(sort) = order(word) else {
+        return Err(WordsFault::Refused(command::no_order(alloc, word)?));
+    };
+    let base = text_if_used(page, "base");
+    if let Some(address) = base {
+        if !is_address(address) {
+            return Err(WordsFault::Refused(command::no_address(alloc, address)?));
+        }
+    }
+    let asked = PageAsked {
+        title: text_if_used(page, "title"),
+        note: text_if_used(page, "note"),
+        sort,
+        top: limit(page, "top"),
+        base,
+        links: flag(page, "links"),
+        patterns: !flag(page, "no-patterns"),
+    };
+    Ok(Request::Page {
+        page: asked,
+        reports: reports_of(alloc, page)?,
     })
 }
 
@@ -334,27 +457,25 @@ fn request_of<'a>(alloc: Global, matches: &ArgMatches<'a>) -> Result<Request<'a>
     }
     if let Some(merge) = matches.subcommand_matches("merge") {
         return Ok(Request::Merge {
-            reports: texts(alloc, merge, "report")?,
+            reports: reports_of(alloc, merge)?,
         });
     }
     if let Some(table) = matches.subcommand_matches("table") {
         return table_of(alloc, table);
     }
     if let Some(page) = matches.subcommand_matches("page") {
-        return Ok(Request::Page {
-            reports: texts(alloc, page, "report")?,
-        });
+        return page_of(alloc, page);
     }
     if let Some(same) = matches.subcommand_matches("same") {
         return Ok(Request::Same {
             json: flag(same, "json"),
-            reports: texts(alloc, same, "report")?,
+            reports: reports_of(alloc, same)?,
         });
     }
     if let Some(verify) = matches.subcommand_matches("verify") {
         return Ok(Request::Verify {
             claims: text(verify, "claims"),
-            reports: texts(alloc, verify, "report")?,
+            reports: reports_of(alloc, verify)?,
         });
     }
     unreachable!()
@@ -404,8 +525,9 @@ fn asked_of<'a>(alloc: Global, matches: &ArgMatches<'a>) -> Result<Asked<'a>, Wo
 /// each flag is used, and the folders, files or reports in order. Numbers are decimal, with any zeros or one `+` in front, and
 /// their ranges are clap's to judge.
 /// A fault other than `Memory` comes only where clap has no matches for the words: `Help` where it answers them with help
-/// or with the version, `Refused` where it refuses them. Words that name both formats of `table`, safe texts of JSON, or
-/// both parts and codes, alone are `Refused` though clap has matches for them.
+/// or with the version, `Refused` where it refuses them. Alone words that name both formats of `table`, safe texts of JSON,
+/// or both parts and codes, and those that name an order of a page that there is none of, or a base that does not begin with
+/// `http://` or `https://`, are `Refused` though clap has matches for them.
 pub fn read_words<'a>(alloc: Global, words: &'a [&'a str]) -> Result<Asked<'a>, WordsFault>
     ensures { MatchResult result (AsksFor (map (λ s. s.now) words.entry.now))
         (RefusesWords (map (λ s. s.now) words.entry.now)) }

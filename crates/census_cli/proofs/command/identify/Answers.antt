@@ -12,6 +12,8 @@ returns c =
     let with_cells = adds_rule _ _ _ _ _ c.in_ok-arg-2.ensures c.cells.ensures with_search in
     let with_near = adds_rule _ _ _ _ _ c.in_ok-arg-3.ensures c.near.ensures with_cells in
     let with_horizon = adds_rule _ _ _ _ _ c.in_ok-arg-4.ensures c.horizon.ensures with_near in
-    let with_explain = adds_rule _ _ _ _ _ c.in_ok-arg-5.ensures c.explain.ensures with_horizon in
-    IfOk-weaker c.arg-6.result _ _
-    (λ command adds. let whole = adds_rule _ _ _ _ _ adds c.files.ensures with_explain in (ap (λ (a : App). a.top) whole.0, whole.1)) c.arg-6.ensures
+    let with_json = adds_rule _ _ _ _ _ c.in_ok-arg-5.ensures c.json.ensures with_horizon in
+    let with_names = adds_rule _ _ _ _ _ c.in_ok-arg-6.ensures c.names.ensures with_json in
+    let with_explain = adds_rule _ _ _ _ _ c.in_ok-arg-7.ensures c.explain.ensures with_names in
+    IfOk-weaker c.arg-8.result _ _
+    (λ command adds. let whole = adds_rule _ _ _ _ _ adds c.files.ensures with_explain in (ap (λ (a : App). a.top) whole.0, whole.1)) c.arg-8.ensures
