@@ -254,7 +254,7 @@ draw_rules = (
   ),
 )
 
--- the last arguments of the commands that read reports, and their help
+-- the last arguments of the commands that read reports, and their help, where the reports come first
 reading_holds : Each (RuleHolds ReportsText) built_merge.rules
 reading_holds = (
   record { own = λ v e. (λ _. flag_text v e, absent, absent); usual = inr (refl, inr true_given); plain = λ t. refl },
@@ -324,7 +324,19 @@ same_rules = (
 verify_rules : Each (RuleHolds ReportsText) built_verify.rules
 verify_rules = (
   record { own = λ v e. (absent, absent, absent); usual = inr (refl, inl refl); plain = λ t. refl },
-  reading_holds,
+  (
+    record { own = λ v e. (λ _. flag_text v e, absent, absent); usual = inr (refl, inr true_given); plain = λ t. refl },
+    (
+      record { own = λ v e. (absent, λ _. unsigned_in 1 9223372036854775807 v e, absent); usual = inr (refl, inl refl); plain = λ t. refl },
+      (
+        record { own = λ v e. (λ _. flag_text v e, absent, absent); usual = inr (refl, inr true_given); plain = λ t. refl },
+        (
+          record { own = λ v e. (absent, absent, absent); usual = inr (refl, inl refl); plain = λ t. refl },
+          (record { own = λ v e. (absent, absent, absent); usual = inl refl; plain = λ t. refl }, tt),
+        ),
+      ),
+    ),
+  ),
 )
 
 -- ---- the matches of a command

@@ -129,13 +129,17 @@ objects [--bound N] [--workers N] [--cells N] [--near] [--horizon N] [--input N]
       --near       count what comes within two cells as one object
       --horizon N  generations within which growth is looked for, 1 to 10000
                    [default: 1000]
-identify [--bound N] [--cells N] [--near] [--horizon N] [FILE]...
+identify [--bound N] [--cells N] [--near] [--horizon N] [--json] [--names FILE]
+         [FILE]...
                    what each pattern is ('census help identify')
   -b, --bound N    1 to 100000 [default: 10000]
       --cells N    1 to 4294967295 [default: 1000000]
       --near       count what comes within two cells as one object
       --horizon N  generations within which growth is looked for, 1 to 10000
                    [default: 1000]
+      --json       JSON, one object a line
+      --names FILE tell the names of codes too: FILE has lines of a code, a tab
+                   and a name
   FILE             an RLE text; - is standard input; with no FILE standard input
                    is read
 advance N [FILE]
@@ -147,14 +151,27 @@ draw CODE [--rule R]
 merge [REPORT]...  one report of all collections ('census help merge')
   REPORT           a file with a report of run or objects, or with several after
                    one another; - or no REPORT is standard input
-table [--csv | --json] [--safe] [--parts | --codes] [REPORT]...
+table [--csv | --json] [--safe] [--parts | --codes] [--names FILE] [REPORT]...
                    a row for each pattern of reports ('census help table')
       --csv        comma-separated values, as without a format
       --json       JSON, one object a line
       --safe       in CSV, a ' before each text that begins as a formula
       --parts      a row for each part line in place of each pattern
       --codes      a row for each code and rule, by falling count
-page [REPORT]...   one HTML page, with pictures ('census help page')
+      --names FILE a column of the names of codes, as of identify
+page [--title TEXT] [--note TEXT] [--sort ORDER] [--top N] [--base URL]
+     [--links] [--no-patterns] [REPORT]...
+                   one HTML page, with pictures ('census help page')
+      --title TEXT the title of the page [default: Census]
+      --note TEXT  a text under the title
+      --sort ORDER the order of the codes: report, count, code, period or name
+                   [default: report]
+      --top N      codes of each collection, 1 to 4294967295 [default: all]
+      --base URL   make each name a link to URL/COLLECTION_NAME/NAME; URL begins
+                   with http:// or https://
+      --links      make each code a link to its page at Catagolue
+      --no-patterns
+                   leave out the table of patterns
 same [--json] [REPORT]...
                    patterns of reports that are one object ('census help same')
       --json       JSON, one object a line
@@ -162,6 +179,11 @@ verify CLAIMS [REPORT]...
                    where claims and reports differ ('census help verify')
   CLAIMS           a file of comma-separated values with a column name; - is
                    standard input
+merge, table, page, same and verify
+      --cut        take a report that was cut: collections that are whole are
+                   kept, and a line on standard error tells what was left out
+      --input N    bytes that the REPORTs may have together, 1 to
+                   9223372036854775807 [default: no limit]
 run and objects
       --no-progress
                    do not tell at a terminal how far the run has come
@@ -235,9 +257,16 @@ or else where it has more cells than --cells allows
 or else
   unresolved N         none of these within N generations
 
+With --names the line name NAME follows apgcode, and lines of parts and of what
+engines emit end with NAME, where FILE has a name for CODE. In FILE a line that
+begins with # is passed over, and no code stands twice.
+
+With --json there is an object a line for each text.
+
 Example: census identify --bound 50000 glider.rle gun.rle
          census identify --near soup.rle
          census identify --cells 20000 --horizon 5000 breeder.rle
+         census identify --json --names names.tsv soup.rle
          census identify --explain broken.rle
 
 "
@@ -258,8 +287,13 @@ pub const MERGE: &str = with_statuses!(
 The collections of the first REPORT come first, those of the others are numbered
 on, and the last line, end, has the sums.
 
+With --cut a report may have been cut, as where a run was stopped: collections
+that are whole are kept, and a line on standard error tells where it was cut, how
+many of them are kept, and how many left out.
+
 Example: census merge part1.txt part2.txt >census.txt
          census run more | census merge --explain census.txt -
+         census merge --cut --input 1000000000 stopped.txt >census.txt
 
 "
 );
@@ -283,11 +317,15 @@ With --safe, of CSV only, each text that begins with =, +, -, @, a tab or a
 carriage return, which a spreadsheet takes for a formula, has a ' before it.
 Numbers stay as they are.
 
+With --names a column common_name follows code. FILE has lines of a code, a tab
+and a name; a line that begins with # is passed over, and no code stands twice.
+
 Example: census table --csv census.txt >census.csv
          census run soups | census table --json
          census objects soups | census table --codes
          census table --safe --parts census.txt >parts.csv
-         census table --explain census.txt
+         census table --codes --names names.tsv census.txt
+         census table --cut --input 1000000000 --explain stopped.txt
 
 "
 );
@@ -299,7 +337,15 @@ Of each collection the page has the counts, the codes with a picture of each, ho
 often each occurs and which patterns have it, and the patterns that are unresolved
 or refused. It stands alone: it has no script, and asks for nothing.
 
+The order of the codes is that of the report, or by falling count, by code, by
+falling period, or by the name of the first pattern that has it.
+
 Example: census page census.txt >census.html
+         census page --title Soups --note 'Bound 10000' census.txt
+         census page --sort count --top 100 census.txt
+         census page --base https://example.org/patterns --links census.txt
+         census page --no-patterns --cut --input 1000000000 stopped.txt
+         census page --explain census.txt
 
 "
 );
@@ -321,6 +367,7 @@ collection_name_hex or name_hex.
 Example: census same census.txt
          census run -r collections | census same --json
          census same --explain old.txt new.txt
+         census same --cut --input 1000000000 stopped.txt
 
 "
 );
@@ -346,6 +393,7 @@ Example: census verify published.csv census.txt
          census run collection | census verify published.csv
          census table --csv census.txt | census verify - census.txt
          census verify --explain published.csv census.txt
+         census verify --cut --input 1000000000 published.csv stopped.txt
 
 "
 );

@@ -1,8 +1,8 @@
 //! What words ask for.
-ghost use Rattle.std.specs.Prelude.{◌≡◌, IfOk, MatchResult, Some, codes, map, option_map};
+ghost use Rattle.std.specs.Prelude.{◌≡◌, IfNone, IfOk, IfSome, MatchResult, Some, codes, false, map, option_map};
 ghost use Rattle.clap.specs.Words.{first_of, found_of, rows_of, subcommand_rows_of};
 ghost use Rattle.census_cli.specs.Asking.{AsksFor, Explains, GivesAsked, GivesReports, GivesRequest, IsFlag, IsQuiet, argument_number, values_of};
-ghost use Rattle.census_cli.specs.Asking.{is_address, order_of};
+ghost use Rattle.census_cli.specs.Asking.{IsAddress, is_address, order_of};
 ghost use Rattle.census_cli.specs.Holding.{HasFlag, HasIdentify, HasLimit, HasNumber, HasObjects, HasPage, HasReports, HasRun, HasTable, HasText};
 ghost use Rattle.census_cli.specs.Holding.{IsCommand};
 ghost use Rattle.census_cli.specs.Refusing.{NamesFormat, NamesSubject, RefusesCommand, RefusesWords};
@@ -397,6 +397,18 @@ fn is_address(text: &str) -> bool
     text.starts_with(b"http://") || text.starts_with(b"https://")
 }
 
+// The base of a page, where it has one that is no address.
+fn strange_base<'a>(base: Option<&'a str>) -> Option<&'a str>
+    ensures some { IfSome result
+        (λ text. (option_map (λ s. s.now) base.entry ≡ Some text.now) × (is_address text.now ≡ false)) }
+    ensures none { IfNone result (IsAddress (option_map (λ s. s.now) base.entry)) }
+{
+    let Some(text) = base else {
+        return None;
+    };
+    if is_address(text) { None } else { Some(text) }
+}
+
 // What the matches of `page` ask for.
 fn page_of<'a>(alloc: Global, page: &ArgMatches<'a>) -> Result<Request<'a>, WordsFault>
     requires { HasPage (rows_of (found_of page.now)) }
@@ -408,10 +420,8 @@ fn page_of<'a>(alloc: Global, page: &ArgMatches<'a>) -> Result<Request<'a>, Word
         return Err(WordsFault::Refused(command::no_order(alloc, word)?));
     };
     let base = text_if_used(page, "base");
-    if let Some(address) = base {
-        if !is_address(address) {
-            return Err(WordsFault::Refused(command::no_address(alloc, address)?));
-        }
+    if let Some(text) = strange_base(base) {
+        return Err(WordsFault::Refused(command::no_address(alloc, text)?));
     }
     let asked = PageAsked {
         title: text_if_used(page, "title"),

@@ -194,7 +194,7 @@ pub record TellsRefusal (words : List (List ℕ)) (before after : State) (old ne
 
 -- the request asks this of the patterns of these files
 abbrev pub IsIdentify : Request → Inquiry → List (List ℕ) → Type 0
-IsIdentify (Identify bound cells near horizon files) inquiry words =
+IsIdentify (Identify bound cells near horizon json names files) inquiry words =
     (inquiry ≡ record { bound = bound; cells = cells; near = near; horizon = horizon }) × (words ≡ map (λ s. s.now) files.items)
 IsIdentify request inquiry words = ⊥
 
@@ -208,10 +208,10 @@ pub record AsksWhat (words : List (List ℕ)) (inquiry : Inquiry) (files : List 
 
 -- the request asks for this, made of the reports of these files
 abbrev pub IsRemaking : Request → Form → List (List ℕ) → Type 0
-IsRemaking (Merge reports) f files = (f ≡ form.Merged) × (files ≡ map (λ s. s.now) reports.items)
-IsRemaking (Table subject format reports) f files = (f ≡ form.Table (subject_of subject) (format_of format)) × (files ≡ map (λ s. s.now) reports.items)
-IsRemaking (Page reports) f files = (f ≡ form.Page) × (files ≡ map (λ s. s.now) reports.items)
-IsRemaking (Same json reports) f files = (f ≡ form.Same json) × (files ≡ map (λ s. s.now) reports.items)
+IsRemaking (Merge reports) f files = (f ≡ form.Merged) × (files ≡ map (λ s. s.now) reports.words.items)
+IsRemaking (Table subject format names reports) f files = (f ≡ form.Table (subject_of subject) (format_of format)) × (files ≡ map (λ s. s.now) reports.words.items)
+IsRemaking (Page page reports) f files = (f ≡ form.Page) × (files ≡ map (λ s. s.now) reports.words.items)
+IsRemaking (Same json reports) f files = (f ≡ form.Same json) × (files ≡ map (λ s. s.now) reports.words.items)
 IsRemaking request f files = ⊥
 
 -- The words ask for what is made of reports. It was written, or an error ended it.
@@ -227,7 +227,7 @@ pub record RemakesAsked (shelf : Tellings) (words : List (List ℕ)) (status : �
 
 -- the request asks for these claims to be compared with these reports
 abbrev pub IsVerifying : Request → List ℕ → List (List ℕ) → Type 0
-IsVerifying (Verify text reports) claims files = (claims ≡ text.now) × (files ≡ map (λ s. s.now) reports.items)
+IsVerifying (Verify text reports) claims files = (claims ≡ text.now) × (files ≡ map (λ s. s.now) reports.words.items)
 IsVerifying request claims files = ⊥
 
 -- The words ask for claims to be compared with reports. What does not agree was told, or an error ended it.

@@ -19,7 +19,7 @@ abbrev pub IsLawful : Request → Type 0
 IsLawful (Run bound workers cells input recursive keep_going folders) = ((1 ≤ bound) × (bound ≤ settles_bound_limit)) × ((1 ≤ workers) × (workers ≤ worker_limit))
 IsLawful (Objects bound workers cells near horizon input recursive keep_going folders) =
     ((1 ≤ bound) × (bound ≤ objects_bound_limit)) × ((1 ≤ workers) × (workers ≤ worker_limit)) × ((1 ≤ horizon) × (horizon ≤ horizon_limit))
-IsLawful (Identify bound cells near horizon files) = ((1 ≤ bound) × (bound ≤ objects_bound_limit)) × ((1 ≤ horizon) × (horizon ≤ horizon_limit))
+IsLawful (Identify bound cells near horizon json names files) = ((1 ≤ bound) × (bound ≤ objects_bound_limit)) × ((1 ≤ horizon) × (horizon ≤ horizon_limit))
 IsLawful (Advance generations file) = generations ≤ generation_limit
 IsLawful _ = Unit {0}
 
@@ -32,18 +32,18 @@ EndsAtFirst request = Unit {0}
 -- nothing is to be made of reports alone
 abbrev pub MakesNothing : Request → Type 0
 MakesNothing (Merge reports) = ⊥
-MakesNothing (Table subject format reports) = ⊥
-MakesNothing (Page reports) = ⊥
+MakesNothing (Table subject format names reports) = ⊥
+MakesNothing (Page page reports) = ⊥
 MakesNothing (Same json reports) = ⊥
 MakesNothing request = Unit {0}
 
 -- neither what patterns are is asked for, nor what is made of reports, nor what claims say of them, nor to go on past what can't be read, which have
 -- outcomes of their own
 abbrev pub IsDone : Request → Type 0
-IsDone (Identify bound cells near horizon files) = ⊥
+IsDone (Identify bound cells near horizon json names files) = ⊥
 IsDone (Merge reports) = ⊥
-IsDone (Table subject format reports) = ⊥
-IsDone (Page reports) = ⊥
+IsDone (Table subject format names reports) = ⊥
+IsDone (Page page reports) = ⊥
 IsDone (Same json reports) = ⊥
 IsDone (Verify claims reports) = ⊥
 IsDone request = EndsAtFirst request

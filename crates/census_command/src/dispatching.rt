@@ -38,21 +38,22 @@ fn remaking_of<'r, 'a>(request: &'r Request<'a>) -> Option<(Form<'a>, &'r [&'a s
     ensures none { IfNone result (MakesNothing request.now) }
 {
     match request {
-        Request::Merge { reports } => Some((Form::Merged, reports.as_slice())),
+        Request::Merge { reports } => Some((Form::Merged, reports.words.as_slice())),
         Request::Table {
             subject,
             format,
+            names: _,
             reports,
         } => {
             let form = Form::Table {
                 subject: subject_of(*subject),
                 format: format_of(*format),
             };
-            Some((form, reports.as_slice()))
+            Some((form, reports.words.as_slice()))
         }
-        Request::Page { reports } => Some((Form::Page, reports.as_slice())),
+        Request::Page { page: _, reports } => Some((Form::Page, reports.words.as_slice())),
         Request::Same { json, reports } => {
-            Some((Form::Same { json: *json }, reports.as_slice()))
+            Some((Form::Same { json: *json }, reports.words.as_slice()))
         }
         _ => None,
     }
@@ -226,7 +227,7 @@ pub fn dispatch<S: Shelf, I: Read, O: Write, E: Write, G: Gate, R: Threads + Wai
         return remake(shelf, alloc, form, reports, explain, streams, errors);
     }
     if let Request::Verify { claims, reports } = request {
-        let reports = reports.as_slice();
+        let reports = reports.words.as_slice();
         return verify(shelf, alloc, *claims, reports, explain, streams, errors);
     }
     if let Request::Identify {
@@ -234,6 +235,8 @@ pub fn dispatch<S: Shelf, I: Read, O: Write, E: Write, G: Gate, R: Threads + Wai
         cells,
         near,
         horizon,
+        json: _,
+        names: _,
         files,
     } = request
     {

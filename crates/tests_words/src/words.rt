@@ -1,6 +1,9 @@
 //! What words ask for, and which words are refused.
 
-use census_cli::{Asked as Wanted, Request, TableFormat, TableSubject, WordsFault, read_words};
+use census_cli::{
+    Asked as Wanted, PageAsked, PageSort, Reports, Request, TableFormat, TableSubject, WordsFault,
+    read_words,
+};
 use std::alloc::Global;
 use std::test::Fail;
 
@@ -261,6 +264,8 @@ fn patterns_are_identified_in_the_order_of_their_files(rt: HostRuntime) -> Resul
                 cells: _,
                 near: _,
                 horizon: _,
+                json: _,
+                names: _,
                 files,
             } => *bound == *asked_bound && files.as_slice() == *asked_files,
             _ => false,
@@ -338,7 +343,7 @@ fn reports_are_merged_in_the_order_of_the_words(rt: HostRuntime) {
     for (words, asked) in MERGED {
         match request_of(rt.alloc(), words) {
             Ok(Request::Merge { reports }) => {
-                assert_eq!(rt; reports.as_slice(), *asked, "{words:?}");
+                assert_eq!(rt; reports.words.as_slice(), *asked, "{words:?}");
             }
             other => panic!(rt; "{words:?}: {other:?}"),
         }
@@ -350,8 +355,8 @@ fn a_page_has_reports(rt: HostRuntime) {
     const ASKED: &[(Words, Words)] = &[(&["page"], &[]), (&["page", "b", "-"], &["b", "-"])];
     for (words, asked) in ASKED {
         match request_of(rt.alloc(), words) {
-            Ok(Request::Page { reports }) => {
-                assert_eq!(rt; reports.as_slice(), *asked, "{words:?}");
+            Ok(Request::Page { reports, .. }) => {
+                assert_eq!(rt; reports.words.as_slice(), *asked, "{words:?}");
             }
             other => panic!(rt; "{words:?}: {other:?}"),
         }
@@ -370,7 +375,7 @@ fn same_has_reports_and_a_form(rt: HostRuntime) {
         match request_of(rt.alloc(), words) {
             Ok(Request::Same { json, reports }) => {
                 assert_eq!(rt; json, *as_json, "{words:?}");
-                assert_eq!(rt; reports.as_slice(), *asked, "{words:?}");
+                assert_eq!(rt; reports.words.as_slice(), *asked, "{words:?}");
             }
             other => panic!(rt; "{words:?}: {other:?}"),
         }
@@ -388,7 +393,7 @@ fn verify_has_claims_and_reports(rt: HostRuntime) {
         match request_of(rt.alloc(), words) {
             Ok(Request::Verify { claims, reports }) => {
                 assert_eq!(rt; claims, *first, "{words:?}");
-                assert_eq!(rt; reports.as_slice(), *asked, "{words:?}");
+                assert_eq!(rt; reports.words.as_slice(), *asked, "{words:?}");
             }
             other => panic!(rt; "{words:?}: {other:?}"),
         }
@@ -485,12 +490,13 @@ fn a_table_has_rows_a_format_and_reports(rt: HostRuntime) {
                 Request::Table {
                     subject,
                     format,
+                    names: _,
                     reports,
                 },
             ) => {
                 assert_eq!(rt; subject, *asked_subject, "{words:?}");
                 assert_eq!(rt; format, *asked_format, "{words:?}");
-                assert_eq!(rt; reports.as_slice(), *asked, "{words:?}");
+                assert_eq!(rt; reports.words.as_slice(), *asked, "{words:?}");
             }
             other => panic!(rt; "{words:?}: {other:?}"),
         }
@@ -538,6 +544,217 @@ fn a_table_is_one_in_one_format(rt: HostRuntime) {
         ),
     ];
     for (words, said) in BOTH {
+        match request_of(rt.alloc(), words) {
+            Err(WordsFault::Refused(text)) => assert_eq!(rt; text.as_str(), *said, "{words:?}"),
+            other => panic!(rt; "{words:?}: {other:?}"),
+        }
+    }
+}
+
+// The reports that a request reads.
+fn reports_of<'r>(request: &'r Request<'static>) -> Option<&'r Reports<'static>> {
+    match request {
+        Request::Merge { reports }
+        | Request::Table { reports, .. }
+        | Request::Page { reports, .. }
+        | Request::Same { reports, .. }
+        | Request::Verify { reports, .. } => Some(reports),
+        _ => None,
+    }
+}
+
+#[test]
+fn reports_may_have_been_cut_and_have_a_limit(rt: HostRuntime) -> Result<(), Fail> {
+    const ASKED: &[(Words, bool, Option<u64>)] = &[
+        (&["merge"], false, None),
+        (&["merge", "--cut", "a"], true, None),
+        (&["merge", "--", "--cut", "--input", "5"], false, None),
+        (&["merge", "a", "--input", "1"], false, Some(1)),
+        (
+            &["table", "--cut", "--input=9223372036854775807", "--json"],
+            true,
+            Some(9_223_372_036_854_775_807),
+        ),
+        (&["page", "--cut"], true, None),
+        (
+            &["page", "--input", "4294967296", "--top", "5"],
+            false,
+            Some(4_294_967_296),
+        ),
+        (&["same", "--input", "7", "--cut", "--json"], true, Some(7)),
+        (
+            &["verify", "c", "--cut", "a", "--input", "7"],
+            true,
+            Some(7),
+        ),
+    ];
+    for (words, cut, input) in ASKED {
+        match reports_of(&request_of(rt.alloc(), words)?) {
+            Some(reports) => {
+                assert_eq!(rt; reports.cut, *cut, "{words:?}");
+                assert_eq!(rt; reports.input, *input, "{words:?}");
+            }
+            None => panic!(rt; "{words:?}"),
+        }
+    }
+    Ok(())
+}
+
+#[test]
+fn codes_have_names_where_a_file_of_them_is_named(rt: HostRuntime) -> Result<(), Fail> {
+    const ASKED: &[(Words, Option<&str>)] = &[
+        (&["table"], None),
+        (&["table", "--names", "n.tsv", "a"], Some("n.tsv")),
+        (&["table", "--codes", "--names=-"], Some("-")),
+        (&["table", "--", "--names", "n"], None),
+        (&["identify"], None),
+        (&["identify", "a", "--names", "n.tsv"], Some("n.tsv")),
+        (&["identify", "--names=", "a"], Some("")),
+    ];
+    for (words, asked) in ASKED {
+        let found = match request_of(rt.alloc(), words)? {
+            Request::Table { names, .. } | Request::Identify { names, .. } => names,
+            other => panic!(rt; "{words:?}: {other:?}"),
+        };
+        assert_eq!(rt; found, *asked, "{words:?}");
+    }
+    Ok(())
+}
+
+#[test]
+fn single_patterns_are_told_in_json_where_that_is_asked_for(rt: HostRuntime) -> Result<(), Fail> {
+    const ASKED: &[(Words, bool)] = &[
+        (&["identify"], false),
+        (&["identify", "a", "--json"], true),
+        (&["identify", "--", "--json"], false),
+    ];
+    for (words, asked) in ASKED {
+        let found = match request_of(rt.alloc(), words)? {
+            Request::Identify { json, .. } => json,
+            other => panic!(rt; "{words:?}: {other:?}"),
+        };
+        assert_eq!(rt; found, *asked, "{words:?}");
+    }
+    Ok(())
+}
+
+// The page that is asked for with no options.
+const PLAIN: PageAsked<'static> = PageAsked {
+    title: None,
+    note: None,
+    sort: PageSort::Report,
+    top: None,
+    base: None,
+    links: false,
+    patterns: true,
+};
+
+// Words that ask for a page, and which.
+const PAGES: &[(Words, PageAsked<'static>)] = &[
+    (&["page"], PLAIN),
+    (&["page", "--", "--links"], PLAIN),
+    (
+        &["page", "--title", "My own", "a"],
+        PageAsked {
+            title: Some("My own"),
+            ..PLAIN
+        },
+    ),
+    (
+        &["page", "--title=", "--note", "<b>"],
+        PageAsked {
+            title: Some(""),
+            note: Some("<b>"),
+            ..PLAIN
+        },
+    ),
+    (
+        &["page", "a", "--base", "http://", "--links"],
+        PageAsked {
+            base: Some("http://"),
+            links: true,
+            ..PLAIN
+        },
+    ),
+    (
+        &[
+            "page",
+            "--base=https://a.b/c",
+            "--no-patterns",
+            "--top",
+            "1",
+        ],
+        PageAsked {
+            base: Some("https://a.b/c"),
+            patterns: false,
+            top: Some(1),
+            ..PLAIN
+        },
+    ),
+    (
+        &["page", "--top=4294967295"],
+        PageAsked {
+            top: Some(4_294_967_295),
+            ..PLAIN
+        },
+    ),
+];
+
+#[test]
+fn a_page_has_options(rt: HostRuntime) -> Result<(), Fail> {
+    for (words, asked) in PAGES {
+        match request_of(rt.alloc(), words)? {
+            Request::Page { page, .. } => assert_eq!(rt; page, *asked, "{words:?}"),
+            other => panic!(rt; "{words:?}: {other:?}"),
+        }
+    }
+    Ok(())
+}
+
+#[test]
+fn a_page_has_an_order(rt: HostRuntime) -> Result<(), Fail> {
+    const ASKED: &[(Words, PageSort)] = &[
+        (&["page", "--sort", "report"], PageSort::Report),
+        (&["page", "--sort=count", "a"], PageSort::Count),
+        (&["page", "a", "--sort", "code"], PageSort::Code),
+        (&["page", "--sort", "period"], PageSort::Period),
+        (&["page", "--sort", "name"], PageSort::Name),
+    ];
+    for (words, asked) in ASKED {
+        match request_of(rt.alloc(), words)? {
+            Request::Page { page, .. } => assert_eq!(rt; page.sort, *asked, "{words:?}"),
+            other => panic!(rt; "{words:?}: {other:?}"),
+        }
+    }
+    Ok(())
+}
+
+// What clap says of a value of `page` that is refused.
+const NO_ORDER: &str = "\
+error: invalid value 'size' for '--sort <ORDER>'
+  [possible values: report, count, code, period, name]
+
+Usage: census page [OPTIONS] [REPORT]...
+
+For more information, try '--help'.
+";
+
+const NO_ADDRESS: &str = "\
+error: invalid value 'ftp://a' for '--base <URL>': it does not begin with http:// or https://
+
+Usage: census page [OPTIONS] [REPORT]...
+
+For more information, try '--help'.
+";
+
+#[test]
+fn a_page_in_no_order_or_at_no_address_is_refused(rt: HostRuntime) {
+    const ASKED: &[(Words, &str)] = &[
+        (&["page", "--sort", "size"], NO_ORDER),
+        (&["page", "--base", "ftp://a", "--sort=size", "a"], NO_ORDER),
+        (&["page", "a", "--base", "ftp://a"], NO_ADDRESS),
+    ];
+    for (words, said) in ASKED {
         match request_of(rt.alloc(), words) {
             Err(WordsFault::Refused(text)) => assert_eq!(rt; text.as_str(), *said, "{words:?}"),
             other => panic!(rt; "{words:?}: {other:?}"),
@@ -690,6 +907,28 @@ const REFUSED: &[(Words, &str)] = &[
     (&["table", "--safe", "--safe"], "--safe"),
     (&["table", "-r"], "-r"),
     (&["table", "--bound", "5"], "--bound"),
+    (&["table", "--names"], "--names"),
+    (&["table", "--names=a", "--names=b"], "--names"),
+    (&["identify", "--json", "--json"], "--json"),
+    (&["identify", "--cut"], "--cut"),
+    (&["run", "--cut"], "--cut"),
+    (&["merge", "--cut", "--cut"], "--cut"),
+    (&["merge", "--input", "0"], "--input"),
+    (&["same", "--input=9223372036854775808"], "--input"),
+    (&["merge", "--names", "n"], "--names"),
+    (&["page", "--names", "n"], "--names"),
+    (&["page", "--top", "0"], "--top"),
+    (&["page", "--top", "4294967296"], "--top"),
+    (&["page", "--sort"], "--sort"),
+    (&["page", "--sort", "Count"], "[possible values: "),
+    (&["page", "--sort="], "--sort"),
+    (&["page", "--base="], "--base"),
+    (&["page", "--base", "HTTP://a"], "--base"),
+    (&["page", "--base", "http:/a"], "--base"),
+    (&["page", "--title"], "--title"),
+    (&["page", "--note", "a", "--note", "b"], "--note"),
+    (&["page", "--links=1"], "--links"),
+    (&["page", "--no-patterns", "--no-patterns"], "--no-patterns"),
     (&["help", "life"], "life"),
 ];
 
@@ -773,14 +1012,17 @@ const PROGRAM_PARTS: Words = &[
     "objects [--bound N] [--workers N] [--cells N] [--near] [--horizon N] [--input N]\n",
     "--near       count what comes within two cells as one object",
     "--horizon N  generations within which growth is looked for, 1 to 10000\n",
-    "identify [--bound N] [--cells N] [--near] [--horizon N] [FILE]...",
+    "identify [--bound N] [--cells N] [--near] [--horizon N] [--json] [--names FILE]\n",
     "advance N [FILE]",
     "0 to 4194304",
     "[default: B3/S23]",
     "-V, --version",
     "merge [REPORT]...",
     "--explain",
-    "table [--csv | --json] [--safe] [--parts | --codes] [REPORT]...",
+    "table [--csv | --json] [--safe] [--parts | --codes] [--names FILE] [REPORT]...",
+    "page [--title TEXT] [--note TEXT] [--sort ORDER] [--top N] [--base URL]\n",
+    "--cut        take a report that was cut",
+    "--input N    bytes that the REPORTs may have together",
 ];
 
 const RUN_PARTS: Words = &[
@@ -823,6 +1065,8 @@ const IDENTIFY_PARTS: Words = &[
     "--near",
     "--horizon <N>",
     "1 to 10000 [default: 1000]",
+    "--json",
+    "--names <FILE>",
     "An RLE text; - is standard input",
     "With no FILE standard input is read",
     "Example: census identify",
@@ -867,6 +1111,9 @@ const DRAW_PARTS: Words = &[
 
 const MERGE_PARTS: Words = &[
     "Usage: census merge [OPTIONS] [REPORT]...",
+    "--cut",
+    "--input <N>",
+    "1 to 9223372036854775807",
     "--explain",
     "- is standard input",
     "With no REPORT standard input is read",
@@ -881,9 +1128,31 @@ const TABLE_PARTS: Words = &[
     "--safe",
     "--parts",
     "--codes",
+    "--names <FILE>",
+    "--cut",
+    "--input <N>",
     "- is standard input",
     "With no REPORT standard input is read",
     "Example: census table",
+];
+
+const PAGE_PARTS: Words = &[
+    "Usage: census page [OPTIONS] [REPORT]...",
+    "--title <TEXT>",
+    "[default: Census]",
+    "--note <TEXT>",
+    "--sort <ORDER>",
+    "report, count, code, period or name [default: report]",
+    "--top <N>",
+    "1 to 4294967295 [default: all]",
+    "--base <URL>",
+    "--links",
+    "--no-patterns",
+    "--cut",
+    "--input <N>",
+    "--explain",
+    "With no REPORT standard input is read",
+    "Example: census page",
 ];
 
 // What a user has to know of the columns.
@@ -917,6 +1186,8 @@ const HELPED: &[(Words, [Words; 2])] = &[
     (&["help", "merge"], [MERGE_PARTS, &[]]),
     (&["table", "--help"], [TABLE_PARTS, COLUMN_PARTS]),
     (&["table", "--csv", "--json", "-h"], [TABLE_PARTS, &[]]),
+    (&["page", "-h"], [PAGE_PARTS, &[]]),
+    (&["help", "page"], [PAGE_PARTS, &[]]),
 ];
 
 #[test]
