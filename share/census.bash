@@ -9,17 +9,21 @@ _census() {
     case ${COMP_WORDS[1]} in
     run) options='-b --bound -w --workers --cells --input -r --recursive -k --keep-going --explain --no-progress -h --help' kind=folders ;;
     objects) options='-b --bound -w --workers --cells --near --horizon --input -r --recursive -k --keep-going --explain --no-progress -h --help' kind=folders ;;
-    identify) options='-b --bound --cells --near --horizon --explain -h --help' kind=files ;;
+    identify) options='-b --bound --cells --near --horizon --json --names --explain -h --help' kind=files ;;
     advance) options='--explain -h --help' kind=files ;;
     draw) options='--rule --explain -h --help' kind=neither ;;
-    merge) options='--explain -h --help' kind=files ;;
-    table) options='--csv --json --safe --parts --codes --explain -h --help' kind=files ;;
-    page) options='--explain -h --help' kind=files ;;
-    same) options='--json --explain -h --help' kind=files ;;
-    verify) options='--explain -h --help' kind=files ;;
+    merge) options='--cut --input --explain -h --help' kind=files ;;
+    table) options='--csv --json --safe --parts --codes --names --cut --input --explain -h --help' kind=files ;;
+    page) options='--title --note --sort --top --base --links --no-patterns --cut --input --explain -h --help' kind=files ;;
+    same) options='--json --cut --input --explain -h --help' kind=files ;;
+    verify) options='--cut --input --explain -h --help' kind=files ;;
     esac
     case $last in
-    --bound | --cells | --horizon | --input | --rule | --workers | -b | -w) return ;;
+    --names)
+        mapfile -t COMPREPLY < <(compgen -f -- "$word")
+        return
+        ;;
+    --base | --bound | --cells | --horizon | --input | --note | --rule | --sort | --title | --top | --workers | -b | -w) return ;;
     esac
     case $word in
     -*) mapfile -t COMPREPLY < <(compgen -W "$options" -- "$word") ;;
