@@ -79,8 +79,8 @@ Bytes that the files of the FOLDERs may have together, 1 to 9223372036854775807
 
 /// What `--names` does.
 pub const NAMES: &str = "\
-A file of names of codes, whose lines are a code, a tab and a name. Where a code
-has one it is told too. - is standard input";
+Tell the names of codes too. FILE has lines of a code, a tab and a name;
+- is standard input";
 
 /// What `--base` does.
 pub const BASE: &str = "\
@@ -89,8 +89,8 @@ https://";
 
 /// What `--cut` does.
 pub const CUT: &str = "\
-Take a report that was cut: collections that are whole are kept, and a line on
-standard error tells how much was left out";
+Take a report that was cut: collections that are whole are kept, and a line
+on standard error tells what was left out";
 
 /// What `--input` does where reports are read.
 pub const REPORT_INPUT: &str = "\
@@ -258,7 +258,7 @@ or else
   unresolved N         none of these within N generations
 
 With --names the line name NAME follows apgcode, and lines of parts and of what
-engines emit end with NAME, where FILE has a name for CODE. In FILE a line that
+engines emit end with NAME, where CODE has one. In the file of names a line that
 begins with # is passed over, and no code stands twice.
 
 With --json there is an object a line for each text.
