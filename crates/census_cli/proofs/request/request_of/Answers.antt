@@ -2,7 +2,7 @@ use Rattle.std.proofs.Common.{refl, codes, subst}
 use Rattle.clap.specs.Matches.{found_of}
 use Rattle.clap.specs.Walk.{rows_of}
 use Rattle.census_cli.specs.Holding.{IsCommand}
-use Rattle.census_cli.proofs.Commands.{advance_command, identify_command, objects_command, run_command, table_command}
+use Rattle.census_cli.proofs.Commands.{advance_command, identify_command, objects_command, page_command, run_command, same_command, table_command, verify_command}
 use Rattle.census_cli.proofs.Getters.{entered_as, number_within}
 use Rattle.census_cli.proofs.request.request_of.Goals as goal
 use Rattle.census_cli.specs.Limits.{generation_limit}
@@ -44,3 +44,21 @@ table_of-requires c =
     let arm = c.in-Some-subcommand_matches-6 in
     let rows = rows_of (found_of arm.table.now) in
     table_command rows (subst IsCommand (entered_as c.args.matches.now (codes "table") rows (arm.ensures.found.0 refl) arm.ensures.rows) c.requires)
+
+pub page_of-requires : goal.page_of-requires
+page_of-requires c =
+    let arm = c.in-Some-subcommand_matches-7 in
+    let rows = rows_of (found_of arm.page.now) in
+    page_command rows (subst IsCommand (entered_as c.args.matches.now (codes "page") rows (arm.ensures.found.0 refl) arm.ensures.rows) c.requires)
+
+pub reports_of-requires-in-Some-subcommand_matches-8 : goal.reports_of-requires-in-Some-subcommand_matches-8
+reports_of-requires-in-Some-subcommand_matches-8 c =
+    let arm = c.in-Some-subcommand_matches-8 in
+    let rows = rows_of (found_of arm.same.now) in
+    (same_command rows (subst IsCommand (entered_as c.args.matches.now (codes "same") rows (arm.ensures.found.0 refl) arm.ensures.rows) c.requires)).reports
+
+pub reports_of-requires-in-Some-subcommand_matches-9 : goal.reports_of-requires-in-Some-subcommand_matches-9
+reports_of-requires-in-Some-subcommand_matches-9 c =
+    let arm = c.in-Some-subcommand_matches-9 in
+    let rows = rows_of (found_of arm.verify.now) in
+    (verify_command rows (subst IsCommand (entered_as c.args.matches.now (codes "verify") rows (arm.ensures.found.0 refl) arm.ensures.rows) c.requires)).reports
