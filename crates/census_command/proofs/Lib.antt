@@ -2,3 +2,4 @@ pub mod Advanced
 pub mod Outcomes
 pub mod Reports
 mod Kept
+mod Cuts

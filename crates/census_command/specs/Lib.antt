@@ -5,6 +5,7 @@ pub mod Draws
 pub mod Runs
 pub mod Asking
 pub mod Keeps
+pub mod Forms
 pub mod Remakes
 pub mod Requests
 pub mod Outcomes

@@ -16,6 +16,7 @@ use Rattle.census_cli.specs.Asking.{Asks, AsksToExplain, IsMatched}
 use Rattle.census_cli.specs.Refusing.{AreRefusedWords, AsksHelp, AsksText}
 use Rattle.census_cli.specs.declared.fault.WordsFault.{WordsFault}
 use Rattle.census_cli.specs.declared.fault.WordsFault.TheVariants.{Help, Refused, Memory}
+use Rattle.census_cli.specs.declared.request.Reports.{Reports}
 use Rattle.census_cli.specs.declared.request.Request.{Request}
 use Rattle.census_cli.specs.declared.request.Request.TheVariants.{Run, Objects, Identify, Advance, Draw, Merge, Table, Page, Same, Verify}
 use Rattle.life_answer.specs.declared.question.Question.TheVariants as question
@@ -32,7 +33,13 @@ use Rattle.census_errors.specs.Files.{file_of}
 use Rattle.census_command.specs.Keeps.{KeptCensus, Keeps}
 use Rattle.census_errors.specs.Messages.{error_line}
 use Rattle.census_errors.specs.Places.{IsPlaceOf}
-use Rattle.census_command.specs.Remakes.{Remakes, Verifies, format_of, subject_of}
+use Rattle.census_command.specs.Forms.{format_of, options_asked, reading_of, subject_of}
+use Rattle.census_command.specs.Remakes.{Remakes, RemakesWith}
+use Rattle.census_command.specs.declared.forms.Beside.{Beside}
+use Rattle.census_command.specs.declared.forms.Beside.TheVariants.{Names, Claims}
+use Rattle.census_page.specs.Options.{options_of}
+use Rattle.census_page.specs.declared.options.PageOptions.{PageOptions}
+use Rattle.census_reports.specs.declared.reading.Reading.{Reading}
 use Rattle.census_command.specs.Requests.{Does, DoesInPart, Fails}
 use Rattle.census_reports.specs.declared.form.Form.{Form}
 use Rattle.census_reports.specs.declared.form.Form.TheVariants as form
@@ -206,40 +213,51 @@ pub record AsksWhat (words : List (List ℕ)) (inquiry : Inquiry) (files : List 
 
 -- # What is made of reports
 
--- the request asks for this, made of the reports of these files
-abbrev pub IsRemaking : Request → Form → List (List ℕ) → Type 0
-IsRemaking (Merge reports) f files = (f ≡ form.Merged) × (files ≡ map (λ s. s.now) reports.words.items)
-IsRemaking (Table subject format names reports) f files = (f ≡ form.Table (subject_of subject) (format_of format)) × (files ≡ map (λ s. s.now) reports.words.items)
-IsRemaking (Page page reports) f files = (f ≡ form.Page) × (files ≡ map (λ s. s.now) reports.words.items)
-IsRemaking (Same json reports) f files = (f ≡ form.Same json) × (files ≡ map (λ s. s.now) reports.words.items)
-IsRemaking request f files = ⊥
+-- the reports are read so, and these are their files
+abbrev pub IsReadingOf : Reports → Reading → List (List ℕ) → Type 0
+IsReadingOf reports reading files = (reading ≡ reading_of reports) × (files ≡ map (λ s. s.now) reports.words.items)
+
+-- the request asks for this, made of the reports of these files, which are read so
+abbrev pub IsRemaking : Request → Form → Reading → List (List ℕ) → Type 0
+IsRemaking (Merge reports) f reading files = (f ≡ form.Merged) × IsReadingOf reports reading files
+IsRemaking (Table subject format None reports) f reading files =
+    (f ≡ form.Table (subject_of subject) (format_of format) None) × IsReadingOf reports reading files
+IsRemaking (Page page reports) f reading files =
+    ((options : PageOptions) × (f ≡ form.Page options) × (options_of options ≡ options_asked page)) × IsReadingOf reports reading files
+IsRemaking (Same json reports) f reading files = (f ≡ form.Same json) × IsReadingOf reports reading files
+IsRemaking request f reading files = ⊥
 
 -- The words ask for what is made of reports. It was written, or an error ended it.
 pub record RemakesAsked (shelf : Tellings) (words : List (List ℕ)) (status : ℕ) (before after : State) (old new : Errors) : Type 0 where
   pub request : Request
   pub asked : Asks words request
   pub form : Form
+  pub reading : Reading
   pub files : List (List ℕ)
-  pub is : IsRemaking request form files
+  pub is : IsRemaking request form reading files
   pub explain : Bool
   pub explained : AreExplained words old explain
-  pub remakes : Remakes (shelf.held []) form files explain status before after old new
+  pub remakes : Remakes (shelf.held []) form reading files explain status before after old new
 
--- the request asks for these claims to be compared with these reports
-abbrev pub IsVerifying : Request → List ℕ → List (List ℕ) → Type 0
-IsVerifying (Verify text reports) claims files = (claims ≡ text.now) × (files ≡ map (λ s. s.now) reports.words.items)
-IsVerifying request claims files = ⊥
+-- the request asks for this, made of these reports with the text of a word: a table with names, or what does not agree with claims
+abbrev pub IsBeside : Request → Beside → List ℕ → Reading → List (List ℕ) → Type 0
+IsBeside (Table subject format (Some names) reports) beside word reading files =
+    (beside ≡ Names (subject_of subject) (format_of format)) × (word ≡ names.now) × IsReadingOf reports reading files
+IsBeside (Verify claims reports) beside word reading files = (beside ≡ Claims) × (word ≡ claims.now) × IsReadingOf reports reading files
+IsBeside request beside word reading files = ⊥
 
--- The words ask for claims to be compared with reports. What does not agree was told, or an error ended it.
-pub record VerifiesAsked (shelf : Tellings) (words : List (List ℕ)) (status : ℕ) (before after : State) (old new : Errors) : Type 0 where
+-- The words ask for what is made of reports with a text that is read before them. It was written, or an error ended it.
+pub record BesideAsked (shelf : Tellings) (words : List (List ℕ)) (status : ℕ) (before after : State) (old new : Errors) : Type 0 where
   pub request : Request
   pub asked : Asks words request
-  pub claims : List ℕ
+  pub beside : Beside
+  pub word : List ℕ
+  pub reading : Reading
   pub files : List (List ℕ)
-  pub is : IsVerifying request claims files
+  pub is : IsBeside request beside word reading files
   pub explain : Bool
   pub explained : AreExplained words old explain
-  pub verifies : Verifies (shelf.held []) claims files explain status before after old new
+  pub remakes : RemakesWith (shelf.held []) beside word reading files explain status before after old new
 
 -- # To go on past what can't be read
 
@@ -292,7 +310,7 @@ pub record IdentifiesAsked (shelf : Tellings) (words : List (List ℕ)) (status 
 abbrev pub Outcome : Tellings → List (List ℕ) → ℕ → State → State → Errors → Errors → Type 0
 Outcome shelf words status before after old new =
     IdentifiesAsked shelf words status before after old new
-    ⊎ ((RemakesAsked shelf words status before after old new ⊎ VerifiesAsked shelf words status before after old new)
+    ⊎ ((RemakesAsked shelf words status before after old new ⊎ BesideAsked shelf words status before after old new)
     ⊎ (KeepsAsked shelf words status before after old new ⊎ Ends shelf words status before after old new))
 
 -- The system gives no arguments, for an error of this kind. Nothing is read or written, and its line is told.

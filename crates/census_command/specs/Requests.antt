@@ -1,5 +1,5 @@
 -- What is done where something is asked for, and what each error says.
-use Rattle.std.specs.Prelude.{◌≡◌, ℕ, ◌≤◌, Bool, List, [], Some, map, option_map}
+use Rattle.std.specs.Prelude.{◌≡◌, ℕ, ◌≤◌, Bool, List, [], None, Some, map, option_map}
 use Rattle.census_cli.specs.declared.request.Request.{Request}
 use Rattle.census_cli.specs.declared.request.Request.TheVariants.{Run, Objects, Identify, Advance, Draw, Merge, Table, Page, Same, Verify}
 use Rattle.census_cli.specs.Limits.{generation_limit, horizon_limit, objects_bound_limit, settles_bound_limit, worker_limit}
@@ -29,15 +29,21 @@ EndsAtFirst (Run bound workers cells input recursive keep_going folders) = Stops
 EndsAtFirst (Objects bound workers cells near horizon input recursive keep_going folders) = StopsAtFirstLoss (source_of (record { limit = input; recursive = recursive; keep_going = keep_going; words = map (λ s. s.now) folders.items }))
 EndsAtFirst request = Unit {0}
 
--- nothing is to be made of reports alone
+-- nothing is to be made of reports alone, with no text beside them
 abbrev pub MakesNothing : Request → Type 0
 MakesNothing (Merge reports) = ⊥
-MakesNothing (Table subject format names reports) = ⊥
+MakesNothing (Table subject format None reports) = ⊥
 MakesNothing (Page page reports) = ⊥
 MakesNothing (Same json reports) = ⊥
 MakesNothing request = Unit {0}
 
--- neither what patterns are is asked for, nor what is made of reports, nor what claims say of them, nor to go on past what can't be read, which have
+-- nor is anything to be made of them with a text that is read before them
+abbrev pub HasNoText : Request → Type 0
+HasNoText (Table subject format (Some names) reports) = ⊥
+HasNoText (Verify claims reports) = ⊥
+HasNoText request = Unit {0}
+
+-- neither what patterns are is asked for, nor what is made of reports, alone or with a text beside them, nor to go on past what can't be read, which have
 -- outcomes of their own
 abbrev pub IsDone : Request → Type 0
 IsDone (Identify bound cells near horizon json names files) = ⊥

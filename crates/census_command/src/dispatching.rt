@@ -3,8 +3,9 @@ ghost use Rattle.std.specs.Prelude.{◌≡◌, ◌||◌, false, map, IfErr, IfNo
 ghost use Rattle.census_errors.specs.Errors.{status_of};
 ghost use Rattle.census_errors.specs.Messages.{error_line};
 ghost use Rattle.census_errors.specs.Places.{IsPlaceOf};
-ghost use Rattle.census_command.specs.Outcomes.{Answers, IsRemaking, Outcome};
-ghost use Rattle.census_command.specs.Requests.{Does, Fails, IsDone, IsLawful, MakesNothing};
+ghost use Rattle.census_command.specs.Forms.{reading_of};
+ghost use Rattle.census_command.specs.Outcomes.{Answers, IsBeside, IsRemaking, Outcome};
+ghost use Rattle.census_command.specs.Requests.{Does, Fails, HasNoText, IsDone, IsLawful, MakesNothing};
 ghost use Rattle.census_errors.specs.ErrorStreams.{TellsIf, TellsText};
 ghost use Rattle.census_command.specs.Streams.{HasSoundStreams};
 
@@ -13,11 +14,12 @@ use crate::census::{census_of, kept_of};
 use crate::drawing::draw;
 use crate::keeping::keep_going;
 use crate::quiet_gate::QuietGate;
-use crate::remaking::{format_of, remake, subject_of, verify};
+use crate::forms::{Beside, format_of, options_asked, reading_of, subject_of};
+use crate::remaking::{remake, remake_with};
 use crate::running::run_command;
 use crate::streams::Streams;
 use census_blocks::Inquiry;
-use census_cli::{Request, WordsFault, read_words};
+use census_cli::{Reports, Request, WordsFault, read_words};
 use census_crew::Gate;
 use census_errors::{
     CommandError, ErrorStream, Place, Stopped, file_place, saying_of, stop_saying,
@@ -31,30 +33,60 @@ use std::sync::Wait;
 use std::thread::Threads;
 use watched::put_all;
 
-// What is made of reports, and of which, where that is asked for.
-fn remaking_of<'r, 'a>(request: &'r Request<'a>) -> Option<(Form<'a>, &'r [&'a str])>
+// What is made of reports alone, and of which, where that is asked for.
+fn remaking_of<'r, 'a>(request: &'r Request<'a>) -> Option<(Form<'a>, &'r Reports<'a>)>
     ensures some { IfSome result
-        (λ made. IsRemaking request.now made.0 (map (λ s. s.now) made.1.now)) }
+        (λ made. IsRemaking request.now made.0 (reading_of made.1.now) (map (λ s. s.now) made.1.now.words.items)) }
     ensures none { IfNone result (MakesNothing request.now) }
 {
     match request {
-        Request::Merge { reports } => Some((Form::Merged, reports.words.as_slice())),
+        Request::Merge { reports } => Some((Form::Merged, reports)),
         Request::Table {
             subject,
             format,
-            names: _,
+            names: None,
             reports,
         } => {
             let form = Form::Table {
                 subject: subject_of(*subject),
                 format: format_of(*format),
+                names: None,
             };
-            Some((form, reports.words.as_slice()))
+            Some((form, reports))
         }
-        Request::Page { page: _, reports } => Some((Form::Page, reports.words.as_slice())),
-        Request::Same { json, reports } => {
-            Some((Form::Same { json: *json }, reports.words.as_slice()))
+        Request::Page { page, reports } => {
+            let form = Form::Page {
+                options: options_asked(page),
+            };
+            Some((form, reports))
         }
+        Request::Same { json, reports } => Some((Form::Same { json: *json }, reports)),
+        _ => None,
+    }
+}
+
+// What is made of reports with a text that is read before them, the word of that text, and which reports, where that is
+// asked for.
+fn beside_of<'r, 'a>(request: &'r Request<'a>) -> Option<(Beside, &'a str, &'r Reports<'a>)>
+    ensures some { IfSome result
+        (λ made. IsBeside request.now made.0 made.1.now (reading_of made.2.now)
+        (map (λ s. s.now) made.2.now.words.items)) }
+    ensures none { IfNone result (HasNoText request.now) }
+{
+    match request {
+        Request::Table {
+            subject,
+            format,
+            names: Some(names),
+            reports,
+        } => {
+            let beside = Beside::Names {
+                subject: subject_of(*subject),
+                format: format_of(*format),
+            };
+            Some((beside, *names, reports))
+        }
+        Request::Verify { claims, reports } => Some((Beside::Claims, *claims, reports)),
         _ => None,
     }
 }
@@ -181,7 +213,7 @@ pub fn answer<I: Read, O: Write, E: Write>(
 ///   RLE text, and the text of generation N was written; by `draw CODE [--rule R]` the text of the code's shape under the
 ///   rule; by `merge` one report of reports that were read, by `table` a table of them, by `page` a page, by `same`
 ///   their patterns that are one object, of which there are none, and by `verify` what does not agree between claims and
-///   them, which is nothing. Or help was asked for and written.
+///   them, which is nothing. With `--names` the file of names is read before the reports. Or help was asked for and written.
 /// - 1: the collections, the pattern, the rule or the code is refused, and nothing was written.
 /// - 2: clap refuses the words, and not because memory was refused; nothing was read or written.
 /// - 3: memory was refused, and nothing was written, or by `run` and by `objects` a prefix of the report, or by `table`,
@@ -192,7 +224,8 @@ pub fn answer<I: Read, O: Write, E: Write>(
 ///   written is a prefix of what was asked for, or nothing; after a failed read it is nothing. With `--keep-going` it is
 ///   the whole report of what could be read, after a line on `errors` for each folder, file or name that was lost.
 ///
-/// Where the status is 0 or 5, nothing is written to `errors`. Else the error's one line is, or for status 2 clap's own text:
+/// Where the status is 0 or 5, nothing is written to `errors` but a line for each report that was cut, with `--cut`. Else the
+/// error's one line is, or for status 2 clap's own text:
 /// whole where `errors` does not fail, else a prefix of it. With `--explain`, and where `errors` is a terminal, one more line
 /// follows the error's, which says where the fault is, what is wrong and what would be right; and after a report there is
 /// such a line for each pattern that it tells as `bad`, and then one for each whose text may hold the next pattern, and one
@@ -224,11 +257,16 @@ pub fn dispatch<S: Shelf, I: Read, O: Write, E: Write, G: Gate, R: Threads + Wai
         return keep_going(rt, shelf, alloc, census, explain, gate, streams, errors);
     }
     if let Some((form, reports)) = remaking_of(request) {
-        return remake(shelf, alloc, form, reports, explain, streams, errors);
+        let files = reports.words.as_slice();
+        let reading = reading_of(reports);
+        return remake(shelf, alloc, form, reading, files, explain, streams, errors);
     }
-    if let Request::Verify { claims, reports } = request {
-        let reports = reports.words.as_slice();
-        return verify(shelf, alloc, *claims, reports, explain, streams, errors);
+    if let Some((beside, word, reports)) = beside_of(request) {
+        let files = reports.words.as_slice();
+        let reading = reading_of(reports);
+        return remake_with(
+            shelf, alloc, beside, word, reading, files, explain, streams, errors,
+        );
     }
     if let Request::Identify {
         bound,

@@ -5,3 +5,4 @@ pub mod Files
 pub mod Places
 pub mod Sayings
 pub mod Messages
+pub mod Cuts

@@ -103,6 +103,7 @@ run_message run.Write = message (codes "write failed")
 
 abbrev pub reports_message : ReportsError → Message
 reports_message (reports.Claims line) = message_at (codes "claim fault at line ") line
+reports_message (reports.Names line) = message_at (codes "names fault at line ") line
 reports_message (reports.Fault text line) = message_at (codes "report fault at line ") line
 reports_message (reports.TooMany report) = message_at (codes "too many collections at report ") report
 reports_message reports.TooLong = message (codes "input too long")

@@ -100,6 +100,7 @@ draw_spot code error = Nowhere
 -- too many collections are told as too many folders
 abbrev pub reports_fault : ReportsError → Fault
 reports_fault (reports.Claims line) = fault.Claims
+reports_fault (reports.Names line) = fault.Names
 reports_fault (reports.Fault text line) = fault.Report
 reports_fault (reports.TooMany report) = fault.Folder add.TooMany
 reports_fault reports.TooLong = fault.TooLong
@@ -117,6 +118,7 @@ reports_name files error = None
 
 abbrev pub reports_spot : ReportsError → Spot
 reports_spot (reports.Claims line) = Line line
+reports_spot (reports.Names line) = Line line
 reports_spot (reports.Fault text line) = Line line
 reports_spot error = Nowhere
 

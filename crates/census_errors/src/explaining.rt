@@ -120,6 +120,7 @@ pub fn reports_saying<'a>(files: &[&'a str], error: ReportsError) -> Saying<'a>
             )
         }
         ReportsError::Claims { line } => of_file(Fault::Claims, None, Spot::Line(line as u64)),
+        ReportsError::Names { line } => of_file(Fault::Names, None, Spot::Line(line as u64)),
         ReportsError::TooMany { .. } => nowhere(Fault::Folder(AddFault::TooMany)),
         ReportsError::TooLong => nowhere(Fault::TooLong),
         ReportsError::Memory => nowhere(Fault::Memory),

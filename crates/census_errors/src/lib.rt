@@ -5,6 +5,7 @@
 #![tactic(auto)]
 
 mod advance_error;
+mod cuts;
 mod draw_error;
 mod error;
 mod error_stream;
@@ -18,6 +19,7 @@ mod saying;
 mod stopped;
 
 pub use advance_error::AdvanceError;
+pub use cuts::cut_line;
 pub use draw_error::DrawError;
 pub use error::CommandError;
 pub use error_stream::ErrorStream;

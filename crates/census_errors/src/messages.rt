@@ -126,6 +126,7 @@ fn reports_message(fault: ReportsError) -> (&'static str, Option<usize>)
     match fault {
         ReportsError::Fault { line, .. } => ("report fault at line ", Some(line)),
         ReportsError::Claims { line } => ("claim fault at line ", Some(line)),
+        ReportsError::Names { line } => ("names fault at line ", Some(line)),
         ReportsError::TooMany { report } => ("too many collections at report ", Some(report)),
         ReportsError::TooLong => ("input too long", None),
         ReportsError::Memory => ("out of memory", None),

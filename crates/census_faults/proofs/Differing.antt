@@ -14,7 +14,7 @@ use Rattle.life_faults.specs.declared.files.FileKind.TheVariants as files
 use Rattle.life_faults.specs.declared.kinds.RuleKind.{RuleKind}
 use Rattle.life_faults.specs.declared.kinds.RuleKind.TheVariants as kinds
 use Rattle.census_faults.specs.declared.fault.Fault.{Fault}
-use Rattle.census_faults.specs.declared.fault.Fault.TheVariants.{Text, File, Rule, Bundle, Folder, Code, Generation, Report, Claims, TooLong, Read, FileForFolder, Write, Arguments, Words, Memory}
+use Rattle.census_faults.specs.declared.fault.Fault.TheVariants.{Text, File, Rule, Bundle, Folder, Code, Generation, Report, Claims, Names, TooLong, Read, FileForFolder, Write, Arguments, Words, Memory}
 use Rattle.census_faults.specs.Faults.{canonical_fault}
 use Rattle.census_faults.specs.Sentences.{FaultsDiffer, sentence_of}
 
@@ -63,6 +63,7 @@ all_faults =
     Generation ∷
     Report ∷
     Claims ∷
+    Names ∷
     TooLong ∷
     Read ∷
     FileForFolder ∷
@@ -136,6 +137,7 @@ fault_tells (Code fault) = code_tells fault
 fault_tells Generation = refl
 fault_tells Report = refl
 fault_tells Claims = refl
+fault_tells Names = refl
 fault_tells TooLong = refl
 fault_tells Read = refl
 fault_tells FileForFolder = refl

@@ -15,7 +15,7 @@ use Rattle.life_faults.specs.declared.kinds.RuleKind.TheVariants as kinds
 use Rattle.life_faults.specs.Files.{file_kind}
 use Rattle.life_faults.specs.Rules.{rule_in_header, rule_kind}
 use Rattle.census_faults.specs.declared.fault.Fault.{Fault}
-use Rattle.census_faults.specs.declared.fault.Fault.TheVariants.{Text, File, Rule, Bundle, Folder, Code, Generation, Report, Claims, TooLong, Read, FileForFolder, Write, Arguments, Words, Memory}
+use Rattle.census_faults.specs.declared.fault.Fault.TheVariants.{Text, File, Rule, Bundle, Folder, Code, Generation, Report, Claims, Names, TooLong, Read, FileForFolder, Write, Arguments, Words, Memory}
 
 -- # Of texts and rules
 
@@ -81,6 +81,7 @@ canonical_fault (Code fault) = same_of_code fault
 canonical_fault Generation = Generation
 canonical_fault Report = Report
 canonical_fault Claims = Claims
+canonical_fault Names = Names
 canonical_fault TooLong = TooLong
 canonical_fault Read = Read
 canonical_fault FileForFolder = FileForFolder

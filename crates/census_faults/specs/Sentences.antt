@@ -9,7 +9,7 @@ use Rattle.census_bundle.specs.declared.bundle.AddFault.{AddFault}
 use Rattle.census_bundle.specs.declared.bundle.AddFault.TheVariants as add
 use Rattle.life_faults.specs.Sentences as texts
 use Rattle.census_faults.specs.declared.fault.Fault.{Fault}
-use Rattle.census_faults.specs.declared.fault.Fault.TheVariants.{Text, File, Rule, Bundle, Folder, Code, Generation, Report, Claims, TooLong, Read, FileForFolder, Write, Arguments, Words, Memory}
+use Rattle.census_faults.specs.declared.fault.Fault.TheVariants.{Text, File, Rule, Bundle, Folder, Code, Generation, Report, Claims, Names, TooLong, Read, FileForFolder, Write, Arguments, Words, Memory}
 use Rattle.census_faults.specs.Faults.{canonical_fault}
 
 abbrev pub bundle_sentence : BundleFault → List ℕ
@@ -44,7 +44,8 @@ sentence_of (Code fault) = code_sentence fault
 sentence_of Generation = codes "the generation can't be asked for: it must be a number from 0 to 4194304"
 sentence_of Report = codes "a line is not one that a report has in this place: it must be as `census run` or `census objects` writes it"
 sentence_of Claims = codes "a row is not one of claims: the first must have a column `name`, each other as many cells, and numbers as `census table` has them"
-sentence_of TooLong = codes "there are too many bytes: a text must have at most 67108864, and all files of folders at most as many as `--input` says"
+sentence_of Names = codes "a line is not one of a name: it must be a code, a tab and a name, and no code may stand twice"
+sentence_of TooLong = codes "there are too many bytes: a text must have at most 67108864, and all files of folders or all reports at most as many as `--input` says"
 sentence_of Read = codes "reading failed: a folder must be one that can be listed, and a file a regular file that can be read"
 sentence_of FileForFolder = codes "a file stands where a folder is wanted: `census identify FILE` tells what the pattern of a file is"
 sentence_of Write = codes "writing failed: what the output goes to must stay open and have room"

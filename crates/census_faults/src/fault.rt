@@ -31,6 +31,8 @@ pub enum Fault {
     Report,
     /// A row is not one of claims.
     Claims,
+    /// A line is not one of a code's name.
+    Names,
     /// A text, a file or a bundle has more than 67,108,864 bytes.
     TooLong,
     /// A folder can't be listed, or a file or standard input can't be read.

@@ -76,8 +76,10 @@ pub fn sentence(fault: Fault) -> &'static str
             "a line is not one that a report has in this place: it must be as `census run` or `census objects` writes it",
         Fault::Claims =>
             "a row is not one of claims: the first must have a column `name`, each other as many cells, and numbers as `census table` has them",
+        Fault::Names =>
+            "a line is not one of a name: it must be a code, a tab and a name, and no code may stand twice",
         Fault::TooLong =>
-            "there are too many bytes: a text must have at most 67108864, and all files of folders at most as many as `--input` says",
+            "there are too many bytes: a text must have at most 67108864, and all files of folders or all reports at most as many as `--input` says",
         Fault::Read =>
             "reading failed: a folder must be one that can be listed, and a file a regular file that can be read",
         Fault::FileForFolder =>

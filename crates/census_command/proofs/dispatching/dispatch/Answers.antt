@@ -1,6 +1,7 @@
 use Rattle.std.proofs.Common.{List, ℕ, ◌++◌, inl, inr, refl, sym, ap, subst, map}
 use Rattle.census_blocks.specs.declared.inquiry.Inquiry.{Inquiry}
-use Rattle.census_command.specs.Outcomes.{IsIdentify, IsVerifying}
+use Rattle.census_command.specs.Forms.{reading_of}
+use Rattle.census_command.specs.Outcomes.{IsIdentify}
 use Rattle.census_errors.specs.Messages.{error_line}
 use Rattle.census_errors.specs.Sayings.{said_if}
 use Rattle.census_errors.specs.ErrorStreams.{TellsIf, TellsText}
@@ -29,29 +30,33 @@ returns-in-Identify g c =
 
 pub returns-in-Some-remaking_of : goal.returns-in-Some-remaking_of
 returns-in-Some-remaking_of g c =
+    let arm = c.in-Some-remaking_of in
     inr (inl (inl (record {
       request = c.in-Ok.asked.request;
       asked = c.in-Ok.ensures.0;
-      form = c.in-Some-remaking_of.form;
-      files = map (λ s. s.now) c.in-Some-remaking_of.reports.now;
-      is = c.in-Some-remaking_of.ensures.some;
+      form = arm.form;
+      reading = reading_of arm.reports.now;
+      files = map (λ s. s.now) arm.reports.now.words.items;
+      is = arm.ensures.some;
       explain = c.explains-explain.result;
       explained = are_explained (map (λ s. s.now) c.args.words.now) c.args.errors.now c.in-Ok.asked.explain c.explains-explain.result c.in-Ok.ensures.1 c.explains-explain.ensures;
       remakes = c.remake.ensures;
     })))
 
-pub returns-in-Verify : goal.returns-in-Verify
-returns-in-Verify g c =
-    let words = map (λ s. s.now) c.as_slice-reports.result.now in
+pub returns-in-Some-beside_of : goal.returns-in-Some-beside_of
+returns-in-Some-beside_of g c =
+    let arm = c.in-Some-beside_of in
     inr (inl (inr (record {
       request = c.in-Ok.asked.request;
       asked = c.in-Ok.ensures.0;
-      claims = c.in-Verify.claims.now;
-      files = words;
-      is = subst (λ r. IsVerifying r c.in-Verify.claims.now words) (sym c.in-Verify.is) (refl, ap (λ files. map (λ s. s.now) files) c.as_slice-reports.ensures.value);
+      beside = arm.beside;
+      word = arm.word.now;
+      reading = reading_of arm.reports.now;
+      files = map (λ s. s.now) arm.reports.now.words.items;
+      is = arm.ensures.some;
       explain = c.explains-explain.result;
       explained = are_explained (map (λ s. s.now) c.args.words.now) c.args.errors.now c.in-Ok.asked.explain c.explains-explain.result c.in-Ok.ensures.1 c.explains-explain.ensures;
-      verifies = c.verify.ensures;
+      remakes = c.remake_with.ensures;
     })))
 
 pub returns-in-Ok-execute : goal.returns-in-Ok-execute

@@ -1,5 +1,5 @@
 use Rattle.std.proofs.Common.{inr, refl}
-use Rattle.census_command.proofs.remaking.verify.Goals as goal
+use Rattle.census_command.proofs.remaking.remake_with.Goals as goal
 
 pub returns-in-Err : goal.returns-in-Err
 returns-in-Err g c =

@@ -1,0 +1,112 @@
+//! What the words of `table`, `page` and `verify` ask to make of reports, and how reports are read.
+ghost use Rattle.std.specs.Prelude.{◌≡◌, option_map, unwrap_or};
+ghost use Rattle.census_page.specs.Options.{options_of};
+ghost use Rattle.census_command.specs.Forms.{form_beside, format_of, options_asked, reading_of, sort_of, subject_of};
+
+use census_cli::{PageAsked, PageSort, Reports, TableFormat, TableSubject};
+use census_page::{PageOptions, Sort, default_options};
+use census_reports::{Form, Reading};
+use census_table::{Format, Subject};
+
+/// How a table is written.
+pub fn format_of(format: TableFormat) -> Format
+    ensures { result ≡ format_of format }
+{
+    match format {
+        TableFormat::Csv { safe } => Format::Csv { safe },
+        TableFormat::Json => Format::Json,
+    }
+}
+
+/// What a table has a row for each of.
+pub fn subject_of(subject: TableSubject) -> Subject
+    ensures { result ≡ subject_of subject }
+{
+    match subject {
+        TableSubject::Patterns => Subject::Patterns,
+        TableSubject::Parts => Subject::Parts,
+        TableSubject::Codes => Subject::Codes,
+    }
+}
+
+// In which order the codes of a page stand.
+fn sort_of(sort: PageSort) -> Sort
+    ensures { result ≡ sort_of sort }
+{
+    match sort {
+        PageSort::Report => Sort::Report,
+        PageSort::Count => Sort::Count,
+        PageSort::Code => Sort::Code,
+        PageSort::Period => Sort::Period,
+        PageSort::Name => Sort::Name,
+    }
+}
+
+// The bytes of a text, or these where there is none.
+fn bytes_or<'a>(text: Option<&'a str>, other: &'a [u8]) -> &'a [u8]
+    ensures { result.now ≡ unwrap_or (option_map (λ s. s.now) text.entry) other.entry.now }
+{
+    match text {
+        Some(text) => text.as_bytes(),
+        None => other,
+    }
+}
+
+// The bytes of a text, where there is one.
+fn bytes_of<'a>(text: Option<&'a str>) -> Option<&'a [u8]>
+    ensures { option_map (λ s. s.now) result ≡ option_map (λ s. s.now) text.entry }
+{
+    match text {
+        Some(text) => Some(text.as_bytes()),
+        None => None,
+    }
+}
+
+/// What a page is asked to have.
+pub fn options_asked<'a>(page: &PageAsked<'a>) -> PageOptions<'a>
+    ensures { options_of result ≡ options_asked page.now }
+{
+    let usual = default_options();
+    PageOptions {
+        title: bytes_or(page.title, usual.title),
+        note: bytes_or(page.note, usual.note),
+        sort: sort_of(page.sort),
+        top: page.top.map(u64::from),
+        base: bytes_of(page.base),
+        links: page.links,
+        patterns: page.patterns,
+    }
+}
+
+/// How reports are read.
+pub fn reading_of(reports: &Reports<'_>) -> Reading
+    ensures { result ≡ reading_of reports.now }
+{
+    Reading {
+        cut: reports.cut,
+        limit: reports.input,
+    }
+}
+
+/// What is made of reports with a text that is read before them.
+#[derive(Clone, Copy, Debug, PartialEq, Eq)]
+pub enum Beside {
+    /// A table with the names of codes that the text has.
+    Names { subject: Subject, format: Format },
+    /// What does not agree with the claims that it has.
+    Claims,
+}
+
+/// This, with the text.
+pub fn form_beside(beside: Beside, text: &[u8]) -> Form<'_>
+    ensures { result ≡ form_beside beside text.entry }
+{
+    match beside {
+        Beside::Names { subject, format } => Form::Table {
+            subject,
+            format,
+            names: Some(text),
+        },
+        Beside::Claims => Form::Verdict { claims: text },
+    }
+}
