@@ -7,5 +7,6 @@ pub mod Asking
 pub mod Keeps
 pub mod Forms
 pub mod Remakes
+pub mod Identifying
 pub mod Requests
 pub mod Outcomes

@@ -26,13 +26,13 @@ use Rattle.census_faults.specs.declared.spot.Spot.{Spot}
 use Rattle.census_folders.specs.Told.{MayExceed, MayFail}
 use Rattle.census_folders.specs.declared.unread.Unread.{Unread}
 use Rattle.census_folders.specs.declared.loss.OnLoss.TheVariants.{Keep}
-use Rattle.census_identify.specs.Identifies.{Identifies}
 use Rattle.census_command.specs.Advances.{HasFileFault, HasRleFault, ReadsTooMuch}
 use Rattle.census_errors.specs.Errors.{IsArgumentsError, run_status, status_of}
 use Rattle.census_errors.specs.Files.{file_of}
 use Rattle.census_command.specs.Keeps.{KeptCensus, Keeps}
 use Rattle.census_errors.specs.Messages.{error_line}
 use Rattle.census_errors.specs.Places.{IsPlaceOf}
+use Rattle.census_command.specs.Identifying.{TellsPatterns, form_told}
 use Rattle.census_command.specs.Forms.{format_of, options_asked, reading_of, subject_of}
 use Rattle.census_command.specs.Remakes.{Remakes, RemakesWith}
 use Rattle.census_command.specs.declared.forms.Beside.{Beside}
@@ -199,17 +199,18 @@ pub record TellsRefusal (words : List (List ℕ)) (before after : State) (old ne
 
 -- # What patterns are
 
--- the request asks this of the patterns of these files
-abbrev pub IsIdentify : Request → Inquiry → List (List ℕ) → Type 0
-IsIdentify (Identify bound cells near horizon json names files) inquiry words =
-    (inquiry ≡ record { bound = bound; cells = cells; near = near; horizon = horizon }) × (words ≡ map (λ s. s.now) files.items)
-IsIdentify request inquiry words = ⊥
+-- the request asks this of the patterns of these files, with the names of the text of a word, or without
+abbrev pub IsIdentify : Request → Inquiry → Option (List ℕ) → List (List ℕ) → Type 0
+IsIdentify (Identify bound cells near horizon json names files) inquiry word words =
+    (inquiry ≡ record { bound = bound; cells = cells; near = near; horizon = horizon; form = form_told json })
+    × (word ≡ option_map (λ s. s.now) names) × (words ≡ map (λ s. s.now) files.items)
+IsIdentify request inquiry word words = ⊥
 
 -- the words ask this of the patterns of these files
-pub record AsksWhat (words : List (List ℕ)) (inquiry : Inquiry) (files : List (List ℕ)) : Type 0 where
+pub record AsksWhat (words : List (List ℕ)) (inquiry : Inquiry) (word : Option (List ℕ)) (files : List (List ℕ)) : Type 0 where
   pub request : Request
   pub asked : Asks words request
-  pub is : IsIdentify request inquiry files
+  pub is : IsIdentify request inquiry word files
 
 -- # What is made of reports
 
@@ -301,9 +302,12 @@ pub record Ends (shelf : Tellings) (words : List (List ℕ)) (status : ℕ) (bef
 -- The words ask what patterns are. Each was told, or an error ended it.
 pub record IdentifiesAsked (shelf : Tellings) (words : List (List ℕ)) (status : ℕ) (before after : State) (old new : Errors) : Type 0 where
   pub inquiry : Inquiry
+  pub word : Option (List ℕ)
   pub files : List (List ℕ)
-  pub asked : AsksWhat words inquiry files
-  pub identifies : Identifies (shelf.held []) inquiry files status (all_streams before old) (all_streams after new)
+  pub asked : AsksWhat words inquiry word files
+  pub explain : Bool
+  pub explained : AreExplained words old explain
+  pub identifies : TellsPatterns (shelf.held []) inquiry word files explain status before after old new
 
 -- Words that ask what patterns are, or to go on past what can't be read, have outcomes of their own, since there one error
 -- doesn't end all; and so have those that ask for what is made of reports.

@@ -36,7 +36,7 @@ both_streams s = record {
 -- One report of lawful reports of bundles, none of which was cut, is a lawful report of the bundles, one after another.
 abbrev pub KeepsLaw : Form → Reading → (List ℕ → Told) → List (List ℕ) → State → State → Type 0
 KeepsLaw form.Merged reading held files before after =
-    reading.cut ≡ false → MergesLawfully held files (both_streams before) (both_streams after)
+    reading.cut ≡ false → MergesLawfully reading.limit held files (both_streams before) (both_streams after)
 KeepsLaw _ reading held files before after = Unit {0}
 
 -- a line was told for each text that was cut, in their order; once standard error has failed the lines are lost

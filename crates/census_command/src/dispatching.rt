@@ -12,9 +12,10 @@ ghost use Rattle.census_command.specs.Streams.{HasSoundStreams};
 use crate::advancing::advance;
 use crate::census::{census_of, kept_of};
 use crate::drawing::draw;
+use crate::forms::{Beside, format_of, options_asked, reading_of, subject_of};
+use crate::identifying::{form_told, tell_patterns};
 use crate::keeping::keep_going;
 use crate::quiet_gate::QuietGate;
-use crate::forms::{Beside, format_of, options_asked, reading_of, subject_of};
 use crate::remaking::{remake, remake_with};
 use crate::running::run_command;
 use crate::streams::Streams;
@@ -25,7 +26,6 @@ use census_errors::{
     CommandError, ErrorStream, Place, Stopped, file_place, saying_of, stop_saying,
 };
 use census_folders::Shelf;
-use census_identify::identify;
 use census_reports::Form;
 use std::alloc::Global;
 use std::io::{Read, Write};
@@ -273,20 +273,22 @@ pub fn dispatch<S: Shelf, I: Read, O: Write, E: Write, G: Gate, R: Threads + Wai
         cells,
         near,
         horizon,
-        json: _,
-        names: _,
+        json,
+        names,
         files,
     } = request
     {
-        let Streams { input, output } = streams;
-        let told = &mut errors.inner;
         let inquiry = Inquiry {
             bound: *bound,
             cells: *cells,
             near: *near,
             horizon: *horizon,
+            form: form_told(*json),
         };
-        return identify(shelf, alloc, inquiry, files.as_slice(), input, output, told);
+        let files = files.as_slice();
+        return tell_patterns(
+            shelf, alloc, inquiry, *names, files, explain, streams, errors,
+        );
     }
     match execute(rt, shelf, alloc, request, explain, gate, streams) {
         Ok(lines) => {

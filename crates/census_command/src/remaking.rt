@@ -50,7 +50,7 @@ fn write<S: Shelf, I: Read, O: Write>(
 }
 
 // Tells an error of what is made of the reports of these files, and gives its exit status.
-fn stop_of<S: Shelf, E: Write>(
+pub(crate) fn stop_of<S: Shelf, E: Write>(
     shelf: &S,
     alloc: Global,
     files: &[&str],

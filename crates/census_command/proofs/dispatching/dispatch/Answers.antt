@@ -1,6 +1,7 @@
-use Rattle.std.proofs.Common.{List, ℕ, ◌++◌, inl, inr, refl, sym, ap, subst, map}
+use Rattle.std.proofs.Common.{List, ℕ, ◌++◌, inl, inr, refl, sym, ap, subst, map, option_map}
 use Rattle.census_blocks.specs.declared.inquiry.Inquiry.{Inquiry}
 use Rattle.census_command.specs.Forms.{reading_of}
+use Rattle.census_command.specs.Identifying.{form_told}
 use Rattle.census_command.specs.Outcomes.{IsIdentify}
 use Rattle.census_errors.specs.Messages.{error_line}
 use Rattle.census_errors.specs.Sayings.{said_if}
@@ -14,19 +15,23 @@ returns-in-Err g c = inr (inr (inr (ends_answered _ _ _ _ _ _ _ c.in-Err.fault c
 
 pub returns-in-Identify : goal.returns-in-Identify
 returns-in-Identify g c =
-    let words = map (λ s. s.now) c.as_slice.result.now in
-    let inquiry : Inquiry = record { bound = c.in-Identify.bound; cells = c.in-Identify.cells; near = c.in-Identify.near; horizon = c.in-Identify.horizon } in
-    rw (← c.streams.view_is, ← c.errors.view_is)
-    (inl (record {
+    let arm = c.in-Identify in
+    let word = option_map (λ s. s.now) arm.names in
+    let words = map (λ s. s.now) c.as_slice-files.result.now in
+    let inquiry : Inquiry = record { bound = arm.bound; cells = arm.cells; near = arm.near; horizon = arm.horizon; form = form_told arm.json } in
+    inl (record {
       inquiry = inquiry;
+      word = word;
       files = words;
       asked = record {
         request = c.in-Ok.asked.request;
         asked = c.in-Ok.ensures.0;
-        is = subst (λ r. IsIdentify r inquiry words) (sym c.in-Identify.is) (refl, ap (λ files. map (λ s. s.now) files) c.as_slice.ensures.value);
+        is = subst (λ r. IsIdentify r inquiry word words) (sym arm.is) (refl, refl, ap (λ files. map (λ s. s.now) files) c.as_slice-files.ensures.value);
       };
-      identifies = c.identify.ensures;
-    }))
+      explain = c.explains-explain.result;
+      explained = are_explained (map (λ s. s.now) c.args.words.now) c.args.errors.now c.in-Ok.asked.explain c.explains-explain.result c.in-Ok.ensures.1 c.explains-explain.ensures;
+      identifies = c.tell_patterns.ensures;
+    })
 
 pub returns-in-Some-remaking_of : goal.returns-in-Some-remaking_of
 returns-in-Some-remaking_of g c =
