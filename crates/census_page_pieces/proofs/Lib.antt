@@ -1,3 +1,4 @@
 pub mod Appending
 pub mod Divisors
 pub mod Escaping
+pub mod Parting

@@ -1,5 +1,5 @@
 -- Bytes in HTML, so that none of them is markup.
-use Rattle.std.specs.Prelude.{ℕ, Bool, true, false, ◌&&◌, ◌||◌, ◌==◌, if◌then◌else◌, List, [], ◌∷◌, ◌++◌, codes, length, nat_le, take}
+use Rattle.std.specs.Prelude.{ℕ, Bool, true, false, ◌&&◌, ◌||◌, ◌==◌, if◌then◌else◌, List, [], ◌∷◌, ◌++◌, codes}
 use Rattle.std.specs.Str.Lossy.{utf8_lossy}
 
 -- an entity in the place of `&`, `<`, `>`, `"` and `'`
@@ -18,12 +18,6 @@ told_text bytes = escaped_text (utf8_lossy bytes)
 -- an element of its own
 unfoldable pub name_element : List ℕ → List ℕ
 name_element bytes = codes "<bdi>" ++ told_text bytes ++ codes "</bdi>"
-
--- a code: beyond 60 bytes only the first 24, and all when they are asked for
-unfoldable pub code_element : List ℕ → List ℕ
-code_element code =
-    if nat_le (length code) 60 then codes "<code>" ++ told_text code ++ codes "</code>" else
-    codes "<details><summary><code>" ++ told_text (take 24 code) ++ codes "&hellip;</code></summary><code>" ++ told_text code ++ codes "</code></details>"
 
 abbrev pub starts_with : List ℕ → List ℕ → Bool
 starts_with [] cs = true

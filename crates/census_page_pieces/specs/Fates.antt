@@ -6,9 +6,11 @@ use Rattle.census_rows.specs.declared.row.Finding.TheVariants.{Ok, Ash, Unresolv
 use Rattle.census_rows.specs.declared.row.Outcome.{Outcome}
 use Rattle.census_rows.specs.declared.row.Outcome.TheVariants.{Found, Bad}
 use Rattle.census_rows.specs.declared.row.Row.{Row}
-use Rattle.census_page_pieces.specs.Escapes.{escaped_text, name_element, told_text}
+use Rattle.census_page_pieces.specs.Escapes.{escaped_text, told_text}
 use Rattle.census_page_pieces.specs.Growth.{growth_text}
+use Rattle.census_page_pieces.specs.Links.{Linking, name_under}
 use Rattle.census_page_pieces.specs.Numbers.{grouped, labelled, plural}
+use Rattle.census_page_pieces.specs.Objects.{parts_text}
 
 abbrev pub finding_words : Finding → List ℕ
 finding_words (Ok onset period dx dy code) = []
@@ -35,8 +37,17 @@ abbrev pub recurs : Outcome → Bool
 recurs (Found rule population (Ok onset period dx dy code)) = true
 recurs _ = false
 
--- the row of a pattern with the rows that tell how it grows
-abbrev pub fate_row : List ℕ → Outcome → List Row → List ℕ
-fate_row name outcome growth =
+-- the rule of a pattern, where its text means one
+abbrev pub rule_found : Outcome → List ℕ
+rule_found (Found rule population finding) = rule.now
+rule_found (Bad fault) = []
+
+-- the objects that a pattern emits, which these rows tell of, and those that it consists of
+abbrev pub objects_text : Bool → List ℕ → List Row → List Row → List ℕ
+objects_text linked rule growth parts = growth_text linked rule growth ++ parts_text linked rule parts
+
+-- the row of a pattern with the rows that tell how it grows, and of which parts it is
+abbrev pub fate_row : Linking → List ℕ → Outcome → List Row → List Row → List ℕ
+fate_row links name outcome growth parts =
     if recurs outcome then [] else
-    codes "<tr class=\"u\"><th scope=\"row\">" ++ name_element name ++ fate_cells outcome ++ growth_text growth ++ codes "</td></tr>\n"
+    codes "<tr class=\"u\"><th scope=\"row\">" ++ name_under links.names name ++ fate_cells outcome ++ objects_text links.catalogue (rule_found outcome) growth parts ++ codes "</td></tr>\n"

@@ -1,4 +1,4 @@
--- How patterns grow, in words.
+-- How patterns grow, in words, and what they emit.
 use Rattle.std.specs.Prelude.{ℕ, ℤ, pos, Bool, true, false, ◌&&◌, ◌==◌, if◌then◌else◌, Some, List, [], ◌∷◌, ◌++◌, codes}
 use Rattle.std.specs.Fmt.{signed_decimal}
 use Rattle.std.specs.List.{list_all, take_while}
@@ -9,9 +9,10 @@ use Rattle.census_readback.specs.Following.{is_emits}
 use Rattle.census_page_pieces.specs.declared.engine.EngineKind.{EngineKind}
 use Rattle.census_page_pieces.specs.declared.engine.EngineKind.TheVariants.{Gun, Rake, Puffer}
 use Rattle.census_page_pieces.specs.declared.kind.Kind.TheVariants.{Spaceship}
-use Rattle.census_page_pieces.specs.Escapes.{code_element}
 use Rattle.census_page_pieces.specs.Kinds.{is_kind, kind_of}
 use Rattle.census_page_pieces.specs.Numbers.{grouped, labelled, plural}
+use Rattle.census_page_pieces.specs.Objects.{counted_code}
+use Rattle.census_page_pieces.specs.Pictures.{picture, spelled}
 
 -- it emits spaceships
 abbrev pub emits_ship : Row → Bool
@@ -45,27 +46,30 @@ deeds Gun dx dy number = verb (codes " emit") number
 deeds Rake dx dy number = moves dx dy number ++ verb (codes " emit") number
 deeds Puffer dx dy number = moves dx dy number ++ verb (codes " leave") number
 
--- how many objects with a code are emitted
-abbrev pub emitted : Row → List ℕ
-emitted (Emits collection pattern engine code count) = several count ++ code_element code.now
-emitted _ = []
+-- the objects with a code that are emitted, with their picture
+abbrev pub emitted : Bool → List ℕ → Row → List ℕ
+emitted linked rule (Emits collection pattern engine code count) = codes "<li>" ++ picture (spelled code.now) ++ counted_code linked rule code.now count
+emitted linked rule _ = []
 
--- the objects that are emitted: the first after this, and each other after a comma
-abbrev pub all_emitted : List ℕ → List Row → List ℕ
-all_emitted before [] = []
-all_emitted before (row ∷ rows) = before ++ emitted row ++ all_emitted (codes ", ") rows
+abbrev pub all_emitted : Bool → List ℕ → List Row → List ℕ
+all_emitted linked rule [] = []
+all_emitted linked rule (row ∷ rows) = emitted linked rule row ++ all_emitted linked rule rows
 
 -- so many engines of a kind
 unfoldable pub engine_head : EngineKind → ℕ → ℕ → List ℕ
 engine_head kind period number = codes "<div>" ++ several number ++ engine_name kind ++ plural number ++ labelled (codes " of period ") period ++ codes " that"
 
+-- all of them, behind the words
+abbrev pub emission : Bool → List ℕ → List Row → List ℕ
+emission linked rule rows = codes "</div><ul>" ++ all_emitted linked rule rows ++ codes "</ul>"
+
 -- the engines that a row tells of, with the rows that tell what each emits
-abbrev pub engine_text : Row → List Row → List ℕ
-engine_text (Engine collection pattern place period dx dy number) emits =
-    engine_head (engine_kind dx dy emits) period number ++ deeds (engine_kind dx dy emits) dx dy number ++ all_emitted (codes " ") emits ++ codes "</div>"
-engine_text _ emits = []
+abbrev pub engine_text : Bool → List ℕ → Row → List Row → List ℕ
+engine_text linked rule (Engine collection pattern place period dx dy number) emits =
+    engine_head (engine_kind dx dy emits) period number ++ deeds (engine_kind dx dy emits) dx dy number ++ emission linked rule emits
+engine_text linked rule _ emits = []
 
 -- the engines of these rows; behind the row of each stand those that tell what it emits
-abbrev pub growth_text : List Row → List ℕ
-growth_text [] = []
-growth_text (row ∷ rows) = engine_text row (take_while is_emits rows) ++ growth_text rows
+abbrev pub growth_text : Bool → List ℕ → List Row → List ℕ
+growth_text linked rule [] = []
+growth_text linked rule (row ∷ rows) = engine_text linked rule row (take_while is_emits rows) ++ growth_text linked rule rows

@@ -1,5 +1,5 @@
 -- What a code is in words.
-use Rattle.std.specs.Prelude.{ℕ, Bool, true, false, Option, Some, None as Nothing, List, ◌++◌, codes, drop, take, nat_eq, if◌then◌else◌}
+use Rattle.std.specs.Prelude.{ℕ, Bool, true, false, Option, Some, None as Nothing, List, [], ◌++◌, codes, drop, take, nat_eq, if◌then◌else◌}
 use Rattle.std.specs.Cmp.Lexicographic.{pointwise}
 use Rattle.std.specs.List.{prefix_len, starts_with}
 use Rattle.texts.specs.Bytes.{is_digit}
@@ -33,6 +33,16 @@ is_kind _ _ = false
 -- the digits after the first two letters of a code: how many cells, or the period
 abbrev pub code_number : List ℕ → List ℕ
 code_number code = take (prefix_len is_digit (drop 2 code)) (drop 2 code)
+
+-- the period that a code tells: a still life's is 1
+abbrev pub period_in : Kind → List ℕ → List ℕ
+period_in StillLife number = codes "1"
+period_in Oscillator number = number
+period_in Spaceship number = number
+period_in Other number = []
+
+abbrev pub period_told : List ℕ → List ℕ
+period_told code = period_in (kind_of code) (code_number code)
 
 abbrev pub still_words : List ℕ → List ℕ
 still_words number =

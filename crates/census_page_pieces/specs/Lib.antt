@@ -2,7 +2,9 @@ pub mod Escapes
 pub mod Fates
 pub mod Growth
 pub mod Kinds
+pub mod Links
 pub mod Markup
 pub mod Numbers
+pub mod Objects
 pub mod Pictures
 pub mod Speeds

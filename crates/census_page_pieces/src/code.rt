@@ -1,8 +1,9 @@
 //! Codes as elements of a page.
 ghost use Rattle.std.specs.Prelude.{◌≡◌, ◌++◌, OnOk};
-ghost use Rattle.census_page_pieces.specs.Escapes.{code_element};
+ghost use Rattle.census_page_pieces.specs.Objects.{code_element, whole_code};
 
 use crate::escape::push_text;
+use crate::link::push_code_text;
 use std::alloc::{AllocError, Global};
 
 // A code of so many bytes is shown whole.
@@ -11,22 +12,44 @@ const SHOWN: usize = 60;
 // So many bytes of a longer code are shown at first.
 const BEGINNING: usize = 24;
 
-/// Appends a code: beyond 60 bytes only the first 24, and all when they are asked for. The only error
-/// is out of memory.
-#[tactic(auto, unfolding(crate::specs::Escapes::code_element))]
-pub fn push_code(alloc: Global, text: &mut Vec<u8>, code: &[u8]) -> Result<(), AllocError>
-    ensures { OnOk result (text.new.items ≡ text.old.items ++ code_element code.now) }
+// Adds all of a code.
+#[tactic(auto, unfolding(crate::specs::Objects::whole_code))]
+fn push_whole(
+    alloc: Global,
+    text: &mut Vec<u8>,
+    linked: bool,
+    rule: &[u8],
+    code: &[u8],
+) -> Result<(), AllocError>
+    ensures { OnOk result (text.new.items
+        ≡ text.old.items ++ whole_code linked rule.now code.now) }
+{
+    text.extend_from_slice(b"<code>")?;
+    push_code_text(alloc, text, linked, rule, code)?;
+    text.extend_from_slice(b"</code>")?;
+    Ok(())
+}
+
+/// Appends a code: beyond 60 bytes only the first 24, and all when they are asked for. Where codes are
+/// links it leads to its page under this rule. The only error is out of memory.
+#[tactic(auto, unfolding(crate::specs::Objects::code_element))]
+pub fn push_code(
+    alloc: Global,
+    text: &mut Vec<u8>,
+    linked: bool,
+    rule: &[u8],
+    code: &[u8],
+) -> Result<(), AllocError>
+    ensures { OnOk result (text.new.items
+        ≡ text.old.items ++ code_element linked rule.now code.now) }
 {
     if code.len() <= SHOWN {
-        text.extend_from_slice(b"<code>")?;
-        push_text(alloc, text, code)?;
-        text.extend_from_slice(b"</code>")?;
-        return Ok(());
+        return push_whole(alloc, text, linked, rule, code);
     }
     text.extend_from_slice(b"<details><summary><code>")?;
     push_text(alloc, text, &code[..BEGINNING])?;
-    text.extend_from_slice(b"&hellip;</code></summary><code>")?;
-    push_text(alloc, text, code)?;
-    text.extend_from_slice(b"</code></details>")?;
+    text.extend_from_slice(b"&hellip;</code></summary>")?;
+    push_whole(alloc, text, linked, rule, code)?;
+    text.extend_from_slice(b"</details>")?;
     Ok(())
 }

@@ -1,12 +1,15 @@
 //! What becomes of patterns that do not recur.
 ghost use Rattle.std.specs.Prelude.{◌≡◌, ◌++◌, OnOk};
 ghost use Rattle.census_readback.specs.Grouped.{rows_lent};
-ghost use Rattle.census_page_pieces.specs.Fates.{fate_cells, fate_row, finding_words, found_cells, recurs, refused_cells};
+ghost use Rattle.census_page_pieces.specs.Fates.{fate_cells, fate_row, finding_words, found_cells, objects_text, recurs, refused_cells, rule_found};
+ghost use Rattle.census_page_pieces.specs.Links.{linking_of};
 ghost use Rattle.census_rows.specs.declared.row.Finding.TheVariants.{Ash, Large};
 
-use crate::escape::{push_escaped, push_text, push_told};
+use crate::escape::{push_escaped, push_text};
 use crate::growth::push_growth;
+use crate::link::{Links, push_name};
 use crate::numbers::{push_grouped, push_labelled, push_plural};
+use crate::parts::push_parts;
 use census_rows::{Finding, Outcome, Row};
 use life_faults::fault_words;
 use std::alloc::{AllocError, Global};
@@ -102,26 +105,62 @@ pub fn recurs(outcome: &Outcome) -> bool
     }
 }
 
+// The rule of a pattern, where its text means one.
+fn rule_found<'a>(outcome: &Outcome<'a>) -> &'a [u8]
+    ensures { result.now ≡ rule_found outcome.now }
+{
+    match outcome {
+        Outcome::Found { rule, .. } => *rule,
+        Outcome::Bad { .. } => b"",
+    }
+}
+
+// Adds the objects that a pattern emits, and those that it consists of.
+fn push_objects(
+    alloc: Global,
+    text: &mut Vec<u8>,
+    linked: bool,
+    rule: &[u8],
+    growth: &[&Row],
+    parts: &[&Row],
+) -> Result<(), AllocError>
+    ensures { OnOk result (text.new.items ≡ text.old.items
+        ++ objects_text linked rule.now (rows_lent growth.now) (rows_lent parts.now)) }
+{
+    push_growth(alloc, text, linked, rule, growth)?;
+    push_parts(alloc, text, linked, rule, parts)?;
+    Ok(())
+}
+
 /// Appends a row of a table with the name of a pattern and what becomes of it, or nothing where it
-/// recurs. Where it grows, these are the rows of its engines and of what they emit. The only error is
-/// out of memory.
+/// recurs. Where it grows, `growth` are the rows of its engines and of what they emit, and where it has
+/// fallen apart, `parts` are those of its parts. The only error is out of memory.
 pub fn push_fate_row(
     alloc: Global,
     text: &mut Vec<u8>,
+    links: &Links,
     name: &[u8],
     outcome: &Outcome,
     growth: &[&Row],
+    parts: &[&Row],
 ) -> Result<(), AllocError>
-    ensures { OnOk result (text.new.items
-        ≡ text.old.items ++ fate_row name.now outcome.now (rows_lent growth.now)) }
+    ensures { OnOk result (text.new.items ≡ text.old.items
+        ++ fate_row (linking_of links.now) name.now outcome.now (rows_lent growth.now) (rows_lent parts.now)) }
 {
     if recurs(outcome) {
         return Ok(());
     }
     text.extend_from_slice(b"<tr class=\"u\"><th scope=\"row\">")?;
-    push_told(alloc, text, name)?;
+    push_name(alloc, text, links, name)?;
     push_fate(alloc, text, outcome)?;
-    push_growth(alloc, text, growth)?;
+    push_objects(
+        alloc,
+        text,
+        links.catalogue,
+        rule_found(outcome),
+        growth,
+        parts,
+    )?;
     text.extend_from_slice(b"</td></tr>\n")?;
     Ok(())
 }

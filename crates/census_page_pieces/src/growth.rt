@@ -1,11 +1,12 @@
-//! How patterns grow, in words.
-ghost use Rattle.std.specs.Prelude.{◌≡◌, ◌++◌, OnOk, codes};
+//! How patterns grow, in words, and what they emit.
+ghost use Rattle.std.specs.Prelude.{◌≡◌, ◌++◌, OnOk};
 ghost use Rattle.census_readback.specs.Grouped.{rows_lent};
-ghost use Rattle.census_page_pieces.specs.Growth.{all_emitted, deeds, emitted, engine_head, engine_text, growth_text, moves, several, verb};
+ghost use Rattle.census_page_pieces.specs.Growth.{all_emitted, deeds, emission, emitted, engine_head, engine_text, growth_text, moves, several, verb};
 
-use crate::code::push_code;
 use crate::engine::{EngineKind, engine_kind, engine_name};
 use crate::numbers::{push_grouped, push_labelled, push_plural, push_signed};
+use crate::parts::push_counted;
+use crate::picture::{push_picture, spelled};
 use census_readback::emits_first;
 use census_rows::Row;
 use std::alloc::{AllocError, Global};
@@ -80,14 +81,23 @@ fn push_deeds(
     }
 }
 
-// Adds how many objects with a code are emitted.
-fn push_emitted(alloc: Global, text: &mut Vec<u8>, row: &Row) -> Result<(), AllocError>
-    ensures { OnOk result (text.new.items ≡ text.old.items ++ emitted row.now) }
+// Adds the objects with a code that are emitted, with their picture.
+fn push_emitted(
+    alloc: Global,
+    text: &mut Vec<u8>,
+    linked: bool,
+    rule: &[u8],
+    row: &Row,
+) -> Result<(), AllocError>
+    ensures { OnOk result (text.new.items
+        ≡ text.old.items ++ emitted linked rule.now row.now) }
 {
     match row {
         Row::Emits { code, count, .. } => {
-            push_several(text, *count)?;
-            push_code(alloc, text, *code)?;
+            let shape = spelled(alloc, *code)?;
+            text.extend_from_slice(b"<li>")?;
+            push_picture(text, &shape)?;
+            push_counted(alloc, text, linked, rule, *code, *count)?;
             Ok(())
         }
         _ => Ok(()),
@@ -95,16 +105,36 @@ fn push_emitted(alloc: Global, text: &mut Vec<u8>, row: &Row) -> Result<(), Allo
 }
 
 // Adds the objects that are emitted.
-fn push_all_emitted(alloc: Global, text: &mut Vec<u8>, emits: &[&Row]) -> Result<(), AllocError>
+fn push_all_emitted(
+    alloc: Global,
+    text: &mut Vec<u8>,
+    linked: bool,
+    rule: &[u8],
+    emits: &[&Row],
+) -> Result<(), AllocError>
     ensures { OnOk result (text.new.items
-        ≡ text.old.items ++ all_emitted (codes " ") (rows_lent emits.now)) }
+        ≡ text.old.items ++ all_emitted linked rule.now (rows_lent emits.now)) }
 {
-    let mut before: &[u8] = b" ";
     for row in emits {
-        text.extend_from_slice(before)?;
-        push_emitted(alloc, text, *row)?;
-        before = b", ";
+        push_emitted(alloc, text, linked, rule, *row)?;
     }
+    Ok(())
+}
+
+// Adds all of them, behind the words.
+fn push_emission(
+    alloc: Global,
+    text: &mut Vec<u8>,
+    linked: bool,
+    rule: &[u8],
+    emits: &[&Row],
+) -> Result<(), AllocError>
+    ensures { OnOk result (text.new.items
+        ≡ text.old.items ++ emission linked rule.now (rows_lent emits.now)) }
+{
+    text.extend_from_slice(b"</div><ul>")?;
+    push_all_emitted(alloc, text, linked, rule, emits)?;
+    text.extend_from_slice(b"</ul>")?;
     Ok(())
 }
 
@@ -132,11 +162,13 @@ fn push_head(
 fn push_engine(
     alloc: Global,
     text: &mut Vec<u8>,
+    linked: bool,
+    rule: &[u8],
     row: &Row,
     emits: &[&Row],
 ) -> Result<(), AllocError>
     ensures { OnOk result (text.new.items
-        ≡ text.old.items ++ engine_text row.now (rows_lent emits.now)) }
+        ≡ text.old.items ++ engine_text linked rule.now row.now (rows_lent emits.now)) }
 {
     match row {
         Row::Engine {
@@ -149,22 +181,29 @@ fn push_engine(
             let kind = engine_kind(*dx, *dy, emits);
             push_head(text, kind, *period, *count)?;
             push_deeds(text, kind, *dx, *dy, *count)?;
-            push_all_emitted(alloc, text, emits)?;
-            text.extend_from_slice(b"</div>")?;
+            push_emission(alloc, text, linked, rule, emits)?;
             Ok(())
         }
         _ => Ok(()),
     }
 }
 
-/// Appends the engines of rows in words, as `gun of period 30 that emits xq4_153`. Behind the row of
-/// each engine stand those that tell what it emits. The only error is out of memory.
-pub fn push_growth(alloc: Global, text: &mut Vec<u8>, rows: &[&Row]) -> Result<(), AllocError>
+/// Appends the engines of rows in words, as `gun of period 30 that emits`, each with a list of what it
+/// emits: the picture, the code, which is a link under this rule where codes are links, and how many.
+/// Behind the row of each engine stand those that tell what it emits. The only error is out of memory.
+pub fn push_growth(
+    alloc: Global,
+    text: &mut Vec<u8>,
+    linked: bool,
+    rule: &[u8],
+    rows: &[&Row],
+) -> Result<(), AllocError>
     ensures { OnOk result (text.new.items
-        ≡ text.old.items ++ growth_text (rows_lent rows.now)) }
+        ≡ text.old.items ++ growth_text linked rule.now (rows_lent rows.now)) }
 {
     for index in 0..rows.len() {
-        push_engine(alloc, text, rows[index], emits_first(&rows[index + 1..]))?;
+        let emits = emits_first(&rows[index + 1..]);
+        push_engine(alloc, text, linked, rule, rows[index], emits)?;
     }
     Ok(())
 }

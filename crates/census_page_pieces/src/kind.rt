@@ -2,7 +2,7 @@
 ghost use Rattle.std.specs.Prelude.{◌≡◌, ◌≤◌, ◌++◌, OnOk, codes, drop, length};
 ghost use Rattle.std.specs.List.{prefix_len};
 ghost use Rattle.texts.specs.Bytes.{is_digit};
-ghost use Rattle.census_page_pieces.specs.Kinds.{class_of, code_number, is_kind, kind_of, kind_words, object_words, ship_words, still_words};
+ghost use Rattle.census_page_pieces.specs.Kinds.{class_of, code_number, is_kind, kind_of, kind_words, object_words, period_told, ship_words, still_words};
 
 use crate::numbers::push_grouped_digits;
 use crate::speed::{Way, push_speed};
@@ -90,6 +90,18 @@ fn code_number(code: &[u8]) -> &[u8]
 {
     let rest = after_letters(code);
     &rest[..count_digits(rest)]
+}
+
+/// The period that a code tells, in decimal: the number of an oscillator or a spaceship, and 1 of a still
+/// life. Other codes tell none, and have no digits.
+pub fn period_told(code: &[u8]) -> &[u8]
+    ensures { result.now ≡ period_told code.now }
+{
+    match kind_of(code) {
+        Kind::StillLife => b"1",
+        Kind::Oscillator | Kind::Spaceship => code_number(code),
+        Kind::Other => b"",
+    }
 }
 
 // Adds a number behind words.

@@ -4,23 +4,28 @@
 //! Tested in `tests_reports`.
 #![tactic(auto)]
 
+mod address;
 mod code;
 mod engine;
 mod escape;
 mod fate;
 mod growth;
 mod kind;
+mod link;
 mod markup;
 mod numbers;
+mod parts;
 mod picture;
 mod rle;
 mod speed;
 mod stroke;
 
+pub use address::push_collection_address;
 pub use code::push_code;
 pub use escape::{an_escaped_text_has_no_markup, push_text, push_told};
 pub use fate::{push_fate_row, recurs};
-pub use kind::{Kind, class_of, is_kind, kind_of, push_object_words};
+pub use kind::{Kind, class_of, is_kind, kind_of, period_told, push_object_words};
+pub use link::{Links, push_name};
 pub use markup::{
     index_begin, index_end, list_begin, page_begin, page_end, page_style, table_begin, table_end,
 };

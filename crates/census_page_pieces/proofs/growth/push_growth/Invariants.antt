@@ -4,4 +4,5 @@ use Rattle.census_page_pieces.specs.Growth.{growth_text}
 use Rattle.census_page_pieces.proofs.growth.push_growth.Given as goal
 
 abbrev pub invariant-loop-index : goal.invariant-loop-index
-invariant-loop-index l = l.text.items ++ growth_text (rows_lent (drop l.index l.rows)) ≡ l.fn.text.items ++ growth_text (rows_lent l.rows)
+invariant-loop-index l =
+    l.text.items ++ growth_text l.linked l.rule (rows_lent (drop l.index l.rows)) ≡ l.fn.text.items ++ growth_text l.linked l.rule (rows_lent l.rows)
