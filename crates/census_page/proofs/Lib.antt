@@ -4,4 +4,6 @@ pub mod Lent
 pub mod Listing
 pub mod Numbered
 pub mod Places
+pub mod Ranks
+pub mod Stable
 pub mod Tables

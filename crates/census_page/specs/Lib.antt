@@ -1,5 +1,7 @@
 pub mod Holders
+pub mod Linking
 pub mod Lists
 pub mod Options
 pub mod Order
 pub mod Pages
+pub mod Sorting

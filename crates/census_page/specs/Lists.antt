@@ -1,6 +1,6 @@
 -- Lists of the patterns that have a code.
 use Rattle.std.specs.Prelude.{ℕ, List, [], ◌∷◌, ◌++◌, codes, drop, length, take}
-use Rattle.census_page_pieces.specs.Escapes.{name_element}
+use Rattle.census_page_pieces.specs.Links.{Linking, name_under}
 use Rattle.census_page_pieces.specs.Numbers.{grouped, labelled}
 use Rattle.census_page.specs.declared.holder.Holder.{Holder}
 use Rattle.census_page.specs.declared.holder.Share.{Share}
@@ -11,19 +11,19 @@ abbrev pub share_words : Share → List ℕ
 share_words (Whole population onset way) = labelled (codes "population ") population ++ labelled (codes ", onset ") onset
 share_words (Parts count) = labelled (codes "&times; ") count
 
-abbrev pub item : Holder → List ℕ
-item holder = codes "<li>" ++ name_element holder.name.now ++ codes " <small>" ++ share_words holder.share ++ codes "</small></li>"
+abbrev pub item : Linking → Holder → List ℕ
+item links holder = codes "<li>" ++ name_under links.names holder.name.now ++ codes " <small>" ++ share_words holder.share ++ codes "</small></li>"
 
-abbrev pub items : List Holder → List ℕ
-items [] = []
-items (holder ∷ holders) = item holder ++ items holders
+abbrev pub items : Linking → List Holder → List ℕ
+items links [] = []
+items links (holder ∷ holders) = item links holder ++ items links holders
 
 -- those that are shown when they are asked for
-abbrev pub more_items : List Holder → List ℕ
-more_items [] = []
-more_items (holder ∷ holders) =
-    (codes "<details><summary>" ++ grouped (length (holder ∷ holders)) ++ codes " more</summary><ul>") ++ (items (holder ∷ holders) ++ codes "</ul></details>")
+abbrev pub more_items : Linking → List Holder → List ℕ
+more_items links [] = []
+more_items links (holder ∷ holders) =
+    (codes "<details><summary>" ++ grouped (length (holder ∷ holders)) ++ codes " more</summary><ul>") ++ (items links (holder ∷ holders) ++ codes "</ul></details>")
 
 -- the first ten, and the others when they are asked for
-abbrev pub holder_list : List Holder → List ℕ
-holder_list holders = codes "<ul>" ++ (items (take 10 holders) ++ (codes "</ul>" ++ more_items (drop 10 holders)))
+abbrev pub holder_list : Linking → List Holder → List ℕ
+holder_list links holders = codes "<ul>" ++ (items links (take 10 holders) ++ (codes "</ul>" ++ more_items links (drop 10 holders)))

@@ -1,15 +1,32 @@
 -- What a page is asked to have.
-use Rattle.std.specs.Prelude.{ℕ, List, [], codes}
+use Rattle.std.specs.Prelude.{ℕ, Bool, true, false, Option, None, List, [], codes}
+use Rattle.census_page_pieces.specs.Links.{lent_bytes}
 use Rattle.census_page.specs.declared.options.PageOptions.{PageOptions}
+use Rattle.census_page.specs.declared.options.Sort.{Sort}
+use Rattle.census_page.specs.declared.options.Sort.TheVariants.{Report}
 
--- its title, and a note below it where there is one
+-- its title, and a note below it where there is one; in which order rows of codes stand, and how many of them at most; what stands before
+-- the addresses of names, where these are links, and whether codes are links; and whether patterns that do not recur have a table
 pub record Options : Type 0 where
   pub title : List ℕ
   pub note : List ℕ
+  pub sort : Sort
+  pub top : Option ℕ
+  pub base : Option (List ℕ)
+  pub links : Bool
+  pub patterns : Bool
 
 abbrev pub options_of : PageOptions → Options
-options_of options = record { title = options.title.now; note = options.note.now }
+options_of options = record {
+  title = options.title.now;
+  note = options.note.now;
+  sort = options.sort;
+  top = options.top;
+  base = lent_bytes options.base;
+  links = options.links;
+  patterns = options.patterns;
+}
 
 -- what a page has that nothing is asked of
 abbrev pub default_options : Options
-default_options = record { title = codes "Census"; note = [] }
+default_options = record { title = codes "Census"; note = []; sort = Report; top = None; base = None; links = false; patterns = true }

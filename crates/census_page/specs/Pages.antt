@@ -1,5 +1,5 @@
 -- The text of a page.
-use Rattle.std.specs.Prelude.{ℕ, ◌+◌, Bool, true, false, not, if◌then◌else◌, Option, Some, None as Nothing, is_some, List, [], ◌∷◌, ◌++◌, codes, decimal, length}
+use Rattle.std.specs.Prelude.{ℕ, ◌+◌, Bool, true, false, not, if◌then◌else◌, Option, Some, None as Nothing, is_some, List, [], ◌∷◌, ◌++◌, codes, decimal, filter, length, take}
 use Rattle.std.specs.List.{count_by}
 use Rattle.life_model.specs.Generation.{Generation}
 use Rattle.census_rows.specs.declared.row.Row.{Row}
@@ -11,17 +11,21 @@ use Rattle.census_readback.specs.Grouped.{collections_of}
 use Rattle.census_readback.specs.Shapes.{any_outcome, is_line}
 use Rattle.census_page_pieces.specs.declared.kind.Kind.{Kind}
 use Rattle.census_page_pieces.specs.declared.kind.Kind.TheVariants.{StillLife, Oscillator, Spaceship, Other}
-use Rattle.census_page_pieces.specs.Escapes.{code_element, name_element, told_text}
+use Rattle.census_page_pieces.specs.Escapes.{name_element, told_text}
 use Rattle.census_page_pieces.specs.Fates.{fate_row, recurs}
 use Rattle.census_page_pieces.specs.declared.speed.Way.{Way}
 use Rattle.census_page_pieces.specs.Kinds.{class_of, is_kind, kind_of, object_words}
+use Rattle.census_page_pieces.specs.Links.{Linking}
 use Rattle.census_page_pieces.specs.Markup.{index_begin, index_end, list_begin, page_begin, page_end, page_style, table_begin, table_end}
 use Rattle.census_page_pieces.specs.Numbers.{grouped, labelled}
+use Rattle.census_page_pieces.specs.Objects.{code_element}
 use Rattle.census_page_pieces.specs.Pictures.{cells_told, picture, rle, spelled}
 use Rattle.census_page.specs.declared.holder.Holder.{Holder}
 use Rattle.census_page.specs.Holders.{having, holders_from, way_of}
+use Rattle.census_page.specs.Linking.{linking_in}
 use Rattle.census_page.specs.Lists.{holder_list}
 use Rattle.census_page.specs.Options.{Options}
+use Rattle.census_page.specs.Sorting.{sorted_rows}
 
 -- # A collection
 
@@ -59,44 +63,59 @@ abbrev pub picture_cell : List ℕ → Option Generation → List ℕ
 picture_cell code shape = codes "<tr class=\"" ++ class_of (kind_of code) ++ codes "\"><td>" ++ picture shape ++ codes "</td>"
 
 -- a code, and what it is in words
-unfoldable pub name_cell : List ℕ → Option Way → List ℕ
-name_cell code way = codes "<th scope=\"row\"><p>" ++ object_words code way ++ codes "</p><div>" ++ code_element code
+unfoldable pub name_cell : Bool → List ℕ → List ℕ → Option Way → List ℕ
+name_cell linked rule code way = codes "<th scope=\"row\"><p>" ++ object_words code way ++ codes "</p><div>" ++ code_element linked rule code
 
 -- its rule, its RLE text and how many cells it has
 unfoldable pub rule_cells : List ℕ → Option Generation → List ℕ
 rule_cells rule shape =
     codes "<small>" ++ told_text rule ++ codes "</small>" ++ rle rule shape ++ codes "</div></th><td>" ++ cells_told shape ++ codes "</td><td>"
 
-abbrev pub object_cells : List ℕ → List ℕ → Option Way → Option Generation → List ℕ
-object_cells rule code way shape = picture_cell code shape ++ name_cell code way ++ rule_cells rule shape
+abbrev pub object_cells : Bool → List ℕ → List ℕ → Option Way → Option Generation → List ℕ
+object_cells linked rule code way shape = picture_cell code shape ++ name_cell linked rule code way ++ rule_cells rule shape
 
 -- the row of a code before the patterns that have it: the code, and how often it occurs
-abbrev pub front_cells : List ℕ → List ℕ → ℕ → Option Way → List ℕ
-front_cells rule code count way = object_cells rule code way (spelled code) ++ (grouped count ++ codes "</td><td>")
+abbrev pub front_cells : Bool → List ℕ → List ℕ → ℕ → Option Way → List ℕ
+front_cells linked rule code count way = object_cells linked rule code way (spelled code) ++ (grouped count ++ codes "</td><td>")
 
 -- the row of a code that these patterns have
-abbrev pub code_cells : List ℕ → List ℕ → ℕ → List Holder → List ℕ
-code_cells rule code count holders = front_cells rule code count (way_of holders) ++ (holder_list holders ++ codes "</td></tr>\n")
+abbrev pub code_cells : Linking → List ℕ → List ℕ → ℕ → List Holder → List ℕ
+code_cells links rule code count holders = front_cells links.catalogue rule code count (way_of holders) ++ (holder_list links holders ++ codes "</td></tr>\n")
 
 -- the row of a table that tells of a code
-abbrev pub code_row : List Holder → Row → List ℕ
-code_row holders (Code collection rule code count) = code_cells rule.now code.now count (having rule.now code.now holders)
-code_row holders _ = []
+abbrev pub code_row : Linking → List Holder → Row → List ℕ
+code_row links holders (Code collection rule code count) = code_cells links rule.now code.now count (having rule.now code.now holders)
+code_row links holders _ = []
 
-abbrev pub code_rows : List Holder → List Row → List ℕ
-code_rows holders [] = []
-code_rows holders (row ∷ rows) = code_row holders row ++ code_rows holders rows
+abbrev pub code_rows : Linking → List Holder → List Row → List ℕ
+code_rows links holders [] = []
+code_rows links holders (row ∷ rows) = code_row links holders row ++ code_rows links holders rows
+
+-- # Which of its codes
+
+abbrev pub is_code : Row → Bool
+is_code (Code collection rule code count) = true
+is_code _ = false
+
+-- the first ones, at most so many
+abbrev pub at_most : {X : Type 0} → Option ℕ → List X → List X
+at_most Nothing xs = xs
+at_most (Some count) xs = take count xs
+
+-- the rows that tell of codes, in the order that is asked for, and no more than are asked for
+abbrev pub chosen : Options → List Holder → List Row → List Row
+chosen options holders rows = at_most options.top (sorted_rows options.sort holders (filter is_code rows))
 
 -- # Its patterns that do not recur
 
 -- the row of a table for a row of a report that stands before these
-abbrev pub stray_row : Row → List Row → List ℕ
-stray_row (Line collection pattern outcome name) rows = fate_row name.now outcome (rows_behind behind.Engines rows)
-stray_row _ rows = []
+abbrev pub stray_row : Linking → Row → List Row → List ℕ
+stray_row links (Line collection pattern outcome name) rows = fate_row links name.now outcome (rows_behind behind.Engines rows) (rows_behind behind.Parts rows)
+stray_row links _ rows = []
 
-abbrev pub stray_rows : List Row → List ℕ
-stray_rows [] = []
-stray_rows (row ∷ rows) = stray_row row rows ++ stray_rows rows
+abbrev pub stray_rows : Linking → List Row → List ℕ
+stray_rows links [] = []
+stray_rows links (row ∷ rows) = stray_row links row rows ++ stray_rows links rows
 
 -- # The whole of it
 
@@ -105,20 +124,35 @@ abbrev pub framed_text : List ℕ → List ℕ → List ℕ → List ℕ
 framed_text before [] after = []
 framed_text before (byte ∷ bytes) after = before ++ ((byte ∷ bytes) ++ after)
 
-abbrev pub code_table : List Row → List ℕ
-code_table rows = framed_text table_begin (code_rows (holders_from Nothing rows) rows) table_end
+-- the table of these codes, which these patterns have
+abbrev pub table_of : Linking → List Holder → List Row → List ℕ
+table_of links holders rows = framed_text table_begin (code_rows links holders rows) table_end
 
-abbrev pub stray_list : List Row → List ℕ
-stray_list rows = framed_text list_begin (stray_rows rows) table_end
+abbrev pub code_table : Linking → Options → List Row → List ℕ
+code_table links options rows = table_of links (holders_from Nothing rows) (chosen options (holders_from Nothing rows) rows)
+
+abbrev pub stray_list : Linking → List Row → List ℕ
+stray_list links rows = framed_text list_begin (stray_rows links rows) table_end
+
+-- where it is asked for
+abbrev pub pattern_table : Linking → Bool → List Row → List ℕ
+pattern_table links shown rows = if shown then stray_list links rows else []
+
+-- both tables
+abbrev pub linked_tables : Linking → Options → List Row → List ℕ
+linked_tables links options rows = code_table links options rows ++ pattern_table links options.patterns rows
+
+abbrev pub tables : Options → List Row → List ℕ
+tables options rows = linked_tables (linking_in options rows) options rows
 
 -- a collection with its number in the page
-abbrev pub section_text : ℕ → List Row → List ℕ
-section_text number rows =
-    (codes "<section id=\"c" ++ decimal number ++ codes "\">\n") ++ (headings rows ++ (code_table rows ++ (stray_list rows ++ codes "</section>\n")))
+abbrev pub section_text : Options → ℕ → List Row → List ℕ
+section_text options number rows =
+    (codes "<section id=\"c" ++ decimal number ++ codes "\">\n") ++ (headings rows ++ (tables options rows ++ codes "</section>\n"))
 
-abbrev pub sections_text : ℕ → List (List Row) → List ℕ
-sections_text number [] = []
-sections_text number (rows ∷ sections) = section_text number rows ++ sections_text (number + 1) sections
+abbrev pub sections_text : Options → ℕ → List (List Row) → List ℕ
+sections_text options number [] = []
+sections_text options number (rows ∷ sections) = section_text options number rows ++ sections_text options (number + 1) sections
 
 -- # What stands before the collections
 
@@ -198,19 +232,15 @@ choices rows =
 
 -- # The page
 
-abbrev pub body_text : List Row → List (List Row) → List ℕ
-body_text rows sections =
-    index_begin ++ (index_rows 1 sections ++ ((index_end ++ choices rows) ++ (sections_text 1 sections ++ page_end)))
+abbrev pub body_text : Options → List Row → List (List Row) → List ℕ
+body_text options rows sections =
+    index_begin ++ (index_rows 1 sections ++ ((index_end ++ choices rows) ++ (sections_text options 1 sections ++ page_end)))
 
 -- the page of reports
 abbrev pub page_of : Options → List Row → List ℕ
-page_of options rows = front options (length (collections_of [] rows)) rows ++ body_text rows (collections_of [] rows)
+page_of options rows = front options (length (collections_of [] rows)) rows ++ body_text options rows (collections_of [] rows)
 
 -- how many `code` rows there are
-abbrev pub is_code : Row → Bool
-is_code (Code collection rule code count) = true
-is_code _ = false
-
 abbrev pub codes_in : List Row → ℕ
 codes_in [] = 0
 codes_in (row ∷ rows) = (if is_code row then 1 else 0) + codes_in rows

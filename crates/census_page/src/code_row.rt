@@ -2,6 +2,7 @@
 ghost use Rattle.std.specs.Prelude.{◌≡◌, ◌++◌, codes, IfOk, MatchResult, OnOk};
 ghost use Rattle.gathered.specs.Telling.{TellsAfter, TellsFront, sheet};
 ghost use Rattle.census_readback.specs.Grouped.{rows_lent};
+ghost use Rattle.census_page_pieces.specs.Links.{linking_of};
 ghost use Rattle.census_page_pieces.specs.Numbers.{grouped};
 ghost use Rattle.census_page.specs.Holders.{having};
 ghost use Rattle.census_page.specs.Order.{AreInOrder};
@@ -10,7 +11,7 @@ ghost use Rattle.census_page.specs.Pages.{code_cells, code_row, code_rows, front
 use crate::holder::{Holder, having, way_of};
 use crate::list::put_list;
 use census_page_pieces::{
-    Way, class_of, kind_of, push_cell_count, push_code, push_grouped, push_object_words,
+    Links, Way, class_of, kind_of, push_cell_count, push_code, push_grouped, push_object_words,
     push_picture, push_rle, push_text, spelled,
 };
 use census_rows::Row;
@@ -41,15 +42,17 @@ fn push_picture_cell(
 fn push_name_cell(
     alloc: Global,
     text: &mut Vec<u8>,
+    linked: bool,
+    rule: &[u8],
     code: &[u8],
     way: &Option<Way>,
 ) -> Result<(), AllocError>
-    ensures { OnOk result (text.new.items ≡ text.old.items ++ name_cell code.now way.now) }
+    ensures { OnOk result (text.new.items ≡ text.old.items ++ name_cell linked rule.now code.now way.now) }
 {
     text.extend_from_slice(b"<th scope=\"row\"><p>")?;
     push_object_words(alloc, text, code, way)?;
     text.extend_from_slice(b"</p><div>")?;
-    push_code(alloc, text, code)?;
+    push_code(alloc, text, linked, rule, code)?;
     Ok(())
 }
 
@@ -77,16 +80,17 @@ fn push_rule_cells(
 fn push_object(
     alloc: Global,
     text: &mut Vec<u8>,
+    linked: bool,
     rule: &[u8],
     code: &[u8],
     way: &Option<Way>,
     shape: &Option<Shape>,
 ) -> Result<(), AllocError>
     ensures { OnOk result (text.new.items
-        ≡ text.old.items ++ object_cells rule.now code.now way.now shape.now) }
+        ≡ text.old.items ++ object_cells linked rule.now code.now way.now shape.now) }
 {
     push_picture_cell(text, code, shape)?;
-    push_name_cell(alloc, text, code, way)?;
+    push_name_cell(alloc, text, linked, rule, code, way)?;
     push_rule_cells(alloc, text, rule, shape)?;
     Ok(())
 }
@@ -104,16 +108,17 @@ fn push_count(text: &mut Vec<u8>, count: u64) -> Result<(), AllocError>
 // What stands in the row of a code before the patterns that have it.
 fn front_cells(
     alloc: Global,
+    linked: bool,
     rule: &[u8],
     code: &[u8],
     count: u64,
     way: &Option<Way>,
 ) -> Result<Vec<u8>, AllocError>
-    ensures { IfOk result (λ text. text.items ≡ front_cells rule.now code.now count way.now) }
+    ensures { IfOk result (λ text. text.items ≡ front_cells linked rule.now code.now count way.now) }
 {
     let shape = spelled(alloc, code)?;
     let mut text = Vec::new(alloc);
-    push_object(alloc, &mut text, rule, code, way, &shape)?;
+    push_object(alloc, &mut text, linked, rule, code, way, &shape)?;
     push_count(&mut text, count)?;
     Ok(text)
 }
@@ -121,6 +126,7 @@ fn front_cells(
 // Tells the row of a code that these patterns have. For a writer that has failed no text is made.
 fn put_code<W: Write>(
     alloc: Global,
+    links: &Links,
     holders: &[Holder],
     rule: &[u8],
     code: &[u8],
@@ -129,17 +135,18 @@ fn put_code<W: Write>(
     writer: &mut Watched<W>,
 ) -> Result<(), AllocError>
     ensures { MatchResult result
-        (λ _. TellsAfter (code_cells rule.now code.now count holders.now)
+        (λ _. TellsAfter (code_cells (linking_of links.now) rule.now code.now count holders.now)
         (sheet W.contents block.old writer.old) (sheet W.contents block.new writer.new))
-        (λ _. TellsFront (code_cells rule.now code.now count holders.now)
+        (λ _. TellsFront (code_cells (linking_of links.now) rule.now code.now count holders.now)
         (sheet W.contents block.old writer.old) (sheet W.contents block.new writer.new)) }
 {
     if writer.failed() {
         return Ok(());
     }
-    let front = front_cells(alloc, rule, code, count, &way_of(holders))?;
+    let way = way_of(holders);
+    let front = front_cells(alloc, links.catalogue, rule, code, count, &way)?;
     put(front.as_slice(), block, writer);
-    put_list(alloc, holders, block, writer)?;
+    put_list(alloc, links, holders, block, writer)?;
     put(b"</td></tr>\n", block, writer);
     Ok(())
 }
@@ -147,6 +154,7 @@ fn put_code<W: Write>(
 // Tells the row of a code that some of these patterns have.
 fn put_having<W: Write>(
     alloc: Global,
+    links: &Links,
     holders: &[Holder],
     rule: &[u8],
     code: &[u8],
@@ -156,18 +164,19 @@ fn put_having<W: Write>(
 ) -> Result<(), AllocError>
     requires { AreInOrder holders.now }
     ensures { MatchResult result
-        (λ _. TellsAfter (code_cells rule.now code.now count (having rule.now code.now holders.now))
+        (λ _. TellsAfter (code_cells (linking_of links.now) rule.now code.now count (having rule.now code.now holders.now))
         (sheet W.contents block.old writer.old) (sheet W.contents block.new writer.new))
-        (λ _. TellsFront (code_cells rule.now code.now count (having rule.now code.now holders.now))
+        (λ _. TellsFront (code_cells (linking_of links.now) rule.now code.now count (having rule.now code.now holders.now))
         (sheet W.contents block.old writer.old) (sheet W.contents block.new writer.new)) }
 {
     let here = having(holders, rule, code);
-    put_code(alloc, here, rule, code, count, block, writer)
+    put_code(alloc, links, here, rule, code, count, block, writer)
 }
 
 // Tells the row of a table that tells of a code, or nothing where the report's row tells of none.
 fn put_code_row<W: Write>(
     alloc: Global,
+    links: &Links,
     holders: &[Holder],
     row: &Row,
     block: &mut Block,
@@ -175,9 +184,9 @@ fn put_code_row<W: Write>(
 ) -> Result<(), AllocError>
     requires { AreInOrder holders.now }
     ensures { MatchResult result
-        (λ _. TellsAfter (code_row holders.now row.now)
+        (λ _. TellsAfter (code_row (linking_of links.now) holders.now row.now)
         (sheet W.contents block.old writer.old) (sheet W.contents block.new writer.new))
-        (λ _. TellsFront (code_row holders.now row.now)
+        (λ _. TellsFront (code_row (linking_of links.now) holders.now row.now)
         (sheet W.contents block.old writer.old) (sheet W.contents block.new writer.new)) }
 {
     match row {
@@ -186,7 +195,7 @@ fn put_code_row<W: Write>(
             code,
             count,
             ..
-        } => { put_having(alloc, holders, *rule, *code, *count, block, writer) }
+        } => { put_having(alloc, links, holders, *rule, *code, *count, block, writer) }
         _ => Ok(()),
     }
 }
@@ -196,6 +205,7 @@ fn put_code_row<W: Write>(
 /// told.
 pub fn put_code_rows<W: Write>(
     alloc: Global,
+    links: &Links,
     holders: &[Holder],
     rows: &[&Row],
     block: &mut Block,
@@ -203,13 +213,13 @@ pub fn put_code_rows<W: Write>(
 ) -> Result<(), AllocError>
     requires { AreInOrder holders.now }
     ensures { MatchResult result
-        (λ _. TellsAfter (code_rows holders.now (rows_lent rows.now))
+        (λ _. TellsAfter (code_rows (linking_of links.now) holders.now (rows_lent rows.now))
         (sheet W.contents block.old writer.old) (sheet W.contents block.new writer.new))
-        (λ _. TellsFront (code_rows holders.now (rows_lent rows.now))
+        (λ _. TellsFront (code_rows (linking_of links.now) holders.now (rows_lent rows.now))
         (sheet W.contents block.old writer.old) (sheet W.contents block.new writer.new)) }
 {
     for row in rows {
-        put_code_row(alloc, holders, *row, block, writer)?;
+        put_code_row(alloc, links, holders, *row, block, writer)?;
     }
     Ok(())
 }

@@ -1,11 +1,12 @@
 //! Lists of the patterns that have a code.
 ghost use Rattle.std.specs.Prelude.{◌≡◌, ◌++◌, IfOk, MatchResult, OnOk, codes};
 ghost use Rattle.gathered.specs.Telling.{TellsAfter, TellsFront, sheet};
+ghost use Rattle.census_page_pieces.specs.Links.{linking_of};
 ghost use Rattle.census_page_pieces.specs.Numbers.{grouped, labelled};
 ghost use Rattle.census_page.specs.Lists.{holder_list, item, items, more_items, share_words};
 
 use crate::holder::{Holder, Share};
-use census_page_pieces::{push_grouped, push_labelled, push_told};
+use census_page_pieces::{Links, push_grouped, push_labelled, push_name};
 use gathered::{Block, put};
 use std::alloc::{AllocError, Global};
 use std::io::Write;
@@ -39,12 +40,12 @@ fn push_share(text: &mut Vec<u8>, share: Share) -> Result<(), AllocError>
 }
 
 // The item of a pattern.
-fn item(alloc: Global, holder: &Holder) -> Result<Vec<u8>, AllocError>
-    ensures { IfOk result (λ text. text.items ≡ item holder.now) }
+fn item(alloc: Global, links: &Links, holder: &Holder) -> Result<Vec<u8>, AllocError>
+    ensures { IfOk result (λ text. text.items ≡ item (linking_of links.now) holder.now) }
 {
     let mut text = Vec::new(alloc);
     text.extend_from_slice(b"<li>")?;
-    push_told(alloc, &mut text, holder.name)?;
+    push_name(alloc, &mut text, links, holder.name)?;
     text.extend_from_slice(b" <small>")?;
     push_share(&mut text, holder.share)?;
     text.extend_from_slice(b"</small></li>")?;
@@ -54,18 +55,19 @@ fn item(alloc: Global, holder: &Holder) -> Result<Vec<u8>, AllocError>
 // Tells an item for each pattern.
 fn put_items<W: Write>(
     alloc: Global,
+    links: &Links,
     holders: &[Holder],
     block: &mut Block,
     writer: &mut Watched<W>,
 ) -> Result<(), AllocError>
     ensures { MatchResult result
-        (λ _. TellsAfter (items holders.now)
+        (λ _. TellsAfter (items (linking_of links.now) holders.now)
         (sheet W.contents block.old writer.old) (sheet W.contents block.new writer.new))
-        (λ _. TellsFront (items holders.now)
+        (λ _. TellsFront (items (linking_of links.now) holders.now)
         (sheet W.contents block.old writer.old) (sheet W.contents block.new writer.new)) }
 {
     for holder in holders {
-        let text = item(alloc, holder)?;
+        let text = item(alloc, links, holder)?;
         put(text.as_slice(), block, writer);
     }
     Ok(())
@@ -86,14 +88,15 @@ fn more_front(alloc: Global, count: usize) -> Result<Vec<u8>, AllocError>
 // Tells the items that are shown when they are asked for.
 fn put_more<W: Write>(
     alloc: Global,
+    links: &Links,
     holders: &[Holder],
     block: &mut Block,
     writer: &mut Watched<W>,
 ) -> Result<(), AllocError>
     ensures { MatchResult result
-        (λ _. TellsAfter (more_items holders.now)
+        (λ _. TellsAfter (more_items (linking_of links.now) holders.now)
         (sheet W.contents block.old writer.old) (sheet W.contents block.new writer.new))
-        (λ _. TellsFront (more_items holders.now)
+        (λ _. TellsFront (more_items (linking_of links.now) holders.now)
         (sheet W.contents block.old writer.old) (sheet W.contents block.new writer.new)) }
 {
     if holders.is_empty() {
@@ -101,7 +104,7 @@ fn put_more<W: Write>(
     }
     let front = more_front(alloc, holders.len())?;
     put(front.as_slice(), block, writer);
-    put_items(alloc, holders, block, writer)?;
+    put_items(alloc, links, holders, block, writer)?;
     put(b"</ul></details>", block, writer);
     Ok(())
 }
@@ -110,19 +113,20 @@ fn put_more<W: Write>(
 /// refused, a prefix was told.
 pub fn put_list<W: Write>(
     alloc: Global,
+    links: &Links,
     holders: &[Holder],
     block: &mut Block,
     writer: &mut Watched<W>,
 ) -> Result<(), AllocError>
     ensures { MatchResult result
-        (λ _. TellsAfter (holder_list holders.now)
+        (λ _. TellsAfter (holder_list (linking_of links.now) holders.now)
         (sheet W.contents block.old writer.old) (sheet W.contents block.new writer.new))
-        (λ _. TellsFront (holder_list holders.now)
+        (λ _. TellsFront (holder_list (linking_of links.now) holders.now)
         (sheet W.contents block.old writer.old) (sheet W.contents block.new writer.new)) }
 {
     let (shown, others) = holders.split_at(holders.len().min(SHOWN));
     put(b"<ul>", block, writer);
-    put_items(alloc, shown, block, writer)?;
+    put_items(alloc, links, shown, block, writer)?;
     put(b"</ul>", block, writer);
-    put_more(alloc, others, block, writer)
+    put_more(alloc, links, others, block, writer)
 }

@@ -3,28 +3,24 @@ ghost use Rattle.std.specs.Prelude.{◌≡◌, ◌++◌, IfOk, MatchResult, code
 ghost use Rattle.std.specs.List.{list_any};
 ghost use Rattle.gathered.specs.Telling.{TellsAfter, TellsFront, sheet};
 ghost use Rattle.census_readback.specs.Grouped.{rows_lent};
-ghost use Rattle.census_page.specs.Pages.{code_table, is_code, is_stray, section_text, stray_list};
+ghost use Rattle.census_page_pieces.specs.Links.{linking_of};
+ghost use Rattle.census_page.specs.Options.{options_of};
+ghost use Rattle.census_page.specs.Order.{AreInOrder};
+ghost use Rattle.census_page.specs.Pages.{chosen, code_table, is_code, is_stray, linked_tables, pattern_table, section_text, stray_list, table_of, tables};
 
+use crate::chosen::{chosen, is_code};
 use crate::code_row::put_code_rows;
 use crate::heading::put_headings;
-use crate::holder::{holders, put_in_order};
+use crate::holder::{Holder, holders, put_in_order};
+use crate::linking::{address_in, links_in};
+use crate::options::PageOptions;
 use crate::stray::put_stray_rows;
-use census_page_pieces::{list_begin, push_number, recurs, table_begin, table_end};
+use census_page_pieces::{Links, list_begin, push_number, recurs, table_begin, table_end};
 use census_rows::Row;
 use gathered::{Block, put};
 use std::alloc::{AllocError, Global};
 use std::io::Write;
 use watched::Watched;
-
-// Whether a row tells of a code.
-fn is_code(row: &Row) -> bool
-    ensures { result ≡ is_code row.now }
-{
-    match row {
-        Row::Code { .. } => true,
-        _ => false,
-    }
-}
 
 // Whether a row tells of a pattern that does not recur.
 fn is_stray(row: &Row) -> bool
@@ -50,50 +46,142 @@ fn have_strays(rows: &[&Row]) -> bool
     rows.iter().any(|row| is_stray(*row))
 }
 
-// Tells the table of a collection's codes, where there are any.
+// Tells the table of those of these rows that are asked for, where there are any.
+fn put_chosen<W: Write>(
+    alloc: Global,
+    links: &Links,
+    options: &PageOptions,
+    holders: &[Holder],
+    rows: &[&Row],
+    block: &mut Block,
+    writer: &mut Watched<W>,
+) -> Result<(), AllocError>
+    requires { AreInOrder holders.now }
+    ensures { MatchResult result
+        (λ _. TellsAfter (table_of (linking_of links.now) holders.now (chosen (options_of options.now) holders.now (rows_lent rows.now)))
+        (sheet W.contents block.old writer.old) (sheet W.contents block.new writer.new))
+        (λ _. TellsFront (table_of (linking_of links.now) holders.now (chosen (options_of options.now) holders.now (rows_lent rows.now)))
+        (sheet W.contents block.old writer.old) (sheet W.contents block.new writer.new)) }
+{
+    let chosen = chosen(alloc, options, holders, rows)?;
+    let lent = chosen.as_slice();
+    if !have_codes(lent) {
+        return Ok(());
+    }
+    put(table_begin(), block, writer);
+    put_code_rows(alloc, links, holders, lent, block, writer)?;
+    put(table_end(), block, writer);
+    Ok(())
+}
+
+// Tells the table of a collection's codes, where any are asked for.
 fn put_code_table<W: Write>(
     alloc: Global,
+    links: &Links,
+    options: &PageOptions,
     rows: &[&Row],
     block: &mut Block,
     writer: &mut Watched<W>,
 ) -> Result<(), AllocError>
     ensures { MatchResult result
-        (λ _. TellsAfter (code_table (rows_lent rows.now))
+        (λ _. TellsAfter (code_table (linking_of links.now) (options_of options.now) (rows_lent rows.now))
         (sheet W.contents block.old writer.old) (sheet W.contents block.new writer.new))
-        (λ _. TellsFront (code_table (rows_lent rows.now))
+        (λ _. TellsFront (code_table (linking_of links.now) (options_of options.now) (rows_lent rows.now))
         (sheet W.contents block.old writer.old) (sheet W.contents block.new writer.new)) }
 {
-    if !have_codes(rows) {
-        return Ok(());
-    }
     let mut holders = holders(alloc, rows)?;
     put_in_order(&mut holders)?;
-    put(table_begin(), block, writer);
-    put_code_rows(alloc, holders.as_slice(), rows, block, writer)?;
-    put(table_end(), block, writer);
-    Ok(())
+    put_chosen(
+        alloc,
+        links,
+        options,
+        holders.as_slice(),
+        rows,
+        block,
+        writer,
+    )
 }
 
 // Tells the table of a collection's patterns that do not recur, where there are any.
 fn put_stray_list<W: Write>(
     alloc: Global,
+    links: &Links,
     rows: &[&Row],
     block: &mut Block,
     writer: &mut Watched<W>,
 ) -> Result<(), AllocError>
     ensures { MatchResult result
-        (λ _. TellsAfter (stray_list (rows_lent rows.now))
+        (λ _. TellsAfter (stray_list (linking_of links.now) (rows_lent rows.now))
         (sheet W.contents block.old writer.old) (sheet W.contents block.new writer.new))
-        (λ _. TellsFront (stray_list (rows_lent rows.now))
+        (λ _. TellsFront (stray_list (linking_of links.now) (rows_lent rows.now))
         (sheet W.contents block.old writer.old) (sheet W.contents block.new writer.new)) }
 {
     if !have_strays(rows) {
         return Ok(());
     }
     put(list_begin(), block, writer);
-    put_stray_rows(alloc, rows, block, writer)?;
+    put_stray_rows(alloc, links, rows, block, writer)?;
     put(table_end(), block, writer);
     Ok(())
+}
+
+// Tells this table where it is asked for.
+fn put_pattern_table<W: Write>(
+    alloc: Global,
+    links: &Links,
+    shown: bool,
+    rows: &[&Row],
+    block: &mut Block,
+    writer: &mut Watched<W>,
+) -> Result<(), AllocError>
+    ensures { MatchResult result
+        (λ _. TellsAfter (pattern_table (linking_of links.now) shown (rows_lent rows.now))
+        (sheet W.contents block.old writer.old) (sheet W.contents block.new writer.new))
+        (λ _. TellsFront (pattern_table (linking_of links.now) shown (rows_lent rows.now))
+        (sheet W.contents block.old writer.old) (sheet W.contents block.new writer.new)) }
+{
+    if !shown {
+        return Ok(());
+    }
+    put_stray_list(alloc, links, rows, block, writer)
+}
+
+// Tells both tables with these links.
+fn put_linked_tables<W: Write>(
+    alloc: Global,
+    links: &Links,
+    options: &PageOptions,
+    rows: &[&Row],
+    block: &mut Block,
+    writer: &mut Watched<W>,
+) -> Result<(), AllocError>
+    ensures { MatchResult result
+        (λ _. TellsAfter (linked_tables (linking_of links.now) (options_of options.now) (rows_lent rows.now))
+        (sheet W.contents block.old writer.old) (sheet W.contents block.new writer.new))
+        (λ _. TellsFront (linked_tables (linking_of links.now) (options_of options.now) (rows_lent rows.now))
+        (sheet W.contents block.old writer.old) (sheet W.contents block.new writer.new)) }
+{
+    put_code_table(alloc, links, options, rows, block, writer)?;
+    put_pattern_table(alloc, links, options.patterns, rows, block, writer)
+}
+
+// Tells both tables with the links that are asked for.
+fn put_tables<W: Write>(
+    alloc: Global,
+    options: &PageOptions,
+    rows: &[&Row],
+    block: &mut Block,
+    writer: &mut Watched<W>,
+) -> Result<(), AllocError>
+    ensures { MatchResult result
+        (λ _. TellsAfter (tables (options_of options.now) (rows_lent rows.now))
+        (sheet W.contents block.old writer.old) (sheet W.contents block.new writer.new))
+        (λ _. TellsFront (tables (options_of options.now) (rows_lent rows.now))
+        (sheet W.contents block.old writer.old) (sheet W.contents block.new writer.new)) }
+{
+    let address = address_in(alloc, options.base, rows)?;
+    let links = links_in(options, &address);
+    put_linked_tables(alloc, &links, options, rows, block, writer)
 }
 
 // The beginning of a collection with this number.
@@ -112,15 +200,16 @@ fn section_begin(alloc: Global, number: u64) -> Result<Vec<u8>, AllocError>
 /// Where memory is refused, a prefix was told.
 pub fn put_section<W: Write>(
     alloc: Global,
+    options: &PageOptions,
     number: u64,
     rows: &[&Row],
     block: &mut Block,
     writer: &mut Watched<W>,
 ) -> Result<(), AllocError>
     ensures { MatchResult result
-        (λ _. TellsAfter (section_text number (rows_lent rows.now))
+        (λ _. TellsAfter (section_text (options_of options.now) number (rows_lent rows.now))
         (sheet W.contents block.old writer.old) (sheet W.contents block.new writer.new))
-        (λ _. TellsFront (section_text number (rows_lent rows.now))
+        (λ _. TellsFront (section_text (options_of options.now) number (rows_lent rows.now))
         (sheet W.contents block.old writer.old) (sheet W.contents block.new writer.new)) }
 {
     if writer.failed() {
@@ -129,8 +218,7 @@ pub fn put_section<W: Write>(
     let front = section_begin(alloc, number)?;
     put(front.as_slice(), block, writer);
     put_headings(alloc, rows, block, writer)?;
-    put_code_table(alloc, rows, block, writer)?;
-    put_stray_list(alloc, rows, block, writer)?;
+    put_tables(alloc, options, rows, block, writer)?;
     put(b"</section>\n", block, writer);
     Ok(())
 }

@@ -2,9 +2,10 @@
 ghost use Rattle.std.specs.Prelude.{◌≡◌, ◌++◌, MatchResult, OnOk};
 ghost use Rattle.gathered.specs.Telling.{TellsAfter, TellsFront, sheet};
 ghost use Rattle.census_readback.specs.Grouped.{rows_lent};
+ghost use Rattle.census_page_pieces.specs.Links.{linking_of};
 ghost use Rattle.census_page.specs.Pages.{stray_row, stray_rows};
 
-use census_page_pieces::push_fate_row;
+use census_page_pieces::{Links, push_fate_row};
 use census_readback::rows_behind;
 use census_rows::{Behind, Row};
 use gathered::{Block, put};
@@ -16,16 +17,18 @@ use watched::Watched;
 fn push_stray_row(
     alloc: Global,
     text: &mut Vec<u8>,
+    links: &Links,
     row: &Row,
     rows: &[&Row],
 ) -> Result<(), AllocError>
     ensures { OnOk result (text.new.items
-        ≡ text.old.items ++ stray_row row.now (rows_lent rows.now)) }
+        ≡ text.old.items ++ stray_row (linking_of links.now) row.now (rows_lent rows.now)) }
 {
     match row {
         Row::Line { outcome, name, .. } => {
             let growth = rows_behind(Behind::Engines, rows);
-            push_fate_row(alloc, text, *name, outcome, growth)
+            let parts = rows_behind(Behind::Parts, rows);
+            push_fate_row(alloc, text, links, *name, outcome, growth, parts)
         }
         _ => Ok(()),
     }
@@ -34,19 +37,20 @@ fn push_stray_row(
 // Tells the table row for a row that tells of a pattern that does not recur, and stands before these.
 fn put_stray_row<W: Write>(
     alloc: Global,
+    links: &Links,
     row: &Row,
     rows: &[&Row],
     block: &mut Block,
     writer: &mut Watched<W>,
 ) -> Result<(), AllocError>
     ensures { MatchResult result
-        (λ _. TellsAfter (stray_row row.now (rows_lent rows.now))
+        (λ _. TellsAfter (stray_row (linking_of links.now) row.now (rows_lent rows.now))
         (sheet W.contents block.old writer.old) (sheet W.contents block.new writer.new))
-        (λ _. TellsFront (stray_row row.now (rows_lent rows.now))
+        (λ _. TellsFront (stray_row (linking_of links.now) row.now (rows_lent rows.now))
         (sheet W.contents block.old writer.old) (sheet W.contents block.new writer.new)) }
 {
     let mut text = Vec::new(alloc);
-    push_stray_row(alloc, &mut text, row, rows)?;
+    push_stray_row(alloc, &mut text, links, row, rows)?;
     put(text.as_slice(), block, writer);
     Ok(())
 }
@@ -55,18 +59,19 @@ fn put_stray_row<W: Write>(
 /// told.
 pub fn put_stray_rows<W: Write>(
     alloc: Global,
+    links: &Links,
     rows: &[&Row],
     block: &mut Block,
     writer: &mut Watched<W>,
 ) -> Result<(), AllocError>
     ensures { MatchResult result
-        (λ _. TellsAfter (stray_rows (rows_lent rows.now))
+        (λ _. TellsAfter (stray_rows (linking_of links.now) (rows_lent rows.now))
         (sheet W.contents block.old writer.old) (sheet W.contents block.new writer.new))
-        (λ _. TellsFront (stray_rows (rows_lent rows.now))
+        (λ _. TellsFront (stray_rows (linking_of links.now) (rows_lent rows.now))
         (sheet W.contents block.old writer.old) (sheet W.contents block.new writer.new)) }
 {
     for index in 0..rows.len() {
-        put_stray_row(alloc, rows[index], &rows[index + 1..], block, writer)?;
+        put_stray_row(alloc, links, rows[index], &rows[index + 1..], block, writer)?;
     }
     Ok(())
 }

@@ -22,19 +22,21 @@ use watched::Watched;
 // Tells each collection.
 fn put_sections<W: Write>(
     alloc: Global,
+    options: &PageOptions,
     sections: &[Vec<&Row>],
     block: &mut Block,
     writer: &mut Watched<W>,
 ) -> Result<(), AllocError>
     ensures { MatchResult result
-        (λ _. TellsAfter (sections_text 1 (sections_lent sections.now))
+        (λ _. TellsAfter (sections_text (options_of options.now) 1 (sections_lent sections.now))
         (sheet W.contents block.old writer.old) (sheet W.contents block.new writer.new))
-        (λ _. TellsFront (sections_text 1 (sections_lent sections.now))
+        (λ _. TellsFront (sections_text (options_of options.now) 1 (sections_lent sections.now))
         (sheet W.contents block.old writer.old) (sheet W.contents block.new writer.new)) }
 {
     for index in 0..sections.len() {
         put_section(
             alloc,
+            options,
             index as u64 + 1,
             sections[index].as_slice(),
             block,
@@ -47,15 +49,16 @@ fn put_sections<W: Write>(
 // Tells the page from the table of all collections on.
 fn put_body<W: Write>(
     alloc: Global,
+    options: &PageOptions,
     rows: &[Row],
     sections: &[Vec<&Row>],
     block: &mut Block,
     writer: &mut Watched<W>,
 ) -> Result<(), AllocError>
     ensures { MatchResult result
-        (λ _. TellsAfter (body_text rows.now (sections_lent sections.now))
+        (λ _. TellsAfter (body_text (options_of options.now) rows.now (sections_lent sections.now))
         (sheet W.contents block.old writer.old) (sheet W.contents block.new writer.new))
-        (λ _. TellsFront (body_text rows.now (sections_lent sections.now))
+        (λ _. TellsFront (body_text (options_of options.now) rows.now (sections_lent sections.now))
         (sheet W.contents block.old writer.old) (sheet W.contents block.new writer.new)) }
 {
     put(index_begin(), block, writer);
@@ -63,7 +66,7 @@ fn put_body<W: Write>(
     put(index_end(), block, writer);
     let choices = choices(alloc, rows)?;
     put(choices.as_slice(), block, writer);
-    put_sections(alloc, sections, block, writer)?;
+    put_sections(alloc, options, sections, block, writer)?;
     put(page_end(), block, writer);
     Ok(())
 }
@@ -71,8 +74,11 @@ fn put_body<W: Write>(
 /// Tells a report, or several after one another, as one HTML page in UTF-8 that stands alone: it has
 /// no script, and asks for nothing. First come its title and note, the counts of all patterns, a
 /// table of the collections with links to them, and a choice of what is shown. Of each collection
-/// it has the name, the counts, a table with a row for each `code` row, and a table of the patterns
-/// that do not recur. No name, rule, code or option brings markup.
+/// it has the name, the counts, a table with a row for each `code` row, or for as many as are asked
+/// for, and a table of the patterns that do not recur, where it is asked for. The counts are those of
+/// all rows. No name, rule, code or option brings markup.
+/// Where links are asked for, names and codes lead to other places, and nothing is asked of these before
+/// a link is followed.
 ///
 /// The text of a row stands in memory at a time. Where memory is refused, a prefix of the page was
 /// told. To a writer that has failed nothing is written.
@@ -94,7 +100,7 @@ pub fn put_page<W: Write>(
     let lent = sections.as_slice();
     let front = front(alloc, options, lent.len() as u64, rows)?;
     put(front.as_slice(), block, writer);
-    put_body(alloc, rows, lent, block, writer)
+    put_body(alloc, options, rows, lent, block, writer)
 }
 
 /// The collections of a page have as many code rows as its reports have.

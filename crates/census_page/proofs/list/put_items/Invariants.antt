@@ -1,10 +1,11 @@
 use Rattle.std.proofs.Common.{drop}
 use Rattle.gathered.specs.Telling.{sheet}
 use Rattle.gathered.proofs.Fronts.{TellsUpTo}
+use Rattle.census_page_pieces.specs.Links.{linking_of}
 use Rattle.census_page.specs.Lists.{items}
 use Rattle.census_page.proofs.list.put_items.Given as goal
 
 abbrev pub invariant-loop-holder : goal.invariant-loop-holder
 invariant-loop-holder g l =
-    TellsUpTo (items l.holders) (items (drop l.holder-index l.holders))
+    TellsUpTo (items (linking_of l.links) l.holders) (items (linking_of l.links) (drop l.holder-index l.holders))
     (sheet g.W.Write.contents l.fn.block l.fn.writer) (sheet g.W.Write.contents l.block l.writer)

@@ -5,17 +5,18 @@ use Rattle.gathered.specs.Telling.{TellsAfter, sheet}
 use Rattle.gathered.proofs.Telling.{tells_failed, tells_more}
 use Rattle.gathered.proofs.Fronts.{front_first, front_more, front_none}
 use Rattle.census_readback.specs.Grouped.{rows_lent}
-use Rattle.census_page.specs.Pages.{code_table, headings, section_text, stray_list}
+use Rattle.census_page.specs.Options.{options_of}
+use Rattle.census_page.specs.Pages.{headings, section_text, tables}
 use Rattle.census_page.proofs.section.put_section.Goals as goal
 
 pub returns-then-failed : goal.returns-then-failed
 returns-then-failed g c =
-    tells_failed (section_text c.args.number (rows_lent c.args.rows.now)) (sheet g.W.Write.contents c.args.block.now c.args.writer.now) (sym c.failed.ensures ∙ c.if-failed.true)
+    tells_failed (section_text (options_of c.args.options.now) c.args.number (rows_lent c.args.rows.now)) (sheet g.W.Write.contents c.args.block.now c.args.writer.now) (sym c.failed.ensures ∙ c.if-failed.true)
 
 pub returns-in_err-front : goal.returns-in_err-front
 returns-in_err-front g c =
     let p = err_from_is_err_and c.from_residual.result c.from_residual.ensures.1 in
-    rw p.1 (front_none (section_text c.args.number (rows_lent c.args.rows.now)) (sheet g.W.Write.contents c.args.block.now c.args.writer.now))
+    rw p.1 (front_none (section_text (options_of c.args.options.now) c.args.number (rows_lent c.args.rows.now)) (sheet g.W.Write.contents c.args.block.now c.args.writer.now))
 
 pub returns-in_err-put_headings : goal.returns-in_err-put_headings
 returns-in_err-put_headings g c =
@@ -23,8 +24,7 @@ returns-in_err-put_headings g c =
     let rows = rows_lent c.args.rows.now in
     let first = codes "<section id=\"c" ++ decimal c.args.number ++ codes "\">\n" in
     let two = headings rows in
-    let four = stray_list rows ++ codes "</section>\n" in
-    let three = code_table rows ++ four in
+    let three = tables (options_of c.args.options.now) rows ++ codes "</section>\n" in
     let a = sheet g.W.Write.contents c.args.block.now c.args.writer.now in
     let b = sheet g.W.Write.contents c.put.new.block c.put.new.writer in
     let told = subst (λ t. TellsAfter t a b) (c.as_slice.ensures.value ∙ c.in_ok-front.ensures) c.put.ensures in
@@ -32,61 +32,35 @@ returns-in_err-put_headings g c =
     rw p.1
     (front_more first (two ++ three) a b d told (front_first (two ++ three) two three b d refl c.in_err-put_headings.ensures))
 
-pub returns-in_err-put_code_table : goal.returns-in_err-put_code_table
-returns-in_err-put_code_table g c =
-    let p = err_from_is_err_and c.from_residual-in_err-put_code_table.result c.from_residual-in_err-put_code_table.ensures.1 in
+pub returns-in_err-put_tables : goal.returns-in_err-put_tables
+returns-in_err-put_tables g c =
+    let p = err_from_is_err_and c.from_residual-in_err-put_tables.result c.from_residual-in_err-put_tables.ensures.1 in
     let rows = rows_lent c.args.rows.now in
     let first = codes "<section id=\"c" ++ decimal c.args.number ++ codes "\">\n" in
     let two = headings rows in
-    let table = code_table rows in
-    let four = stray_list rows ++ codes "</section>\n" in
-    let three = table ++ four in
+    let both = tables (options_of c.args.options.now) rows in
+    let three = both ++ codes "</section>\n" in
     let a = sheet g.W.Write.contents c.args.block.now c.args.writer.now in
     let b = sheet g.W.Write.contents c.put.new.block c.put.new.writer in
     let told = subst (λ t. TellsAfter t a b) (c.as_slice.ensures.value ∙ c.in_ok-front.ensures) c.put.ensures in
     let d = sheet g.W.Write.contents c.put_headings.new.block c.put_headings.new.writer in
-    let e = sheet g.W.Write.contents c.put_code_table.new.block c.put_code_table.new.writer in
+    let e = sheet g.W.Write.contents c.put_tables.new.block c.put_tables.new.writer in
     rw p.1
     (front_more first (two ++ three) a b e told
-    (front_more two three b d e c.in_ok-put_headings.ensures (front_first three table four d e refl c.in_err-put_code_table.ensures)))
-
-pub returns-in_err-put_stray_list : goal.returns-in_err-put_stray_list
-returns-in_err-put_stray_list g c =
-    let p = err_from_is_err_and c.from_residual-in_err-put_stray_list.result c.from_residual-in_err-put_stray_list.ensures.1 in
-    let rows = rows_lent c.args.rows.now in
-    let first = codes "<section id=\"c" ++ decimal c.args.number ++ codes "\">\n" in
-    let two = headings rows in
-    let table = code_table rows in
-    let strays = stray_list rows in
-    let four = strays ++ codes "</section>\n" in
-    let three = table ++ four in
-    let a = sheet g.W.Write.contents c.args.block.now c.args.writer.now in
-    let b = sheet g.W.Write.contents c.put.new.block c.put.new.writer in
-    let told = subst (λ t. TellsAfter t a b) (c.as_slice.ensures.value ∙ c.in_ok-front.ensures) c.put.ensures in
-    let d = sheet g.W.Write.contents c.put_headings.new.block c.put_headings.new.writer in
-    let e = sheet g.W.Write.contents c.put_code_table.new.block c.put_code_table.new.writer in
-    let f = sheet g.W.Write.contents c.put_stray_list.new.block c.put_stray_list.new.writer in
-    rw p.1
-    (front_more first (two ++ three) a b f told
-    (front_more two three b d f c.in_ok-put_headings.ensures
-    (front_more table four d e f c.in_ok-put_code_table.ensures (front_first four strays (codes "</section>\n") e f refl c.in_err-put_stray_list.ensures))))
+    (front_more two three b d e c.in_ok-put_headings.ensures (front_first three both (codes "</section>\n") d e refl c.in_err-put_tables.ensures)))
 
 pub returns : goal.returns
 returns g c =
     let rows = rows_lent c.args.rows.now in
     let first = codes "<section id=\"c" ++ decimal c.args.number ++ codes "\">\n" in
     let two = headings rows in
-    let table = code_table rows in
-    let strays = stray_list rows in
-    let four = strays ++ codes "</section>\n" in
-    let three = table ++ four in
+    let both = tables (options_of c.args.options.now) rows in
+    let three = both ++ codes "</section>\n" in
     let a = sheet g.W.Write.contents c.args.block.now c.args.writer.now in
     let b = sheet g.W.Write.contents c.put.new.block c.put.new.writer in
     let told = subst (λ t. TellsAfter t a b) (c.as_slice.ensures.value ∙ c.in_ok-front.ensures) c.put.ensures in
     let d = sheet g.W.Write.contents c.put_headings.new.block c.put_headings.new.writer in
-    let e = sheet g.W.Write.contents c.put_code_table.new.block c.put_code_table.new.writer in
-    let f = sheet g.W.Write.contents c.put_stray_list.new.block c.put_stray_list.new.writer in
+    let e = sheet g.W.Write.contents c.put_tables.new.block c.put_tables.new.writer in
     let h = sheet g.W.Write.contents c.put-2.new.block c.put-2.new.writer in
     tells_more first (two ++ three) a b h told
-    (tells_more two three b d h c.in_ok-put_headings.ensures
-    (tells_more table four d e h c.in_ok-put_code_table.ensures (tells_more strays (codes "</section>\n") e f h c.in_ok-put_stray_list.ensures c.put-2.ensures)))
+    (tells_more two three b d h c.in_ok-put_headings.ensures (tells_more both (codes "</section>\n") d e h c.in_ok-put_tables.ensures c.put-2.ensures))

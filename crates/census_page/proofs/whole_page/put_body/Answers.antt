@@ -5,6 +5,7 @@ use Rattle.gathered.proofs.Telling.{tells_more}
 use Rattle.gathered.proofs.Fronts.{front_first, front_more, front_none}
 use Rattle.census_readback.specs.Grouped.{sections_lent}
 use Rattle.census_page_pieces.specs.Markup.{index_begin, index_end, page_end}
+use Rattle.census_page.specs.Options.{options_of}
 use Rattle.census_page.specs.Pages.{choices, index_rows, sections_text}
 use Rattle.census_page.proofs.whole_page.put_body.Goals as goal
 
@@ -13,7 +14,7 @@ returns-in_err-put_rows g c =
     let p = err_from_is_err_and c.from_residual.result c.from_residual.ensures.1 in
     let sections = sections_lent c.args.sections.now in
     let rows = index_rows 1 sections in
-    let last = sections_text 1 sections ++ page_end in
+    let last = sections_text (options_of c.args.options.now) 1 sections ++ page_end in
     let rest = (index_end ++ choices c.args.rows.now) ++ last in
     let a = sheet g.W.Write.contents c.args.block.now c.args.writer.now in
     let b = sheet g.W.Write.contents c.put.new.block c.put.new.writer in
@@ -28,7 +29,7 @@ returns-in_err-choices g c =
     let sections = sections_lent c.args.sections.now in
     let rows = index_rows 1 sections in
     let kinds = choices c.args.rows.now in
-    let last = sections_text 1 sections ++ page_end in
+    let last = sections_text (options_of c.args.options.now) 1 sections ++ page_end in
     let rest = (index_end ++ kinds) ++ last in
     let a = sheet g.W.Write.contents c.args.block.now c.args.writer.now in
     let b = sheet g.W.Write.contents c.put.new.block c.put.new.writer in
@@ -45,7 +46,7 @@ returns-in_err-put_sections g c =
     let sections = sections_lent c.args.sections.now in
     let rows = index_rows 1 sections in
     let kinds = choices c.args.rows.now in
-    let all = sections_text 1 sections in
+    let all = sections_text (options_of c.args.options.now) 1 sections in
     let last = all ++ page_end in
     let rest = (index_end ++ kinds) ++ last in
     let a = sheet g.W.Write.contents c.args.block.now c.args.writer.now in
@@ -66,7 +67,7 @@ returns g c =
     let sections = sections_lent c.args.sections.now in
     let rows = index_rows 1 sections in
     let kinds = choices c.args.rows.now in
-    let all = sections_text 1 sections in
+    let all = sections_text (options_of c.args.options.now) 1 sections in
     let last = all ++ page_end in
     let rest = (index_end ++ kinds) ++ last in
     let a = sheet g.W.Write.contents c.args.block.now c.args.writer.now in

@@ -32,6 +32,6 @@ returns g c =
     let told =
     subst (λ t. TellsAfter t a b) (c.as_slice.ensures.value ∙ c.in_ok-front.ensures ∙ ap (λ n. front options n rows) count) c.put.ensures in
     let body =
-    subst (λ s. MatchResult c.put_body.result (λ _. TellsAfter (body_text rows s) b d) (λ _. TellsFront (body_text rows s) b d))
+    subst (λ s. MatchResult c.put_body.result (λ _. TellsAfter (body_text options rows s) b d) (λ _. TellsFront (body_text options rows s) b d))
     (ap sections_lent c.as_slice-lent.ensures.value ∙ c.in_ok-sections.ensures) c.put_body.ensures in
-    told_both c.put_body.result (page_of options rows) (front options (length lists) rows) (body_text rows lists) a b d refl told body
+    told_both c.put_body.result (page_of options rows) (front options (length lists) rows) (body_text options rows lists) a b d refl told body

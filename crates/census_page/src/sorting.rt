@@ -1,0 +1,87 @@
+//! The order of the rows of a table of codes.
+ghost use Rattle.std.specs.Prelude.{◌≡◌, OnOk};
+ghost use Rattle.census_readback.specs.Grouped.{rows_lent};
+ghost use Rattle.census_page.specs.Order.{AreInOrder};
+ghost use Rattle.census_page.specs.Sorting.{code_in, count_in, name_in, row_cmp, rule_in, shorter_cmp, sorted_rows};
+
+use crate::holder::{Holder, having};
+use crate::options::Sort;
+use census_page_pieces::period_told;
+use census_rows::Row;
+use std::alloc::AllocError;
+use std::cmp::Ordering;
+
+// How often the code of a row occurs.
+fn count_in(row: &Row) -> u64
+    ensures { result ≡ count_in row.now }
+{
+    match row {
+        Row::Code { count, .. } => *count,
+        _ => 0,
+    }
+}
+
+// The rule of a row's code.
+fn rule_in<'a>(row: &Row<'a>) -> &'a [u8]
+    ensures { result.now ≡ rule_in row.now }
+{
+    match row {
+        Row::Code { rule, .. } => *rule,
+        _ => b"",
+    }
+}
+
+// The code of a row.
+fn code_in<'a>(row: &Row<'a>) -> &'a [u8]
+    ensures { result.now ≡ code_in row.now }
+{
+    match row {
+        Row::Code { code, .. } => *code,
+        _ => b"",
+    }
+}
+
+// The name of the first pattern that has the code of a row.
+fn name_in<'a>(holders: &[Holder<'a>], row: &Row) -> &'a [u8]
+    requires { AreInOrder holders.now }
+    ensures { result.now ≡ name_in holders.now row.now }
+{
+    match having(holders, rule_in(row), code_in(row)).first() {
+        Some(holder) => holder.name,
+        None => b"",
+    }
+}
+
+// The order of texts by their length, and then by their bytes.
+fn shorter(one: &[u8], other: &[u8]) -> Ordering
+    ensures { result ≡ shorter_cmp one.now other.now }
+{
+    one.len().cmp(&other.len()).then(one.cmp(other))
+}
+
+// Which of two rows comes first.
+fn compared(sort: Sort, holders: &[Holder], one: &Row, other: &Row) -> Ordering
+    requires { AreInOrder holders.now }
+    ensures { result ≡ row_cmp sort holders.now one.now other.now }
+{
+    match sort {
+        Sort::Report => Ordering::Equal,
+        Sort::Count => count_in(other).cmp(&count_in(one)),
+        Sort::Code => shorter(code_in(one), code_in(other)).then(rule_in(one).cmp(rule_in(other))),
+        Sort::Period => shorter(period_told(code_in(other)), period_told(code_in(one))),
+        Sort::Name => name_in(holders, one).cmp(name_in(holders, other)),
+    }
+}
+
+/// Puts rows in an order, where these patterns have their codes. Rows that it does not tell apart stand
+/// as they stood. The only error is out of memory.
+pub fn sort_rows(sort: Sort, holders: &[Holder], rows: &mut Vec<&Row>) -> Result<(), AllocError>
+    requires { AreInOrder holders.now }
+    ensures { OnOk result (rows_lent rows.new.items
+        ≡ sorted_rows sort holders.now (rows_lent rows.old.items)) }
+{
+    match sort {
+        Sort::Report => Ok(()),
+        _ => rows.sort_by(|one, other| compared(sort, holders, *one, *other)),
+    }
+}
