@@ -4,7 +4,7 @@ use Rattle.census_rows.specs.declared.row.Row.{Row}
 use Rattle.census_rows.specs.Lines.{text_of}
 use Rattle.census_merge.specs.Merged.{merged_rows}
 use Rattle.census_merge.specs.Sums.{first_excess, no_sums}
-use Rattle.census_page.specs.Options.{default_options}
+use Rattle.census_page.specs.Options.{options_of}
 use Rattle.census_page.specs.Pages.{page_of}
 use Rattle.census_same.specs.Patterns.{tolds_of}
 use Rattle.census_same.specs.Same.{has_bytes, same_text}
@@ -22,7 +22,7 @@ use Rattle.census_reports.specs.declared.form.Form.TheVariants.{Merged, Table, P
 abbrev pub IsMade : Form → List Row → List ℕ → Type 0
 IsMade Merged rows text = (first_excess 1 no_sums rows ≡ None) × (text ≡ text_of (merged_rows rows))
 IsMade (Table subject format) rows text = (listing : Listing) × IsListingOf subject rows listing × (text ≡ listing_text format listing)
-IsMade Page rows text = text ≡ page_of default_options rows
+IsMade (Page options) rows text = text ≡ page_of (options_of options) rows
 IsMade (Same json) rows text = text ≡ same_text json (tolds_of rows)
 IsMade (Verdict text_of_claims) rows text =
     (claims : List Claim) × (claims_in text_of_claims.now ≡ Ok claims) × (text ≡ verdict_text claims (entries_of rows))
@@ -37,7 +37,7 @@ is_found _ made = false
 abbrev pub IsInPieces : Form → Type 0
 IsInPieces Merged = ⊥
 IsInPieces (Table subject format) = Unit {0}
-IsInPieces Page = Unit {0}
+IsInPieces (Page options) = Unit {0}
 IsInPieces (Same json) = Unit {0}
 IsInPieces (Verdict claims) = Unit {0}
 

@@ -10,7 +10,7 @@ ghost use Rattle.census_verify.specs.Claims.{claims_in, claims_read};
 ghost use Rattle.census_reports.specs.Written.{FailsRows, WritesRows};
 
 use crate::error::ReportsError;
-use census_page::{default_options, put_page};
+use census_page::{PageOptions, put_page};
 use census_rows::Row;
 use census_same::put_same;
 use census_table::{Format, Subject, put_listing, table_of};
@@ -27,8 +27,8 @@ pub enum Form<'a> {
     Merged,
     /// A table, as `table_of` makes it and `put_listing` tells it.
     Table { subject: Subject, format: Format },
-    /// Their codes, with pictures, as one HTML page, as `put_page` tells it with `default_options`.
-    Page,
+    /// Their codes, with pictures, as one HTML page, as `put_page` tells it with these options.
+    Page { options: PageOptions<'a> },
     /// Their patterns that are one object, as `put_same` tells them, which is what is looked for.
     Same { json: bool },
     /// What does not agree between the claims of a text and their patterns, as `put_verdict` tells it, which is what is
@@ -66,18 +66,19 @@ pub fn write_table<O: Write>(
 // Writes a page. Where memory is refused, what was told of it is written yet.
 pub fn write_page<O: Write>(
     alloc: Global,
+    options: PageOptions,
     rows: &[Row],
     output: &mut Watched<O>,
 ) -> Result<bool, ReportsError>
     requires { AreReports rows.now }
     ensures { MatchResult result
-        (λ found. WritesRows Form.Page found rows.now (sink O.contents output.old)
+        (λ found. WritesRows (Form.Page options.entry) found rows.now (sink O.contents output.old)
         (sink O.contents output.new))
-        (λ error. FailsRows error Form.Page rows.now (sink O.contents output.old)
+        (λ error. FailsRows error (Form.Page options.entry) rows.now (sink O.contents output.old)
         (sink O.contents output.new)) }
 {
     let mut block = Block::new(alloc);
-    let told = put_page(alloc, &default_options(), rows, &mut block, output);
+    let told = put_page(alloc, &options, rows, &mut block, output);
     match send(&mut block, output) {
         Ok(()) => {
             told?;

@@ -36,9 +36,9 @@ fn write_of<O: Write>(
             let rows = rows_of(alloc, texts)?;
             write_table(alloc, subject, format, rows.as_slice(), output)
         }
-        Form::Page => {
+        Form::Page { options } => {
             let rows = rows_of(alloc, texts)?;
-            write_page(alloc, rows.as_slice(), output)
+            write_page(alloc, options, rows.as_slice(), output)
         }
         Form::Same { json } => {
             let rows = rows_of(alloc, texts)?;

@@ -1,7 +1,7 @@
-use Rattle.std.proofs.Common.{MatchResult, false, inr, refl, subst}
+use Rattle.std.proofs.Common.{false, inr, refl}
 use Rattle.std.proofs.lemmas.Result.{err_from_is_err_and}
-use Rattle.gathered.specs.Telling.{TellsAfter, TellsFront, sheet}
-use Rattle.census_page.specs.Options.{default_options}
+use Rattle.gathered.specs.Telling.{sheet}
+use Rattle.census_page.specs.Options.{options_of}
 use Rattle.census_page.specs.Pages.{page_of}
 use Rattle.census_reports.proofs.Halted.{all_written, halted, lost}
 use Rattle.census_reports.specs.declared.form.Form.TheVariants as form
@@ -15,9 +15,9 @@ returns-in_err-told-in-Ok g c =
     let b = sheet contents c.put_page-told.new.block c.put_page-told.new.writer in
     let p = err_from_is_err_and c.from_residual.result c.from_residual.ensures.1 in
     rw (p.1, p.2)
-    (inr (halted form.Page rows (page_of default_options rows) refl
+    (inr (halted (form.Page c.args.options) rows (page_of (options_of c.args.options) rows) refl
     a b (sheet contents c.send.new.block c.send.new.writer)
-    c.new-block.ensures c.send.ensures.tells c.send.ensures.empty tt (subst (λ o. TellsFront (page_of o rows) a b) c.default_options.ensures c.in_err-told-in-Ok.ensures) c.in-Ok.ensures.failed))
+    c.new-block.ensures c.send.ensures.tells c.send.ensures.empty tt c.in_err-told-in-Ok.ensures c.in-Ok.ensures.failed))
 
 pub returns-in-Ok : goal.returns-in-Ok
 returns-in-Ok g c =
@@ -25,9 +25,9 @@ returns-in-Ok g c =
     let rows = c.args.rows.now in
     let a = sheet contents c.new-block.result c.args.output.now in
     let b = sheet contents c.put_page-told.new.block c.put_page-told.new.writer in
-    all_written form.Page rows (page_of default_options rows) refl
+    all_written (form.Page c.args.options) rows (page_of (options_of c.args.options) rows) refl
     a b (sheet contents c.send.new.block c.send.new.writer)
-    c.new-block.ensures c.send.ensures.tells c.send.ensures.empty (subst (λ o. TellsAfter (page_of o rows) a b) c.default_options.ensures c.in_ok-told-in-Ok.ensures) c.in-Ok.ensures.failed false refl
+    c.new-block.ensures c.send.ensures.tells c.send.ensures.empty c.in_ok-told-in-Ok.ensures c.in-Ok.ensures.failed false refl
 
 pub returns : goal.returns
 returns g c =
@@ -35,7 +35,7 @@ returns g c =
     let rows = c.args.rows.now in
     let a = sheet contents c.new-block.result c.args.output.now in
     let b = sheet contents c.put_page-told.new.block c.put_page-told.new.writer in
-    lost form.Page rows (page_of default_options rows) refl
+    lost (form.Page c.args.options) rows (page_of (options_of c.args.options) rows) refl
     a b (sheet contents c.send.new.block c.send.new.writer)
     c.new-block.ensures c.send.ensures.tells c.send.ensures.empty c.put_page-told.result
-    (subst (λ o. MatchResult c.put_page-told.result (λ _. TellsAfter (page_of o rows) a b) (λ _. TellsFront (page_of o rows) a b)) c.default_options.ensures c.put_page-told.ensures) c.in-Err.ensures.failed
+    c.put_page-told.ensures c.in-Err.ensures.failed
