@@ -19,6 +19,8 @@ mod page;
 #[cfg(test)]
 mod page_growth;
 #[cfg(test)]
+mod page_options;
+#[cfg(test)]
 mod readback;
 #[cfg(test)]
 mod same;

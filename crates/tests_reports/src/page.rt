@@ -114,8 +114,8 @@ const BODY: &str = "<body>
 <table class=\"patterns\">
 <thead><tr><th scope=\"col\">Pattern</th><th scope=\"col\">Cells</th><th scope=\"col\">What becomes of it</th></tr></thead>
 <tbody>
-<tr class=\"u\"><th scope=\"row\"><bdi>lt&amp;lt;</bdi> <small>B3/S23</small></th><td>13</td><td>3 objects from generation 9 on</td></tr>
-<tr class=\"u\"><th scope=\"row\"><bdi>one</bdi> <small>B3/S23</small></th><td>4</td><td>1 object from generation 9 on</td></tr>
+<tr class=\"u\"><th scope=\"row\"><bdi>lt&amp;lt;</bdi> <small>B3/S23</small></th><td>13</td><td>3 objects from generation 9 on<ul><li><code>xs4_33</code> <small>&times; 2</small></li><li><code>xq4_153</code> <small>&times; 1</small></li></ul></td></tr>
+<tr class=\"u\"><th scope=\"row\"><bdi>one</bdi> <small>B3/S23</small></th><td>4</td><td>1 object from generation 9 on<ul><li><code>xs4_33</code> <small>&times; 1</small></li></ul></td></tr>
 </tbody>
 </table>
 </section>
@@ -146,7 +146,11 @@ end 1 11
 ";
 
 // The page of a report.
-fn page_with(alloc: Global, options: &PageOptions, report: &[u8]) -> Result<Vec<u8>, AllocError> {
+pub fn page_with(
+    alloc: Global,
+    options: &PageOptions,
+    report: &[u8],
+) -> Result<Vec<u8>, AllocError> {
     let Ok(rows) = read_report(alloc, report)? else {
         return Err(AllocError);
     };
@@ -173,7 +177,7 @@ pub fn has(text: &[u8], part: &str) -> bool {
 }
 
 // Whether the text is in UTF-8 and has this part nowhere.
-fn lacks(text: &[u8], part: &str) -> bool {
+pub fn lacks(text: &[u8], part: &str) -> bool {
     match str::from_utf8(text) {
         Ok(text) => !text.contains(part),
         Err(_) => false,
@@ -215,6 +219,7 @@ fn a_page_has_a_title_and_a_note(rt: HostRuntime) -> Result<(), AllocError> {
     let options = PageOptions {
         title: b"<Soups>",
         note: b"1 & 2",
+        ..default_options()
     };
     let text = page_with(rt.alloc(), &options, b"end 0 0\n")?;
     assert!(rt; has(&text, "<title>&lt;Soups&gt;</title>"));

@@ -30,11 +30,11 @@ end 1 6
 ";
 
 const PATTERNS: &str = "<tbody>
-<tr class=\"u\"><th scope=\"row\"><bdi>gosper</bdi> <small>B3/S23</small></th><td>36</td><td><div>gun of period 30 that emits <code>xq4_153</code></div></td></tr>
-<tr class=\"u\"><th scope=\"row\"><bdi>&lt;two&gt;</bdi> <small>B3/S23</small></th><td>72</td><td><div>2&nbsp;guns of period 30 that emit <code>xq4_153</code></div></td></tr>
-<tr class=\"u\"><th scope=\"row\"><bdi>rake</bdi> <small>B3/S23</small></th><td>65</td><td><div>rake of period 90 that moves (0, -30) and emits <code>xq4_153</code></div></td></tr>
-<tr class=\"u\"><th scope=\"row\"><bdi>b</bdi> <small>B3/S23</small></th><td>4</td><td>2 objects from generation 7 on</td></tr>
-<tr class=\"u\"><th scope=\"row\"><bdi>row</bdi> <small>B3/S23</small></th><td>28</td><td><div>puffer of period 288 that moves (24, 24) and leaves 8&nbsp;<code>xs4_33</code></div><div>3&nbsp;puffers of period 1,000 that move (-1, 0) and leave 1,234&nbsp;<code>xp2_7</code>, <code>xs4_33</code>, 2&nbsp;<code>xq4_153</code></div></td></tr>
+<tr class=\"u\"><th scope=\"row\"><bdi>gosper</bdi> <small>B3/S23</small></th><td>36</td><td><div>gun of period 30 that emits</div><ul><li><svg role=\"img\" width=\"24\" height=\"24\" viewBox=\"0 -.5 3 3\" class=\"g\"><title>3 by 3 cells</title><path d=\"M0 0h3M2 1h1M1 2h1\"/></svg><code>xq4_153</code> <small>&times; 1</small></li></ul></td></tr>
+<tr class=\"u\"><th scope=\"row\"><bdi>&lt;two&gt;</bdi> <small>B3/S23</small></th><td>72</td><td><div>2&nbsp;guns of period 30 that emit</div><ul><li><svg role=\"img\" width=\"24\" height=\"24\" viewBox=\"0 -.5 3 3\" class=\"g\"><title>3 by 3 cells</title><path d=\"M0 0h3M2 1h1M1 2h1\"/></svg><code>xq4_153</code> <small>&times; 1</small></li></ul></td></tr>
+<tr class=\"u\"><th scope=\"row\"><bdi>rake</bdi> <small>B3/S23</small></th><td>65</td><td><div>rake of period 90 that moves (0, -30) and emits</div><ul><li><svg role=\"img\" width=\"24\" height=\"24\" viewBox=\"0 -.5 3 3\" class=\"g\"><title>3 by 3 cells</title><path d=\"M0 0h3M2 1h1M1 2h1\"/></svg><code>xq4_153</code> <small>&times; 1</small></li></ul></td></tr>
+<tr class=\"u\"><th scope=\"row\"><bdi>b</bdi> <small>B3/S23</small></th><td>4</td><td>2 objects from generation 7 on<ul><li><code>xs4_33</code> <small>&times; 2</small></li></ul></td></tr>
+<tr class=\"u\"><th scope=\"row\"><bdi>row</bdi> <small>B3/S23</small></th><td>28</td><td><div>puffer of period 288 that moves (24, 24) and leaves</div><ul><li><svg role=\"img\" width=\"16\" height=\"16\" viewBox=\"0 -.5 2 2\" class=\"g\"><title>2 by 2 cells</title><path d=\"M0 0h2M0 1h2\"/></svg><code>xs4_33</code> <small>&times; 8</small></li></ul><div>3&nbsp;puffers of period 1,000 that move (-1, 0) and leave</div><ul><li><svg role=\"img\" width=\"8\" height=\"24\" viewBox=\"0 -.5 1 3\" class=\"g\"><title>1 by 3 cells</title><path d=\"M0 0h1M0 1h1M0 2h1\"/></svg><code>xp2_7</code> <small>&times; 1,234</small></li><li><svg role=\"img\" width=\"16\" height=\"16\" viewBox=\"0 -.5 2 2\" class=\"g\"><title>2 by 2 cells</title><path d=\"M0 0h2M0 1h2\"/></svg><code>xs4_33</code> <small>&times; 1</small></li><li><svg role=\"img\" width=\"24\" height=\"24\" viewBox=\"0 -.5 3 3\" class=\"g\"><title>3 by 3 cells</title><path d=\"M0 0h3M2 1h1M1 2h1\"/></svg><code>xq4_153</code> <small>&times; 2</small></li></ul></td></tr>
 <tr class=\"u\"><th scope=\"row\"><bdi>n</bdi> <small>B3/S23</small></th><td>5</td><td>unresolved within the bound</td></tr>
 </tbody>
 </table>
@@ -42,7 +42,7 @@ const PATTERNS: &str = "<tbody>
 ";
 
 #[test]
-fn growth_is_told_in_words(rt: HostRuntime) -> Result<(), AllocError> {
+fn growth_is_told_in_words_and_pictures(rt: HostRuntime) -> Result<(), AllocError> {
     let text = page_of(rt.alloc(), GROWTH)?;
     assert!(rt; has(&text, PATTERNS));
     assert!(rt; has(&text, "Others <small>6</small>"));
