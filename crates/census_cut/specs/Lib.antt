@@ -1,0 +1,4 @@
+pub mod Feeds
+pub mod Kept
+pub mod Numbers
+pub mod Mended
