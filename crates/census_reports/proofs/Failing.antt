@@ -1,11 +1,14 @@
 -- Why not all was written, from rows to texts and from texts to words.
-use Rattle.std.proofs.Common.{◌≡◌, ℕ, Bool, List, Result, Ok, Err, MatchResult, refl, inl, inr}
+use Rattle.std.proofs.Common.{◌≡◌, ℕ, Bool, true, false, List, [], Result, Ok, Err, MatchResult, refl, inl, inr}
+use Rattle.census_cut.specs.declared.mending.Cut.{Cut}
 use Rattle.census_folders.specs.Told.{Told}
 use Rattle.census_identify.specs.Identifies.{words_or_input}
 use Rattle.census_identify.specs.Streams.{Sink}
 use Rattle.census_rows.specs.declared.row.Row.{Row}
-use Rattle.census_reports.specs.Forms.{RefusesRows}
-use Rattle.census_reports.specs.Outcomes.{ReadsTexts, ReportsFail}
+use Rattle.census_reports.specs.Forms.{RefusesRows, RefusesTexts}
+use Rattle.census_reports.specs.Looking.{FailsRead, RefusesRead, WritesRead}
+use Rattle.census_reports.specs.Mending.{AreLookedAt, LackMending}
+use Rattle.census_reports.specs.Outcomes.{ReadsTexts, ReportsFail, WritesReports}
 use Rattle.census_reports.specs.Rows.{AreRowsOf, LackRows}
 use Rattle.census_reports.specs.Streams.{Streams}
 use Rattle.census_reports.specs.Texts.{StopsReadingTexts}
@@ -13,6 +16,9 @@ use Rattle.census_reports.specs.Written.{FailsRows, FailsTexts, WritesRows, Writ
 use Rattle.census_reports.specs.declared.error.ReportsError.{ReportsError}
 use Rattle.census_reports.specs.declared.error.ReportsError.TheVariants.{Claims, Fault, TooMany, TooLong, Memory, Read, Write}
 use Rattle.census_reports.specs.declared.form.Form.{Form}
+use Rattle.census_reports.specs.declared.reading.Reading.{Reading}
+use Rattle.census_reports.specs.declared.reading.Written.{Written}
+use Rattle.census_reports.proofs.Mended.{none-broken}
 
 pub lacking : (error : ReportsError) (form : Form) (texts : List (List ℕ)) (s : Sink) → LackRows error texts → FailsTexts error form texts s s
 lacking (Fault number line) form texts s why = (why, refl)
@@ -51,8 +57,46 @@ pub of_texts : (r : Result Bool ReportsError) (form : Form) (rows : List Row) (t
 of_texts (Ok found) form rows texts a b are h = record { made = h.made; is = record { rows = rows; reports = are; is = h.is }; found_is = h.found_is; written = h.written }
 of_texts (Err error) form rows texts a b are h = failing error form rows texts a b are h
 
-module _ (form : Form) (held : List ℕ → Told) (words : List (List ℕ)) (a b : Streams) where
-  pub stopping : (error : ReportsError) → StopsReadingTexts error held (words_or_input words) a.input b.input → b.output ≡ a.output → ReportsFail error form held words a b
+-- ---- from texts that are looked at to those that were read
+
+looked-refused : (error : ReportsError) (form : Form) (cut : Bool) (texts looked : List (List ℕ)) (cuts : List Cut) → AreLookedAt cut texts looked cuts → RefusesTexts error form looked
+    → RefusesRead error cut form texts
+looked-refused (Claims line) form cut texts looked cuts are why = (looked, cuts, are, why)
+looked-refused (Fault number line) form true texts looked cuts are why = absurd (none-broken texts looked cuts are number line why)
+looked-refused (Fault number line) form false texts looked cuts are why = (looked, cuts, are, why)
+looked-refused (TooMany report) form cut texts looked cuts are why = (looked, cuts, are, why)
+looked-refused TooLong form cut texts looked cuts are why = absurd why
+looked-refused Memory form cut texts looked cuts are why = (looked, cuts, are, why)
+looked-refused Read form cut texts looked cuts are why = absurd why
+looked-refused Write form cut texts looked cuts are why = absurd why
+
+pub looked-fails : (error : ReportsError) (form : Form) (cut : Bool) (texts looked : List (List ℕ)) (cuts : List Cut) (a b : Sink) → AreLookedAt cut texts looked cuts
+    → FailsTexts error form looked a b → FailsRead error cut form texts a b
+looked-fails (Claims line) form cut texts looked cuts a b are why = (looked-refused (Claims line) form cut texts looked cuts are why.0, why.1)
+looked-fails (Fault number line) form cut texts looked cuts a b are why = (looked-refused (Fault number line) form cut texts looked cuts are why.0, why.1)
+looked-fails (TooMany report) form cut texts looked cuts a b are why = (looked-refused (TooMany report) form cut texts looked cuts are why.0, why.1)
+looked-fails TooLong form cut texts looked cuts a b are why = absurd why.0
+looked-fails Memory form cut texts looked cuts a b are (inl same) = inl same
+looked-fails Memory form cut texts looked cuts a b are (inr halts) = inr (looked, cuts, are, halts)
+looked-fails Read form cut texts looked cuts a b are why = absurd why.0
+looked-fails Write form cut texts looked cuts a b are part = (looked, cuts, are, part)
+
+-- texts that are not mended
+pub unmended : (error : ReportsError) (form : Form) (texts : List (List ℕ)) (s : Sink) → LackMending error texts → FailsRead error true form texts s s
+unmended (Fault number line) form texts s why = (why, refl)
+unmended (Claims line) form texts s why = absurd why
+unmended (TooMany report) form texts s why = absurd why
+unmended TooLong form texts s why = absurd why
+unmended Memory form texts s why = inl refl
+unmended Read form texts s why = absurd why
+unmended Write form texts s why = absurd why
+
+pub read-fails : (error : ReportsError) (form : Form) (texts : List (List ℕ)) (a b : Sink) → FailsTexts error form texts a b → FailsRead error false form texts a b
+read-fails error form texts a b why = looked-fails error form false texts texts [] a b (refl, refl) why
+
+module _ (form : Form) (reading : Reading) (held : List ℕ → Told) (words : List (List ℕ)) (a b : Streams) where
+  pub stopping : (error : ReportsError) → StopsReadingTexts error reading.limit held (words_or_input words) a.input b.input → b.output ≡ a.output
+      → ReportsFail error form reading held words a b
   stopping (Claims line) stops same = absurd stops.why
   stopping (Fault number line) stops same = absurd stops.why
   stopping (TooMany report) stops same = absurd stops.why
@@ -61,17 +105,34 @@ module _ (form : Form) (held : List ℕ → Told) (words : List (List ℕ)) (a b
   stopping Read stops same = (stops, same)
   stopping Write stops same = absurd stops.why
 
-  pub refusing : (error : ReportsError) (texts : List (List ℕ)) → ReadsTexts held words texts a b → FailsTexts error form texts a.output b.output
-      → ReportsFail error form held words a b
+  pub refusing : (error : ReportsError) (texts : List (List ℕ)) → ReadsTexts reading.limit held words texts a b → FailsRead error reading.cut form texts a.output b.output
+      → ReportsFail error form reading held words a b
   refusing (Claims line) texts read why = (record { texts = texts; read = read; why = why.0 }, why.1)
   refusing (Fault number line) texts read why = (record { texts = texts; read = read; why = why.0 }, why.1)
   refusing (TooMany report) texts read why = (record { texts = texts; read = read; why = why.0 }, why.1)
-  refusing TooLong texts read why = absurd why.0
+  refusing TooLong texts read why = absurd why.0.3
   refusing Memory texts read (inl same) = (read.sound, inl same)
-  refusing Memory texts read (inr halts) = (
-    read.sound,
-    inr (record { pieces = halts.pieces; made = halts.made; makes = record { texts = texts; read = read; is = halts.is }; front = halts.front }),
-  )
-  refusing Read texts read why = absurd why.0
-  refusing Write texts read part =
-      record { made = part.made; makes = record { texts = texts; read = read; is = part.is }; front = part.front }
+  refusing Memory texts read (inr why) =
+      let halts = why.3 in (
+        read.sound,
+        inr (record {
+          pieces = halts.pieces;
+          made = halts.made;
+          cuts = why.1;
+          makes = record { texts = texts; read = read; looked = why.0; looked_at = why.2; is = halts.is };
+          front = halts.front;
+        }),
+      )
+  refusing Read texts read why = absurd why.0.3
+  refusing Write texts read why =
+      let part = why.3 in
+      record { made = part.made; cuts = why.1; makes = record { texts = texts; read = read; looked = why.0; looked_at = why.2; is = part.is }; front = part.front }
+
+  pub writing : (result : Written) (texts : List (List ℕ)) → ReadsTexts reading.limit held words texts a b → WritesRead form reading.cut result texts a.output b.output
+      → WritesReports form reading result held words a b
+  writing result texts read h = record {
+    made = h.made;
+    makes = record { texts = texts; read = read; looked = h.looked; looked_at = h.looked_at; is = h.is };
+    found_is = h.found_is;
+    written = h.written;
+  }

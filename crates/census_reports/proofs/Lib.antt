@@ -1,5 +1,7 @@
 pub mod Joined
 pub mod Read
+pub mod Mended
+pub mod Looks
 pub mod Told
 pub mod Failing
 pub mod Halted

@@ -1,13 +1,18 @@
 -- One text more of words.
-use Rattle.std.proofs.Common.{◌≡◌, ℕ, suc, ◌+◌, ◌<◌, List, [], ◌∷◌, ◌++◌, Bor, map, length, take, drop, get_or, refl, sym, ap, subst, ◌∙◌, drop-cons, arith}
+use Rattle.std.proofs.Common.{◌≡◌, ℕ, suc, ◌+◌, ◌-◌, ◌<◌, ◌≤◌, Bool, true, false, leb, Option, Some, None, inl, inr, List, [], ◌∷◌, ◌++◌, Bor, map, length, take, drop, get_or, refl, sym, ap, subst, ◌∙◌, drop-cons, arith}
 use Rattle.std.proofs.lemmas.List.{map-append, map_more, take-append-drop}
+use Rattle.std.specs.Prelude.{if◌then◌else◌}
+use Rattle.std.proofs.lemmas.Bool.{leb-true, le-leb}
+use Rattle.std.proofs.lemmas.List.Sums.{sum_by_push}
+use Rattle.census_folders.specs.Sums.{limit_after}
 use Rattle.census_folders.specs.Told.{Told}
 use Rattle.census_identify.specs.Hearing.{Hears}
 use Rattle.census_identify.specs.Identifies.{words_or_input}
 use Rattle.census_identify.specs.Streams.{Reader}
 use Rattle.census_identify.specs.declared.heard.Heard.TheVariants.{Text}
-use Rattle.census_reports.specs.Texts.{ReadsEach, RefusesWord, StopsReadingTexts}
+use Rattle.census_reports.specs.Texts.{FitTogether, PassesLimit, ReadsEach, RefusesNext, RefusesWord, StopsReadingTexts, bytes_in, left_behind}
 use Rattle.census_reports.specs.declared.error.ReportsError.{ReportsError}
+use Rattle.census_reports.specs.declared.error.ReportsError.TheVariants.{Claims, Fault, TooMany, TooLong, Memory, Read, Write}
 
 abbrev pub words_of : List (Bor (List ℕ)) → List (List ℕ)
 words_of words = map (λ s. s.now) words
@@ -35,8 +40,9 @@ module _ (held : List ℕ → Told) (words : List (Bor (List ℕ))) (i : ℕ) (d
       (subst (λ ws. ReadsEach held ws (texts ++ text ∷ []) a c) (sym (map_more (λ s. s.now) words i d within))
       (reads_more held (words_of (take i words)) texts (get_or words i d).now text a b c read hears))
 
-  pub stops_reading : (error : ReportsError) (c : Reader) → RefusesWord error held (get_or words i d).now b c → StopsReadingTexts error held (words_of words) a c
-  stops_reading error c why = record {
+  pub stops_reading : (error : ReportsError) (limit : Option ℕ) (c : Reader) → FitTogether limit texts → RefusesNext error limit texts held (get_or words i d).now b c
+      → StopsReadingTexts error limit held (words_of words) a c
+  stops_reading error limit c fits why = record {
     texts = texts;
     done = words_of (take i words);
     word = (get_or words i d).now;
@@ -45,5 +51,63 @@ module _ (held : List ℕ → Told) (words : List (Bor (List ℕ))) (i : ℕ) (d
         ∙ map-append (λ s. s.now) (take i words) (get_or words i d ∷ drop (suc i) words);
     reached = b;
     read = read;
+    fits = fits;
     why = why;
   }
+
+-- a text that was not read was not taken
+pub next_refused : (error : ReportsError) (limit : Option ℕ) (texts : List (List ℕ)) (held : List ℕ → Told) (word : List ℕ) (a b : Reader) → RefusesWord error held word a b
+    → RefusesNext error limit texts held word a b
+next_refused (Claims line) limit texts held word a b why = why
+next_refused (Fault number line) limit texts held word a b why = why
+next_refused (TooMany report) limit texts held word a b why = why
+next_refused TooLong limit texts held word a b why = inl why
+next_refused Memory limit texts held word a b why = why
+next_refused Read limit texts held word a b why = why
+next_refused Write limit texts held word a b why = why
+
+-- # Limits
+
+bytes-more : (texts : List (List ℕ)) (text : List ℕ) → bytes_in (texts ++ text ∷ []) ≡ bytes_in texts + length text
+bytes-more texts text = sum_by_push length texts text
+
+if-left : (b : Bool) (x y : Option ℕ) → (if b then Some x else None) ≡ Some y → (b ≡ true) × (x ≡ y)
+if-left true x y h = (refl, cc)
+if-left false x y h = absurd (cc)
+
+-- what is left of the limit
+pub record Left (limit : Option ℕ) (texts : List (List ℕ)) (left : Option ℕ) : Type 0 where
+  pub fits : FitTogether limit texts
+  pub is : left ≡ limit_after limit (bytes_in texts)
+
+pub left_start : (limit left : Option ℕ) → left ≡ limit → Left limit [] left
+left_start None left e = record { fits = tt; is = e }
+left_start (Some most) left e = record { fits = omega arith; is = e ∙ (let z : most ≡ most - 0 = omega arith in ap (λ n. Some n) z) }
+
+pub left_more : (limit left rest : Option ℕ) (texts : List (List ℕ)) (text : List ℕ) → Left limit texts left → left_behind left (length text) ≡ Some rest
+    → Left limit (texts ++ text ∷ []) rest
+left_more None left rest texts text h e =
+    let f : Some None ≡ Some rest = sym (ap (λ l. left_behind l (length text)) h.is) ∙ e in
+    record { fits = tt; is = cc }
+left_more (Some most) left rest texts text h e =
+    let f : left_behind (Some (most - bytes_in texts)) (length text) ≡ Some rest = sym (ap (λ l. left_behind l (length text)) h.is) ∙ e in
+    let k = if-left (leb (length text) (most - bytes_in texts)) (Some ((most - bytes_in texts) - length text)) rest f in
+    let within : length text ≤ most - bytes_in texts = leb-true _ _ k.0 in
+    let more = bytes-more texts text in
+    let fits = h.fits in
+    let less : (most - bytes_in texts) - length text ≡ most - bytes_in (texts ++ text ∷ []) = omega (arith, more) in
+    record { fits = omega (arith, more, within, fits); is = sym k.1 ∙ ap (λ n. Some n) less }
+
+pub left_none : (limit left : Option ℕ) (texts : List (List ℕ)) (text : List ℕ) → Left limit texts left → left_behind left (length text) ≡ None
+    → FitTogether limit (texts ++ text ∷ []) → ⊥
+left_none None left texts text h e fits = (let f : Some None ≡ None = sym (ap (λ l. left_behind l (length text)) h.is) ∙ e in absurd (cc))
+left_none (Some most) left texts text h e fits =
+    let more = bytes-more texts text in
+    let pass : leb (length text) (most - bytes_in texts) ≡ true = le-leb _ _ (omega (arith, more, fits)) in
+    let f : left_behind (Some (most - bytes_in texts)) (length text) ≡ None = sym (ap (λ l. left_behind l (length text)) h.is) ∙ e in
+    let g : Some (Some ((most - bytes_in texts) - length text)) ≡ None = sym (ap (λ b. if b then Some (Some ((most - bytes_in texts) - length text)) else None) pass) ∙ f in
+    absurd (cc)
+
+pub passes_limit : (limit left : Option ℕ) (texts : List (List ℕ)) (text : List ℕ) (held : List ℕ → Told) (word : List ℕ) (a b : Reader) → Left limit texts left
+    → Hears held word (Text text) a b → b.failed ≡ false → left_behind left (length text) ≡ None → RefusesNext TooLong limit texts held word a b
+passes_limit limit left texts text held word a b h hears sound e = inr (record { text = text; hears = hears; passes = left_none limit left texts text h e; sound = sound })

@@ -4,4 +4,6 @@ pub mod Texts
 pub mod Rows
 pub mod Written
 pub mod Forms
+pub mod Mending
+pub mod Looking
 pub mod Outcomes

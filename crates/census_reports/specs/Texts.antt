@@ -1,7 +1,9 @@
 -- The texts of words, one after another.
-use Rattle.std.specs.Prelude.{◌≡◌, ℕ, ◌+◌, false, None, List, [], ◌∷◌, ◌++◌}
+use Rattle.std.specs.Prelude.{◌≡◌, ◌⊎◌, ℕ, ◌+◌, ◌-◌, nat_le, if◌then◌else◌, false, Option, Some, None, List, [], ◌∷◌, ◌++◌, length}
+use Rattle.std.specs.List.{sum_by}
 use Rattle.watched.specs.Watching.{ConsumesAtMost}
 use Rattle.census_bundle.specs.Sizes.{input_limit}
+use Rattle.census_folders.specs.Sums.{Fits}
 use Rattle.census_folders.specs.Told.{Told}
 use Rattle.census_identify.specs.Hearing.{Hears}
 use Rattle.census_identify.specs.Streams.{Reader}
@@ -29,8 +31,33 @@ RefusesWord TooLong held word before after = Hears held word heard.TooLong befor
 RefusesWord Memory held word before after = LosesAtMost before after
 RefusesWord error held word before after = ⊥
 
--- The texts of the words before some place were read. That of the word at this place was not, for this error.
-pub record StopsReadingTexts (error : ReportsError) (held : List ℕ → Told) (words : List (List ℕ)) (before after : Reader) : Type 0 where
+-- how many bytes texts have
+abbrev pub bytes_in : List (List ℕ) → ℕ
+bytes_in texts = sum_by length texts
+
+-- all together have so many bytes at most, where that is limited
+abbrev pub FitTogether : Option ℕ → List (List ℕ) → Type 0
+FitTogether limit texts = Fits limit (bytes_in texts)
+
+-- what is left of a limit behind so many bytes, where they are within it
+abbrev pub left_behind : Option ℕ → ℕ → Option (Option ℕ)
+left_behind None count = Some None
+left_behind (Some left) count = if nat_le count left then Some (Some (left - count)) else None
+
+-- a word has a text, with which the texts before it have more bytes than all may have
+pub record PassesLimit (limit : Option ℕ) (texts : List (List ℕ)) (held : List ℕ → Told) (word : List ℕ) (before after : Reader) : Type 0 where
+  pub text : List ℕ
+  pub hears : Hears held word (heard.Text text) before after
+  pub passes : FitTogether limit (texts ++ text ∷ []) → ⊥
+  pub sound : after.failed ≡ false
+
+-- why the text of a word was not taken behind these texts
+abbrev pub RefusesNext : ReportsError → Option ℕ → List (List ℕ) → (List ℕ → Told) → List ℕ → Reader → Reader → Type 0
+RefusesNext TooLong limit texts held word before after = RefusesWord TooLong held word before after ⊎ PassesLimit limit texts held word before after
+RefusesNext error limit texts held word before after = RefusesWord error held word before after
+
+-- The texts of the words before some place were read. That of the word at this place was not taken, for this error.
+pub record StopsReadingTexts (error : ReportsError) (limit : Option ℕ) (held : List ℕ → Told) (words : List (List ℕ)) (before after : Reader) : Type 0 where
   pub texts : List (List ℕ)
   pub done : List (List ℕ)
   pub word : List ℕ
@@ -39,4 +66,5 @@ pub record StopsReadingTexts (error : ReportsError) (held : List ℕ → Told) (
   -- standard input as the words before it left it
   pub reached : Reader
   pub read : ReadsEach held done texts before reached
-  pub why : RefusesWord error held word reached after
+  pub fits : FitTogether limit texts
+  pub why : RefusesNext error limit texts held word reached after

@@ -6,12 +6,16 @@
 
 mod error;
 mod form;
+mod limit;
+mod looking;
 mod merged;
+mod reading;
 mod reports;
 mod rows;
 mod words;
 
 pub use error::ReportsError;
 pub use form::{Form, merging_changes_no_table};
+pub use reading::{Reading, Written};
 pub use reports::write_reports;
 pub use words::read_text;

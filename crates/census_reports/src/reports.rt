@@ -3,12 +3,15 @@ ghost use Rattle.std.specs.Prelude.{◌≡◌, ◌<◌, [], false, length, map, 
 ghost use Rattle.watched.specs.Watching.{has_failed};
 ghost use Rattle.census_identify.specs.Streams.{sink};
 ghost use Rattle.census_reports.specs.Written.{FailsTexts, WritesTexts};
+ghost use Rattle.census_reports.specs.Looking.{FailsRead, WritesRead};
 ghost use Rattle.census_reports.specs.Outcomes.{ReportsFail, WritesReports};
 ghost use Rattle.census_reports.specs.Streams.{streams};
 
 use crate::error::ReportsError;
 use crate::form::{Form, write_page, write_same, write_table, write_verdict};
+use crate::looking::mend_each;
 use crate::merged::write_merged;
+use crate::reading::{Reading, Written};
 use crate::rows::rows_of;
 use crate::words::{read_texts, words_or_input};
 use census_folders::Shelf;
@@ -51,10 +54,41 @@ fn write_of<O: Write>(
     }
 }
 
+// Writes what is made of the reports in these texts, which are mended where that is asked for.
+fn write_read<O: Write>(
+    alloc: Global,
+    form: Form<'_>,
+    cut: bool,
+    texts: &[Bytes],
+    output: &mut Watched<O>,
+) -> Result<Written, ReportsError>
+    requires { 0 < length texts.now }
+    ensures { MatchResult result
+        (λ written. WritesRead form.entry cut written texts.now (sink O.contents output.old) (sink O.contents output.new))
+        (λ error. FailsRead error cut form.entry texts.now (sink O.contents output.old)
+        (sink O.contents output.new)) }
+{
+    if cut {
+        let looked = mend_each(alloc, texts)?;
+        let found = write_of(alloc, form, looked.texts.as_slice(), output)?;
+        return Ok(Written {
+            found,
+            cuts: looked.cuts,
+        });
+    }
+    let found = write_of(alloc, form, texts, output)?;
+    Ok(Written {
+        found,
+        cuts: Vec::new(alloc),
+    })
+}
+
 /// Reads the texts of words, in their order, and writes what is made of the reports in them: of `-` the text that standard
 /// input has left, of any other word that of the file of this path, and without a word that of standard input. Each text
 /// must be a report by itself, or several one after another; a text without a byte is none. A file that is no regular
-/// file is not opened, and can't be read. Returns whether what was looked for was found: with `Same`, patterns that are one
+/// file is not opened, and can't be read. Where the reading has `cut`, each text is mended first, as `mend` does, and it may
+/// be a report that was cut, or several of which the last was; the lines of faults are those of the text as it was read, and
+/// the result tells where texts were cut. Where it has a limit, all texts together may have so many bytes. Returns whether what was looked for was found: with `Same`, patterns that are one
 /// object, with `Verdict`, what does not agree with the claims, and else nothing is looked for.
 ///
 /// All texts are read before the first is looked at, and all reports before the first byte is written. From then on no
@@ -64,9 +98,9 @@ fn write_of<O: Write>(
 /// So nothing is written on any error but `Write`, on which a prefix of what is made of them is, and `Memory`, on which
 /// one may be of all but `Merged`:
 ///
-/// - `Read`, `TooLong`: the text of a word can't be read or has more than 67,108,864 bytes. Those of the words before it
-///   were read, and none of a word after it.
-/// - `Fault`: a text is no report, and those of the words before it are.
+/// - `Read`, `TooLong`: the text of a word can't be read, or has more than 67,108,864 bytes, or those of the words before it
+///   and this have more than the limit. Those of the words before it were read, and none of a word after it.
+/// - `Fault`: a text is no report, nor one that was cut where the reading has `cut`, and those of the words before it are.
 /// - `Claims`: the claims are none, and each text is a report.
 /// - `TooMany`: the reports have more than 65,535 collections, and `Merged` is asked for.
 /// - `Memory`: memory was refused. Of `Merged` nothing was written.
@@ -74,21 +108,22 @@ pub fn write_reports<S: Shelf, I: Read, O: Write>(
     shelf: &S,
     alloc: Global,
     form: Form<'_>,
+    reading: Reading,
     words: &[&str],
     input: &mut Watched<I>,
     output: &mut Watched<O>,
-) -> Result<bool, ReportsError>
+) -> Result<Written, ReportsError>
     requires { has_failed input.old ≡ false }
     ensures done { IfOk result
-        (λ found. WritesReports form.entry found ((S.tellings shelf.now).held []) (map (λ s. s.now) words.now)
+        (λ written. WritesReports form.entry reading written ((S.tellings shelf.now).held []) (map (λ s. s.now) words.now)
         (streams I.remaining O.contents input.old output.old)
         (streams I.remaining O.contents input.new output.new)) }
     ensures fails { IfErr result
-        (λ error. ReportsFail error form.entry ((S.tellings shelf.now).held [])
+        (λ error. ReportsFail error form.entry reading ((S.tellings shelf.now).held [])
         (map (λ s. s.now) words.now)
         (streams I.remaining O.contents input.old output.old)
         (streams I.remaining O.contents input.new output.new)) }
 {
-    let texts = read_texts(shelf, alloc, words_or_input(words), input)?;
-    write_of(alloc, form, texts.as_slice(), output)
+    let texts = read_texts(shelf, alloc, reading.limit, words_or_input(words), input)?;
+    write_read(alloc, form, reading.cut, texts.as_slice(), output)
 }

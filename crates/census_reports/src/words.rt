@@ -5,9 +5,10 @@ ghost use Rattle.census_identify.specs.Hearing.{Hears};
 ghost use Rattle.census_identify.specs.Identifies.{words_or_input};
 ghost use Rattle.census_identify.specs.Streams.{source};
 ghost use Rattle.census_identify.specs.declared.heard.Heard.TheVariants.{Text};
-ghost use Rattle.census_reports.specs.Texts.{ReadsEach, RefusesWord, StopsReadingTexts};
+ghost use Rattle.census_reports.specs.Texts.{FitTogether, ReadsEach, RefusesWord, StopsReadingTexts};
 
 use crate::error::ReportsError;
+use crate::limit::left_behind;
 use census_bundle::INPUT_LIMIT;
 use census_folders::Shelf;
 use census_identify::{Bytes, is_input, read_file};
@@ -48,10 +49,11 @@ pub fn read_text<S: Shelf, I: Read>(
     }
 }
 
-// The texts of words, in their order.
+// The texts of words, in their order, which are within the limit together. (The text that passes it is read whole.)
 pub fn read_texts<S: Shelf, I: Read>(
     shelf: &S,
     alloc: Global,
+    limit: Option<u64>,
     words: &[&str],
     input: &mut Watched<I>,
 ) -> Result<Vec<Bytes>, ReportsError>
@@ -59,15 +61,21 @@ pub fn read_texts<S: Shelf, I: Read>(
     ensures read { IfOk result
         (λ texts. ReadsEach ((S.tellings shelf.now).held []) (map (λ s. s.now) words.now)
         texts.items (source I.remaining input.old) (source I.remaining input.new)) }
+    ensures fits { IfOk result (λ texts. FitTogether limit texts.items) }
     ensures sound { OnOk result (has_failed input.new ≡ false) }
     ensures fault { IfErr result
-        (λ error. StopsReadingTexts error ((S.tellings shelf.now).held [])
+        (λ error. StopsReadingTexts error limit ((S.tellings shelf.now).held [])
         (map (λ s. s.now) words.now)
         (source I.remaining input.old) (source I.remaining input.new)) }
 {
     let mut texts = Vec::new(alloc);
+    let mut left = limit;
     for word in words {
         let text = read_text(shelf, alloc, word, input)?;
+        let Some(rest) = left_behind(left, text.len()) else {
+            return Err(ReportsError::TooLong);
+        };
+        left = rest;
         texts.push(Bytes::new(text))?;
     }
     Ok(texts)

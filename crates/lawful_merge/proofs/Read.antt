@@ -1,5 +1,5 @@
 -- Texts that are reports, one after another.
-use Rattle.std.proofs.Common.{◌≡◌, ℕ, ◌<◌, Bool, List, [], ◌∷◌, ◌++◌, length, refl, sym, ap, ◌∙◌, subst, arith}
+use Rattle.std.proofs.Common.{◌≡◌, ℕ, ◌<◌, false, List, [], ◌∷◌, ◌++◌, length, refl, sym, ap, ◌∙◌, subst, arith}
 use Rattle.std.proofs.lemmas.List.{take_all}
 use Rattle.std.specs.List.{AllZip}
 use Rattle.census_format.specs.Reports.{IsReport}
@@ -10,10 +10,13 @@ use Rattle.census_readback.specs.Shapes.{all_rows}
 use Rattle.census_readback.specs.Texts.{AllLines}
 use Rattle.census_rows.specs.Lines.{text_of}
 use Rattle.census_rows.proofs.Texts.{text-append}
+use Rattle.census_reports.specs.Mending.{AreLookedAt}
 use Rattle.census_reports.specs.Outcomes.{WritesReports}
 use Rattle.census_reports.specs.Rows.{AreRowsOf}
 use Rattle.census_reports.specs.Streams.{Streams}
 use Rattle.census_reports.specs.declared.form.Form.TheVariants.{Merged}
+use Rattle.census_reports.specs.declared.reading.Reading.{Reading}
+use Rattle.census_reports.specs.declared.reading.Written.{Written}
 use Rattle.census_reports.proofs.Joined.{at_end}
 use Rattle.census_reports.proofs.Read.{some_text}
 use Rattle.report_laws.specs.Joining.{bundles, texts}
@@ -44,18 +47,20 @@ rows_read rows read is some =
       shape = at_end rows read (length read) (subst (AreRowsOf rows) (sym (take_all (length read) read (omega arith))) is) (omega arith) some;
     }
 
-pub merges_lawfully : (held : List ℕ → Told) (words : List (List ℕ)) (before after : Streams) (found : Bool) → WritesReports Merged found held words before after
-    → MergesLawfully held words before after
-merges_lawfully held words before after found w =
+pub merges_lawfully : (held : List ℕ → Told) (words : List (List ℕ)) (before after : Streams) (reading : Reading) (result : Written) → reading.cut ≡ false
+    → WritesReports Merged reading result held words before after → MergesLawfully reading.limit held words before after
+merges_lawfully held words before after reading result plain w =
     let read = w.makes.texts in
     let is = w.makes.is in
+    let looked = subst (λ cut. AreLookedAt cut read w.makes.looked result.cuts.items) plain w.makes.looked_at in
+    let rows : AreRowsOf is.rows read = subst (AreRowsOf is.rows) looked.0 is.reports in
     record {
       read = read;
       reads = w.makes.read;
       made = w.made;
       written = w.written;
       lawful = λ question parts reports bundled lawful same.
-          let back = rows_read is.rows read is.reports (some_text held words read before.input after.input w.makes.read.read) in
+          let back = rows_read is.rows read rows (some_text held words read before.input after.input w.makes.read.read) in
           subst (λ text. IsReport (bundles parts) question text) (sym is.is.1)
           (merged-report question parts reports is.rows bundled lawful (subst (ReadsAsReports is.rows) (sym same) back));
     }

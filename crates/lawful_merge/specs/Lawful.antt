@@ -1,5 +1,5 @@
 -- What is written of lawful reports.
-use Rattle.std.specs.Prelude.{◌≡◌, ℕ, List}
+use Rattle.std.specs.Prelude.{◌≡◌, ℕ, Option, List}
 use Rattle.census_format.specs.Reports.{IsReport}
 use Rattle.census_bundle.specs.declared.bundle.Folder.{Folder}
 use Rattle.census_folders.specs.Told.{Told}
@@ -11,9 +11,9 @@ use Rattle.report_laws.specs.Joining.{AreBundles, EachIsReport, bundles, texts}
 
 -- The words have texts. Where these, one after another, are lawful reports of bundles under one question, what was written is
 -- a lawful report of the bundles, one after another.
-pub record MergesLawfully (held : List ℕ → Told) (words : List (List ℕ)) (before after : Streams) : Type 0 where
+pub record MergesLawfully (limit : Option ℕ) (held : List ℕ → Told) (words : List (List ℕ)) (before after : Streams) : Type 0 where
   pub read : List (List ℕ)
-  pub reads : ReadsTexts held words read before after
+  pub reads : ReadsTexts limit held words read before after
   pub made : List ℕ
   pub written : Writes made before.output after.output
   pub lawful : (question : Question) (parts : List (List Folder)) (reports : List (List ℕ))

@@ -6,35 +6,36 @@ ghost use Rattle.census_reports.specs.Streams.{streams};
 ghost use Rattle.lawful_merge.specs.Lawful.{MergesLawfully};
 
 use census_folders::Shelf;
-use census_reports::{Form, ReportsError, write_reports};
+use census_reports::{Form, Reading, ReportsError, Written, write_reports};
 use std::alloc::Global;
 use std::io::{Read, Write};
 use watched::Watched;
 
 /// Reads the texts of words, and writes one report of all the reports in them, as `write_reports` does. Where these are
-/// lawful reports of bundles under one question, what is written is a lawful report of the bundles, one after another.
-/// Returns `false`: nothing is looked for.
+/// lawful reports of bundles under one question, and none is mended, what is written is a lawful report of the bundles, one
+/// after another. Nothing is looked for.
 pub fn merge_reports<S: Shelf, I: Read, O: Write>(
     shelf: &S,
     alloc: Global,
+    reading: Reading,
     words: &[&str],
     input: &mut Watched<I>,
     output: &mut Watched<O>,
-) -> Result<bool, ReportsError>
+) -> Result<Written, ReportsError>
     requires { has_failed input.old ≡ false }
     ensures done { IfOk result
-        (λ found. WritesReports Form.Merged found ((S.tellings shelf.now).held []) (map (λ s. s.now) words.now)
+        (λ written. WritesReports Form.Merged reading written ((S.tellings shelf.now).held []) (map (λ s. s.now) words.now)
         (streams I.remaining O.contents input.old output.old)
         (streams I.remaining O.contents input.new output.new)) }
     ensures fails { IfErr result
-        (λ error. ReportsFail error Form.Merged ((S.tellings shelf.now).held [])
+        (λ error. ReportsFail error Form.Merged reading ((S.tellings shelf.now).held [])
         (map (λ s. s.now) words.now)
         (streams I.remaining O.contents input.old output.old)
         (streams I.remaining O.contents input.new output.new)) }
-    ensures lawful { OnOk result
-        (MergesLawfully ((S.tellings shelf.now).held []) (map (λ s. s.now) words.now)
+    ensures lawful { reading.cut ≡ false → OnOk result
+        (MergesLawfully reading.limit ((S.tellings shelf.now).held []) (map (λ s. s.now) words.now)
         (streams I.remaining O.contents input.old output.old)
         (streams I.remaining O.contents input.new output.new)) }
 {
-    write_reports(shelf, alloc, Form::Merged, words, input, output)
+    write_reports(shelf, alloc, Form::Merged, reading, words, input, output)
 }

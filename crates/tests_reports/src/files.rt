@@ -1,7 +1,8 @@
 //! Reports that files and standard input have, written as one report or as a table.
 
 use crate::lines::lines_of;
-use census_reports::{Form, ReportsError, write_reports};
+use census_cut::Cut;
+use census_reports::{Form, Reading, ReportsError, write_reports};
 use census_rows::Row;
 use census_table::{Format, Subject};
 use std::alloc::{AllocError, Global};
@@ -82,6 +83,12 @@ const SHELF: Memory<'static> = Memory {
     ],
 };
 
+// Texts as they are, however long all are together.
+const PLAIN: Reading = Reading {
+    cut: false,
+    limit: None,
+};
+
 // Reads reports and writes them, and gives what was written.
 fn written<I: Read + Drop>(
     alloc: Global,
@@ -91,8 +98,10 @@ fn written<I: Read + Drop>(
 ) -> (Result<bool, ReportsError>, Vec<u8>) {
     let mut input = Watched::new(input);
     let mut output = Watched::new(Vec::new(alloc));
-    let result = write_reports(&SHELF, alloc, form, words, &mut input, &mut output);
-    (result, output.into_inner())
+    match write_reports(&SHELF, alloc, form, PLAIN, words, &mut input, &mut output) {
+        Ok(written) => (Ok(written.found), output.into_inner()),
+        Err(error) => (Err(error), output.into_inner()),
+    }
 }
 
 // A row for each pattern.
@@ -304,9 +313,114 @@ fn streams_that_fail(rt: HostRuntime) -> Result<(), Fail> {
             written: Vec::new(alloc),
             room: 20,
         });
-        let result = write_reports(&SHELF, alloc, form, &["-"], &mut input, &mut output);
-        assert!(rt; result == Err(ReportsError::Write));
+        let result = write_reports(&SHELF, alloc, form, PLAIN, &["-"], &mut input, &mut output);
+        assert!(rt; matches!(result, Err(ReportsError::Write)));
         assert_eq!(rt; output.into_inner().written.as_slice(), &whole[..20]);
     }
+    Ok(())
+}
+
+// Merges reports that are read so, and gives what was written, or why nothing was, and where they were cut.
+fn merged_by(
+    alloc: Global,
+    reading: Reading,
+    words: &[&str],
+    input: &[u8],
+) -> (Result<Vec<Cut>, ReportsError>, Vec<u8>) {
+    let mut input = Watched::new(input);
+    let mut output = Watched::new(Vec::new(alloc));
+    match write_reports(
+        &SHELF,
+        alloc,
+        Form::Merged,
+        reading,
+        words,
+        &mut input,
+        &mut output,
+    ) {
+        Ok(written) => (Ok(written.cuts), output.into_inner()),
+        Err(error) => (Err(error), output.into_inner()),
+    }
+}
+
+#[test]
+fn a_limit_counts_the_bytes_of_all_texts(rt: HostRuntime) -> Result<(), Fail> {
+    let alloc = rt.alloc();
+    let all = (FIRST.len() + SECOND.len()) as u64;
+    // Whether a text passes the limit, and the second word has none.
+    let cases: [(u64, &str, &[u8], bool); 6] = [
+        (all, "second", b"", false),
+        (all - 1, "second", b"", true),
+        (all, "-", SECOND, false),
+        (all - 1, "-", SECOND, true),
+        (FIRST.len() as u64, "second", b"", true),
+        (0, "second", b"", true),
+    ];
+    for (limit, second, input, passes) in cases {
+        let reading = Reading {
+            cut: false,
+            limit: Some(limit),
+        };
+        let (result, text) = merged_by(alloc, reading, &["first", second], input);
+        if passes {
+            assert!(rt; matches!(result, Err(ReportsError::TooLong)));
+            assert!(rt; text.is_empty());
+        } else {
+            assert!(rt; result.is_ok());
+            assert_eq!(rt; text.as_slice(), MERGED);
+        }
+    }
+    // The texts after the one that passes it are not read.
+    let reading = Reading {
+        cut: false,
+        limit: Some(all - 1),
+    };
+    let (result, _) = merged_by(alloc, reading, &["first", "second", "none"], b"");
+    assert!(rt; matches!(result, Err(ReportsError::TooLong)));
+    Ok(())
+}
+
+#[test]
+fn texts_that_were_cut_are_mended(rt: HostRuntime) -> Result<(), Fail> {
+    let alloc = rt.alloc();
+    let reading = Reading {
+        cut: true,
+        limit: None,
+    };
+    let words = ["cut", "first", "-", "empty"];
+    let input = b"open 2 0 d\nopen 1 0 e\nclose 2 0 0 0 0\ncl";
+    let (result, text) = merged_by(alloc, reading, &words, input);
+    match result {
+        Ok(cuts) => {
+            let wanted = [
+                Cut {
+                    line: 2,
+                    kept: 0,
+                    left: 1,
+                },
+                Cut {
+                    line: 3,
+                    kept: 1,
+                    left: 1,
+                },
+                Cut {
+                    line: 0,
+                    kept: 0,
+                    left: 0,
+                },
+            ];
+            assert!(rt; cuts.as_slice() == wanted.as_slice());
+        }
+        Err(_) => assert!(rt; false),
+    }
+    let mut wanted = Vec::new(alloc);
+    wanted.extend_from_slice(&FIRST[..FIRST.len() - 8])?;
+    wanted.extend_from_slice(b"open 2 0 d\nclose 2 0 0 0 0\nend 2 2\n")?;
+    assert_eq!(rt; text.as_slice(), wanted.as_slice());
+    // A line that is wrong is told by its number in the text as it was read.
+    let wrong = b"open 1 0 x\nopen 2 0 y\nclose 2 0 0 0 0\nclose 3 0 0 0 0\n";
+    let (result, text) = merged_by(alloc, reading, &["cut", "-"], wrong);
+    assert!(rt; matches!(result, Err(ReportsError::Fault { text: 2, line: 4 })));
+    assert!(rt; text.is_empty());
     Ok(())
 }

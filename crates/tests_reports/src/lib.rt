@@ -1,7 +1,9 @@
-//! Tests of reports that are read back and merged, of tables, of patterns that are the same object, of files that
+//! Tests of reports that are read back, merged and cut, of tables, of patterns that are the same object, of files that
 //! have reports, and of bytes that are told by way of a block.
 #![tactic(auto)]
 
+#[cfg(test)]
+mod cut;
 #[cfg(test)]
 mod files;
 #[cfg(test)]

@@ -1,14 +1,15 @@
-use Rattle.std.proofs.Common.{[], Bool, Err, IfOk, Ok, OnOk, Result, map}
+use Rattle.std.proofs.Common.{[], Err, IfOk, Ok, OnOk, Result, map}
+use Rattle.census_reports.specs.declared.reading.Written.{Written}
 use Rattle.lawful_merge.proofs.Read.{merges_lawfully}
 use Rattle.lawful_merge.proofs.merge.merge_reports.Goals as goal
 
--- what is so whatever was found
-whatever : {E : Type 0} (r : Result Bool E) (P : Bool → Type 0) (Q : Type 0) → ((found : Bool) → P found → Q) → IfOk r P → OnOk r Q
-whatever (Ok found) P Q so is = so found is
+-- what is so whatever is told of what was written
+whatever : {E : Type 0} (r : Result Written E) (P : Written → Type 0) (Q : Type 0) → ((result : Written) → P result → Q) → IfOk r P → OnOk r Q
+whatever (Ok result) P Q so is = so result is
 whatever (Err error) P Q so is = is
 
 pub returns-clause-lawful : goal.returns-clause-lawful
-returns-clause-lawful g c =
+returns-clause-lawful g c = λ plain.
     whatever c.write_reports.result _ _
-    (merges_lawfully ((g.S.Shelf.tellings c.args.shelf.now).held []) (map (λ s. s.now) c.args.words.now) _ _)
+    (λ result. merges_lawfully ((g.S.Shelf.tellings c.args.shelf.now).held []) (map (λ s. s.now) c.args.words.now) _ _ c.args.reading result plain)
     c.write_reports.ensures.done

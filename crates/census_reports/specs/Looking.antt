@@ -1,0 +1,35 @@
+-- What is written of texts that are looked at as they were read, or mended.
+use Rattle.std.specs.Prelude.{◌≡◌, ◌⊎◌, ℕ, Bool, true, List}
+use Rattle.census_cut.specs.declared.mending.Cut.{Cut}
+use Rattle.census_identify.specs.Streams.{Sink, Writes}
+use Rattle.census_reports.specs.Forms.{IsMadeOf, RefusesTexts, is_found}
+use Rattle.census_reports.specs.Mending.{AreLookedAt, HasBrokenText}
+use Rattle.census_reports.specs.Written.{HaltsTexts, WritesTextsInPart}
+use Rattle.census_reports.specs.declared.error.ReportsError.{ReportsError}
+use Rattle.census_reports.specs.declared.error.ReportsError.TheVariants.{Fault, Memory, Write}
+use Rattle.census_reports.specs.declared.form.Form.{Form}
+use Rattle.census_reports.specs.declared.reading.Written.{Written}
+
+-- these are the texts that are looked at, and of them this is so
+abbrev pub OfLookedAt : Bool → List (List ℕ) → (List (List ℕ) → Type 0) → Type 0
+OfLookedAt cut texts is = (looked : List (List ℕ)) × (cuts : List Cut) × AreLookedAt cut texts looked cuts × is looked
+
+-- why nothing is written of texts, or only a prefix of what is told piece by piece: where they are mended, a text that can't be
+abbrev pub RefusesRead : ReportsError → Bool → Form → List (List ℕ) → Type 0
+RefusesRead (Fault number line) true form texts = HasBrokenText number line texts
+RefusesRead error cut form texts = OfLookedAt cut texts (λ looked. RefusesTexts error form looked)
+
+-- what is made of the texts was written, whether what was looked for was found, and where they were cut
+pub record WritesRead (form : Form) (cut : Bool) (result : Written) (texts : List (List ℕ)) (before after : Sink) : Type 0 where
+  pub made : List ℕ
+  pub looked : List (List ℕ)
+  pub looked_at : AreLookedAt cut texts looked result.cuts.items
+  pub is : IsMadeOf form looked made
+  pub found_is : result.found ≡ is_found form made
+  pub written : Writes made before after
+
+-- why not all was written
+abbrev pub FailsRead : ReportsError → Bool → Form → List (List ℕ) → Sink → Sink → Type 0
+FailsRead Write cut form texts before after = OfLookedAt cut texts (λ looked. WritesTextsInPart form looked before after)
+FailsRead Memory cut form texts before after = (after ≡ before) ⊎ OfLookedAt cut texts (λ looked. HaltsTexts form looked before after)
+FailsRead error cut form texts before after = RefusesRead error cut form texts × (after ≡ before)
