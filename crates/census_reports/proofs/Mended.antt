@@ -1,5 +1,5 @@
 -- Texts that were mended.
-use Rattle.std.proofs.Common.{◌≡◌, ℕ, zero, suc, ◌+◌, ◌<◌, ◌≤◌, List, [], ◌∷◌, ◌++◌, length, map, take, drop, get_or, refl, sym, ap, subst, ◌∙◌, append_assoc, append-nil, drop-cons, Option, Some, None, arith}
+use Rattle.std.proofs.Common.{◌≡◌, ℕ, zero, suc, ◌+◌, ◌<◌, ◌≤◌, List, [], ◌∷◌, ◌++◌, length, map, take, drop, get_or, refl, sym, ap, subst, ◌∙◌, append_assoc, append-nil, drop-cons, Option, Some, None, Result, Ok, Err, MatchResult, arith}
 use Rattle.std.specs.Prelude.{MatchOption}
 use Rattle.std.specs.List.{AllZip}
 use Rattle.std.proofs.lemmas.List.{length-take, length-take-le, map-append, take-append-drop, take_more}
@@ -75,6 +75,19 @@ module _ (texts : List (List ℕ)) (i : ℕ) (d : List ℕ) (within : i < length
     before = before;
     broken = broken;
   }
+
+module _ (texts : List (List ℕ)) (i : ℕ) (d : List ℕ) (within : i < length texts) (made : List (List ℕ)) (cuts : List Cut) (before : AreMended (take i texts) made cuts)
+    (bytes : List ℕ) (e : bytes ≡ get_or texts i d) (read : Result Mended ℕ) (sound : MatchResult read (λ m. IsMended bytes m) (λ line. IsBroken bytes line)) where
+  pub broken-read : (line : ℕ) → read ≡ Err line → HasBrokenText (i + 1) line texts
+  broken-read line is =
+      broken-at texts i d within made cuts before line
+      (subst (λ t. IsBroken t line) e (subst (λ r. MatchResult r (λ m. IsMended bytes m) (λ line. IsBroken bytes line)) is sound))
+
+  pub mended-read : (m : Mended) (all : List (List ℕ)) (all_cuts : List Cut) → read ≡ Ok m → all ≡ made ++ m.text.items ∷ [] → all_cuts ≡ cuts ++ as_list m.cut
+      → AreMended (take (i + 1) texts) all all_cuts
+  mended-read m all all_cuts is f g =
+      mended-more texts i d within made cuts before m all all_cuts
+      (subst (λ t. IsMended t m) e (subst (λ r. MatchResult r (λ m. IsMended bytes m) (λ line. IsBroken bytes line)) is sound)) f g
 
 take-over : (i : ℕ) (texts : List (List ℕ)) → length texts ≤ i → take i texts ≡ texts
 take-over zero [] over = refl

@@ -9,4 +9,4 @@ abbrev pub invariant-loop-word : goal.invariant-loop-word
 invariant-loop-word g l =
     ReadsEach ((g.S.Shelf.tellings l.shelf).held []) (words_of (take l.word-index l.words)) l.texts.items
     (source g.I.Read.remaining l.fn.input) (source g.I.Read.remaining l.input)
-    × (has_failed l.input ≡ false) × Left l.limit l.texts.items l.left
+    × (has_failed l.input ≡ false) × Left l.fn.limit l.texts.items l.left
