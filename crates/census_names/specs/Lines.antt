@@ -1,0 +1,36 @@
+-- Names as texts have them.
+use Rattle.std.specs.Prelude.{ℕ, ◌+◌, ◌-◌, Bool, ◌||◌, ◌==◌, if◌then◌else◌, Option, Some, None, Result, Ok, Err, List, [], ◌∷◌, codes, length, nat_eq, take}
+use Rattle.std.specs.List.{after_first, before_first, ends_with, slice_split, starts_with}
+use Rattle.census_names.specs.Names.{Entry, entry, is_empty, with_entry}
+
+abbrev pub is_line_feed : ℕ → Bool
+is_line_feed byte = byte == 10
+
+abbrev pub is_tab : ℕ → Bool
+is_tab byte = byte == 9
+
+-- a line without the CR that it may end with
+abbrev pub content : List ℕ → List ℕ
+content line = if ends_with nat_eq line (codes "\r") then take (length line - 1) line else line
+
+-- nothing, or a comment
+abbrev pub is_passed_over : List ℕ → Bool
+is_passed_over line = is_empty line || starts_with nat_eq line (codes "#")
+
+-- what stands before the first tab, and behind it
+abbrev pub entry_on : List ℕ → Entry
+entry_on line = entry (before_first is_tab line) (after_first is_tab line)
+
+-- with what a line says: none where it says nothing, or names a code again
+abbrev pub with_line : List Entry → List ℕ → Option (List Entry)
+with_line entries line = if is_passed_over line then Some entries else with_entry entries (entry_on line)
+
+-- the entries with those of lines that are numbered from here, or the number of the first line that has a fault
+abbrev pub entries_from : List Entry → ℕ → List (List ℕ) → Result (List Entry) ℕ
+entries_from entries number [] = Ok entries
+entries_from entries number (line ∷ lines) =
+    elim (with_line entries (content line)) [ None ↦ Err number | Some more ↦ entries_from more (number + 1) lines ]
+
+-- The entries of a text, or the line from 1 on which its first fault is.
+abbrev pub names_in : List ℕ → Result (List Entry) ℕ
+names_in text = entries_from [] 1 (slice_split is_line_feed text)

@@ -1,0 +1,60 @@
+//! Tests of names that are read, and of what codes are called.
+
+use crate::{Names, read_names};
+use std::alloc::{AllocError, Global};
+
+const NAMES: &[u8] = b"# the best known
+xs4_33\tblock\r
+\r
+
+xp2_7\tblinker\twith a tab
+#xs4_252\ttub
+xq4_153\t# glider";
+
+// Texts, and the lines of their faults.
+const FAULTS: [(&[u8], usize); 7] = [
+    (b"xs4_33", 1),
+    (b"xs4_33\n", 1),
+    (b"xs4_33 block\n", 1),
+    (b"#\n\txs4_33\n", 2),
+    (b"xs4_33\t\r\n", 1),
+    (b"xs4_33\tblock\n\nxp2_7\tblinker\nxs4_33\ttub\nxp2_7\n", 4),
+    (b" \n", 1),
+];
+
+#[test]
+fn codes_are_called_by_their_names(alloc: Global) -> Result<(), AllocError> {
+    match read_names(alloc, NAMES)? {
+        Ok(names) => {
+            assert_eq!(names.name_of(b"xs4_33"), Some(&b"block"[..]));
+            assert_eq!(names.name_of(b"xp2_7"), Some(&b"blinker\twith a tab"[..]));
+            assert_eq!(names.name_of(b"xq4_153"), Some(&b"# glider"[..]));
+            assert_eq!(names.name_of(b"xs4_252"), None);
+            assert_eq!(names.name_of(b"xs4"), None);
+            assert_eq!(names.name_of(b""), None);
+        }
+        Err(line) => assert_eq!(line, 0),
+    }
+    Ok(())
+}
+
+#[test]
+fn no_code_has_a_name_where_there_are_none(alloc: Global) -> Result<(), AllocError> {
+    assert_eq!(Names::none(alloc).name_of(b"xs4_33"), None);
+    match read_names(alloc, b"")? {
+        Ok(names) => assert_eq!(names.name_of(b""), None),
+        Err(line) => assert_eq!(line, 0),
+    }
+    Ok(())
+}
+
+#[test]
+fn faults_are_told_by_their_lines(alloc: Global) -> Result<(), AllocError> {
+    for (text, fault) in FAULTS {
+        match read_names(alloc, text)? {
+            Ok(_) => assert_eq!(0, fault),
+            Err(line) => assert_eq!(line, fault),
+        }
+    }
+    Ok(())
+}
