@@ -1,7 +1,7 @@
 //! Tests of names that are read, and of what codes are called.
 
 use crate::{Names, read_names};
-use std::alloc::{AllocError, Global};
+use std::alloc::AllocError;
 
 const NAMES: &[u8] = b"# the best known
 xs4_33\tblock\r
@@ -23,37 +23,37 @@ const FAULTS: [(&[u8], usize); 7] = [
 ];
 
 #[test]
-fn codes_are_called_by_their_names(alloc: Global) -> Result<(), AllocError> {
-    match read_names(alloc, NAMES)? {
+fn codes_are_called_by_their_names(rt: HostRuntime) -> Result<(), AllocError> {
+    match read_names(rt.alloc(), NAMES)? {
         Ok(names) => {
-            assert_eq!(names.name_of(b"xs4_33"), Some(&b"block"[..]));
-            assert_eq!(names.name_of(b"xp2_7"), Some(&b"blinker\twith a tab"[..]));
-            assert_eq!(names.name_of(b"xq4_153"), Some(&b"# glider"[..]));
-            assert_eq!(names.name_of(b"xs4_252"), None);
-            assert_eq!(names.name_of(b"xs4"), None);
-            assert_eq!(names.name_of(b""), None);
+            assert_eq!(rt; names.name_of(b"xs4_33"), Some(&b"block"[..]));
+            assert_eq!(rt; names.name_of(b"xp2_7"), Some(&b"blinker\twith a tab"[..]));
+            assert_eq!(rt; names.name_of(b"xq4_153"), Some(&b"# glider"[..]));
+            assert_eq!(rt; names.name_of(b"xs4_252"), None);
+            assert_eq!(rt; names.name_of(b"xs4"), None);
+            assert_eq!(rt; names.name_of(b""), None);
         }
-        Err(line) => assert_eq!(line, 0),
+        Err(line) => assert_eq!(rt; line, 0),
     }
     Ok(())
 }
 
 #[test]
-fn no_code_has_a_name_where_there_are_none(alloc: Global) -> Result<(), AllocError> {
-    assert_eq!(Names::none(alloc).name_of(b"xs4_33"), None);
-    match read_names(alloc, b"")? {
-        Ok(names) => assert_eq!(names.name_of(b""), None),
-        Err(line) => assert_eq!(line, 0),
+fn no_code_has_a_name_where_there_are_none(rt: HostRuntime) -> Result<(), AllocError> {
+    assert_eq!(rt; Names::none(rt.alloc()).name_of(b"xs4_33"), None);
+    match read_names(rt.alloc(), b"")? {
+        Ok(names) => assert_eq!(rt; names.name_of(b""), None),
+        Err(line) => assert_eq!(rt; line, 0),
     }
     Ok(())
 }
 
 #[test]
-fn faults_are_told_by_their_lines(alloc: Global) -> Result<(), AllocError> {
-    for (text, fault) in FAULTS {
-        match read_names(alloc, text)? {
-            Ok(_) => assert_eq!(0, fault),
-            Err(line) => assert_eq!(line, fault),
+fn faults_are_told_by_their_lines(rt: HostRuntime) -> Result<(), AllocError> {
+    for (text, fault) in &FAULTS {
+        match read_names(rt.alloc(), *text)? {
+            Ok(_) => assert_eq!(rt; 0, *fault),
+            Err(line) => assert_eq!(rt; line, *fault),
         }
     }
     Ok(())
