@@ -14,7 +14,7 @@ use Rattle.census_reports.specs.Streams.{Streams}
 use Rattle.census_reports.specs.Texts.{StopsReadingTexts}
 use Rattle.census_reports.specs.Written.{FailsRows, FailsTexts, WritesRows, WritesTexts}
 use Rattle.census_reports.specs.declared.error.ReportsError.{ReportsError}
-use Rattle.census_reports.specs.declared.error.ReportsError.TheVariants.{Claims, Fault, TooMany, TooLong, Memory, Read, Write}
+use Rattle.census_reports.specs.declared.error.ReportsError.TheVariants.{Claims, Names, Fault, TooMany, TooLong, Memory, Read, Write}
 use Rattle.census_reports.specs.declared.form.Form.{Form}
 use Rattle.census_reports.specs.declared.reading.Reading.{Reading}
 use Rattle.census_reports.specs.declared.reading.Written.{Written}
@@ -23,6 +23,7 @@ use Rattle.census_reports.proofs.Mended.{none-broken}
 pub lacking : (error : ReportsError) (form : Form) (texts : List (List ℕ)) (s : Sink) → LackRows error texts → FailsTexts error form texts s s
 lacking (Fault number line) form texts s why = (why, refl)
 lacking (Claims line) form texts s why = absurd why
+lacking (Names line) form texts s why = absurd why
 lacking (TooMany report) form texts s why = absurd why
 lacking TooLong form texts s why = absurd why
 lacking Memory form texts s why = inl refl
@@ -31,6 +32,7 @@ lacking Write form texts s why = absurd why
 
 pub refused : (error : ReportsError) (form : Form) (rows : List Row) (texts : List (List ℕ)) (s : Sink) → AreRowsOf rows texts → RefusesRows error form rows → FailsTexts error form texts s s
 refused (Claims line) form rows texts s are why = (why, refl)
+refused (Names line) form rows texts s are why = (why, refl)
 refused (Fault number line) form rows texts s are why = absurd why
 refused (TooMany report) form rows texts s are why = (record { rows = rows; reports = are; excess = why }, refl)
 refused TooLong form rows texts s are why = absurd why
@@ -41,6 +43,7 @@ refused Write form rows texts s are why = absurd why
 pub failing : (error : ReportsError) (form : Form) (rows : List Row) (texts : List (List ℕ)) (a b : Sink) → AreRowsOf rows texts
     → FailsRows error form rows a b → FailsTexts error form texts a b
 failing (Claims line) form rows texts a b are why = why
+failing (Names line) form rows texts a b are why = why
 failing (Fault number line) form rows texts a b are why = absurd why.0
 failing (TooMany report) form rows texts a b are why = (record { rows = rows; reports = are; excess = why.0 }, why.1)
 failing TooLong form rows texts a b are why = absurd why.0
@@ -62,6 +65,7 @@ of_texts (Err error) form rows texts a b are h = failing error form rows texts a
 looked-refused : (error : ReportsError) (form : Form) (cut : Bool) (texts looked : List (List ℕ)) (cuts : List Cut) → AreLookedAt cut texts looked cuts → RefusesTexts error form looked
     → RefusesRead error cut form texts
 looked-refused (Claims line) form cut texts looked cuts are why = (looked, cuts, are, why)
+looked-refused (Names line) form cut texts looked cuts are why = (looked, cuts, are, why)
 looked-refused (Fault number line) form true texts looked cuts are why = absurd (none-broken texts looked cuts are number line why)
 looked-refused (Fault number line) form false texts looked cuts are why = (looked, cuts, are, why)
 looked-refused (TooMany report) form cut texts looked cuts are why = (looked, cuts, are, why)
@@ -73,6 +77,7 @@ looked-refused Write form cut texts looked cuts are why = absurd why
 pub looked-fails : (error : ReportsError) (form : Form) (cut : Bool) (texts looked : List (List ℕ)) (cuts : List Cut) (a b : Sink) → AreLookedAt cut texts looked cuts
     → FailsTexts error form looked a b → FailsRead error cut form texts a b
 looked-fails (Claims line) form cut texts looked cuts a b are why = (looked-refused (Claims line) form cut texts looked cuts are why.0, why.1)
+looked-fails (Names line) form cut texts looked cuts a b are why = (looked-refused (Names line) form cut texts looked cuts are why.0, why.1)
 looked-fails (Fault number line) form cut texts looked cuts a b are why = (looked-refused (Fault number line) form cut texts looked cuts are why.0, why.1)
 looked-fails (TooMany report) form cut texts looked cuts a b are why = (looked-refused (TooMany report) form cut texts looked cuts are why.0, why.1)
 looked-fails TooLong form cut texts looked cuts a b are why = absurd why.0
@@ -85,6 +90,7 @@ looked-fails Write form cut texts looked cuts a b are part = (looked, cuts, are,
 pub unmended : (error : ReportsError) (form : Form) (texts : List (List ℕ)) (s : Sink) → LackMending error texts → FailsRead error true form texts s s
 unmended (Fault number line) form texts s why = (why, refl)
 unmended (Claims line) form texts s why = absurd why
+unmended (Names line) form texts s why = absurd why
 unmended (TooMany report) form texts s why = absurd why
 unmended TooLong form texts s why = absurd why
 unmended Memory form texts s why = inl refl
@@ -98,6 +104,7 @@ module _ (form : Form) (reading : Reading) (held : List ℕ → Told) (words : L
   pub stopping : (error : ReportsError) → StopsReadingTexts error reading.limit held (words_or_input words) a.input b.input → b.output ≡ a.output
       → ReportsFail error form reading held words a b
   stopping (Claims line) stops same = absurd stops.why
+  stopping (Names line) stops same = absurd stops.why
   stopping (Fault number line) stops same = absurd stops.why
   stopping (TooMany report) stops same = absurd stops.why
   stopping TooLong stops same = (stops, same)
@@ -108,6 +115,7 @@ module _ (form : Form) (reading : Reading) (held : List ℕ → Told) (words : L
   pub refusing : (error : ReportsError) (texts : List (List ℕ)) → ReadsTexts reading.limit held words texts a b → FailsRead error reading.cut form texts a.output b.output
       → ReportsFail error form reading held words a b
   refusing (Claims line) texts read why = (record { texts = texts; read = read; why = why.0 }, why.1)
+  refusing (Names line) texts read why = (record { texts = texts; read = read; why = why.0 }, why.1)
   refusing (Fault number line) texts read why = (record { texts = texts; read = read; why = why.0 }, why.1)
   refusing (TooMany report) texts read why = (record { texts = texts; read = read; why = why.0 }, why.1)
   refusing TooLong texts read why = absurd why.0.3

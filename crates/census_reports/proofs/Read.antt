@@ -12,7 +12,7 @@ use Rattle.census_identify.specs.Streams.{Reader}
 use Rattle.census_identify.specs.declared.heard.Heard.TheVariants.{Text}
 use Rattle.census_reports.specs.Texts.{FitTogether, PassesLimit, ReadsEach, RefusesNext, RefusesWord, StopsReadingTexts, bytes_in, left_behind}
 use Rattle.census_reports.specs.declared.error.ReportsError.{ReportsError}
-use Rattle.census_reports.specs.declared.error.ReportsError.TheVariants.{Claims, Fault, TooMany, TooLong, Memory, Read, Write}
+use Rattle.census_reports.specs.declared.error.ReportsError.TheVariants.{Claims, Names, Fault, TooMany, TooLong, Memory, Read, Write}
 
 abbrev pub words_of : List (Bor (List ℕ)) → List (List ℕ)
 words_of words = map (λ s. s.now) words
@@ -59,6 +59,7 @@ module _ (held : List ℕ → Told) (words : List (Bor (List ℕ))) (i : ℕ) (d
 pub next_refused : (error : ReportsError) (limit : Option ℕ) (texts : List (List ℕ)) (held : List ℕ → Told) (word : List ℕ) (a b : Reader) → RefusesWord error held word a b
     → RefusesNext error limit texts held word a b
 next_refused (Claims line) limit texts held word a b why = why
+next_refused (Names line) limit texts held word a b why = why
 next_refused (Fault number line) limit texts held word a b why = why
 next_refused (TooMany report) limit texts held word a b why = why
 next_refused TooLong limit texts held word a b why = inl why

@@ -11,7 +11,7 @@ use Rattle.census_reports.specs.Streams.{Streams}
 use Rattle.census_reports.specs.Texts.{FitTogether, ReadsEach, StopsReadingTexts}
 use Rattle.census_reports.specs.Written.{WritesSome}
 use Rattle.census_reports.specs.declared.error.ReportsError.{ReportsError}
-use Rattle.census_reports.specs.declared.error.ReportsError.TheVariants.{Claims, Fault, TooMany, TooLong, Memory, Read, Write}
+use Rattle.census_reports.specs.declared.error.ReportsError.TheVariants.{Claims, Names, Fault, TooMany, TooLong, Memory, Read, Write}
 use Rattle.census_reports.specs.declared.form.Form.{Form}
 use Rattle.census_reports.specs.declared.reading.Reading.{Reading}
 use Rattle.census_reports.specs.declared.reading.Written.{Written}
@@ -70,6 +70,7 @@ StopsReading error reading held words before after = StopsReadingTexts error rea
 -- Why not all was written. Where the writer didn't fail, nothing was, or out of memory a prefix of what is told piece by piece.
 abbrev pub ReportsFail : ReportsError → Form → Reading → (List ℕ → Told) → List (List ℕ) → Streams → Streams → Type 0
 ReportsFail (Claims line) form reading held words before after = RefusesReports (Claims line) form reading held words before after × WritesNothing before after
+ReportsFail (Names line) form reading held words before after = RefusesReports (Names line) form reading held words before after × WritesNothing before after
 ReportsFail (Fault number line) form reading held words before after =
     RefusesReports (Fault number line) form reading held words before after × WritesNothing before after
 ReportsFail (TooMany report) form reading held words before after =

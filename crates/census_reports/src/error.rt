@@ -16,6 +16,12 @@ pub enum ReportsError {
         /// The line on which the first row begins that is wrong, from 1.
         line: usize,
     },
+    /// The text of the names is none of names.
+    #[error("names fault at line {line}")]
+    Names {
+        /// The first line that is wrong, from 1.
+        line: usize,
+    },
     /// A text is no report, nor several one after another.
     #[error("report fault at line {line}")]
     Fault {
@@ -114,6 +120,7 @@ impl ReportsError {
     {
         match self {
             ReportsError::Claims { .. }
+            | ReportsError::Names { .. }
             | ReportsError::Fault { .. }
             | ReportsError::TooMany { .. }
             | ReportsError::TooLong => 1,

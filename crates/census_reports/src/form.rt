@@ -1,5 +1,6 @@
 //! What is made of the rows of reports, written.
 ghost use Rattle.std.specs.Prelude.{◌≡◌, List, MatchResult, Ok};
+ghost use Rattle.std.specs.Option.{option_copied};
 ghost use Rattle.census_rows.specs.declared.row.Row.{Row};
 ghost use Rattle.census_identify.specs.Streams.{sink};
 ghost use Rattle.census_readback.specs.Shapes.{AreReports};
@@ -7,9 +8,11 @@ ghost use Rattle.census_merge.specs.Merged.{merged_rows};
 ghost use Rattle.census_table.specs.Entries.{entries_of};
 ghost use Rattle.census_table.specs.Patterns.{patterns_of};
 ghost use Rattle.census_verify.specs.Claims.{claims_in, claims_read};
+ghost use Rattle.census_reports.specs.Forms.{names_given};
 ghost use Rattle.census_reports.specs.Written.{FailsRows, WritesRows};
 
 use crate::error::ReportsError;
+use census_names::{Names, read_names};
 use census_page::{PageOptions, put_page};
 use census_rows::Row;
 use census_same::put_same;
@@ -25,41 +28,79 @@ use watched::Watched;
 pub enum Form<'a> {
     /// One report of all their collections, as `merge` makes it.
     Merged,
-    /// A table, as `table_of` makes it and `put_listing` tells it.
-    Table { subject: Subject, format: Format },
+    /// A table, as `table_of` makes it and `put_listing` tells it, with the names of a text, where there is one.
+    Table {
+        subject: Subject,
+        format: Format,
+        names: Option<&'a [u8]>,
+    },
     /// Their codes, with pictures, as one HTML page, as `put_page` tells it with these options.
-    Page { options: PageOptions<'a> },
+    Page {
+        options: PageOptions<'a>,
+    },
     /// Their patterns that are one object, as `put_same` tells them, which is what is looked for.
-    Same { json: bool },
+    Same {
+        json: bool,
+    },
     /// What does not agree between the claims of a text and their patterns, as `put_verdict` tells it, which is what is
     /// looked for.
-    Verdict { claims: &'a [u8] },
+    Verdict {
+        claims: &'a [u8],
+    },
 }
 
-// Writes a table. Where memory is refused, what was told of it is written yet.
-pub fn write_table<O: Write>(
+// Writes a table with these names, which are those of a text, where there is one. Where memory is refused, what was told of it is written yet.
+fn write_named<O: Write>(
     alloc: Global,
     subject: Subject,
     format: Format,
+    text: Option<&[u8]>,
+    names: Option<&Names>,
     rows: &[Row],
     output: &mut Watched<O>,
 ) -> Result<bool, ReportsError>
-    requires { AreReports rows.now }
+    requires names { names_given text.entry ≡ Ok (option_copied names.entry) }
+    requires reports { AreReports rows.now }
     ensures { MatchResult result
-        (λ found. WritesRows (Form.Table subject format) found rows.now (sink O.contents output.old)
+        (λ found. WritesRows (Form.Table subject format text.entry) found rows.now (sink O.contents output.old)
         (sink O.contents output.new))
-        (λ error. FailsRows error (Form.Table subject format) rows.now
+        (λ error. FailsRows error (Form.Table subject format text.entry) rows.now
         (sink O.contents output.old) (sink O.contents output.new)) }
 {
     let table = table_of(alloc, subject, rows)?;
     let mut block = Block::new(alloc);
-    let told = put_listing(alloc, format, &table, &mut block, output);
+    let told = put_listing(alloc, format, names, &table, &mut block, output);
     match send(&mut block, output) {
         Ok(()) => {
             told?;
             Ok(false)
         }
         Err(_) => Err(ReportsError::Write),
+    }
+}
+
+// Reads names, where there is a text of them, and writes a table with them.
+pub fn write_table<O: Write>(
+    alloc: Global,
+    subject: Subject,
+    format: Format,
+    text: Option<&[u8]>,
+    rows: &[Row],
+    output: &mut Watched<O>,
+) -> Result<bool, ReportsError>
+    requires { AreReports rows.now }
+    ensures { MatchResult result
+        (λ found. WritesRows (Form.Table subject format text.entry) found rows.now (sink O.contents output.old)
+        (sink O.contents output.new))
+        (λ error. FailsRows error (Form.Table subject format text.entry) rows.now
+        (sink O.contents output.old) (sink O.contents output.new)) }
+{
+    let Some(given) = text else {
+        return write_named(alloc, subject, format, text, None, rows, output);
+    };
+    match read_names(alloc, given)? {
+        Ok(names) => write_named(alloc, subject, format, text, Some(&names), rows, output),
+        Err(line) => Err(ReportsError::Names { line }),
     }
 }
 

@@ -35,9 +35,13 @@ fn write_of<O: Write>(
 {
     match form {
         Form::Merged => write_merged(alloc, texts, output),
-        Form::Table { subject, format } => {
+        Form::Table {
+            subject,
+            format,
+            names,
+        } => {
             let rows = rows_of(alloc, texts)?;
-            write_table(alloc, subject, format, rows.as_slice(), output)
+            write_table(alloc, subject, format, names, rows.as_slice(), output)
         }
         Form::Page { options } => {
             let rows = rows_of(alloc, texts)?;
@@ -92,7 +96,8 @@ fn write_read<O: Write>(
 /// object, with `Verdict`, what does not agree with the claims, and else nothing is looked for.
 ///
 /// All texts are read before the first is looked at, and all reports before the first byte is written. From then on no
-/// memory is asked for but the block that is written, for a table the text of some rows at a time, for a page the codes
+/// memory is asked for but the block that is written, for a table the text of some rows at a time and its
+/// names, for a page the codes
 /// of one collection and the text of one picture or name at a time, for `Same` a list of the patterns that are objects,
 /// and for `Verdict` the claims, the patterns and a map of both.
 /// So nothing is written on any error but `Write`, on which a prefix of what is made of them is, and `Memory`, on which
@@ -102,6 +107,7 @@ fn write_read<O: Write>(
 ///   and this have more than the limit. Those of the words before it were read, and none of a word after it.
 /// - `Fault`: a text is no report, nor one that was cut where the reading has `cut`, and those of the words before it are.
 /// - `Claims`: the claims are none, and each text is a report.
+/// - `Names`: the names of a table are none, and each text is a report.
 /// - `TooMany`: the reports have more than 65,535 collections, and `Merged` is asked for.
 /// - `Memory`: memory was refused. Of `Merged` nothing was written.
 pub fn write_reports<S: Shelf, I: Read, O: Write>(

@@ -8,6 +8,7 @@ use Rattle.census_readback.specs.Grouped.{sections_lent, rows_lent}
 use Rattle.census_table.specs.Lists.{told_before}
 use Rattle.census_table.specs.Patterns.{Pattern, all_patterns, first_patterns, pattern_before, pattern_of_row, patterns_under, section_patterns}
 use Rattle.csv.specs.Writing.{default_writer, row_text}
+use Rattle.census_table.specs.Called.{Names}
 use Rattle.census_table.specs.Columns.{columns, entry_row, pattern_row}
 use Rattle.census_table.specs.Entries.{entry_before, entry_of_row, lines_under}
 use Rattle.census_table.specs.Contents.{Member}
@@ -61,33 +62,33 @@ pub rest-whole : {X : Type 0} (n : ℕ) (xs : List X) → take (length xs - n) (
 rest-whole n xs = take_all (length xs - n) (drop n xs) (omega (arith, length-drop n xs))
 
 -- some rows of a collection, and those behind them
-pub rows-cut : (format : Format) (number : ℕ) (heading : Row) (all : List (Bor Row)) (start count : ℕ) (from : List (Bor Row)) → from ≡ drop start all
-    → rows_text format (map (pattern_row format) (patterns_under number heading (rows_lent (drop start all))))
-    ≡ rows_text format (map (pattern_row format) (first_patterns count number heading (rows_lent from)))
-    ++ rows_text format (map (pattern_row format) (patterns_under number heading (rows_lent (drop (start + count) all))))
-rows-cut format number heading all start count from is =
+pub rows-cut : (names : Names) → (format : Format) (number : ℕ) (heading : Row) (all : List (Bor Row)) (start count : ℕ) (from : List (Bor Row)) → from ≡ drop start all
+    → rows_text format (map (pattern_row names format) (patterns_under number heading (rows_lent (drop start all))))
+    ≡ rows_text format (map (pattern_row names format) (first_patterns count number heading (rows_lent from)))
+    ++ rows_text format (map (pattern_row names format) (patterns_under number heading (rows_lent (drop (start + count) all))))
+rows-cut names format number heading all start count from is =
     let rows = rows_lent (drop start all) in
     let others = patterns_under number heading (rows_lent (drop (start + count) all)) in
     let behind : drop count rows ≡ rows_lent (drop (start + count) all) = drop-map (λ row. row.now) count (drop start all) ∙ ap rows_lent (drop-drop count start all) in
-    let told = ap (λ list. rows_text format (map (pattern_row format) list)) (first-cut count number heading rows)
-    ∙ mapped-append format (pattern_row format) (first_patterns count number heading rows) (patterns_under number heading (drop count rows)) in
+    let told = ap (λ list. rows_text format (map (pattern_row names format) list)) (first-cut count number heading rows)
+    ∙ mapped-append format (pattern_row names format) (first_patterns count number heading rows) (patterns_under number heading (drop count rows)) in
     told
-    ∙ ap (λ rows'. rows_text format (map (pattern_row format) (first_patterns count number heading rows)) ++ rows_text format (map (pattern_row format) (patterns_under number heading rows'))) behind
-    ∙ ap (λ from. rows_text format (map (pattern_row format) (first_patterns count number heading (rows_lent from))) ++ rows_text format (map (pattern_row format) others)) (sym is)
+    ∙ ap (λ rows'. rows_text format (map (pattern_row names format) (first_patterns count number heading rows)) ++ rows_text format (map (pattern_row names format) (patterns_under number heading rows'))) behind
+    ∙ ap (λ from. rows_text format (map (pattern_row names format) (first_patterns count number heading (rows_lent from))) ++ rows_text format (map (pattern_row names format) others)) (sym is)
 
-record-first : (safe : Bool) (entry : Option Entry) (rows : List Row) (list : List Pattern) (entries : List Entry)
-    → map (pattern_row (Csv safe)) list ≡ map (entry_row columns) entries
-    → map (pattern_row (Csv safe)) (told_before (option_map (λ e. pattern_before e rows) entry) list) ≡ map (entry_row columns) (entry_before entry entries)
-record-first safe None rows list entries same = same
-record-first safe (Some entry) rows list entries same = ap (λ told. entry_row columns entry ∷ told) same
+record-first : (names : Names) → (safe : Bool) (entry : Option Entry) (rows : List Row) (list : List Pattern) (entries : List Entry)
+    → map (pattern_row names (Csv safe)) list ≡ map (entry_row names columns) entries
+    → map (pattern_row names (Csv safe)) (told_before (option_map (λ e. pattern_before e rows) entry) list) ≡ map (entry_row names columns) (entry_before entry entries)
+record-first names safe None rows list entries same = same
+record-first names safe (Some entry) rows list entries same = ap (λ told. entry_row names columns entry ∷ told) same
 
 -- the rows of the patterns of the first rows, as CSV
-pub first-records : (safe : Bool) (count number : ℕ) (heading : Row) (rows : List Row)
-    → map (pattern_row (Csv safe)) (first_patterns count number heading rows) ≡ map (entry_row columns) (lines_under number heading (take count rows))
-first-records safe zero number heading rows = refl
-first-records safe (suc count) number heading [] = refl
-first-records safe (suc count) number heading (row ∷ rows) =
-    record-first safe (entry_of_row number heading row) rows (first_patterns count number heading rows) (lines_under number heading (take count rows))
+pub first-records : (names : Names) → (safe : Bool) (count number : ℕ) (heading : Row) (rows : List Row)
+    → map (pattern_row names (Csv safe)) (first_patterns count number heading rows) ≡ map (entry_row names columns) (lines_under number heading (take count rows))
+first-records names safe zero number heading rows = refl
+first-records names safe (suc count) number heading [] = refl
+first-records names safe (suc count) number heading (row ∷ rows) =
+    record-first names safe (entry_of_row number heading row) rows (first_patterns count number heading rows) (lines_under number heading (take count rows))
     (first-records safe count number heading rows)
 
 -- the patterns of one row more
@@ -102,12 +103,12 @@ first-more (suc count) number heading row (r ∷ rows) rest e =
     ∙ told-append told (first_patterns count number heading rows) (told_before (pattern_of_row number heading row rest) [])
 
 -- a text with the line of one pattern more, as JSON
-pub lines-more : (i number : ℕ) (heading : Row) (rows : List (Bor Row)) (d : Bor Row) (rest : List (Bor Row)) (old new : List ℕ)
+pub lines-more : (names : Names) → (i number : ℕ) (heading : Row) (rows : List (Bor Row)) (d : Bor Row) (rest : List (Bor Row)) (old new : List ℕ)
     → i < length rows → rest ≡ drop (i + 1) rows
-    → old ≡ json_rows (map (pattern_row Json) (first_patterns i number heading (rows_lent rows)))
-    → new ≡ old ++ json_rows (map (pattern_row Json) (told_before (pattern_of_row number heading (get_or rows i d).now (rows_lent rest)) []))
-    → new ≡ json_rows (map (pattern_row Json) (first_patterns (i + 1) number heading (rows_lent rows)))
-lines-more i number heading rows d rest old new less is so_far more =
+    → old ≡ json_rows (map (pattern_row names Json) (first_patterns i number heading (rows_lent rows)))
+    → new ≡ old ++ json_rows (map (pattern_row names Json) (told_before (pattern_of_row number heading (get_or rows i d).now (rows_lent rest)) []))
+    → new ≡ json_rows (map (pattern_row names Json) (first_patterns (i + 1) number heading (rows_lent rows)))
+lines-more names i number heading rows d rest old new less is so_far more =
     let row = (get_or rows i d).now in
     let one = told_before (pattern_of_row number heading row (rows_lent rest)) [] in
     let some = first_patterns i number heading (rows_lent rows) in
@@ -115,37 +116,37 @@ lines-more i number heading rows d rest old new less is so_far more =
     let here : drop i rows ≡ get_or rows i d ∷ rest =
     drop-cons rows i d less ∙ ap (λ k. get_or rows i d ∷ drop k rows) next ∙ ap (λ w. get_or rows i d ∷ w) (sym is) in
     let lent : drop i (rows_lent rows) ≡ row ∷ rows_lent rest = drop-map (λ row. row.now) i rows ∙ ap rows_lent here in
-    more ∙ ap (λ t. t ++ json_rows (map (pattern_row Json) one)) so_far
-    ∙ sym (ap (λ list. json_rows (map (pattern_row Json) list))
+    more ∙ ap (λ t. t ++ json_rows (map (pattern_row names Json) one)) so_far
+    ∙ sym (ap (λ list. json_rows (map (pattern_row names Json) list))
     (ap (λ k. first_patterns k number heading (rows_lent rows)) (sym next) ∙ first-more i number heading row (rows_lent rows) (rows_lent rest) lent)
-    ∙ mapped-append Json (pattern_row Json) some one)
+    ∙ mapped-append Json (pattern_row names Json) some one)
 
 -- some objects, and those behind them
-pub objects-cut : (format : Format) (columns : List ObjectColumn) (objects some others chosen : List Object) → objects ≡ some ++ others → chosen ≡ some
-    → rows_text format (map (object_row columns) objects) ≡ rows_text format (map (object_row columns) chosen) ++ rows_text format (map (object_row columns) others)
-objects-cut format columns objects some others chosen e are =
-    ap (λ os. rows_text format (map (object_row columns) os)) e ∙ mapped-append format (object_row columns) some others
-    ∙ ap (λ os. rows_text format (map (object_row columns) os) ++ rows_text format (map (object_row columns) others)) (sym are)
+pub objects-cut : (names : Names) → (format : Format) (columns : List ObjectColumn) (objects some others chosen : List Object) → objects ≡ some ++ others → chosen ≡ some
+    → rows_text format (map (object_row names columns) objects) ≡ rows_text format (map (object_row names columns) chosen) ++ rows_text format (map (object_row names columns) others)
+objects-cut names format columns objects some others chosen e are =
+    ap (λ os. rows_text format (map (object_row names columns) os)) e ∙ mapped-append format (object_row names columns) some others
+    ∙ ap (λ os. rows_text format (map (object_row names columns) os) ++ rows_text format (map (object_row names columns) others)) (sym are)
 
 -- a collection, and those behind it
-pub sections-cut : {A : Type 0} (format : Format) (sections : List (Vec (Bor Row) A)) (i : ℕ) (d : Vec (Bor Row) A) (rows : List (Bor Row)) → i < length sections
+pub sections-cut : {A : Type 0} (names : Names) (format : Format) (sections : List (Vec (Bor Row) A)) (i : ℕ) (d : Vec (Bor Row) A) (rows : List (Bor Row)) → i < length sections
     → rows ≡ (get_or sections i d).items
-    → rows_text format (map (pattern_row format) (all_patterns (i + 1) (sections_lent (drop i sections))))
-    ≡ rows_text format (map (pattern_row format) (section_patterns (i + 1) (rows_lent rows)))
-    ++ rows_text format (map (pattern_row format) (all_patterns (i + 1 + 1) (sections_lent (drop (i + 1) sections))))
-sections-cut format sections i d rows less are =
+    → rows_text format (map (pattern_row names format) (all_patterns (i + 1) (sections_lent (drop i sections))))
+    ≡ rows_text format (map (pattern_row names format) (section_patterns (i + 1) (rows_lent rows)))
+    ++ rows_text format (map (pattern_row names format) (all_patterns (i + 1 + 1) (sections_lent (drop (i + 1) sections))))
+sections-cut names format sections i d rows less are =
     let behind = drop (i + 1) sections in
     let next : drop i sections ≡ get_or sections i d ∷ behind =
     drop-cons sections i d less ∙ ap (λ k. get_or sections i d ∷ drop k sections) (let e : suc i ≡ i + 1 = omega arith in e) in
-    ap (λ s. rows_text format (map (pattern_row format) (all_patterns (i + 1) (sections_lent s)))) next
-    ∙ mapped-append format (pattern_row format) (section_patterns (i + 1) (rows_lent (get_or sections i d).items)) (all_patterns (i + 1 + 1) (sections_lent behind))
-    ∙ ap (λ r. rows_text format (map (pattern_row format) (section_patterns (i + 1) (rows_lent r))) ++ rows_text format (map (pattern_row format) (all_patterns (i + 1 + 1) (sections_lent behind)))) (sym are)
+    ap (λ s. rows_text format (map (pattern_row names format) (all_patterns (i + 1) (sections_lent s)))) next
+    ∙ mapped-append format (pattern_row names format) (section_patterns (i + 1) (rows_lent (get_or sections i d).items)) (all_patterns (i + 1 + 1) (sections_lent behind))
+    ∙ ap (λ r. rows_text format (map (pattern_row names format) (section_patterns (i + 1) (rows_lent r))) ++ rows_text format (map (pattern_row names format) (all_patterns (i + 1 + 1) (sections_lent behind)))) (sym are)
 
 -- a collection without rows
-pub section-empty : (format : Format) (number : ℕ) (rows : List (Bor Row)) → length rows < 1 → rows_text format (map (pattern_row format) (section_patterns number (rows_lent rows))) ≡ []
-section-empty (Csv safe) number [] none = refl
-section-empty Json number [] none = refl
-section-empty format number (r ∷ rows) none = absurd (omega arith)
+pub section-empty : (names : Names) → (format : Format) (number : ℕ) (rows : List (Bor Row)) → length rows < 1 → rows_text format (map (pattern_row names format) (section_patterns number (rows_lent rows))) ≡ []
+section-empty names (Csv safe) number [] none = refl
+section-empty names Json number [] none = refl
+section-empty names format number (r ∷ rows) none = absurd (omega arith)
 
 -- the objects of a collection, and those of the collections behind it
 pub section-objects : {A : Type 0} (sections : List (Vec (Bor Row) A)) (i : ℕ) (d : Vec (Bor Row) A) (rows : List (Bor Row)) → i < length sections

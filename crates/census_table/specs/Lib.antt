@@ -1,3 +1,4 @@
+pub mod Called
 pub mod Columns
 pub mod Contents
 pub mod Entries

@@ -1,5 +1,5 @@
 -- The texts of tables.
-use Rattle.std.specs.Prelude.{◌≡◌, ℕ, Bool, List, [], ◌∷◌, ◌++◌, codes, filter, length, map}
+use Rattle.std.specs.Prelude.{◌≡◌, ℕ, Bool, None, List, [], ◌∷◌, ◌++◌, codes, filter, length, map}
 use Rattle.bstr.specs.Find.{matches}
 use Rattle.bstr.specs.Text.{replaced_at}
 use Rattle.csv.specs.Writing.{default_writer, row_text}
@@ -10,10 +10,11 @@ use Rattle.census_rows.specs.declared.kinds.Behind.TheVariants as behind
 use Rattle.census_rows.specs.declared.row.Row.{Row}
 use Rattle.census_readback.specs.Grouped.{sections_lent}
 use Rattle.census_readback.specs.Sections.{same_behind}
-use Rattle.census_table.specs.Columns.{columns, name_of, pattern_row}
+use Rattle.census_table.specs.Called.{Names}
+use Rattle.census_table.specs.Columns.{columns, name_of, pattern_row, shown}
 use Rattle.census_table.specs.Contents.{Member, content_bytes, content_data}
 use Rattle.census_table.specs.Kinds.{AreKinds}
-use Rattle.census_table.specs.ObjectColumns.{code_columns, object_row, part_columns, title_of}
+use Rattle.census_table.specs.ObjectColumns.{code_columns, object_row, part_columns, there, title_of}
 use Rattle.census_table.specs.Objects.{objects_of}
 use Rattle.census_table.specs.Patterns.{Pattern, all_patterns, patterns_of}
 use Rattle.census_table.specs.declared.object.Object.{Object}
@@ -96,20 +97,20 @@ rows_text (Csv safe) rows = csv_records safe rows
 rows_text Json rows = json_rows rows
 
 -- what its columns are called
-abbrev pub names_in : Listing → List (List ℕ)
-names_in (patterns list) = map name_of columns
-names_in (objects columns list) = map title_of columns
+abbrev pub names_in : Names → Listing → List (List ℕ)
+names_in names (patterns list) = map name_of (shown names columns)
+names_in names (objects columns list) = map title_of (there names columns)
 
 -- a row for each pattern or object
-abbrev pub members_in : Format → Listing → List (List Member)
-members_in format (patterns list) = map (pattern_row format) list
-members_in format (objects columns list) = map (object_row columns) list
+abbrev pub members_in : Format → Names → Listing → List (List Member)
+members_in format names (patterns list) = map (pattern_row names format) list
+members_in format names (objects columns list) = map (object_row names columns) list
 
--- the whole table
-abbrev pub listing_text : Format → Listing → List ℕ
-listing_text format listing = head_text format (names_in listing) ++ rows_text format (members_in format listing)
+-- the whole table; without names no column is of these
+abbrev pub listing_text : Format → Names → Listing → List ℕ
+listing_text format names listing = head_text format (names_in names listing) ++ rows_text format (members_in format names listing)
 
 -- # Tables of patterns
 
 abbrev pub table_text : Format → List Pattern → List ℕ
-table_text format list = listing_text format (patterns list)
+table_text format list = listing_text format None (patterns list)

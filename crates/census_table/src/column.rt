@@ -1,12 +1,15 @@
 //! The columns of a table.
 ghost use Rattle.std.specs.Prelude.{◌≡◌, IfOk};
+ghost use Rattle.std.specs.Option.{option_copied};
 ghost use Rattle.census_rows.specs.Kinds.{said, value_at};
 ghost use Rattle.census_rows.specs.declared.kinds.Label.TheVariants as label;
-ghost use Rattle.census_table.specs.Columns.{content_in_column, entry_row, fault_content, field_content, name_of, value_content};
+ghost use Rattle.census_table.specs.Columns.{called_content, content_in_column, entry_row, fault_content, field_content, is_shown, name_of, value_content};
 ghost use Rattle.census_table.specs.Contents.{content_of, row_of};
 
+use crate::called::called;
 use crate::cell::{Cell, Field};
 use crate::entry::Entry;
+use census_names::Names;
 use census_rows::{Label, Outcome, Value};
 use std::alloc::{AllocError, Global};
 
@@ -37,6 +40,8 @@ pub enum Column {
     Dy,
     /// Its code, where it is `ok`.
     Code,
+    /// What its code is called, where the names that are given have it.
+    CommonName,
     /// The number of its fault, where it is `bad`.
     Fault,
     /// The bytes of the collection's name in hex, where it is not UTF-8.
@@ -84,9 +89,20 @@ fn fault_cell<'a>(outcome: &Outcome<'a>) -> Cell<'a>
     }
 }
 
+// What a row has of the name of a code.
+fn called_cell<'a>(names: Option<&'a Names>, outcome: &Outcome<'a>) -> Cell<'a>
+    ensures { content_of result
+        ≡ called_content (option_copied names.entry) (value_at label.Code (said outcome.now).fields) }
+{
+    match outcome.value(Label::Code) {
+        Some(Value::Text(code)) => called(names, code),
+        _ => Cell::Empty,
+    }
+}
+
 impl Column {
     /// All columns, in their order.
-    pub const ALL: [Column; 19] = [
+    pub const ALL: [Column; 20] = [
         Column::Collection,
         Column::CollectionName,
         Column::Pattern,
@@ -99,6 +115,7 @@ impl Column {
         Column::Dx,
         Column::Dy,
         Column::Code,
+        Column::CommonName,
         Column::Fault,
         Column::CollectionNameHex,
         Column::NameHex,
@@ -109,7 +126,7 @@ impl Column {
     ];
 
     /// All but the engines, of which JSON has a list.
-    pub const SINGLE: [Column; 18] = [
+    pub const SINGLE: [Column; 19] = [
         Column::Collection,
         Column::CollectionName,
         Column::Pattern,
@@ -122,6 +139,7 @@ impl Column {
         Column::Dx,
         Column::Dy,
         Column::Code,
+        Column::CommonName,
         Column::Fault,
         Column::CollectionNameHex,
         Column::NameHex,
@@ -147,6 +165,7 @@ impl Column {
             Column::Dx => "dx",
             Column::Dy => "dy",
             Column::Code => "code",
+            Column::CommonName => "common_name",
             Column::Fault => "fault",
             Column::CollectionNameHex => "collection_name_hex",
             Column::NameHex => "name_hex",
@@ -157,9 +176,19 @@ impl Column {
         }
     }
 
+    /// Whether a table has the column: one without names has none of them.
+    pub fn is_shown(self, names: Option<&Names>) -> bool
+        ensures { result ≡ is_shown (option_copied names.entry) self }
+    {
+        match self {
+            Column::CommonName => names.is_some(),
+            _ => true,
+        }
+    }
+
     /// What the row of a pattern has in the column.
-    pub fn cell<'a>(self, entry: &Entry<'a>) -> Cell<'a>
-        ensures { content_of result ≡ content_in_column self entry.now }
+    pub fn cell<'a>(self, names: Option<&'a Names>, entry: &Entry<'a>) -> Cell<'a>
+        ensures { content_of result ≡ content_in_column (option_copied names.entry) self entry.now }
     {
         match self {
             Column::Collection => Cell::Count(entry.collection),
@@ -174,6 +203,7 @@ impl Column {
             Column::Dx => field_cell(&entry.outcome, Label::Dx),
             Column::Dy => field_cell(&entry.outcome, Label::Dy),
             Column::Code => field_cell(&entry.outcome, Label::Code),
+            Column::CommonName => called_cell(names, &entry.outcome),
             Column::Fault => field_cell(&entry.outcome, Label::Fault),
             Column::CollectionNameHex => Cell::Hex(entry.collection_name),
             Column::NameHex => Cell::Hex(entry.name),
@@ -185,20 +215,24 @@ impl Column {
     }
 }
 
-/// What the row of a pattern has in these columns. The only error is out of memory.
+/// What the row of a pattern has in those of these columns that a table has. The only error is out of memory.
 pub fn entry_row<'a>(
     alloc: Global,
+    names: Option<&'a Names>,
     columns: &[Column],
     entry: &Entry<'a>,
 ) -> Result<Vec<Field<'a>>, AllocError>
-    ensures { IfOk result (λ row. row_of row.items ≡ entry_row columns.now entry.now) }
+    ensures { IfOk result
+        (λ row. row_of row.items ≡ entry_row (option_copied names.entry) columns.now entry.now) }
 {
     let mut row = Vec::with_capacity(alloc, columns.len())?;
     for column in columns {
-        row.push(Field {
-            name: column.name(),
-            cell: column.cell(entry),
-        })?;
+        if column.is_shown(names) {
+            row.push(Field {
+                name: column.name(),
+                cell: column.cell(names, entry),
+            })?;
+        }
     }
     Ok(row)
 }

@@ -3,6 +3,7 @@
 //! Tested in `tests_reports`.
 #![tactic(auto)]
 
+mod called;
 mod cell;
 mod column;
 mod comma;

@@ -1,10 +1,13 @@
 //! The columns of tables of objects.
 ghost use Rattle.std.specs.Prelude.{◌≡◌, IfOk};
+ghost use Rattle.std.specs.Option.{option_copied};
 ghost use Rattle.census_table.specs.Contents.{content_of, row_of};
-ghost use Rattle.census_table.specs.ObjectColumns.{content_of_object, object_row, title_of};
+ghost use Rattle.census_table.specs.ObjectColumns.{content_of_object, is_there, object_row, title_of};
 
+use crate::called::called;
 use crate::cell::{Cell, Field};
 use crate::object::Object;
+use census_names::Names;
 use std::alloc::{AllocError, Global};
 
 /// A column of a table of parts or of codes.
@@ -22,6 +25,8 @@ pub enum ObjectColumn {
     Rule,
     /// The object's code.
     Code,
+    /// What its code is called, where the names that are given have it.
+    CommonName,
     /// How many there are, at most 2^64 - 1.
     Count,
     /// In how many patterns, at most 2^64 - 1.
@@ -34,20 +39,22 @@ pub enum ObjectColumn {
 
 impl ObjectColumn {
     /// Those of a table of parts, in their order.
-    pub const OF_PARTS: [ObjectColumn; 7] = [
+    pub const OF_PARTS: [ObjectColumn; 8] = [
         ObjectColumn::Collection,
         ObjectColumn::CollectionName,
         ObjectColumn::Pattern,
         ObjectColumn::Name,
         ObjectColumn::Rule,
         ObjectColumn::Code,
+        ObjectColumn::CommonName,
         ObjectColumn::Count,
     ];
 
     /// Those of a table of codes, in their order.
-    pub const OF_CODES: [ObjectColumn; 6] = [
+    pub const OF_CODES: [ObjectColumn; 7] = [
         ObjectColumn::Rule,
         ObjectColumn::Code,
+        ObjectColumn::CommonName,
         ObjectColumn::Count,
         ObjectColumn::Patterns,
         ObjectColumn::FirstCollectionName,
@@ -65,6 +72,7 @@ impl ObjectColumn {
             ObjectColumn::Name => "name",
             ObjectColumn::Rule => "rule",
             ObjectColumn::Code => "code",
+            ObjectColumn::CommonName => "common_name",
             ObjectColumn::Count => "count",
             ObjectColumn::Patterns => "patterns",
             ObjectColumn::FirstCollectionName => "first_collection_name",
@@ -72,9 +80,19 @@ impl ObjectColumn {
         }
     }
 
+    /// Whether a table has the column: one without names has none of them.
+    pub fn is_there(self, names: Option<&Names>) -> bool
+        ensures { result ≡ is_there (option_copied names.entry) self }
+    {
+        match self {
+            ObjectColumn::CommonName => names.is_some(),
+            _ => true,
+        }
+    }
+
     /// What the row of an object has in the column.
-    pub fn cell<'a>(self, object: &Object<'a>) -> Cell<'a>
-        ensures { content_of result ≡ content_of_object self object.now }
+    pub fn cell<'a>(self, names: Option<&'a Names>, object: &Object<'a>) -> Cell<'a>
+        ensures { content_of result ≡ content_of_object (option_copied names.entry) self object.now }
     {
         match self {
             ObjectColumn::Collection => Cell::Count(object.first.collection),
@@ -83,6 +101,7 @@ impl ObjectColumn {
             ObjectColumn::Name => Cell::Text(object.first.name),
             ObjectColumn::Rule => Cell::Text(object.rule),
             ObjectColumn::Code => Cell::Text(object.code),
+            ObjectColumn::CommonName => called(names, object.code),
             ObjectColumn::Count => Cell::Count(object.count),
             ObjectColumn::Patterns => Cell::Count(object.patterns),
             ObjectColumn::FirstCollectionName => Cell::Text(object.first.collection_name),
@@ -91,20 +110,24 @@ impl ObjectColumn {
     }
 }
 
-/// The row of an object in these columns. The only error is out of memory.
+/// The row of an object in those of these columns that a table has. The only error is out of memory.
 pub fn object_row<'a>(
     alloc: Global,
+    names: Option<&'a Names>,
     columns: &[ObjectColumn],
     object: &Object<'a>,
 ) -> Result<Vec<Field<'a>>, AllocError>
-    ensures { IfOk result (λ row. row_of row.items ≡ object_row columns.now object.now) }
+    ensures { IfOk result
+        (λ row. row_of row.items ≡ object_row (option_copied names.entry) columns.now object.now) }
 {
     let mut row = Vec::with_capacity(alloc, columns.len())?;
     for column in columns {
-        row.push(Field {
-            name: column.name(),
-            cell: column.cell(object),
-        })?;
+        if column.is_there(names) {
+            row.push(Field {
+                name: column.name(),
+                cell: column.cell(names, object),
+            })?;
+        }
     }
     Ok(row)
 }

@@ -1,5 +1,6 @@
 //! Patterns in JSON, with what the rows behind their lines tell.
 ghost use Rattle.std.specs.Prelude.{◌≡◌, ◌≤◌, ◌++◌, [], IfOk, OnOk, length, map};
+ghost use Rattle.std.specs.Option.{option_copied};
 ghost use Rattle.serde_json.specs.Data.{no_members, object};
 ghost use Rattle.serde_json.specs.View.{view};
 ghost use Rattle.census_readback.specs.Grouped.{rows_lent};
@@ -14,6 +15,7 @@ use crate::column::{Column, entry_row};
 use crate::entry::{Entry, entry_of_row};
 use crate::json_lines::{push_value, put_row};
 use crate::lists::{engine_values, portion_values};
+use census_names::Names;
 use census_readback::rows_behind;
 use census_rows::{Behind, Row};
 use serde_json::{Map, Value, put};
@@ -48,12 +50,17 @@ fn parts_behind(alloc: Global, kind: Behind, rows: &[&Row]) -> Result<Value, All
 }
 
 // The object of a pattern whose line stands before these rows.
-fn object_before(alloc: Global, entry: &Entry, rows: &[&Row]) -> Result<Value, AllocError>
+fn object_before(
+    alloc: Global,
+    names: Option<&Names>,
+    entry: &Entry,
+    rows: &[&Row],
+) -> Result<Value, AllocError>
     ensures { IfOk result (λ value. view value ≡ object
-        (with_row (pattern_row Json (pattern_before entry.now (rows_lent rows.now))) no_members)) }
+        (with_row (pattern_row (option_copied names.entry) Json (pattern_before entry.now (rows_lent rows.now))) no_members)) }
 {
     let kind = entry.outcome.behind();
-    let row = entry_row(alloc, &Column::SINGLE, entry)?;
+    let row = entry_row(alloc, names, &Column::SINGLE, entry)?;
     let engines = engines_behind(alloc, kind, rows)?;
     let parts = parts_behind(alloc, kind, rows)?;
     let mut members = Map::new(alloc);
@@ -66,14 +73,15 @@ fn object_before(alloc: Global, entry: &Entry, rows: &[&Row]) -> Result<Value, A
 // Adds the line of a pattern whose line stands before these rows.
 fn push_pattern(
     alloc: Global,
+    names: Option<&Names>,
     text: &mut Vec<u8>,
     entry: &Entry,
     rows: &[&Row],
 ) -> Result<(), AllocError>
     ensures { OnOk result (text.new.items ≡ text.old.items
-        ++ json_line (pattern_row Json (pattern_before entry.now (rows_lent rows.now)))) }
+        ++ json_line (pattern_row (option_copied names.entry) Json (pattern_before entry.now (rows_lent rows.now)))) }
 {
-    let value = object_before(alloc, entry, rows)?;
+    let value = object_before(alloc, names, entry, rows)?;
     push_value(alloc, text, &value)
 }
 
@@ -81,17 +89,18 @@ fn push_pattern(
 // number. It stands before these rows.
 fn push_line<'a>(
     alloc: Global,
+    names: Option<&'a Names>,
     text: &mut Vec<u8>,
     number: u64,
     heading: &Row<'a>,
     row: &Row<'a>,
     rows: &[&Row<'a>],
 ) -> Result<(), AllocError>
-    ensures { OnOk result (text.new.items ≡ text.old.items ++ json_rows (map (pattern_row Json)
+    ensures { OnOk result (text.new.items ≡ text.old.items ++ json_rows (map (pattern_row (option_copied names.entry) Json)
         (told_before (pattern_of_row number heading.now row.now (rows_lent rows.now)) []))) }
 {
     match entry_of_row(number, heading, row) {
-        Some(entry) => push_pattern(alloc, text, &entry, rows),
+        Some(entry) => push_pattern(alloc, names, text, &entry, rows),
         None => Ok(()),
     }
 }
@@ -99,6 +108,7 @@ fn push_line<'a>(
 // A line for each pattern of the first so many rows, in the collection that a row opens and that has this number.
 pub fn first_lines<'a>(
     alloc: Global,
+    names: Option<&'a Names>,
     number: u64,
     heading: &Row<'a>,
     rows: &[&Row<'a>],
@@ -106,12 +116,20 @@ pub fn first_lines<'a>(
 ) -> Result<Vec<u8>, AllocError>
     requires { count ≤ length rows.now }
     ensures { IfOk result (λ text. text.items ≡ json_rows
-        (map (pattern_row Json) (first_patterns count number heading.now (rows_lent rows.now)))) }
+        (map (pattern_row (option_copied names.entry) Json) (first_patterns count number heading.now (rows_lent rows.now)))) }
 {
     let mut text = Vec::new(alloc);
     for index in 0..count {
         let behind = &rows[index + 1..];
-        push_line(alloc, &mut text, number, heading, rows[index], behind)?;
+        push_line(
+            alloc,
+            names,
+            &mut text,
+            number,
+            heading,
+            rows[index],
+            behind,
+        )?;
     }
     Ok(text)
 }

@@ -1,14 +1,16 @@
 //! What a table has a row for each of.
 ghost use Rattle.std.specs.Prelude.{◌≡◌, filter, map, IfOk};
+ghost use Rattle.std.specs.Option.{option_copied};
 ghost use Rattle.census_readback.specs.Shapes.{AreReports};
-ghost use Rattle.census_table.specs.Columns.{columns, name_of};
-ghost use Rattle.census_table.specs.ObjectColumns.{title_of};
+ghost use Rattle.census_table.specs.Columns.{columns, name_of, shown};
+ghost use Rattle.census_table.specs.ObjectColumns.{there, title_of};
 ghost use Rattle.census_table.specs.Tables.{IsListingOf, is_part, listing_of, names_in};
 
 use crate::column::Column;
 use crate::counting::kinds;
 use crate::object::{Object, objects};
 use crate::object_column::ObjectColumn;
+use census_names::Names;
 use census_readback::collections;
 use census_rows::{Behind, Row};
 use std::alloc::{AllocError, Global};
@@ -83,38 +85,52 @@ pub fn table_of<'a>(
     }
 }
 
-// The names of these columns.
-fn names_of(alloc: Global, columns: &[ObjectColumn]) -> Result<Vec<&'static str>, AllocError>
-    ensures { IfOk result
-        (λ names. map (λ s. s.now) names.items ≡ map title_of columns.now) }
+// What those of these columns are called that a table has.
+fn names_of(
+    alloc: Global,
+    names: Option<&Names>,
+    columns: &[ObjectColumn],
+) -> Result<Vec<&'static str>, AllocError>
+    ensures { IfOk result (λ titles. map (λ s. s.now) titles.items
+        ≡ map title_of (there (option_copied names.entry) columns.now)) }
 {
-    let mut names = Vec::new(alloc);
+    let mut titles = Vec::new(alloc);
     for column in columns {
-        names.push(column.name())?;
+        if column.is_there(names) {
+            titles.push(column.name())?;
+        }
     }
-    Ok(names)
+    Ok(titles)
 }
 
-// The names of the columns of a table of patterns.
-fn pattern_names(alloc: Global) -> Result<Vec<&'static str>, AllocError>
-    ensures { IfOk result
-        (λ names. map (λ s. s.now) names.items ≡ map name_of columns) }
+// What the columns of a table of patterns are called.
+fn pattern_names(alloc: Global, names: Option<&Names>) -> Result<Vec<&'static str>, AllocError>
+    ensures { IfOk result (λ titles. map (λ s. s.now) titles.items
+        ≡ map name_of (shown (option_copied names.entry) columns)) }
 {
-    let mut names = Vec::new(alloc);
+    let mut titles = Vec::new(alloc);
     for column in &Column::ALL {
-        names.push(column.name())?;
+        if column.is_shown(names) {
+            titles.push(column.name())?;
+        }
     }
-    Ok(names)
+    Ok(titles)
 }
 
 impl Table<'_> {
-    /// What the columns are called. The only error is out of memory.
-    pub fn names(&self, alloc: Global) -> Result<Vec<&'static str>, AllocError>
-        ensures { IfOk result (λ names. map (λ s. s.now) names.items ≡ names_in (listing_of self.now)) }
+    /// What the columns are called. Where there are names, the column behind the codes is of what these are called. The
+    /// only error is out of memory.
+    pub fn names(
+        &self,
+        alloc: Global,
+        names: Option<&Names>,
+    ) -> Result<Vec<&'static str>, AllocError>
+        ensures { IfOk result (λ titles. map (λ s. s.now) titles.items
+            ≡ names_in (option_copied names.entry) (listing_of self.now)) }
     {
         match self {
-            Table::Patterns(_) => pattern_names(alloc),
-            Table::Objects { columns, .. } => names_of(alloc, *columns),
+            Table::Patterns(_) => pattern_names(alloc, names),
+            Table::Objects { columns, .. } => names_of(alloc, names, *columns),
         }
     }
 }

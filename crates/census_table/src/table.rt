@@ -1,5 +1,6 @@
 //! Tables, told some rows at a time.
 ghost use Rattle.std.specs.Prelude.{◌≡◌, ◌≤◌, List, length, map, IfOk, MatchResult};
+ghost use Rattle.std.specs.Option.{option_copied};
 ghost use Rattle.gathered.specs.Telling.{TellsAfter, TellsFront, sheet};
 ghost use Rattle.census_rows.specs.declared.row.Row.{Row};
 ghost use Rattle.census_readback.specs.Grouped.{sections_lent, rows_lent};
@@ -20,6 +21,7 @@ use crate::object::Object;
 use crate::object_column::{ObjectColumn, object_row};
 use crate::pattern::first_lines;
 use crate::subject::{Subject, Table, table_of};
+use census_names::Names;
 use census_rows::Row;
 use gathered::{Block, put};
 use std::alloc::{AllocError, Global};
@@ -55,12 +57,16 @@ fn text_of(alloc: Global, format: Format, rows: &[Vec<Field>]) -> Result<Vec<u8>
 }
 
 // The rows of these patterns, in all columns.
-fn entry_rows<'a>(alloc: Global, entries: &[Entry<'a>]) -> Result<Vec<Vec<Field<'a>>>, AllocError>
-    ensures { IfOk result (λ rows. rows_in rows.items ≡ map (entry_row columns) entries.now) }
+fn entry_rows<'a>(
+    alloc: Global,
+    names: Option<&'a Names>,
+    entries: &[Entry<'a>],
+) -> Result<Vec<Vec<Field<'a>>>, AllocError>
+    ensures { IfOk result (λ rows. rows_in rows.items ≡ map (entry_row (option_copied names.entry) columns) entries.now) }
 {
     let mut rows = Vec::new(alloc);
     for entry in entries {
-        rows.push(entry_row(alloc, &Column::ALL, entry)?)?;
+        rows.push(entry_row(alloc, names, &Column::ALL, entry)?)?;
     }
     Ok(rows)
 }
@@ -69,6 +75,7 @@ fn entry_rows<'a>(alloc: Global, entries: &[Entry<'a>]) -> Result<Vec<Vec<Field<
 fn first_records<'a>(
     alloc: Global,
     safe: bool,
+    names: Option<&'a Names>,
     number: u64,
     heading: &Row<'a>,
     rows: &[&Row<'a>],
@@ -76,10 +83,10 @@ fn first_records<'a>(
 ) -> Result<Vec<u8>, AllocError>
     requires { count ≤ length rows.now }
     ensures { IfOk result (λ text. text.items ≡ rows_text (Csv safe)
-        (map (pattern_row (Csv safe)) (first_patterns count number heading.now (rows_lent rows.now)))) }
+        (map (pattern_row (option_copied names.entry) (Csv safe)) (first_patterns count number heading.now (rows_lent rows.now)))) }
 {
     let entries = entries_under(alloc, number, heading, &rows[..count])?;
-    let rows = entry_rows(alloc, entries.as_slice())?;
+    let rows = entry_rows(alloc, names, entries.as_slice())?;
     records(alloc, safe, rows.as_slice())
 }
 
@@ -87,6 +94,7 @@ fn first_records<'a>(
 fn patterns_text<'a>(
     alloc: Global,
     format: Format,
+    names: Option<&'a Names>,
     number: u64,
     heading: &Row<'a>,
     rows: &[&Row<'a>],
@@ -94,25 +102,26 @@ fn patterns_text<'a>(
 ) -> Result<Vec<u8>, AllocError>
     requires { count ≤ length rows.now }
     ensures { IfOk result (λ text. text.items ≡ rows_text format
-        (map (pattern_row format) (first_patterns count number heading.now (rows_lent rows.now)))) }
+        (map (pattern_row (option_copied names.entry) format) (first_patterns count number heading.now (rows_lent rows.now)))) }
 {
     match format {
-        Format::Csv { safe } => first_records(alloc, safe, number, heading, rows, count),
-        Format::Json => first_lines(alloc, number, heading, rows, count),
+        Format::Csv { safe } => first_records(alloc, safe, names, number, heading, rows, count),
+        Format::Json => first_lines(alloc, names, number, heading, rows, count),
     }
 }
 
 // The rows of these objects, in these columns.
 fn object_rows<'a>(
     alloc: Global,
+    names: Option<&'a Names>,
     columns: &[ObjectColumn],
     objects: &[Object<'a>],
 ) -> Result<Vec<Vec<Field<'a>>>, AllocError>
-    ensures { IfOk result (λ rows. rows_in rows.items ≡ map (object_row columns.now) objects.now) }
+    ensures { IfOk result (λ rows. rows_in rows.items ≡ map (object_row (option_copied names.entry) columns.now) objects.now) }
 {
     let mut rows = Vec::new(alloc);
     for object in objects {
-        rows.push(object_row(alloc, columns, object)?)?;
+        rows.push(object_row(alloc, names, columns, object)?)?;
     }
     Ok(rows)
 }
@@ -161,6 +170,7 @@ fn put_rows<W: Write>(
 fn put_patterns<'a, W: Write>(
     alloc: Global,
     format: Format,
+    names: Option<&'a Names>,
     number: u64,
     heading: &Row<'a>,
     rows: &[&Row<'a>],
@@ -170,15 +180,15 @@ fn put_patterns<'a, W: Write>(
 ) -> Result<(), AllocError>
     requires { count ≤ length rows.now }
     ensures { MatchResult result
-        (λ _. TellsAfter (rows_text format (map (pattern_row format) (first_patterns count number heading.now (rows_lent rows.now))))
+        (λ _. TellsAfter (rows_text format (map (pattern_row (option_copied names.entry) format) (first_patterns count number heading.now (rows_lent rows.now))))
         (sheet W.contents block.old writer.old) (sheet W.contents block.new writer.new))
-        (λ _. TellsFront (rows_text format (map (pattern_row format) (first_patterns count number heading.now (rows_lent rows.now))))
+        (λ _. TellsFront (rows_text format (map (pattern_row (option_copied names.entry) format) (first_patterns count number heading.now (rows_lent rows.now))))
         (sheet W.contents block.old writer.old) (sheet W.contents block.new writer.new)) }
 {
     if writer.failed() {
         return Ok(());
     }
-    let text = patterns_text(alloc, format, number, heading, rows, count)?;
+    let text = patterns_text(alloc, format, names, number, heading, rows, count)?;
     put(text.as_slice(), block, writer);
     Ok(())
 }
@@ -187,21 +197,22 @@ fn put_patterns<'a, W: Write>(
 fn put_some<W: Write>(
     alloc: Global,
     format: Format,
+    names: Option<&Names>,
     columns: &[ObjectColumn],
     objects: &[Object],
     block: &mut Block,
     writer: &mut Watched<W>,
 ) -> Result<(), AllocError>
     ensures { MatchResult result
-        (λ _. TellsAfter (rows_text format (map (object_row columns.now) objects.now))
+        (λ _. TellsAfter (rows_text format (map (object_row (option_copied names.entry) columns.now) objects.now))
         (sheet W.contents block.old writer.old) (sheet W.contents block.new writer.new))
-        (λ _. TellsFront (rows_text format (map (object_row columns.now) objects.now))
+        (λ _. TellsFront (rows_text format (map (object_row (option_copied names.entry) columns.now) objects.now))
         (sheet W.contents block.old writer.old) (sheet W.contents block.new writer.new)) }
 {
     if writer.failed() {
         return Ok(());
     }
-    let rows = object_rows(alloc, columns, objects)?;
+    let rows = object_rows(alloc, names, columns, objects)?;
     put_rows(alloc, format, rows.as_slice(), block, writer)
 }
 
@@ -209,21 +220,30 @@ fn put_some<W: Write>(
 fn put_objects<W: Write>(
     alloc: Global,
     format: Format,
+    names: Option<&Names>,
     columns: &[ObjectColumn],
     objects: &[Object],
     block: &mut Block,
     writer: &mut Watched<W>,
 ) -> Result<(), AllocError>
     ensures { MatchResult result
-        (λ _. TellsAfter (rows_text format (map (object_row columns.now) objects.now))
+        (λ _. TellsAfter (rows_text format (map (object_row (option_copied names.entry) columns.now) objects.now))
         (sheet W.contents block.old writer.old) (sheet W.contents block.new writer.new))
-        (λ _. TellsFront (rows_text format (map (object_row columns.now) objects.now))
+        (λ _. TellsFront (rows_text format (map (object_row (option_copied names.entry) columns.now) objects.now))
         (sheet W.contents block.old writer.old) (sheet W.contents block.new writer.new)) }
 {
     let mut start = 0;
     while start < objects.len() {
         let end = start + (objects.len() - start).min(SOME);
-        put_some(alloc, format, columns, &objects[start..end], block, writer)?;
+        put_some(
+            alloc,
+            format,
+            names,
+            columns,
+            &objects[start..end],
+            block,
+            writer,
+        )?;
         start = end;
     }
     Ok(())
@@ -233,6 +253,7 @@ fn put_objects<W: Write>(
 fn put_lines<'a, W: Write>(
     alloc: Global,
     format: Format,
+    names: Option<&'a Names>,
     number: u64,
     heading: &Row<'a>,
     rows: &[&Row<'a>],
@@ -240,16 +261,18 @@ fn put_lines<'a, W: Write>(
     writer: &mut Watched<W>,
 ) -> Result<(), AllocError>
     ensures { MatchResult result
-        (λ _. TellsAfter (rows_text format (map (pattern_row format) (patterns_under number heading.now (rows_lent rows.now))))
+        (λ _. TellsAfter (rows_text format (map (pattern_row (option_copied names.entry) format) (patterns_under number heading.now (rows_lent rows.now))))
         (sheet W.contents block.old writer.old) (sheet W.contents block.new writer.new))
-        (λ _. TellsFront (rows_text format (map (pattern_row format) (patterns_under number heading.now (rows_lent rows.now))))
+        (λ _. TellsFront (rows_text format (map (pattern_row (option_copied names.entry) format) (patterns_under number heading.now (rows_lent rows.now))))
         (sheet W.contents block.old writer.old) (sheet W.contents block.new writer.new)) }
 {
     let mut start = 0;
     while start < rows.len() {
         let count = (rows.len() - start).min(SOME);
         let from = &rows[start..];
-        put_patterns(alloc, format, number, heading, from, count, block, writer)?;
+        put_patterns(
+            alloc, format, names, number, heading, from, count, block, writer,
+        )?;
         start += count;
     }
     Ok(())
@@ -259,19 +282,22 @@ fn put_lines<'a, W: Write>(
 fn put_section<'a, W: Write>(
     alloc: Global,
     format: Format,
+    names: Option<&'a Names>,
     number: u64,
     rows: &[&Row<'a>],
     block: &mut Block,
     writer: &mut Watched<W>,
 ) -> Result<(), AllocError>
     ensures { MatchResult result
-        (λ _. TellsAfter (rows_text format (map (pattern_row format) (section_patterns number (rows_lent rows.now))))
+        (λ _. TellsAfter (rows_text format (map (pattern_row (option_copied names.entry) format) (section_patterns number (rows_lent rows.now))))
         (sheet W.contents block.old writer.old) (sheet W.contents block.new writer.new))
-        (λ _. TellsFront (rows_text format (map (pattern_row format) (section_patterns number (rows_lent rows.now))))
+        (λ _. TellsFront (rows_text format (map (pattern_row (option_copied names.entry) format) (section_patterns number (rows_lent rows.now))))
         (sheet W.contents block.old writer.old) (sheet W.contents block.new writer.new)) }
 {
     match rows {
-        [heading, lines @ ..] => put_lines(alloc, format, number, *heading, lines, block, writer),
+        [heading, lines @ ..] => put_lines(
+            alloc, format, names, number, *heading, lines, block, writer,
+        ),
         [] => Ok(()),
     }
 }
@@ -280,14 +306,15 @@ fn put_section<'a, W: Write>(
 fn put_sections<W: Write>(
     alloc: Global,
     format: Format,
+    names: Option<&Names>,
     sections: &[Vec<&Row>],
     block: &mut Block,
     writer: &mut Watched<W>,
 ) -> Result<(), AllocError>
     ensures { MatchResult result
-        (λ _. TellsAfter (rows_text format (map (pattern_row format) (all_patterns 1 (sections_lent sections.now))))
+        (λ _. TellsAfter (rows_text format (map (pattern_row (option_copied names.entry) format) (all_patterns 1 (sections_lent sections.now))))
         (sheet W.contents block.old writer.old) (sheet W.contents block.new writer.new))
-        (λ _. TellsFront (rows_text format (map (pattern_row format) (all_patterns 1 (sections_lent sections.now))))
+        (λ _. TellsFront (rows_text format (map (pattern_row (option_copied names.entry) format) (all_patterns 1 (sections_lent sections.now))))
         (sheet W.contents block.old writer.old) (sheet W.contents block.new writer.new)) }
 {
     for index in 0..sections.len() {
@@ -295,6 +322,7 @@ fn put_sections<W: Write>(
         put_section(
             alloc,
             format,
+            names,
             number,
             sections[index].as_slice(),
             block,
@@ -308,26 +336,36 @@ fn put_sections<W: Write>(
 fn put_body<W: Write>(
     alloc: Global,
     format: Format,
+    names: Option<&Names>,
     table: &Table,
     block: &mut Block,
     writer: &mut Watched<W>,
 ) -> Result<(), AllocError>
     ensures { MatchResult result
-        (λ _. TellsAfter (rows_text format (members_in format (listing_of table.now)))
+        (λ _. TellsAfter (rows_text format (members_in format (option_copied names.entry) (listing_of table.now)))
         (sheet W.contents block.old writer.old) (sheet W.contents block.new writer.new))
-        (λ _. TellsFront (rows_text format (members_in format (listing_of table.now)))
+        (λ _. TellsFront (rows_text format (members_in format (option_copied names.entry) (listing_of table.now)))
         (sheet W.contents block.old writer.old) (sheet W.contents block.new writer.new)) }
 {
     match table {
         Table::Patterns(sections) => put_sections(
             alloc,
             format,
+            names,
             sections.as_slice(),
             block,
             writer,
         ),
         Table::Objects { columns, objects } => {
-            put_objects(alloc, format, *columns, objects.as_slice(), block, writer)
+            put_objects(
+                alloc,
+                format,
+                names,
+                *columns,
+                objects.as_slice(),
+                block,
+                writer,
+            )
         }
     }
 }
@@ -335,28 +373,32 @@ fn put_body<W: Write>(
 /// Tells a table, which is UTF-8: of patterns those of the first report's collection 1 first, each collection's in the
 /// order of their numbers. The collections of a report are numbered on after those of the report before it.
 ///
+/// Where there are names, a column `common_name` behind `code` has what the code is called, and nothing where it has no name.
+/// Without names there is no such column.
+///
 /// The text of some rows stands in memory at a time. Where memory is refused, a prefix of the table
 /// was told. To a writer that has failed nothing is written, and no more text is made for it.
 pub fn put_listing<W: Write>(
     alloc: Global,
     format: Format,
+    names: Option<&Names>,
     table: &Table,
     block: &mut Block,
     writer: &mut Watched<W>,
 ) -> Result<(), AllocError>
     ensures { MatchResult result
-        (λ _. TellsAfter (listing_text format (listing_of table.now))
+        (λ _. TellsAfter (listing_text format (option_copied names.entry) (listing_of table.now))
         (sheet W.contents block.old writer.old) (sheet W.contents block.new writer.new))
-        (λ _. TellsFront (listing_text format (listing_of table.now))
+        (λ _. TellsFront (listing_text format (option_copied names.entry) (listing_of table.now))
         (sheet W.contents block.old writer.old) (sheet W.contents block.new writer.new)) }
 {
-    let names = table.names(alloc)?;
-    put_head(alloc, format, names.as_slice(), block, writer)?;
-    put_body(alloc, format, table, block, writer)
+    let titles = table.names(alloc, names)?;
+    put_head(alloc, format, titles.as_slice(), block, writer)?;
+    put_body(alloc, format, names, table, block, writer)
 }
 
 /// Tells the patterns of a report, or of several after one another, as a table, as `table_of` makes it and `put_listing`
-/// tells it.
+/// tells it without names.
 pub fn put_table<W: Write>(
     alloc: Global,
     format: Format,
@@ -372,7 +414,7 @@ pub fn put_table<W: Write>(
         (sheet W.contents block.old writer.old) (sheet W.contents block.new writer.new)) }
 {
     let table = table_of(alloc, Subject::Patterns, rows)?;
-    put_listing(alloc, format, &table, block, writer)
+    put_listing(alloc, format, None, &table, block, writer)
 }
 
 /// A table of patterns has as many rows as its reports have `line` rows.

@@ -1,5 +1,5 @@
 -- What is told of claims.
-use Rattle.std.specs.Prelude.{ℕ, false, if◌then◌else◌, List, [], ◌∷◌, ◌++◌, codes, nat_eq}
+use Rattle.std.specs.Prelude.{ℕ, false, None, if◌then◌else◌, List, [], ◌∷◌, ◌++◌, codes, nat_eq}
 use Rattle.std.specs.Cmp.Lexicographic.{pointwise}
 use Rattle.census_faults.specs.Printed.{printable_text}
 use Rattle.census_table.specs.Columns.{content_in_column, name_of}
@@ -13,7 +13,7 @@ use Rattle.census_verify.specs.declared.matching.Match.TheVariants.{Nothing, One
 
 -- what a table of patterns has of a pattern in a column
 abbrev pub told : Column → Entry → List ℕ
-told column pattern = content_bytes false (content_in_column column pattern)
+told column pattern = content_bytes false (content_in_column None column pattern)
 
 -- what was found, as it is shown
 abbrev pub found_text : List ℕ → List ℕ

@@ -14,7 +14,7 @@ use std::alloc::{AllocError, Global};
 fn told(alloc: Global, column: Column, pattern: &Entry) -> Result<String, AllocError>
     ensures { IfOk result (λ text. string_bytes text ≡ told column pattern.now) }
 {
-    column.cell(pattern).to_text(alloc, false)
+    column.cell(None, pattern).to_text(alloc, false)
 }
 
 // Adds bytes as they are shown.

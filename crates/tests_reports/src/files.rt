@@ -108,11 +108,13 @@ fn written<I: Read + Drop>(
 const CSV_FORM: Form<'static> = Form::Table {
     subject: Subject::Patterns,
     format: Format::Csv { safe: false },
+    names: None,
 };
 
 const JSON_FORM: Form<'static> = Form::Table {
     subject: Subject::Patterns,
     format: Format::Json,
+    names: None,
 };
 
 /// Words, standard input, and what is written or why nothing is.
@@ -131,6 +133,7 @@ const CASES: &[Case] = &[
         Form::Table {
             subject: Subject::Codes,
             format: Format::Csv { safe: false },
+            names: None,
         },
         &["first", "second"],
         b"",
@@ -169,6 +172,29 @@ const CASES: &[Case] = &[
         &["first"],
         b"",
         Err(ReportsError::Claims { line: 2 }),
+    ),
+    // Names of codes.
+    (
+        Form::Table {
+            subject: Subject::Codes,
+            format: Format::Csv { safe: false },
+            names: Some(b"# names\nxs4_33\tblock\n"),
+        },
+        &["first", "second"],
+        b"",
+        Ok(
+            b"rule,code,common_name,count,patterns,first_collection_name,first_name\nB3/S23,xs4_33,block,1,1,a,block\n",
+        ),
+    ),
+    (
+        Form::Table {
+            subject: Subject::Patterns,
+            format: Format::Csv { safe: false },
+            names: Some(b"xs4_33\tblock\nxs4_33\tsquare\n"),
+        },
+        &["first"],
+        b"",
+        Err(ReportsError::Names { line: 2 }),
     ),
     // Standard input.
     (Form::Merged, &[], FIRST, Ok(FIRST)),

@@ -1,6 +1,7 @@
 //! Reports as tables, in CSV and as JSON lines.
 
 use crate::merging::{MERGED, PARTS};
+use census_names::{Names, read_names};
 use census_readback::read_report;
 use census_table::{Format, Subject, put_listing, put_table, table_of};
 use gathered::{Block, send};
@@ -68,13 +69,24 @@ pub fn table_by(
     format: Format,
     report: &[u8],
 ) -> Result<Vec<u8>, AllocError> {
+    named_table_by(alloc, subject, format, None, report)
+}
+
+// The table of a report that has a row for each of these, and these names.
+fn named_table_by(
+    alloc: Global,
+    subject: Subject,
+    format: Format,
+    names: Option<&Names>,
+    report: &[u8],
+) -> Result<Vec<u8>, AllocError> {
     let Ok(rows) = read_report(alloc, report)? else {
         return Err(AllocError);
     };
     let table = table_of(alloc, subject, rows.as_slice())?;
     let mut block = Block::new(alloc);
     let mut writer = Watched::new(Vec::new(alloc));
-    put_listing(alloc, format, &table, &mut block, &mut writer)?;
+    put_listing(alloc, format, names, &table, &mut block, &mut writer)?;
     match send(&mut block, &mut writer) {
         Ok(()) => Ok(writer.into_inner()),
         Err(_) => Err(AllocError),
@@ -104,6 +116,54 @@ fn patterns_are_told_as_tables(rt: HostRuntime) -> Result<(), AllocError> {
     let csv = table(rt.alloc(), Format::Csv { safe: false }, b"end 0 0\n")?;
     let json = table(rt.alloc(), Format::Json, b"end 0 0\n")?;
     assert!(rt; csv.len() == 160 && json.is_empty());
+    Ok(())
+}
+
+// Two codes of three, with a name that is not UTF-8 and one that begins as a formula does.
+const NAMES: &[u8] = b"xs4_33\tblock\xff\nxq4_153\t=glider\n";
+
+const NAMED_CSV: &str =
+    "collection,collection_name,pattern,name,status,rule,population,onset,period,dx,dy,code,common_name,fault,collection_name_hex,name_hex,objects,generation,engines,fault_text
+1,a,1,one,ok,B3/S23,4,0,1,0,0,xs4_33,block\u{fffd},,,,,,,
+1,a,2,two,ok,B3/S23,5,0,4,-1,1,xq4_153,'=glider,,,,,,,
+1,a,3,three,ok,B3/S23,3,0,2,0,0,xp2_7,,,,,,,,
+1,a,4,four,none,B3/S23,5,,,,,,,,,,,,,
+";
+
+const TO_NAME: &[u8] = b"open 1 4 a
+line 1 1 ok B3/S23 4 0 1 0 0 xs4_33 one
+line 1 2 ok B3/S23 5 0 4 -1 1 xq4_153 two
+line 1 3 ok B3/S23 3 0 2 0 0 xp2_7 three
+line 1 4 none B3/S23 5 four
+code 1 B3/S23 xs4_33 1
+code 1 B3/S23 xq4_153 1
+code 1 B3/S23 xp2_7 1
+close 1 4 3 1 0
+end 1 4
+";
+
+const NAMED_CODES: &str =
+    "{\"code\":\"xp2_7\",\"common_name\":null,\"count\":1,\"first_collection_name\":\"a\",\"first_name\":\"three\",\"patterns\":1,\"rule\":\"B3/S23\"}
+{\"code\":\"xs4_33\",\"common_name\":\"block\u{fffd}\",\"count\":1,\"first_collection_name\":\"a\",\"first_name\":\"one\",\"patterns\":1,\"rule\":\"B3/S23\"}
+{\"code\":\"xq4_153\",\"common_name\":\"=glider\",\"count\":1,\"first_collection_name\":\"a\",\"first_name\":\"two\",\"patterns\":1,\"rule\":\"B3/S23\"}
+";
+
+#[test]
+fn codes_are_told_with_their_names(rt: HostRuntime) -> Result<(), AllocError> {
+    let Ok(names) = read_names(rt.alloc(), NAMES)? else {
+        return Err(AllocError);
+    };
+    let safe = Format::Csv { safe: true };
+    let csv = named_table_by(rt.alloc(), Subject::Patterns, safe, Some(&names), TO_NAME)?;
+    assert!(rt; csv.as_slice() == NAMED_CSV.as_bytes());
+    let json = named_table_by(
+        rt.alloc(),
+        Subject::Codes,
+        Format::Json,
+        Some(&names),
+        TO_NAME,
+    )?;
+    assert!(rt; json.as_slice() == NAMED_CODES.as_bytes());
     Ok(())
 }
 

@@ -1,6 +1,7 @@
 use Rattle.std.proofs.Common.{◌∙◌, ap, map, sym}
 use Rattle.std.specs.List.{take-map}
 use Rattle.std.proofs.lemmas.Result.{IfOk-weaker}
+use Rattle.std.specs.Option.{option_copied}
 use Rattle.census_readback.specs.Grouped.{rows_lent}
 use Rattle.census_table.specs.Columns.{columns, entry_row}
 use Rattle.census_table.specs.Entries.{lines_under}
@@ -14,6 +15,6 @@ returns c =
     let rows = c.args.rows.now in
     let entries = c.as_slice.ensures.value ∙ c.in_ok-entries.ensures
     ∙ ap (lines_under c.args.number c.args.heading.now) (sym (take-map (λ row. row.now) c.args.count rows)) in
-    let same = ap rows_in c.as_slice-2.ensures.value ∙ c.in_ok-rows.ensures ∙ ap (map (entry_row columns)) entries
-    ∙ sym (first-records c.args.safe c.args.count c.args.number c.args.heading.now (rows_lent rows)) in
+    let same = ap rows_in c.as_slice-2.ensures.value ∙ c.in_ok-rows.ensures ∙ ap (map (entry_row (option_copied c.args.names) columns)) entries
+    ∙ sym (first-records (option_copied c.args.names) c.args.safe c.args.count c.args.number c.args.heading.now (rows_lent rows)) in
     IfOk-weaker c.records.result _ _ (λ v told. told ∙ ap (csv_records c.args.safe) same) c.records.ensures

@@ -1,5 +1,6 @@
 use Rattle.std.proofs.Common.{◌+◌, ◌-◌, List, ℕ, arith, drop, map, refl, take}
 use Rattle.std.proofs.lemmas.Result.{err_from_is_err_and}
+use Rattle.std.specs.Option.{option_copied}
 use Rattle.gathered.specs.Telling.{sheet}
 use Rattle.census_table.specs.ObjectColumns.{object_row}
 use Rattle.census_table.specs.Tables.{rows_text}
@@ -11,7 +12,7 @@ use Rattle.census_table.proofs.table.put_objects.Goals as goal
 pub loop-start-init : goal.loop-start-init
 loop-start-init g c = (
   omega arith,
-  up_to_start (rows_text c.args.format (map (object_row c.args.columns.now) c.args.objects.now)) (sheet g.W.Write.contents c.args.block.now c.args.writer.now),
+  up_to_start (rows_text c.args.format (map (object_row (option_copied c.args.names) c.args.columns.now) c.args.objects.now)) (sheet g.W.Write.contents c.args.block.now c.args.writer.now),
 )
 
 pub returns-in_err-put_some : goal.returns-in_err-put_some
@@ -20,9 +21,9 @@ returns-in_err-put_some g c =
     let all = c.args.objects.now in
     let l = c.loop-start in
     let m = c.min.result in
-    let under : List Object → List ℕ = λ objects. rows_text c.args.format (map (object_row c.args.columns.now) objects) in
+    let under : List Object → List ℕ = λ objects. rows_text c.args.format (map (object_row (option_copied c.args.names) c.args.columns.now) objects) in
     let some = take (l.start + m - l.start) (drop l.start all) in
-    let cut = objects-cut c.args.format c.args.columns.now (drop l.start all) some (drop (l.start + m) all) some (drop-cut all l.start m) refl in
+    let cut = objects-cut (option_copied c.args.names) c.args.format c.args.columns.now (drop l.start all) some (drop (l.start + m) all) some (drop-cut all l.start m) refl in
     rw p.1
     (up_to_front (under all) (under (drop l.start all)) (under some) (under (drop (l.start + m) all))
     (sheet g.W.Write.contents c.args.block.now c.args.writer.now) (sheet g.W.Write.contents l.block l.writer)
@@ -33,9 +34,9 @@ loop-start-preserved g c =
     let all = c.args.objects.now in
     let l = c.loop-start in
     let m = c.min.result in
-    let under : List Object → List ℕ = λ objects. rows_text c.args.format (map (object_row c.args.columns.now) objects) in
+    let under : List Object → List ℕ = λ objects. rows_text c.args.format (map (object_row (option_copied c.args.names) c.args.columns.now) objects) in
     let some = take (l.start + m - l.start) (drop l.start all) in
-    let cut = objects-cut c.args.format c.args.columns.now (drop l.start all) some (drop (l.start + m) all) some (drop-cut all l.start m) refl in (
+    let cut = objects-cut (option_copied c.args.names) c.args.format c.args.columns.now (drop l.start all) some (drop (l.start + m) all) some (drop-cut all l.start m) refl in (
       omega (arith, c.min.ensures, l.invariant.0),
       up_to_more (under all) (under (drop l.start all)) (under some) (under (drop (l.start + m) all))
           (sheet g.W.Write.contents c.args.block.now c.args.writer.now) (sheet g.W.Write.contents l.block l.writer)

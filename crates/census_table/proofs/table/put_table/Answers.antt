@@ -1,4 +1,4 @@
-use Rattle.std.proofs.Common.{MatchResult, ap, subst}
+use Rattle.std.proofs.Common.{None, MatchResult, ap, subst}
 use Rattle.std.proofs.lemmas.Result.{err_from_is_err_and}
 use Rattle.gathered.specs.Telling.{TellsAfter, TellsFront, sheet}
 use Rattle.census_table.specs.Patterns.{patterns_of}
@@ -16,4 +16,4 @@ returns g c =
     let before = sheet g.W.Write.contents c.args.block.now c.args.writer.now in
     let after = sheet g.W.Write.contents c.put_listing.new.block c.put_listing.new.writer in
     subst (λ t. MatchResult c.put_listing.result (λ _. TellsAfter t before after) (λ _. TellsFront t before after))
-    (ap (listing_text c.args.format) c.in_ok-table.ensures) c.put_listing.ensures
+    (ap (listing_text c.args.format None) c.in_ok-table.ensures) c.put_listing.ensures
