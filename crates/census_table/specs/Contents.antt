@@ -5,10 +5,11 @@ use Rattle.std.specs.List.{list_any}
 use Rattle.std.specs.Str.{is_utf8}
 use Rattle.std.specs.Str.Lossy.{utf8_lossy}
 use Rattle.hex.specs.Hex.{encode_lower}
-use Rattle.serde_json.specs.Data.{Data, array, item, no_items, no_members, null, number, object, put, string, unsigned}
+use Rattle.serde_json.specs.Data.{Data, array, null, number, string, unsigned}
 use Rattle.serde_json.specs.Find.{of_integer}
 use Rattle.serde_json.specs.View.{items_of}
 use Rattle.life_faults.specs.Reported.{fault_words}
+use Rattle.census_json.specs.Values.{counted_data, engines_data}
 use Rattle.census_table.specs.Lists.{Engines}
 use Rattle.census_table.specs.declared.cell.Cell.{Cell}
 use Rattle.census_table.specs.declared.cell.Cell.TheVariants.{Empty, Count, Shift, Text, Hex, Fault}
@@ -77,21 +78,14 @@ data_or_null (Some bytes) = string bytes
 
 -- so many objects with a code
 abbrev pub portion_data : Portion → Data
-portion_data portion =
-    object (put (codes "count") (number (unsigned portion.count)) (put (codes "code") (string (utf8_lossy portion.code.now)) no_members))
+portion_data portion = counted_data portion.code.now portion.count None
 
 abbrev pub portions_data : List Portion → Data
 portions_data portions = array (items_of (map portion_data portions))
 
--- how far to the right and down
-abbrev pub displacement_data : ℤ → ℤ → Data
-displacement_data dx dy = array (item (number (of_integer dx)) (item (number (of_integer dy)) no_items))
-
 -- engines of which the same is told
-abbrev pub engines_data : Engines → Data
-engines_data told =
-    object (put (codes "period") (number (unsigned told.period)) (put (codes "emits") (portions_data told.emits)
-    (put (codes "displacement") (displacement_data told.dx told.dy) (put (codes "count") (number (unsigned told.count)) no_members))))
+abbrev pub kind_data : Engines → Data
+kind_data told = engines_data told.period told.dx told.dy told.count (map portion_data told.emits)
 
 -- the value of an object's member
 abbrev pub content_data : Content → Data
@@ -100,5 +94,5 @@ content_data (count n) = number (unsigned n)
 content_data (shift z) = number (of_integer z)
 content_data (text bytes) = string (utf8_lossy bytes)
 content_data (hex bytes) = data_or_null (hex_of bytes)
-content_data (engines list) = array (items_of (map engines_data list))
+content_data (engines list) = array (items_of (map kind_data list))
 content_data (parts list) = portions_data list

@@ -1,10 +1,8 @@
 -- The texts of tables.
-use Rattle.std.specs.Prelude.{◌≡◌, ℕ, Bool, None, List, [], ◌∷◌, ◌++◌, codes, filter, length, map}
-use Rattle.bstr.specs.Find.{matches}
-use Rattle.bstr.specs.Text.{replaced_at}
+use Rattle.std.specs.Prelude.{◌≡◌, ℕ, Bool, None, List, [], ◌∷◌, ◌++◌, filter, map}
 use Rattle.csv.specs.Writing.{default_writer, row_text}
-use Rattle.serde_json.specs.Data.{Data, Members, no_members, object, put}
-use Rattle.serde_json.specs.Written.{compact_text}
+use Rattle.serde_json.specs.Data.{Members, no_members, object, put}
+use Rattle.census_json.specs.Lines.{data_line}
 use Rattle.census_rows.specs.Kinds.{said}
 use Rattle.census_rows.specs.declared.kinds.Behind.TheVariants as behind
 use Rattle.census_rows.specs.declared.row.Row.{Row}
@@ -62,20 +60,6 @@ csv_records safe (row ∷ rows) = row_text default_writer (row_fields safe row) 
 abbrev pub with_row : List Member → Members → Members
 with_row [] members = members
 with_row (member ∷ row) members = with_row row (put member.name (content_data member.content) members)
-
--- the bytes, with each place where these stand taken by others
-abbrev pub replaced : List ℕ → List ℕ → List ℕ → List ℕ
-replaced old new bytes = replaced_at bytes (length old) new 0 (matches bytes old 0)
-
--- JSON in which what other programs may take for the end of a line, U+0085, U+2028 and U+2029, is written as an escape
-abbrev pub with_line_ends_escaped : List ℕ → List ℕ
-with_line_ends_escaped json =
-    replaced (226 ∷ 128 ∷ 169 ∷ []) (codes "\\u2029")
-    (replaced (226 ∷ 128 ∷ 168 ∷ []) (codes "\\u2028") (replaced (194 ∷ 133 ∷ []) (codes "\\u0085") json))
-
--- JSON, as `serde_json` writes it without blanks, and an LF
-abbrev pub data_line : Data → List ℕ
-data_line value = with_line_ends_escaped (compact_text value) ++ 10 ∷ []
 
 -- the object of a row
 abbrev pub json_line : List Member → List ℕ

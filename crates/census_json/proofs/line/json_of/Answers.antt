@@ -1,7 +1,7 @@
 use Rattle.std.proofs.Common.{◌∙◌, ap}
 use Rattle.std.proofs.lemmas.Result.{IfOk-weaker}
-use Rattle.census_table.specs.Tables.{with_line_ends_escaped}
-use Rattle.census_table.proofs.json_lines.json_of.Goals as goal
+use Rattle.census_json.specs.Lines.{with_line_ends_escaped}
+use Rattle.census_json.proofs.line.json_of.Goals as goal
 
 pub returns : goal.returns
 returns c =
