@@ -1,5 +1,4 @@
 mod Joining
 mod Meant
-mod Parts
 mod Refusing
 mod Sizes

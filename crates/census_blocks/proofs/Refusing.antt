@@ -1,5 +1,5 @@
 -- The block of a text that has a fault.
-use Rattle.std.proofs.Common.{◌≡◌, ℕ, List, Some, Result, Ok, Err, ap, sym}
+use Rattle.std.proofs.Common.{◌≡◌, ℕ, List, Option, Some, Result, Ok, Err, ap, sym}
 use Rattle.life_text.specs.declared.rle.RleFault.{RleFault}
 use Rattle.life_text.specs.Picture.{picture_of}
 use Rattle.life_text.specs.Rle.{Meaning, fault_of, reading, refusal}
@@ -12,6 +12,7 @@ no_picture (Err other) fault is =
     let same : other ≡ fault = cc in
     ap Err same
 
-pub told_block : (inquiry : Inquiry) (text : List ℕ) (fault : RleFault) → refusal text ≡ Some fault → Err fault ≡ block_of inquiry text
+pub told_block : (inquiry : Inquiry) (file : Option (List ℕ)) (text : List ℕ) (fault : RleFault) → refusal text ≡ Some fault
+    → Err fault ≡ block_of inquiry file text
 unfolding block_of
-told_block inquiry text fault is = ap (block_or_fault inquiry) (sym (no_picture (reading text) fault is))
+told_block inquiry file text fault is = ap (block_or_fault inquiry file) (sym (no_picture (reading text) fault is))

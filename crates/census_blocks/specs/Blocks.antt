@@ -1,25 +1,32 @@
--- What is written of one RLE text: a block of lines that tells what its pattern is.
-use Rattle.std.specs.Prelude.{ℕ, List, ◌++◌, Result, Ok, Err}
+-- What is written of one RLE text: what its pattern is.
+use Rattle.std.specs.Prelude.{ℕ, List, ◌++◌, Option, Result, Ok, Err}
+use Rattle.life_cells.specs.Rules.{rule_text}
 use Rattle.life_model.specs.Box.{height, width}
 use Rattle.life_model.specs.Generation.{size}
 use Rattle.life_text.specs.declared.rle.RleFault.{RleFault}
 use Rattle.life_text.specs.Picture.{Picture, picture_of}
 use Rattle.life_text.specs.Rle.{reading}
 use Rattle.census_blocks.specs.Known.{known_of}
-use Rattle.census_blocks.specs.Lines.{head_lines, known_lines, text_of}
+use Rattle.census_blocks.specs.Things.{head_things, known_things}
 use Rattle.census_blocks.specs.declared.inquiry.Inquiry.{Inquiry}
+use Rattle.census_facts.specs.Facts.{Thing}
+use Rattle.census_facts.specs.Forms.{things_text}
 
--- the lines of generation 0, and then those of what is known of the pattern within the bound
-unfoldable pub pattern_block : Inquiry → Picture → List ℕ
-pattern_block inquiry pattern =
-    text_of (head_lines pattern.rule (size pattern.cells) (width pattern.cells, height pattern.cells))
-    ++ text_of (known_lines inquiry.bound (known_of inquiry pattern))
+-- what is told of the file and of generation 0, and then what is known of the pattern within the bound
+abbrev pub pattern_things : Inquiry → Option (List ℕ) → Picture → List Thing
+pattern_things inquiry file pattern =
+    head_things file (rule_text pattern.rule) (size pattern.cells) (width pattern.cells, height pattern.cells)
+    ++ known_things inquiry.bound (known_of inquiry pattern)
+
+-- this is told in the form that is asked for
+unfoldable pub pattern_block : Inquiry → Option (List ℕ) → Picture → List ℕ
+pattern_block inquiry file pattern = things_text inquiry.form (pattern_things inquiry file pattern)
 
 -- the block of a pattern, or the fault of a text that means none
-abbrev pub block_or_fault : Inquiry → Result Picture RleFault → Result (List ℕ) RleFault
-block_or_fault inquiry (Ok pattern) = Ok (pattern_block inquiry pattern)
-block_or_fault inquiry (Err fault) = Err fault
+abbrev pub block_or_fault : Inquiry → Option (List ℕ) → Result Picture RleFault → Result (List ℕ) RleFault
+block_or_fault inquiry file (Ok pattern) = Ok (pattern_block inquiry file pattern)
+block_or_fault inquiry file (Err fault) = Err fault
 
--- what is written of an RLE text
-unfoldable pub block_of : Inquiry → List ℕ → Result (List ℕ) RleFault
-block_of inquiry text = block_or_fault inquiry (picture_of (reading text))
+-- what is written of the RLE text of a file, or of one that is from no file
+unfoldable pub block_of : Inquiry → Option (List ℕ) → List ℕ → Result (List ℕ) RleFault
+block_of inquiry file text = block_or_fault inquiry file (picture_of (reading text))

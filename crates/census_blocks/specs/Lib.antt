@@ -1,3 +1,3 @@
 pub mod Known
-pub mod Lines
+pub mod Things
 pub mod Blocks

@@ -1,5 +1,7 @@
 //! What is asked of a pattern.
 
+use census_facts::Form;
+
 /// The most generations within which growth is looked for.
 pub const HORIZON_LIMIT: u32 = 10_000;
 
@@ -14,4 +16,6 @@ pub struct Inquiry {
     pub near: bool,
     /// Within how many generations growth is looked for, 1 to 10,000.
     pub horizon: u32,
+    /// How the answer is told.
+    pub form: Form,
 }

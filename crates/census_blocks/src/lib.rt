@@ -1,13 +1,12 @@
-//! What is written of one pattern: a block of lines that tells what it is.
+//! What is written of one pattern: a block of lines, or a JSON object, that tells what it is.
 //!
 //! Tested in `tests_objects`.
 #![tactic(auto)]
 
 mod block_text;
-mod engines;
+mod facts;
 mod inquiry;
 mod known;
-mod lines;
 mod size;
 
 pub use block_text::{BlockText, block};

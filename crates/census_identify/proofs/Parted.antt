@@ -1,10 +1,11 @@
 -- What is told of one more.
 use Rattle.std.proofs.Common.{◌≡◌, ℕ, Bool, true, false, List, [], ◌∷◌, ◌++◌, max, refl, sym, ap, ◌∙◌, append_assoc, append-nil, arith}
-use Rattle.std.specs.List.{join_with_byte}
 use Rattle.std.proofs.lemmas.List.{map-append}
 use Rattle.census_blocks.specs.declared.inquiry.Inquiry.{Inquiry}
+use Rattle.census_facts.specs.Forms.{separator}
+use Rattle.census_facts.specs.declared.form.Form.{Form}
 use Rattle.census_identify.specs.Hearing.{Hearing}
-use Rattle.census_identify.specs.Telling.{block_after, blocks_in, blocks_text, line_told, lines_text, output_of, status_of, told_of, told_words}
+use Rattle.census_identify.specs.Telling.{block_after, blocks_in, blocks_text, line_told, lines_text, output_of, parted, status_of, told_of, told_words}
 use Rattle.census_identify.specs.declared.told.Told.{Told}
 use Rattle.census_identify.specs.declared.told.Told.TheVariants.{Block, Line}
 
@@ -13,11 +14,16 @@ abbrev pub has_any : {A : Type 0} → List A → Bool
 has_any [] = false
 has_any (x ∷ xs) = true
 
-join_more : (blocks : List (List ℕ)) (block : List ℕ) → join_with_byte 10 (blocks ++ block ∷ []) ≡ join_with_byte 10 blocks ++ block_after (has_any blocks) block
-join_more [] block = refl
-join_more (x ∷ []) block = refl
-join_more (x ∷ y ∷ blocks) block =
-    ap (λ l. x ++ (10 ∷ l)) (join_more (y ∷ blocks) block) ∙ sym (append_assoc x (10 ∷ join_with_byte 10 (y ∷ blocks)) (10 ∷ block))
+join_more : (form : Form) (blocks : List (List ℕ)) (block : List ℕ)
+    → parted (separator form) (blocks ++ block ∷ []) ≡ parted (separator form) blocks ++ block_after form (has_any blocks) block
+join_more form [] block = refl
+join_more form (x ∷ []) block = refl
+join_more form (x ∷ y ∷ blocks) block =
+    let between = separator form in
+    let others = parted between (y ∷ blocks) in
+    ap (λ l. x ++ (between ++ l)) (join_more form (y ∷ blocks) block)
+    ∙ ap (λ l. x ++ l) (sym (append_assoc between others (between ++ block)))
+    ∙ sym (append_assoc x (between ++ others) (between ++ block))
 
 block_more : (told : List Told) (block : List ℕ) → blocks_in (told ++ Block block ∷ []) ≡ blocks_in told ++ block ∷ []
 block_more [] block = refl
@@ -29,9 +35,10 @@ no_block_more [] line status = refl
 no_block_more (Block b ∷ told) line status = ap (λ l. b ∷ l) (no_block_more told line status)
 no_block_more (Line l s ∷ told) line status = no_block_more told line status
 
-pub blocks_more : (told : List Told) (t : Told) → blocks_text (told ++ t ∷ []) ≡ blocks_text told ++ output_of (has_any (blocks_in told)) t
-blocks_more told (Block block) = ap (join_with_byte 10) (block_more told block) ∙ join_more (blocks_in told) block
-blocks_more told (Line line status) = ap (join_with_byte 10) (no_block_more told line status) ∙ sym (append-nil (blocks_text told))
+pub blocks_more : (form : Form) (told : List Told) (t : Told)
+    → blocks_text form (told ++ t ∷ []) ≡ blocks_text form told ++ output_of form (has_any (blocks_in told)) t
+blocks_more form told (Block block) = ap (parted (separator form)) (block_more told block) ∙ join_more form (blocks_in told) block
+blocks_more form told (Line line status) = ap (parted (separator form)) (no_block_more told line status) ∙ sym (append-nil (blocks_text form told))
 
 pub lines_more : (told : List Told) (t : Told) → lines_text (told ++ t ∷ []) ≡ lines_text told ++ line_told t
 lines_more [] (Block block) = refl

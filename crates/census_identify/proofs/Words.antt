@@ -46,7 +46,7 @@ pub record IsUnderWay (held : List ℕ → ToldOf) (inquiry : Inquiry) (words : 
   pub heard : List Hearing
   pub words_are : words ≡ heard_words heard
   pub hears : HearsEach held heard before.input now.input
-  pub blocks : Writes (blocks_text (told_words inquiry heard)) before.output now.output
+  pub blocks : Writes (blocks_text inquiry.form (told_words inquiry heard)) before.output now.output
   pub lines : PutsBytes (lines_text (told_words inquiry heard)) before.errors now.errors
   pub counts : Counts course (told_words inquiry heard)
 
@@ -76,8 +76,8 @@ module _ (held : List ℕ → ToldOf) (inquiry : Inquiry) (words : List (List �
   all_told : told_words inquiry (w.heard ++ next ∷ []) ≡ told ++ more ∷ []
   all_told = tellings_more inquiry w.heard next
 
-  all_blocks : blocks_text (told_words inquiry (w.heard ++ next ∷ [])) ≡ blocks_text told ++ output_of course.has_block more
-  all_blocks = ap blocks_text all_told ∙ blocks_more told more ∙ ap (λ b. blocks_text told ++ output_of b more) (sym w.counts.has_block)
+  all_blocks : blocks_text inquiry.form (told_words inquiry (w.heard ++ next ∷ [])) ≡ blocks_text inquiry.form told ++ output_of inquiry.form course.has_block more
+  all_blocks = ap (blocks_text inquiry.form) all_told ∙ blocks_more inquiry.form told more ∙ ap (λ b. blocks_text inquiry.form told ++ output_of inquiry.form b more) (sym w.counts.has_block)
 
   all_lines : lines_text (told_words inquiry (w.heard ++ next ∷ [])) ≡ lines_text told ++ line_told more
   all_lines = ap lines_text all_told ∙ lines_more told more
@@ -86,18 +86,18 @@ module _ (held : List ℕ → ToldOf) (inquiry : Inquiry) (words : List (List �
     lines_so : PutsBytes (lines_text (told_words inquiry (w.heard ++ next ∷ []))) before.errors errors
     lines_so = subst (λ l. PutsBytes l before.errors errors) (sym all_lines) (tells_more (lines_text told) (line_told more) before.errors now.errors errors w.lines told_more)
 
-    pub one_more_word : Writes (output_of course.has_block more) now.output output → course' ≡ with_told course more
+    pub one_more_word : Writes (output_of inquiry.form course.has_block more) now.output output → course' ≡ with_told course more
         → IsUnderWay held inquiry (words ++ word ∷ []) course' before (record { input = input; output = output; errors = errors })
     one_more_word written is = record {
       heard = w.heard ++ next ∷ [];
       words_are = ap (λ ws. ws ++ word ∷ []) w.words_are ∙ sym (map-append (λ h. h.word) w.heard (next ∷ []));
       hears = hears_more held w.heard next before.input now.input input w.hears hears;
-      blocks = subst (λ l. Writes l before.output output) (sym all_blocks) (writes_more (blocks_text told) (output_of course.has_block more) before.output now.output output w.blocks written);
+      blocks = subst (λ l. Writes l before.output output) (sym all_blocks) (writes_more (blocks_text inquiry.form told) (output_of inquiry.form course.has_block more) before.output now.output output w.blocks written);
       lines = lines_so;
       counts = subst (Counts course') (sym all_told) (counts_more course course' told more w.counts is);
     }
 
-    pub output_lost : (all left : List (List ℕ)) → all ≡ words ++ word ∷ left → PutsPrefix (output_of course.has_block more) now.output output
+    pub output_lost : (all left : List (List ℕ)) → all ≡ words ++ word ∷ left → PutsPrefix (output_of inquiry.form course.has_block more) now.output output
         → LosesOutput [] held inquiry all before (record { input = input; output = output; errors = errors })
     output_lost all left is front = record {
       heard = w.heard;
@@ -105,8 +105,8 @@ module _ (held : List ℕ → ToldOf) (inquiry : Inquiry) (words : List (List �
       left = left;
       words_are = is ∙ ap (λ ws. ws ++ word ∷ left) w.words_are;
       hears = hears_more held w.heard next before.input now.input input w.hears hears;
-      blocks = subst (λ l. WritesBetween (blocks_text told) l before.output output) (sym all_blocks)
-          (writes_between (blocks_text told) (output_of course.has_block more) before.output now.output output w.blocks front);
+      blocks = subst (λ l. WritesBetween (blocks_text inquiry.form told) l before.output output) (sym all_blocks)
+          (writes_between (blocks_text inquiry.form told) (output_of inquiry.form course.has_block more) before.output now.output output w.blocks front);
       lines = subst (λ l. PutsBytes l before.errors errors) (sym (append-nil (lines_text (told_words inquiry (w.heard ++ next ∷ []))))) lines_so;
     }
 
@@ -158,19 +158,19 @@ module _ (held : List ℕ → ToldOf) (inquiry : Inquiry) (words : List (Bor (Li
     line_so : PutsMoreBytes (line_told (told_of inquiry (get_or words i d).now heard)) now.errors errors
     line_so = subst (λ t. PutsMoreBytes (line_told t) now.errors errors) is told_more
 
-    pub next_told : (course' : Course) → Writes (output_of course.has_block told) now.output output → course' ≡ with_told course told
+    pub next_told : (course' : Course) → Writes (output_of inquiry.form course.has_block told) now.output output → course' ≡ with_told course told
         → IsUnderWay held inquiry (texts (take (i + 1) words)) course' before (record { input = input; output = output; errors = errors })
     next_told course' written same =
-        let written_so : Writes (output_of course.has_block (told_of inquiry (get_or words i d).now heard)) now.output output = subst (λ t. Writes (output_of course.has_block t) now.output output) is written in
+        let written_so : Writes (output_of inquiry.form course.has_block (told_of inquiry (get_or words i d).now heard)) now.output output = subst (λ t. Writes (output_of inquiry.form course.has_block t) now.output output) is written in
         let more : IsUnderWay held inquiry (texts (take i words) ++ (get_or words i d).now ∷ []) course' before (record { input = input; output = output; errors = errors }) =
         one_more_word held inquiry (texts (take i words)) course before now w (get_or words i d).now heard input hears course' output errors line_so written_so (same ∙ ap (with_told course) is) in
         subst (λ ws. IsUnderWay held inquiry ws course' before (record { input = input; output = output; errors = errors })) (sym (map_more (λ s. s.now) words i d within)) more
 
-    pub loses_output : PutsPrefix (output_of course.has_block told) now.output output
+    pub loses_output : PutsPrefix (output_of inquiry.form course.has_block told) now.output output
         → LosesOutput [] held inquiry (texts words) before (record { input = input; output = output; errors = errors })
     loses_output front =
         output_lost held inquiry (texts (take i words)) course before now w (get_or words i d).now heard input hears course output errors line_so (texts words) (texts (drop (suc i) words)) (word_between words i d within)
-        (subst (λ t. PutsPrefix (output_of course.has_block t) now.output output) is front)
+        (subst (λ t. PutsPrefix (output_of inquiry.form course.has_block t) now.output output) is front)
 
 -- # The line of the error
 

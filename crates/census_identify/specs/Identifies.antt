@@ -22,7 +22,7 @@ pub record TellsAll (held : List ℕ → Told) (inquiry : Inquiry) (words : List
   pub heard : List Hearing
   pub words_are : words ≡ heard_words heard
   pub hears : HearsEach held heard before.input after.input
-  pub blocks : Writes (blocks_text (told_words inquiry heard)) before.output after.output
+  pub blocks : Writes (blocks_text inquiry.form (told_words inquiry heard)) before.output after.output
   pub lines : PutsBytes (lines_text (told_words inquiry heard)) before.errors after.errors
   pub status_is : status ≡ status_of (told_words inquiry heard)
 
@@ -36,7 +36,7 @@ pub record LacksMemory (last : List ℕ) (held : List ℕ → Told) (inquiry : I
   pub reached : Reader
   pub hears : HearsEach held heard before.input reached
   pub taken : ConsumesAtMost (input_limit + 1) reached.unread after.input.unread
-  pub blocks : Writes (blocks_text (told_words inquiry heard)) before.output after.output
+  pub blocks : Writes (blocks_text inquiry.form (told_words inquiry heard)) before.output after.output
   pub lines : PutsBytes (lines_text (told_words inquiry heard) ++ last) before.errors after.errors
 
 -- Standard output failed at the block of a word: what was written is a prefix of the blocks up to that one, and the
@@ -47,7 +47,7 @@ pub record LosesOutput (last : List ℕ) (held : List ℕ → Told) (inquiry : I
   pub left : List (List ℕ)
   pub words_are : words ≡ heard_words heard ++ next.word ∷ left
   pub hears : HearsEach held (heard ++ next ∷ []) before.input after.input
-  pub blocks : WritesBetween (blocks_text (told_words inquiry heard)) (blocks_text (told_words inquiry (heard ++ next ∷ []))) before.output after.output
+  pub blocks : WritesBetween (blocks_text inquiry.form (told_words inquiry heard)) (blocks_text inquiry.form (told_words inquiry (heard ++ next ∷ []))) before.output after.output
   pub lines : PutsBytes (lines_text (told_words inquiry (heard ++ next ∷ [])) ++ last) before.errors after.errors
 
 -- what was done before this error ended it, with this line told last

@@ -1,10 +1,11 @@
 -- What is told of what was heard: blocks, lines and statuses.
-use Rattle.std.specs.Prelude.{ℕ, Bool, true, false, List, [], ◌∷◌, ◌++◌, codes, cond, map, max, Option, Some, None, Result, Ok, Err}
-use Rattle.std.specs.List.{join_with_byte}
+use Rattle.std.specs.Prelude.{ℕ, Bool, true, false, if◌then◌else◌, List, [], ◌∷◌, ◌++◌, codes, map, max, Option, Some, None, Result, Ok, Err}
 use Rattle.life_text.specs.declared.rle.RleFault.{RleFault}
 use Rattle.life_faults.specs.Lines.{fault_line}
 use Rattle.census_blocks.specs.Blocks.{block_of}
 use Rattle.census_blocks.specs.declared.inquiry.Inquiry.{Inquiry}
+use Rattle.census_facts.specs.Forms.{separator}
+use Rattle.census_facts.specs.declared.form.Form.{Form}
 use Rattle.census_identify.specs.Hearing.{Hearing, is_input}
 use Rattle.census_identify.specs.declared.heard.Heard.{Heard}
 use Rattle.census_identify.specs.declared.heard.Heard.TheVariants.{Text, TooLong, Unread}
@@ -17,13 +18,13 @@ use Rattle.census_identify.specs.declared.told.Told.TheVariants.{Block, Line}
 abbrev pub message_line : List ℕ → List ℕ → List ℕ
 message_line word message = codes "census: " ++ word ++ codes ":" ++ message ++ codes "\n"
 
--- `file WORD` before the block of a file; nothing before that of standard input
-abbrev pub block_with_head : List ℕ → List ℕ → List ℕ
-block_with_head word block = cond (is_input word) block (codes "file " ++ word ++ codes "\n" ++ block)
+-- the file that a word stands for; none where it stands for standard input
+abbrev pub file_of : List ℕ → Option (List ℕ)
+file_of word = if is_input word then None else Some word
 
 -- what is told of a text, by its block or its fault
 abbrev pub told_of_block : List ℕ → List ℕ → Result (List ℕ) RleFault → Told
-told_of_block word text (Ok block) = Block (block_with_head word block)
+told_of_block word text (Ok block) = Block block
 told_of_block word text (Err fault) = Line (message_line word (fault_line text fault)) 1
 
 -- that it can't be read, after what the system says of it
@@ -33,7 +34,7 @@ unread_message (Some reason) = codes " " ++ reason ++ codes " (read failed)"
 
 -- what is told of a word, by what was got of it
 abbrev pub told_of : Inquiry → List ℕ → Heard → Told
-told_of inquiry word (Text text) = told_of_block word text (block_of inquiry text)
+told_of inquiry word (Text text) = told_of_block word text (block_of inquiry (file_of word) text)
 told_of inquiry word TooLong = Line (message_line word (codes " input too long")) 1
 told_of inquiry word (Unread reason) = Line (message_line word (unread_message reason)) 4
 
@@ -47,9 +48,15 @@ blocks_in [] = []
 blocks_in (Block block ∷ told) = block ∷ blocks_in told
 blocks_in (Line line status ∷ told) = blocks_in told
 
--- what goes to standard output: the blocks, parted by LF
-abbrev pub blocks_text : List Told → List ℕ
-blocks_text told = join_with_byte 10 (blocks_in told)
+-- texts, with these bytes between each and the next
+abbrev pub parted : List ℕ → List (List ℕ) → List ℕ
+parted between [] = []
+parted between (text ∷ []) = text
+parted between (text ∷ next ∷ texts) = text ++ between ++ parted between (next ∷ texts)
+
+-- what goes to standard output: the blocks, parted as their form says
+abbrev pub blocks_text : Form → List Told → List ℕ
+blocks_text form told = parted (separator form) (blocks_in told)
 
 -- what goes to standard error: the lines
 abbrev pub lines_text : List Told → List ℕ
@@ -66,14 +73,14 @@ status_of (Line line status ∷ told) = max status (status_of told)
 -- # One more
 
 -- a block, after others where there are any
-abbrev pub block_after : Bool → List ℕ → List ℕ
-block_after true block = 10 ∷ block
-block_after false block = block
+abbrev pub block_after : Form → Bool → List ℕ → List ℕ
+block_after form true block = separator form ++ block
+block_after form false block = block
 
 -- what goes to standard output after others
-abbrev pub output_of : Bool → Told → List ℕ
-output_of has_block (Block block) = block_after has_block block
-output_of has_block (Line line status) = []
+abbrev pub output_of : Form → Bool → Told → List ℕ
+output_of form has_block (Block block) = block_after form has_block block
+output_of form has_block (Line line status) = []
 
 -- what goes to standard error
 abbrev pub line_told : Told → List ℕ

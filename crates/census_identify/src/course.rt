@@ -6,6 +6,7 @@ ghost use Rattle.census_identify.specs.Telling.{block_after, line_told, output_o
 ghost use Rattle.census_identify.specs.Courses.{with_told};
 
 use crate::told::Told;
+use census_facts::Form;
 use std::io::Write;
 use watched::{Failed, Watched, put_all};
 
@@ -16,20 +17,21 @@ pub struct Course {
     pub status: u8,
 }
 
-// Writes a block, parted from the one before it by LF.
+// Writes a block, parted from the one before it as its form says.
 fn write_block<O: Write>(
+    form: Form,
     has_block: bool,
     block: &[u8],
     output: &mut Watched<O>,
 ) -> Result<(), Failed>
     ensures { MatchResult result
-        (λ _. Writes (block_after has_block block.now)
+        (λ _. Writes (block_after form has_block block.now)
         (sink O.contents output.old) (sink O.contents output.new))
-        (λ _. PutsPrefix (block_after has_block block.now)
+        (λ _. PutsPrefix (block_after form has_block block.now)
         (sink O.contents output.old) (sink O.contents output.new)) }
 {
     if has_block {
-        put_all(output, b"\n")?;
+        put_all(output, form.separator())?;
     }
     put_all(output, block)
 }
@@ -42,8 +44,9 @@ pub fn tell_line<E: Write>(line: &[u8], errors: &mut Watched<E>)
     let _ = put_all(errors, line);
 }
 
-/// Writes a block to the one writer, or a line to the other.
+/// Writes a block in this form to the one writer, or a line to the other.
 pub fn tell<O: Write, E: Write>(
+    form: Form,
     told: &Told,
     course: &mut Course,
     output: &mut Watched<O>,
@@ -51,9 +54,9 @@ pub fn tell<O: Write, E: Write>(
 ) -> Result<(), Failed>
     requires { has_failed output.old ≡ false }
     ensures output { MatchResult result
-        (λ _. Writes (output_of course.old.has_block told.now)
+        (λ _. Writes (output_of form course.old.has_block told.now)
         (sink O.contents output.old) (sink O.contents output.new))
-        (λ _. PutsPrefix (output_of course.old.has_block told.now)
+        (λ _. PutsPrefix (output_of form course.old.has_block told.now)
         (sink O.contents output.old) (sink O.contents output.new)) }
     ensures errors { PutsMoreBytes (line_told told.now)
         (sink E.contents errors.old) (sink E.contents errors.new) }
@@ -61,7 +64,7 @@ pub fn tell<O: Write, E: Write>(
 {
     match told {
         Told::Block(block) => {
-            write_block(course.has_block, block.as_slice(), output)?;
+            write_block(form, course.has_block, block.as_slice(), output)?;
             course.has_block = true;
         }
         Told::Line { line, status } => {

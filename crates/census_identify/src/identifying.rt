@@ -51,7 +51,7 @@ fn identify_each<S: Shelf, I: Read, O: Write, E: Write>(
     for word in words {
         let heard = hear(shelf, alloc, word, input)?;
         let told = told_of(alloc, word, &heard, inquiry)?;
-        tell(&told, &mut course, output, errors)?;
+        tell(inquiry.form, &told, &mut course, output, errors)?;
     }
     Ok(course.status)
 }
@@ -60,8 +60,8 @@ fn identify_each<S: Shelf, I: Read, O: Write, E: Write>(
 /// has left, and of any other word that of the file of this path. Without a word it is standard input's alone. The
 /// bound is 1 to 100,000 generations, and the horizon 1 to 10,000.
 ///
-/// The block of a text goes to standard output, after the line `file WORD` where the word isn't `-`; an empty line
-/// parts it from the block before it. Where a text has a fault, is longer than 67,108,864 bytes or can't be read, a
+/// The block of a text goes to standard output, and tells the file too where the word isn't `-`: lines, which an empty line
+/// parts from the block before, or a JSON object on a line of its own, as the inquiry asks. Where a text has a fault, is longer than 67,108,864 bytes or can't be read, a
 /// line goes to standard error, and the next word is told. The answer is the exit status: the greatest that a line
 /// asked for, 1 for a fault or a text that is too long and 4 for one that can't be read; without such a line 0.
 ///

@@ -1,11 +1,12 @@
 //! What is told of what was got.
 ghost use Rattle.std.specs.Prelude.{◌≡◌, ◌≤◌, IfOk};
+ghost use Rattle.std.specs.Option.{option_copied};
 ghost use Rattle.census_blocks.specs.Blocks.{block_of};
-ghost use Rattle.census_identify.specs.Telling.{block_with_head, message_line, told_of, told_of_block, unread_message};
+ghost use Rattle.census_identify.specs.Telling.{file_of, message_line, told_of, told_of_block, unread_message};
 
 use crate::bytes::Bytes;
 use crate::heard::{Heard, is_input};
-use census_blocks::{HORIZON_LIMIT, Inquiry, block};
+use census_blocks::{BlockText, HORIZON_LIMIT, Inquiry, block};
 use census_bundle::Text;
 use life_faults::fault_line;
 use life_orbit::BOUND_LIMIT;
@@ -14,8 +15,8 @@ use std::alloc::{AllocError, Global};
 /// What is told of one text.
 #[derive(Drop)]
 pub enum Told {
-    /// A block of lines, for standard output.
-    Block(Bytes),
+    /// What a pattern is, for standard output.
+    Block(BlockText),
     /// A line, for standard error.
     Line {
         /// Its bytes.
@@ -54,18 +55,14 @@ fn unread_message(alloc: Global, reason: &Option<Text>) -> Result<Vec<u8>, Alloc
     Ok(message)
 }
 
-// The lines of a block, after the line `file WORD` where the word stands for a file.
-fn block_with_head(alloc: Global, word: &str, block: &[u8]) -> Result<Bytes, AllocError>
-    ensures { IfOk result (λ bytes. bytes ≡ block_with_head word.now block.now) }
+// The file that a word stands for, where it doesn't stand for standard input.
+fn file_of(word: &str) -> Option<&[u8]>
+    ensures { option_copied result ≡ file_of word.now }
 {
-    let mut bytes = Vec::new(alloc);
-    if !is_input(word) {
-        bytes.extend_from_slice(b"file ")?;
-        bytes.extend_from_slice(word.as_bytes())?;
-        bytes.extend_from_slice(b"\n")?;
+    if is_input(word) {
+        return None;
     }
-    bytes.extend_from_slice(block)?;
-    Ok(Bytes::new(bytes))
+    Some(word.as_bytes())
 }
 
 // What is told of a text.
@@ -78,10 +75,10 @@ fn told_of_text(
     requires bound { 1 ≤ inquiry.bound × inquiry.bound ≤ BOUND_LIMIT }
     requires horizon { 1 ≤ inquiry.horizon × inquiry.horizon ≤ HORIZON_LIMIT }
     ensures { IfOk result (λ told.
-        told ≡ told_of_block word.now text.now (block_of inquiry text.now)) }
+        told ≡ told_of_block word.now text.now (block_of inquiry (file_of word.now) text.now)) }
 {
-    match block(alloc, text, inquiry)? {
-        Ok(block) => Ok(Told::Block(block_with_head(alloc, word, block.as_slice())?)),
+    match block(alloc, file_of(word), text, inquiry)? {
+        Ok(block) => Ok(Told::Block(block)),
         Err(fault) => Ok(Told::Line {
             line: message_line(alloc, word, fault_line(alloc, text, &fault)?.as_slice())?,
             status: 1,
@@ -92,7 +89,7 @@ fn told_of_text(
 /// What is told of a word, by what was got of it. The bound is 1 to 100,000 generations, and the horizon 1 to 10,000.
 /// `AllocError` is answered where a growth was refused.
 ///
-/// Of a text that means a pattern it is its block, after the line `file WORD` where the word isn't `-`. Of any other
+/// Of a text that means a pattern it is its block, which tells the file too where the word isn't `-`. Of any other
 /// text it is the line `census: WORD:LINE:COLUMN: WORDS (rle fault N at A)`, which asks for status 1; of one that is too
 /// long the line `census: WORD: input too long`, which asks for status 1; and of what can't be read the line
 /// `census: WORD: REASON (read failed)`, or where the system gives no reason `census: WORD: read failed`, which asks for

@@ -1,6 +1,7 @@
 //! Texts and their blocks.
 
 use census_blocks::{HORIZON_LIMIT, Inquiry, block};
+use census_facts::Form;
 use life_orbit::BOUND_LIMIT;
 use life_text::RleFault;
 use std::test::Fail;
@@ -26,6 +27,7 @@ const USUAL: Inquiry = Inquiry {
     cells: 1_000_000,
     near: false,
     horizon: 1_000,
+    form: Form::Lines,
 };
 
 /// A text, the bound, and the block, whether or not what is near is one object.
@@ -86,7 +88,7 @@ fn texts_have_their_blocks(rt: HostRuntime) -> Result<(), Fail> {
                 near: *near,
                 ..USUAL
             };
-            let told = match block(rt.alloc(), text, inquiry)? {
+            let told = match block(rt.alloc(), None, text, inquiry)? {
                 Ok(block) => block.as_slice() == wanted.as_bytes(),
                 Err(_fault) => false,
             };
@@ -114,7 +116,7 @@ fn a_traffic_light_is_one_object_where_what_is_near_is_one(rt: HostRuntime) -> R
             near: *near,
             ..USUAL
         };
-        let told = match block(rt.alloc(), LIGHT, inquiry)? {
+        let told = match block(rt.alloc(), None, LIGHT, inquiry)? {
             Ok(block) => block.as_slice() == wanted.as_bytes(),
             Err(_fault) => false,
         };
@@ -152,7 +154,80 @@ fn growth_is_told_within_the_horizon_and_the_cells(rt: HostRuntime) -> Result<()
             horizon: *horizon,
             ..USUAL
         };
-        let told = match block(rt.alloc(), GUN, inquiry)? {
+        let told = match block(rt.alloc(), None, GUN, inquiry)? {
+            Ok(block) => block.as_slice() == wanted.as_bytes(),
+            Err(_fault) => false,
+        };
+        assert!(rt; told);
+    }
+    Ok(())
+}
+
+/// The file, a text, the bound, how many cells a generation may have, and the object.
+type JsonCase = (Option<&'static [u8]>, &'static [u8], u32, u32, &'static str);
+
+const OBJECTS: &[JsonCase] = &[
+    // A glider.
+    (
+        None,
+        b"x = 3, y = 3, rule = B3/S23\nbo$2bo$3o!",
+        10_000,
+        1_000_000,
+        "{\"apgcode\":\"xq4_153\",\"box\":[3,3],\"displacement\":[1,1],\"onset\":0,\"period\":4,\"population\":5,\"rule\":\"B3/S23\"}\n",
+    ),
+    // A spaceship to the left, of a file whose name has a quotation mark, a backslash and a byte that is not UTF-8.
+    (
+        Some(b"\"l\\\xff.rle"),
+        b"x = 5, y = 4\nbo2bo$o$o3bo$4o!",
+        20,
+        1_000_000,
+        "{\"apgcode\":\"xq4_6frc\",\"box\":[5,4],\"displacement\":[-2,0],\"file\":\"\\\"l\\\\\u{fffd}.rle\",\"onset\":0,\"period\":4,\"population\":9,\"rule\":\"B3/S23\"}\n",
+    ),
+    // Objects apart.
+    (
+        None,
+        THREE_OBJECTS,
+        30,
+        1_000_000,
+        "{\"box\":[43,24],\"objects\":3,\"onset\":0,\"parts\":[{\"code\":\"xp2_7\",\"count\":1},{\"code\":\"xs4_33\",\"count\":1},{\"code\":\"xq4_153\",\"count\":1}],\"population\":12,\"rule\":\"B3/S23\"}\n",
+    ),
+    // A methuselah.
+    (
+        None,
+        ACORN,
+        10,
+        1_000_000,
+        "{\"box\":[7,3],\"population\":7,\"rule\":\"B3/S23\",\"unresolved\":10}\n",
+    ),
+    // A gun.
+    (
+        Some(b"gun.rle"),
+        GUN,
+        100,
+        1_000_000,
+        "{\"box\":[36,9],\"engines\":[{\"count\":1,\"displacement\":[0,0],\"emits\":[{\"code\":\"xq4_153\",\"count\":1}],\"period\":30}],\"file\":\"gun.rle\",\"population\":36,\"rule\":\"B3/S23\"}\n",
+    ),
+    // A gun that has too many cells.
+    (
+        None,
+        GUN,
+        500,
+        60,
+        "{\"box\":[36,9],\"large\":8,\"population\":36,\"rule\":\"B3/S23\"}\n",
+    ),
+];
+
+#[test]
+fn texts_have_their_objects(rt: HostRuntime) -> Result<(), Fail> {
+    for (file, text, bound, cells, wanted) in OBJECTS {
+        assert!(rt; 1 <= *bound && *bound <= BOUND_LIMIT);
+        let inquiry = Inquiry {
+            bound: *bound,
+            cells: *cells,
+            form: Form::Json,
+            ..USUAL
+        };
+        let told = match block(rt.alloc(), *file, text, inquiry)? {
             Ok(block) => block.as_slice() == wanted.as_bytes(),
             Err(_fault) => false,
         };
@@ -162,9 +237,26 @@ fn growth_is_told_within_the_horizon_and_the_cells(rt: HostRuntime) -> Result<()
 }
 
 #[test]
+fn a_file_is_told_in_lines(rt: HostRuntime) -> Result<(), Fail> {
+    let told = match block(
+        rt.alloc(),
+        Some(b"a b.rle"),
+        ACORN,
+        Inquiry { bound: 10, ..USUAL },
+    )? {
+        Ok(block) => {
+            block.as_slice() == b"file a b.rle\nrule B3/S23\npopulation 7\nbox 7 3\nunresolved 10\n"
+        }
+        Err(_fault) => false,
+    };
+    assert!(rt; told);
+    Ok(())
+}
+
+#[test]
 fn a_fault(rt: HostRuntime) -> Result<(), Fail> {
     let inquiry = Inquiry { bound: 10, ..USUAL };
-    let fault = block(rt.alloc(), b"x = 3, y = 3\n3b?!", inquiry)?.err();
+    let fault = block(rt.alloc(), None, b"x = 3, y = 3\n3b?!", inquiry)?.err();
     assert!(rt; fault == Some(RleFault::BadChar { at: 15 }));
     Ok(())
 }

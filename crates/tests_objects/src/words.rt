@@ -1,6 +1,7 @@
 //! Words that name files or standard input, and what is told of them.
 
 use census_blocks::Inquiry;
+use census_facts::Form;
 use census_folders::{Shelf, ShelfFault, Unread};
 use census_identify::identify;
 use std::alloc::Global;
@@ -62,8 +63,9 @@ impl Shelf for Shown {
     }
 }
 
-/// Words, standard input, and the status, standard output and standard error.
+/// The form, words, standard input, and the status, standard output and standard error.
 type Case = (
+    Form,
     &'static [&'static str],
     &'static [u8],
     (u8, &'static str, &'static str),
@@ -71,10 +73,11 @@ type Case = (
 
 const CASES: &[Case] = &[
     // Standard input.
-    (&[], GLIDER, (0, GLIDER_LINES, "")),
-    (&["-"], GLIDER, (0, GLIDER_LINES, "")),
+    (Form::Lines, &[], GLIDER, (0, GLIDER_LINES, "")),
+    (Form::Lines, &["-"], GLIDER, (0, GLIDER_LINES, "")),
     // Two files.
     (
+        Form::Lines,
         &["block.rle", "glider.rle"],
         b"",
         (
@@ -85,6 +88,7 @@ const CASES: &[Case] = &[
     ),
     // A file that can't be read, and one that has a fault.
     (
+        Form::Lines,
         &["none.rle", "-", "bad.rle"],
         GLIDER,
         (
@@ -93,11 +97,22 @@ const CASES: &[Case] = &[
             "census: none.rle: read failed\ncensus: bad.rle:2:3: a byte has no meaning here: the body must be made of counts, `b`, `.`, `o`, `A`, `$`, `!` and blanks (rle fault 6 at 15)\n",
         ),
     ),
+    // An object on a line for each file that has no fault.
+    (
+        Form::Json,
+        &["block.rle", "bad.rle", "-"],
+        GLIDER,
+        (
+            1,
+            "{\"apgcode\":\"xs4_33\",\"box\":[2,2],\"displacement\":[0,0],\"file\":\"block.rle\",\"onset\":0,\"period\":1,\"population\":4,\"rule\":\"B3/S23\"}\n{\"apgcode\":\"xq4_153\",\"box\":[3,3],\"displacement\":[1,1],\"onset\":0,\"period\":4,\"population\":5,\"rule\":\"B3/S23\"}\n",
+            "census: bad.rle:2:3: a byte has no meaning here: the body must be made of counts, `b`, `.`, `o`, `A`, `$`, `!` and blanks (rle fault 6 at 15)\n",
+        ),
+    ),
 ];
 
 #[test]
 fn words_are_told(rt: HostRuntime) -> Result<(), Fail> {
-    for (words, input, (wanted_status, wanted_output, wanted_errors)) in CASES {
+    for (form, words, input, (wanted_status, wanted_output, wanted_errors)) in CASES {
         let mut input = Watched::new(*input);
         let mut output = Watched::new(Vec::new(rt.alloc()));
         let mut errors = Watched::new(Vec::new(rt.alloc()));
@@ -106,6 +121,7 @@ fn words_are_told(rt: HostRuntime) -> Result<(), Fail> {
             cells: 1_000_000,
             near: false,
             horizon: 1_000,
+            form: *form,
         };
         let status = identify(
             &FILES,

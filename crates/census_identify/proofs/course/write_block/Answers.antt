@@ -1,5 +1,6 @@
-use Rattle.std.proofs.Common.{[], ◌∷◌}
+use Rattle.std.proofs.Common.{[]}
 use Rattle.std.proofs.KnownBytes.{Appends-nil}
+use Rattle.census_facts.specs.Forms.{separator}
 use Rattle.census_identify.specs.Streams.{sink}
 use Rattle.census_identify.proofs.Written.{writes_rest}
 use Rattle.census_identify.proofs.course.write_block.Goals as goal
@@ -11,7 +12,7 @@ returns g c =
     elim c.if-has_block.branch [
       | then-has_block+in_ok-put_all w ↦
           rw w.if-has_block.true
-          (writes_rest c.put_all-2.result (10 ∷ []) c.args.block.now (sink contents c.args.output.now) (sink contents c.if-has_block.output) (sink contents c.put_all-2.new.writer)
+          (writes_rest c.put_all-2.result (separator c.args.form) c.args.block.now (sink contents c.args.output.now) (sink contents c.if-has_block.output) (sink contents c.put_all-2.new.writer)
           (rw w.output-is w.in_ok-put_all.ensures.bytes) c.put_all-2.ensures.failed c.put_all-2.ensures.bytes)
       | else-has_block w ↦
           rw w.if-has_block.false

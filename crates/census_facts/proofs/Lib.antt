@@ -1,0 +1,2 @@
+pub mod Floatless
+mod Parts

@@ -1,0 +1,54 @@
+-- Parts and engines that are gone over one after another.
+use Rattle.std.proofs.Common.{◌≡◌, ℕ, zero, suc, ◌+◌, ◌<◌, List, [], ◌∷◌, ◌++◌, length, map, take, Some, refl, sym, ap, ◌∙◌, append_assoc, append-nil, slice_get, arith}
+use Rattle.std.proofs.lemmas.List.{length-take, map-append}
+use Rattle.life_answer.specs.declared.part.Part.{Part}
+use Rattle.life_answer.specs.declared.tale.Engines.{Engines}
+use Rattle.census_facts.specs.Lines.{Line, emits_line, engine_line, engines_lines, text_of}
+
+text_of-append : (ls ms : List Line) → text_of (ls ++ ms) ≡ text_of ls ++ text_of ms
+text_of-append [] ms = refl
+text_of-append (l ∷ ls) ms = ap (λ t. l ++ t) (text_of-append ls ms) ∙ sym (append_assoc l (text_of ls) (text_of ms))
+
+take_more : {X : Type 0} (xs : List X) (i : ℕ) (x : X) → slice_get xs i ≡ Some x → take (i + 1) xs ≡ take i xs ++ x ∷ []
+take_more [] i x at = absurd (cc)
+take_more (y ∷ ys) zero x at =
+    let same : y ≡ x = cc in
+    ap (λ z. z ∷ []) same
+take_more (y ∷ ys) (suc i) x at =
+    let n : suc i + 1 ≡ suc (i + 1) = omega arith in
+    ap (λ m. take m (y ∷ ys)) n ∙ ap (λ zs. y ∷ zs) (take_more ys i x at)
+
+-- one line more
+pub lines_taken : (line : Part → Line) (parts : List Part) (i : ℕ) (part : Part) → slice_get parts i ≡ Some part
+    → text_of (map line (take (i + 1) parts)) ≡ text_of (map line (take i parts)) ++ line part
+lines_taken line parts i part at =
+    ap (λ ps. text_of (map line ps)) (take_more parts i part at)
+    ∙ ap text_of (map-append line (take i parts) (part ∷ []))
+    ∙ text_of-append (map line (take i parts)) (line part ∷ [])
+    ∙ ap (λ t. text_of (map line (take i parts)) ++ t) (append-nil (line part))
+
+-- ---- engines
+
+abbrev block : ℕ → Engines → List Line
+block e engines = engine_line e engines ∷ map (emits_line e) engines.tale.emits
+
+lines-append : (e : ℕ) (lines : List Engines) (engines : Engines) →
+    engines_lines e (lines ++ engines ∷ []) ≡ engines_lines e lines ++ block (e + length lines) engines
+lines-append e [] engines =
+    append-nil (block e engines) ∙ ap (λ n. block n engines) (let same : e ≡ e + 0 = omega arith in same)
+lines-append e (line ∷ lines) engines =
+    ap (λ rows. block e line ++ rows)
+    (lines-append (suc e) lines engines
+    ∙ ap (λ n. engines_lines (suc e) lines ++ block n engines) (let same : suc e + length lines ≡ e + length (line ∷ lines) = omega arith in same))
+    ∙ sym (append_assoc (block e line) (engines_lines (suc e) lines) (block (e + length (line ∷ lines)) engines))
+
+-- the lines of one kind of engines more
+pub engines_taken : (lines : List Engines) (n : ℕ) (engines : Engines) → n < length lines → slice_get lines n ≡ Some engines →
+    text_of (engines_lines 1 (take (n + 1) lines))
+    ≡ text_of (engines_lines 1 (take n lines)) ++ (engine_line (n + 1) engines ++ text_of (map (emits_line (n + 1)) engines.tale.emits))
+engines_taken lines n engines below at =
+    let long : length (take n lines) ≡ n = let e = length-take n lines in omega arith in
+    ap (λ ls. text_of (engines_lines 1 ls)) (take_more lines n engines at)
+    ∙ ap text_of (lines-append 1 (take n lines) engines
+    ∙ ap (λ k. engines_lines 1 (take n lines) ++ block k engines) (let same : 1 + length (take n lines) ≡ n + 1 = omega arith in same))
+    ∙ text_of-append (engines_lines 1 (take n lines)) (block (n + 1) engines)

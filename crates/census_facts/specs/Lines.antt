@@ -1,0 +1,60 @@
+-- The lines that tell of a pattern.
+use Rattle.std.specs.Prelude.{ℕ, suc, List, [], ◌∷◌, ◌++◌, codes, decimal, map}
+use Rattle.std.specs.Fmt.{signed_decimal}
+use Rattle.life_answer.specs.declared.part.Part.{Part}
+use Rattle.life_answer.specs.declared.tale.Engines.{Engines}
+use Rattle.life_answer.specs.CountedTales.{engines_in}
+use Rattle.census_facts.specs.Facts.{Content, Thing}
+use Rattle.census_facts.specs.Facts as told
+
+-- the bytes of a line
+abbrev pub Line : Type 0
+Line = List ℕ
+
+-- the values, each with a blank before it
+abbrev pub fields_text : List (List ℕ) → List ℕ
+fields_text [] = []
+fields_text (value ∷ values) = 32 ∷ value ++ fields_text values
+
+-- a name and values, parted by blanks, and LF
+unfoldable pub line : List ℕ → List (List ℕ) → Line
+line name values = name ++ fields_text values ++ codes "\n"
+
+-- the lines' bytes, one line after another
+abbrev pub text_of : List Line → List ℕ
+text_of [] = []
+text_of (l ∷ ls) = l ++ text_of ls
+
+-- `part`, the code of an object, and how many parts are that object
+abbrev pub part_line : Part → Line
+part_line part = line (codes "part") (part.code ∷ decimal part.count ∷ [])
+
+-- `engine`, the number of these engines, their period and displacement, and how many they are
+abbrev pub engine_line : ℕ → Engines → Line
+engine_line e engines =
+    line (codes "engine")
+    (decimal e ∷ decimal engines.tale.period ∷ signed_decimal engines.tale.dx ∷ signed_decimal engines.tale.dy ∷ decimal engines.count ∷ [])
+
+-- `emits`, the number of engines, the code of an object, and how often each of them emits it in a period
+abbrev pub emits_line : ℕ → Part → Line
+emits_line e part = line (codes "emits") (decimal e ∷ part.code ∷ decimal part.count ∷ [])
+
+-- the `engine` lines, each with its `emits` lines behind it, of engines the first of which have the number e
+abbrev pub engines_lines : ℕ → List Engines → List Line
+engines_lines e [] = []
+engines_lines e (engines ∷ lines) = (engine_line e engines ∷ map (emits_line e) engines.tale.emits) ++ engines_lines (suc e) lines
+
+-- the lines of what is told under a name: of parts a `part` line for each code, and of engines how many they are, and their
+-- lines
+abbrev pub content_lines : List ℕ → Content → List Line
+content_lines name (told.number n) = line name (decimal n ∷ []) ∷ []
+content_lines name (told.size width height) = line name (decimal width ∷ decimal height ∷ []) ∷ []
+content_lines name (told.moves dx dy) = line name (signed_decimal dx ∷ signed_decimal dy ∷ []) ∷ []
+content_lines name (told.text bytes) = line name (bytes ∷ []) ∷ []
+content_lines name (told.parts list) = map part_line list
+content_lines name (told.engines list) = line name (decimal (engines_in list) ∷ []) ∷ engines_lines 1 list
+
+-- the lines of these things, one thing after another
+abbrev pub things_lines : List Thing → List ℕ
+things_lines [] = []
+things_lines (thing ∷ things) = text_of (content_lines thing.name thing.content) ++ things_lines things

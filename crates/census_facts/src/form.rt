@@ -1,0 +1,42 @@
+//! The forms in which facts are told.
+ghost use Rattle.std.specs.Prelude.{◌≡◌, IfOk};
+ghost use Rattle.census_facts.specs.Facts.{things_in};
+ghost use Rattle.census_facts.specs.Forms.{separator, things_text};
+
+use crate::fact::Fact;
+use crate::lines::push_facts;
+use crate::values::push_object;
+use std::alloc::{AllocError, Global};
+
+/// How facts are told.
+#[derive(Clone, Copy, Debug, PartialEq, Eq)]
+pub enum Form {
+    /// A line for each, or some lines.
+    Lines,
+    /// A member for each, of one object on a line of its own.
+    Json,
+}
+
+impl Form {
+    /// What parts what is told of a pattern from what is told of the next: an empty line, or nothing.
+    pub fn separator(self) -> &'static [u8]
+        ensures { result.now ≡ separator self }
+    {
+        match self {
+            Form::Lines => b"\n",
+            Form::Json => b"",
+        }
+    }
+}
+
+/// The facts in this form. The only error is out of memory.
+pub fn facts_text(alloc: Global, form: Form, facts: &[Fact]) -> Result<Vec<u8>, AllocError>
+    ensures { IfOk result (λ text. text.items ≡ things_text form (things_in facts.now)) }
+{
+    let mut text = Vec::new(alloc);
+    match form {
+        Form::Lines => push_facts(&mut text, facts)?,
+        Form::Json => push_object(alloc, &mut text, facts)?,
+    }
+    Ok(text)
+}

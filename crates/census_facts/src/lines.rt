@@ -1,0 +1,136 @@
+//! Facts as lines.
+ghost use Rattle.std.specs.Prelude.{◌≡◌, ◌++◌, [], ◌∷◌, OnOk, codes, decimal, map};
+ghost use Rattle.std.specs.Fmt.{signed_decimal};
+ghost use Rattle.census_facts.specs.Facts.{thing_of, things_in};
+ghost use Rattle.census_facts.specs.Lines.{content_lines, fields_text, line, part_line, text_of, things_lines};
+
+use crate::engines::push_engines;
+use crate::fact::{Fact, Worth};
+use itoa::{Buffer, Integer};
+use life_answer::Part;
+use std::alloc::AllocError;
+
+// A blank and these bytes.
+pub(crate) fn push_field(text: &mut Vec<u8>, field: &[u8]) -> Result<(), AllocError>
+    ensures { OnOk result (text.new.items ≡ text.old.items ++ 32 ∷ field.now) }
+{
+    text.push(b' ')?;
+    text.extend_from_slice(field)?;
+    Ok(())
+}
+
+// A blank and a number.
+pub(crate) fn push_number<I: Integer>(text: &mut Vec<u8>, number: I) -> Result<(), AllocError>
+    ensures { OnOk result (text.new.items ≡ text.old.items ++ 32 ∷ I.text number) }
+{
+    let mut buffer = Buffer::new();
+    push_field(text, buffer.format(number).as_bytes())
+}
+
+// The line of a name and a number.
+#[tactic(auto, unfolding(crate::specs::Lines::line))]
+fn push_one<I: Integer>(text: &mut Vec<u8>, name: &[u8], number: I) -> Result<(), AllocError>
+    ensures { OnOk result (text.new.items ≡ text.old.items ++ line name.now (I.text number ∷ [])) }
+{
+    text.extend_from_slice(name)?;
+    push_number(text, number)?;
+    text.push(b'\n')?;
+    Ok(())
+}
+
+// The line of a name and of how wide and how high something is.
+#[tactic(auto, unfolding(crate::specs::Lines::line))]
+fn push_size(text: &mut Vec<u8>, name: &[u8], width: u32, height: u32) -> Result<(), AllocError>
+    ensures { OnOk result (text.new.items ≡ text.old.items
+        ++ line name.now (decimal width ∷ decimal height ∷ [])) }
+{
+    text.extend_from_slice(name)?;
+    push_number(text, width)?;
+    push_number(text, height)?;
+    text.push(b'\n')?;
+    Ok(())
+}
+
+// The line of a name and bytes.
+#[tactic(auto, unfolding(crate::specs::Lines::line))]
+fn push_bytes(text: &mut Vec<u8>, name: &[u8], bytes: &[u8]) -> Result<(), AllocError>
+    ensures { OnOk result (text.new.items ≡ text.old.items ++ line name.now (bytes.now ∷ [])) }
+{
+    text.extend_from_slice(name)?;
+    push_field(text, bytes)?;
+    text.push(b'\n')?;
+    Ok(())
+}
+
+// How far a pattern has moved: a blank and a number, twice.
+pub(crate) fn push_moves(text: &mut Vec<u8>, dx: &i32, dy: &i32) -> Result<(), AllocError>
+    ensures { OnOk result
+        (text.new.items ≡
+        text.old.items ++ fields_text (signed_decimal dx.now ∷ signed_decimal dy.now ∷ [])) }
+{
+    push_number(text, *dx)?;
+    push_number(text, *dy)
+}
+
+// The line of a name and of how far something moves.
+#[tactic(auto, unfolding(crate::specs::Lines::line))]
+fn push_displacement(text: &mut Vec<u8>, name: &[u8], dx: &i32, dy: &i32) -> Result<(), AllocError>
+    ensures { OnOk result (text.new.items ≡ text.old.items
+        ++ line name.now (signed_decimal dx.now ∷ signed_decimal dy.now ∷ [])) }
+{
+    text.extend_from_slice(name)?;
+    push_moves(text, dx, dy)?;
+    text.push(b'\n')?;
+    Ok(())
+}
+
+// The line of those parts that are one object.
+#[tactic(auto, unfolding(crate::specs::Lines::line))]
+fn push_part(text: &mut Vec<u8>, part: &Part) -> Result<(), AllocError>
+    ensures { OnOk result (text.new.items ≡ text.old.items ++ part_line part.now) }
+{
+    text.extend_from_slice(b"part")?;
+    push_field(text, part.code.as_slice())?;
+    push_number(text, part.count)?;
+    text.push(b'\n')?;
+    Ok(())
+}
+
+// The lines of all parts.
+fn push_parts(text: &mut Vec<u8>, parts: &[Part]) -> Result<(), AllocError>
+    ensures { OnOk result (text.new.items ≡ text.old.items ++ text_of (map part_line parts.now)) }
+{
+    for part in parts {
+        push_part(text, part)?;
+    }
+    Ok(())
+}
+
+// The lines of a fact.
+fn push_fact(text: &mut Vec<u8>, fact: &Fact) -> Result<(), AllocError>
+    ensures { OnOk result (text.new.items ≡ text.old.items
+        ++ text_of (content_lines (thing_of fact.now).name (thing_of fact.now).content)) }
+{
+    let name = fact.name.as_bytes();
+    match &fact.worth {
+        Worth::Number(number) => push_one(text, name, *number),
+        Worth::Size(width, height) => push_size(text, name, *width, *height),
+        Worth::Moves(dx, dy) => push_displacement(text, name, dx, dy),
+        Worth::Text(bytes) => push_bytes(text, name, bytes),
+        Worth::Parts(parts) => push_parts(text, parts.as_slice()),
+        Worth::Engines(engines) => {
+            push_one(text, name, engines.count())?;
+            push_engines(text, engines.as_slice())
+        }
+    }
+}
+
+/// Appends the lines of facts, one fact after another.
+pub(crate) fn push_facts(text: &mut Vec<u8>, facts: &[Fact]) -> Result<(), AllocError>
+    ensures { OnOk result (text.new.items ≡ text.old.items ++ things_lines (things_in facts.now)) }
+{
+    for fact in facts {
+        push_fact(text, fact)?;
+    }
+    Ok(())
+}
