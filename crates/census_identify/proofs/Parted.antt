@@ -17,13 +17,11 @@ has_any (x ∷ xs) = true
 join_more : (form : Form) (blocks : List (List ℕ)) (block : List ℕ)
     → parted (separator form) (blocks ++ block ∷ []) ≡ parted (separator form) blocks ++ block_after form (has_any blocks) block
 join_more form [] block = refl
-join_more form (x ∷ []) block = refl
+join_more form (x ∷ []) block = append_assoc x (separator form) block
 join_more form (x ∷ y ∷ blocks) block =
-    let between = separator form in
-    let others = parted between (y ∷ blocks) in
-    ap (λ l. x ++ (between ++ l)) (join_more form (y ∷ blocks) block)
-    ∙ ap (λ l. x ++ l) (sym (append_assoc between others (between ++ block)))
-    ∙ sym (append_assoc x (between ++ others) (between ++ block))
+    let before = x ++ separator form in
+    ap (λ l. before ++ l) (join_more form (y ∷ blocks) block)
+    ∙ sym (append_assoc before (parted (separator form) (y ∷ blocks)) (separator form ++ block))
 
 block_more : (told : List Told) (block : List ℕ) → blocks_in (told ++ Block block ∷ []) ≡ blocks_in told ++ block ∷ []
 block_more [] block = refl
