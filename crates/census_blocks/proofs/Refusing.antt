@@ -3,6 +3,7 @@ use Rattle.std.proofs.Common.{◌≡◌, ℕ, List, Option, Some, Result, Ok, Er
 use Rattle.life_text.specs.declared.rle.RleFault.{RleFault}
 use Rattle.life_text.specs.Picture.{picture_of}
 use Rattle.life_text.specs.Rle.{Meaning, fault_of, reading, refusal}
+use Rattle.census_names.specs.Names.{Entry}
 use Rattle.census_blocks.specs.Blocks.{block_of, block_or_fault}
 use Rattle.census_blocks.specs.declared.inquiry.Inquiry.{Inquiry}
 
@@ -12,7 +13,7 @@ no_picture (Err other) fault is =
     let same : other ≡ fault = cc in
     ap Err same
 
-pub told_block : (inquiry : Inquiry) (file : Option (List ℕ)) (text : List ℕ) (fault : RleFault) → refusal text ≡ Some fault
-    → Err fault ≡ block_of inquiry file text
+pub told_block : (inquiry : Inquiry) (names : List Entry) (file : Option (List ℕ)) (text : List ℕ) (fault : RleFault) → refusal text ≡ Some fault
+    → Err fault ≡ block_of inquiry names file text
 unfolding block_of
-told_block inquiry file text fault is = ap (block_or_fault inquiry file) (sym (no_picture (reading text) fault is))
+told_block inquiry names file text fault is = ap (block_or_fault inquiry names file) (sym (no_picture (reading text) fault is))

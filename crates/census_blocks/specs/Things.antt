@@ -5,6 +5,7 @@ use Rattle.life_answer.specs.Parts.{objects_in}
 use Rattle.census_blocks.specs.declared.known.Known.{Known}
 use Rattle.census_blocks.specs.declared.known.Known.TheVariants.{Apart, Grows, Large, Settles, Unresolved}
 use Rattle.census_facts.specs.Facts.{Thing, thing}
+use Rattle.census_names.specs.Names.{Entry, name_in}
 use Rattle.census_facts.specs.Facts as told
 
 -- the file that it is from, where it is from one
@@ -21,14 +22,22 @@ head_things file rule population size =
     ∷ thing (codes "box") (told.size size.0 size.1)
     ∷ []
 
--- `onset`, `period`, `displacement` and `apgcode` of a pattern that settles
-abbrev pub settled_things : ℕ → ℕ → ℤ → ℤ → List ℕ → List Thing
-settled_things onset period dx dy code =
+-- the name of an object, where it has one
+abbrev pub name_things : Option (List ℕ) → List Thing
+name_things None = []
+name_things (Some name) = thing (codes "name") (told.text name) ∷ []
+
+-- `apgcode` of a pattern that settles, and `name`, where it has one
+abbrev pub code_things : List Entry → List ℕ → List Thing
+code_things names code = thing (codes "apgcode") (told.text code) ∷ name_things (name_in names code)
+
+-- `onset`, `period`, `displacement` and `apgcode` of a pattern that settles, and `name`, where its code has one
+abbrev pub settled_things : List Entry → ℕ → ℕ → ℤ → ℤ → List ℕ → List Thing
+settled_things names onset period dx dy code =
     thing (codes "onset") (told.number onset)
     ∷ thing (codes "period") (told.number period)
     ∷ thing (codes "displacement") (told.moves dx dy)
-    ∷ thing (codes "apgcode") (told.text code)
-    ∷ []
+    ∷ code_things names code
 
 -- `onset` of the ash of a pattern that has fallen apart, `objects`, how many objects it has become, and its parts
 abbrev pub apart_things : ℕ → List Part → List Thing
@@ -40,9 +49,9 @@ apart_things onset list =
 
 -- what is known within the bound: of a pattern that grows `engines`, its engines; `large`, the first generation that has more
 -- cells than it may have; `unresolved`, the bound, where it neither settles nor has fallen apart, and isn't told to grow
-abbrev pub known_things : ℕ → Known → List Thing
-known_things bound (Settles onset period dx dy code) = settled_things onset period dx dy code
-known_things bound (Apart onset list) = apart_things onset list
-known_things bound (Grows list) = thing (codes "engines") (told.engines list) ∷ []
-known_things bound (Large generation) = thing (codes "large") (told.number generation) ∷ []
-known_things bound Unresolved = thing (codes "unresolved") (told.number bound) ∷ []
+abbrev pub known_things : List Entry → ℕ → Known → List Thing
+known_things names bound (Settles onset period dx dy code) = settled_things names onset period dx dy code
+known_things names bound (Apart onset list) = apart_things onset list
+known_things names bound (Grows list) = thing (codes "engines") (told.engines list) ∷ []
+known_things names bound (Large generation) = thing (codes "large") (told.number generation) ∷ []
+known_things names bound Unresolved = thing (codes "unresolved") (told.number bound) ∷ []

@@ -16,6 +16,7 @@ use crate::inquiry::{HORIZON_LIMIT, Inquiry};
 use crate::known::known_of;
 use crate::size::size;
 use census_facts::{Fact, facts_text};
+use census_names::Names;
 use life_cells::CellList;
 use life_orbit::BOUND_LIMIT;
 use life_text::{Pattern, RleFault, read_rle};
@@ -76,6 +77,7 @@ fn push_beginning<'a>(
 #[tactic(auto, unfolding(crate::specs::Blocks::pattern_block))]
 fn block_of_pattern(
     alloc: Global,
+    names: &Names,
     file: Option<&[u8]>,
     text: &[u8],
     pattern: &Pattern,
@@ -85,15 +87,15 @@ fn block_of_pattern(
     requires horizon { 1 ≤ inquiry.horizon × inquiry.horizon ≤ HORIZON_LIMIT }
     requires meant { picture_of (reading text.now) ≡ Ok pattern.now }
     ensures { IfOk result (λ block.
-        block ≡ pattern_block inquiry (option_copied file.entry) pattern.now) }
+        block ≡ pattern_block inquiry names.now (option_copied file.entry) pattern.now) }
 {
     let mut rule = Vec::new(alloc);
     pattern.rule().text_into(&mut rule)?;
     let known = known_of(alloc, text, pattern, inquiry)?;
     let mut facts = Vec::new(alloc);
     push_beginning(alloc, &mut facts, file, rule.as_slice(), pattern.cells())?;
-    push_known(&mut facts, &known, inquiry.bound)?;
-    let text = facts_text(alloc, inquiry.form, facts.as_slice())?;
+    push_known(&mut facts, names, &known, inquiry.bound)?;
+    let text = facts_text(alloc, inquiry.form, names, facts.as_slice())?;
     Ok(BlockText { text })
 }
 
@@ -101,13 +103,15 @@ fn block_of_pattern(
 /// generations, and the horizon 1 to 10,000.
 ///
 /// It tells the file, where the text is said to be that of one, and the rule, the population and the box of generation 0;
-/// then, where the pattern settles within the bound, its onset, period, displacement and apgcode; else, where it has fallen
-/// apart within the bound, the onset of its ash, how many objects it has become, or how many independent parts where what
-/// comes near each other is not one object, and how many of each code; else, where it grows within the horizon, by how many
-/// engines, and what is told of each; else, where some generation has more cells than it may have, the first such generation;
-/// else that it is unresolved within the bound. It may look at generations past the bound, up to four times the bound.
+/// then, where the pattern settles within the bound, its onset, period, displacement and apgcode, and the name of that code,
+/// where it has one; else, where it has fallen apart within the bound, the onset of its ash, how many objects it has become,
+/// or how many independent parts where what comes near each other is not one object, and how many of each code, with its
+/// name; else, where it grows within the horizon, by how many engines, and what is told of each; else, where some generation
+/// has more cells than it may have, the first such generation; else that it is unresolved within the bound. It may look at
+/// generations past the bound, up to four times the bound.
 pub fn block(
     alloc: Global,
+    names: &Names,
     file: Option<&[u8]>,
     text: &[u8],
     inquiry: Inquiry,
@@ -115,10 +119,10 @@ pub fn block(
     requires bound { 1 ≤ inquiry.bound × inquiry.bound ≤ BOUND_LIMIT }
     requires horizon { 1 ≤ inquiry.horizon × inquiry.horizon ≤ HORIZON_LIMIT }
     ensures { IfOk result (λ block.
-        block ≡ block_of inquiry (option_copied file.entry) text.now) }
+        block ≡ block_of inquiry names.now (option_copied file.entry) text.now) }
 {
     match read_rle(alloc, text) {
-        Ok(pattern) => Ok(Ok(block_of_pattern(alloc, file, text, &pattern, inquiry)?)),
+        Ok(pattern) => Ok(Ok(block_of_pattern(alloc, names, file, text, &pattern, inquiry)?)),
         Err(fault) => Ok(Err(told(fault)?)),
     }
 }

@@ -1,11 +1,13 @@
 //! The facts of a pattern.
 ghost use Rattle.std.specs.Prelude.{◌≡◌, ◌++◌, [], ◌∷◌, OnOk};
 ghost use Rattle.std.specs.Option.{option_copied};
-ghost use Rattle.census_blocks.specs.Things.{apart_things, file_things, head_things, known_things, settled_things};
+ghost use Rattle.census_blocks.specs.Things.{apart_things, code_things, file_things, head_things, known_things, name_things, settled_things};
+ghost use Rattle.census_names.specs.Names.{name_in};
 ghost use Rattle.census_facts.specs.Facts.{content_of, thing, things_in};
 
 use crate::known::Known;
 use census_facts::{Fact, Worth};
+use census_names::Names;
 use life_answer::Parts;
 use std::alloc::AllocError;
 
@@ -52,9 +54,34 @@ pub fn push_head<'a>(
     push_fact(facts, "box", Worth::Size(width, height))
 }
 
+// Adds the name of the object of a code, where it has one.
+fn push_name<'a>(facts: &mut Vec<Fact<'a>>, names: &'a Names, code: &[u8]) -> Result<(), AllocError>
+    ensures { OnOk result (things_in facts.new.items
+        ≡ things_in facts.old.items ++ name_things (name_in names.now code.now)) }
+{
+    match names.name_of(code) {
+        Some(name) => push_fact(facts, "name", Worth::Text(name)),
+        None => Ok(()),
+    }
+}
+
+// Adds the code of what a pattern settles as, and its name, where it has one.
+fn push_code<'a>(
+    facts: &mut Vec<Fact<'a>>,
+    names: &'a Names,
+    code: &'a [u8],
+) -> Result<(), AllocError>
+    ensures { OnOk result (things_in facts.new.items
+        ≡ things_in facts.old.items ++ code_things names.now code.now) }
+{
+    push_fact(facts, "apgcode", Worth::Text(code))?;
+    push_name(facts, names, code)
+}
+
 // Adds what is told of a pattern that settles.
 fn push_settled<'a>(
     facts: &mut Vec<Fact<'a>>,
+    names: &'a Names,
     onset: u32,
     period: u32,
     dx: i32,
@@ -62,12 +89,12 @@ fn push_settled<'a>(
     code: &'a [u8],
 ) -> Result<(), AllocError>
     ensures { OnOk result (things_in facts.new.items ≡ things_in facts.old.items
-        ++ settled_things onset period dx dy code.now) }
+        ++ settled_things names.now onset period dx dy code.now) }
 {
     push_fact(facts, "onset", Worth::Number(onset as u64))?;
     push_fact(facts, "period", Worth::Number(period as u64))?;
     push_fact(facts, "displacement", Worth::Moves(dx, dy))?;
-    push_fact(facts, "apgcode", Worth::Text(code))
+    push_code(facts, names, code)
 }
 
 // Adds what is told of a pattern that has fallen apart.
@@ -80,14 +107,15 @@ fn push_apart<'a>(facts: &mut Vec<Fact<'a>>, onset: u32, parts: &'a Parts) -> Re
     push_fact(facts, "parts", Worth::Parts(parts))
 }
 
-/// Adds what is known of a pattern within the bound.
+/// Adds what is known of a pattern within the bound, with the name of what it settles as.
 pub fn push_known<'a>(
     facts: &mut Vec<Fact<'a>>,
+    names: &'a Names,
     known: &'a Known,
     bound: u32,
 ) -> Result<(), AllocError>
     ensures { OnOk result (things_in facts.new.items ≡ things_in facts.old.items
-        ++ known_things bound known.now) }
+        ++ known_things names.now bound known.now) }
 {
     match known {
         Known::Settles {
@@ -96,7 +124,7 @@ pub fn push_known<'a>(
             dx,
             dy,
             code,
-        } => push_settled(facts, *onset, *period, *dx, *dy, code.as_slice()),
+        } => push_settled(facts, names, *onset, *period, *dx, *dy, code.as_slice()),
         Known::Apart { onset, parts } => push_apart(facts, *onset, parts),
         Known::Grows { engines } => push_fact(facts, "engines", Worth::Engines(engines)),
         Known::Large { generation } => {

@@ -3,6 +3,7 @@ use Rattle.std.proofs.Common.{◌≡◌, ℕ, zero, suc, ◌+◌, ◌<◌, List,
 use Rattle.std.proofs.lemmas.List.{length-take, map-append}
 use Rattle.life_answer.specs.declared.part.Part.{Part}
 use Rattle.life_answer.specs.declared.tale.Engines.{Engines}
+use Rattle.census_names.specs.Names.{Entry}
 use Rattle.census_facts.specs.Lines.{Line, emits_line, engine_line, engines_lines, text_of}
 
 text_of-append : (ls ms : List Line) → text_of (ls ++ ms) ≡ text_of ls ++ text_of ms
@@ -29,26 +30,26 @@ lines_taken line parts i part at =
 
 -- ---- engines
 
-abbrev block : ℕ → Engines → List Line
-block e engines = engine_line e engines ∷ map (emits_line e) engines.tale.emits
+abbrev block : List Entry → ℕ → Engines → List Line
+block names e engines = engine_line e engines ∷ map (emits_line names e) engines.tale.emits
 
-lines-append : (e : ℕ) (lines : List Engines) (engines : Engines) →
-    engines_lines e (lines ++ engines ∷ []) ≡ engines_lines e lines ++ block (e + length lines) engines
-lines-append e [] engines =
-    append-nil (block e engines) ∙ ap (λ n. block n engines) (let same : e ≡ e + 0 = omega arith in same)
-lines-append e (line ∷ lines) engines =
-    ap (λ rows. block e line ++ rows)
-    (lines-append (suc e) lines engines
-    ∙ ap (λ n. engines_lines (suc e) lines ++ block n engines) (let same : suc e + length lines ≡ e + length (line ∷ lines) = omega arith in same))
-    ∙ sym (append_assoc (block e line) (engines_lines (suc e) lines) (block (e + length (line ∷ lines)) engines))
+lines-append : (names : List Entry) (e : ℕ) (lines : List Engines) (engines : Engines) →
+    engines_lines names e (lines ++ engines ∷ []) ≡ engines_lines names e lines ++ block names (e + length lines) engines
+lines-append names e [] engines =
+    append-nil (block names e engines) ∙ ap (λ n. block names n engines) (let same : e ≡ e + 0 = omega arith in same)
+lines-append names e (line ∷ lines) engines =
+    ap (λ rows. block names e line ++ rows)
+    (lines-append names (suc e) lines engines
+    ∙ ap (λ n. engines_lines names (suc e) lines ++ block names n engines) (let same : suc e + length lines ≡ e + length (line ∷ lines) = omega arith in same))
+    ∙ sym (append_assoc (block names e line) (engines_lines names (suc e) lines) (block names (e + length (line ∷ lines)) engines))
 
 -- the lines of one kind of engines more
-pub engines_taken : (lines : List Engines) (n : ℕ) (engines : Engines) → n < length lines → slice_get lines n ≡ Some engines →
-    text_of (engines_lines 1 (take (n + 1) lines))
-    ≡ text_of (engines_lines 1 (take n lines)) ++ (engine_line (n + 1) engines ++ text_of (map (emits_line (n + 1)) engines.tale.emits))
-engines_taken lines n engines below at =
+pub engines_taken : (names : List Entry) (lines : List Engines) (n : ℕ) (engines : Engines) → n < length lines → slice_get lines n ≡ Some engines →
+    text_of (engines_lines names 1 (take (n + 1) lines))
+    ≡ text_of (engines_lines names 1 (take n lines)) ++ (engine_line (n + 1) engines ++ text_of (map (emits_line names (n + 1)) engines.tale.emits))
+engines_taken names lines n engines below at =
     let long : length (take n lines) ≡ n = let e = length-take n lines in omega arith in
-    ap (λ ls. text_of (engines_lines 1 ls)) (take_more lines n engines at)
-    ∙ ap text_of (lines-append 1 (take n lines) engines
-    ∙ ap (λ k. engines_lines 1 (take n lines) ++ block k engines) (let same : 1 + length (take n lines) ≡ n + 1 = omega arith in same))
-    ∙ text_of-append (engines_lines 1 (take n lines)) (block (n + 1) engines)
+    ap (λ ls. text_of (engines_lines names 1 ls)) (take_more lines n engines at)
+    ∙ ap text_of (lines-append names 1 (take n lines) engines
+    ∙ ap (λ k. engines_lines names 1 (take n lines) ++ block names k engines) (let same : 1 + length (take n lines) ≡ n + 1 = omega arith in same))
+    ∙ text_of-append (engines_lines names 1 (take n lines)) (block names (n + 1) engines)

@@ -1,14 +1,15 @@
--- The forms in which things are told.
+-- The forms in which things are told, with the names that objects have.
 use Rattle.std.specs.Prelude.{ℕ, List, [], ◌∷◌}
+use Rattle.census_names.specs.Names.{Entry}
 use Rattle.census_facts.specs.Facts.{Thing}
 use Rattle.census_facts.specs.Lines.{things_lines}
 use Rattle.census_facts.specs.Values.{object_line}
 use Rattle.census_facts.specs.declared.form.Form.{Form}
 use Rattle.census_facts.specs.declared.form.Form.TheVariants.{Lines, Json}
 
-abbrev pub things_text : Form → List Thing → List ℕ
-things_text Lines things = things_lines things
-things_text Json things = object_line things
+abbrev pub things_text : Form → List Entry → List Thing → List ℕ
+things_text Lines names things = things_lines names things
+things_text Json names things = object_line names things
 
 -- what parts one text from the next: an LF, or nothing
 abbrev pub separator : Form → List ℕ

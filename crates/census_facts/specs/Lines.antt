@@ -1,9 +1,10 @@
 -- The lines that tell of a pattern.
-use Rattle.std.specs.Prelude.{ℕ, suc, List, [], ◌∷◌, ◌++◌, codes, decimal, map}
+use Rattle.std.specs.Prelude.{ℕ, suc, Option, Some, None, List, [], ◌∷◌, ◌++◌, codes, decimal, map}
 use Rattle.std.specs.Fmt.{signed_decimal}
 use Rattle.life_answer.specs.declared.part.Part.{Part}
 use Rattle.life_answer.specs.declared.tale.Engines.{Engines}
 use Rattle.life_answer.specs.CountedTales.{engines_in}
+use Rattle.census_names.specs.Names.{Entry, name_in}
 use Rattle.census_facts.specs.Facts.{Content, Thing}
 use Rattle.census_facts.specs.Facts as told
 
@@ -25,9 +26,14 @@ abbrev pub text_of : List Line → List ℕ
 text_of [] = []
 text_of (l ∷ ls) = l ++ text_of ls
 
--- `part`, the code of an object, and how many parts are that object
-abbrev pub part_line : Part → Line
-part_line part = line (codes "part") (part.code ∷ decimal part.count ∷ [])
+-- an object's name, where it has one
+abbrev pub name_values : Option (List ℕ) → List (List ℕ)
+name_values None = []
+name_values (Some name) = name ∷ []
+
+-- `part`, the code of an object, how many parts are that object, and its name, where it has one
+abbrev pub part_line : List Entry → Part → Line
+part_line names part = line (codes "part") (part.code ∷ decimal part.count ∷ name_values (name_in names part.code))
 
 -- `engine`, the number of these engines, their period and displacement, and how many they are
 abbrev pub engine_line : ℕ → Engines → Line
@@ -35,26 +41,29 @@ engine_line e engines =
     line (codes "engine")
     (decimal e ∷ decimal engines.tale.period ∷ signed_decimal engines.tale.dx ∷ signed_decimal engines.tale.dy ∷ decimal engines.count ∷ [])
 
--- `emits`, the number of engines, the code of an object, and how often each of them emits it in a period
-abbrev pub emits_line : ℕ → Part → Line
-emits_line e part = line (codes "emits") (decimal e ∷ part.code ∷ decimal part.count ∷ [])
+-- `emits`, the number of engines, the code of an object, how often each of them emits it in a period, and its name, where it
+-- has one
+abbrev pub emits_line : List Entry → ℕ → Part → Line
+emits_line names e part =
+    line (codes "emits") (decimal e ∷ part.code ∷ decimal part.count ∷ name_values (name_in names part.code))
 
 -- the `engine` lines, each with its `emits` lines behind it, of engines the first of which have the number e
-abbrev pub engines_lines : ℕ → List Engines → List Line
-engines_lines e [] = []
-engines_lines e (engines ∷ lines) = (engine_line e engines ∷ map (emits_line e) engines.tale.emits) ++ engines_lines (suc e) lines
+abbrev pub engines_lines : List Entry → ℕ → List Engines → List Line
+engines_lines names e [] = []
+engines_lines names e (engines ∷ lines) =
+    (engine_line e engines ∷ map (emits_line names e) engines.tale.emits) ++ engines_lines names (suc e) lines
 
 -- the lines of what is told under a name: of parts a `part` line for each code, and of engines how many they are, and their
 -- lines
-abbrev pub content_lines : List ℕ → Content → List Line
-content_lines name (told.number n) = line name (decimal n ∷ []) ∷ []
-content_lines name (told.size width height) = line name (decimal width ∷ decimal height ∷ []) ∷ []
-content_lines name (told.moves dx dy) = line name (signed_decimal dx ∷ signed_decimal dy ∷ []) ∷ []
-content_lines name (told.text bytes) = line name (bytes ∷ []) ∷ []
-content_lines name (told.parts list) = map part_line list
-content_lines name (told.engines list) = line name (decimal (engines_in list) ∷ []) ∷ engines_lines 1 list
+abbrev pub content_lines : List Entry → List ℕ → Content → List Line
+content_lines names name (told.number n) = line name (decimal n ∷ []) ∷ []
+content_lines names name (told.size width height) = line name (decimal width ∷ decimal height ∷ []) ∷ []
+content_lines names name (told.moves dx dy) = line name (signed_decimal dx ∷ signed_decimal dy ∷ []) ∷ []
+content_lines names name (told.text bytes) = line name (bytes ∷ []) ∷ []
+content_lines names name (told.parts list) = map (part_line names) list
+content_lines names name (told.engines list) = line name (decimal (engines_in list) ∷ []) ∷ engines_lines names 1 list
 
 -- the lines of these things, one thing after another
-abbrev pub things_lines : List Thing → List ℕ
-things_lines [] = []
-things_lines (thing ∷ things) = text_of (content_lines thing.name thing.content) ++ things_lines things
+abbrev pub things_lines : List Entry → List Thing → List ℕ
+things_lines names [] = []
+things_lines names (thing ∷ things) = text_of (content_lines names thing.name thing.content) ++ things_lines names things

@@ -2,7 +2,8 @@
 ghost use Rattle.std.specs.Prelude.{◌≡◌, ◌++◌, OnOk, map};
 ghost use Rattle.census_facts.specs.Lines.{emits_line, engine_line, engines_lines, text_of};
 
-use crate::lines::{push_field, push_moves, push_number};
+use crate::lines::{push_field, push_moves, push_name, push_number};
+use census_names::Names;
 use life_answer::{Engines, Part};
 use std::alloc::AllocError;
 
@@ -22,37 +23,54 @@ fn push_engine(text: &mut Vec<u8>, number: u64, engines: &Engines) -> Result<(),
 
 // The line of those parts of what an engine emits that are one object.
 #[tactic(auto, unfolding(crate::specs::Lines::line))]
-fn push_emitted(text: &mut Vec<u8>, number: u64, part: &Part) -> Result<(), AllocError>
-    ensures { OnOk result (text.new.items ≡ text.old.items ++ emits_line number part.now) }
+fn push_emitted(
+    text: &mut Vec<u8>,
+    names: &Names,
+    number: u64,
+    part: &Part,
+) -> Result<(), AllocError>
+    ensures { OnOk result
+        (text.new.items ≡ text.old.items ++ emits_line names.now number part.now) }
 {
     text.extend_from_slice(b"emits")?;
     push_number(text, number)?;
     push_field(text, part.code.as_slice())?;
     push_number(text, part.count)?;
+    push_name(text, names, part.code.as_slice())?;
     text.push(b'\n')?;
     Ok(())
 }
 
 // The lines of all that an engine emits.
-fn push_emits(text: &mut Vec<u8>, number: u64, parts: &[Part]) -> Result<(), AllocError>
+fn push_emits(
+    text: &mut Vec<u8>,
+    names: &Names,
+    number: u64,
+    parts: &[Part],
+) -> Result<(), AllocError>
     ensures { OnOk result
-        (text.new.items ≡ text.old.items ++ text_of (map (emits_line number) parts.now)) }
+        (text.new.items ≡ text.old.items ++ text_of (map (emits_line names.now number) parts.now)) }
 {
     for part in parts {
-        push_emitted(text, number, part)?;
+        push_emitted(text, names, number, part)?;
     }
     Ok(())
 }
 
 /// Appends the lines of all engines, those of which the same is told together.
-pub(crate) fn push_engines(text: &mut Vec<u8>, lines: &[Engines]) -> Result<(), AllocError>
-    ensures { OnOk result (text.new.items ≡ text.old.items ++ text_of (engines_lines 1 lines.now)) }
+pub(crate) fn push_engines(
+    text: &mut Vec<u8>,
+    names: &Names,
+    lines: &[Engines],
+) -> Result<(), AllocError>
+    ensures { OnOk result
+        (text.new.items ≡ text.old.items ++ text_of (engines_lines names.now 1 lines.now)) }
 {
     for n in 0..lines.len() {
         let engines = &lines[n];
         let number = n as u64 + 1;
         push_engine(text, number, engines)?;
-        push_emits(text, number, engines.tale.emits.as_slice())?;
+        push_emits(text, names, number, engines.tale.emits.as_slice())?;
     }
     Ok(())
 }

@@ -6,6 +6,7 @@ ghost use Rattle.census_facts.specs.Forms.{separator, things_text};
 use crate::fact::Fact;
 use crate::lines::push_facts;
 use crate::values::push_object;
+use census_names::Names;
 use std::alloc::{AllocError, Global};
 
 /// How facts are told.
@@ -29,14 +30,19 @@ impl Form {
     }
 }
 
-/// The facts in this form. The only error is out of memory.
-pub fn facts_text(alloc: Global, form: Form, facts: &[Fact]) -> Result<Vec<u8>, AllocError>
-    ensures { IfOk result (λ text. text.items ≡ things_text form (things_in facts.now)) }
+/// The facts in this form, with the names that objects have. The only error is out of memory.
+pub fn facts_text(
+    alloc: Global,
+    form: Form,
+    names: &Names,
+    facts: &[Fact],
+) -> Result<Vec<u8>, AllocError>
+    ensures { IfOk result (λ text. text.items ≡ things_text form names.now (things_in facts.now)) }
 {
     let mut text = Vec::new(alloc);
     match form {
-        Form::Lines => push_facts(&mut text, facts)?,
-        Form::Json => push_object(alloc, &mut text, facts)?,
+        Form::Lines => push_facts(&mut text, names, facts)?,
+        Form::Json => push_object(alloc, &mut text, names, facts)?,
     }
     Ok(text)
 }

@@ -1,11 +1,13 @@
 //! Facts as lines.
 ghost use Rattle.std.specs.Prelude.{◌≡◌, ◌++◌, [], ◌∷◌, OnOk, codes, decimal, map};
 ghost use Rattle.std.specs.Fmt.{signed_decimal};
+ghost use Rattle.census_names.specs.Names.{name_in};
 ghost use Rattle.census_facts.specs.Facts.{thing_of, things_in};
-ghost use Rattle.census_facts.specs.Lines.{content_lines, fields_text, line, part_line, text_of, things_lines};
+ghost use Rattle.census_facts.specs.Lines.{content_lines, fields_text, line, name_values, part_line, text_of, things_lines};
 
 use crate::engines::push_engines;
 use crate::fact::{Fact, Worth};
+use census_names::Names;
 use itoa::{Buffer, Integer};
 use life_answer::Part;
 use std::alloc::AllocError;
@@ -84,32 +86,45 @@ fn push_displacement(text: &mut Vec<u8>, name: &[u8], dx: &i32, dy: &i32) -> Res
     Ok(())
 }
 
+// A blank and the name of the object of this code, where it has one.
+pub(crate) fn push_name(text: &mut Vec<u8>, names: &Names, code: &[u8]) -> Result<(), AllocError>
+    ensures { OnOk result (text.new.items
+        ≡ text.old.items ++ fields_text (name_values (name_in names.now code.now))) }
+{
+    match names.name_of(code) {
+        Some(name) => push_field(text, name),
+        None => Ok(()),
+    }
+}
+
 // The line of those parts that are one object.
 #[tactic(auto, unfolding(crate::specs::Lines::line))]
-fn push_part(text: &mut Vec<u8>, part: &Part) -> Result<(), AllocError>
-    ensures { OnOk result (text.new.items ≡ text.old.items ++ part_line part.now) }
+fn push_part(text: &mut Vec<u8>, names: &Names, part: &Part) -> Result<(), AllocError>
+    ensures { OnOk result (text.new.items ≡ text.old.items ++ part_line names.now part.now) }
 {
     text.extend_from_slice(b"part")?;
     push_field(text, part.code.as_slice())?;
     push_number(text, part.count)?;
+    push_name(text, names, part.code.as_slice())?;
     text.push(b'\n')?;
     Ok(())
 }
 
 // The lines of all parts.
-fn push_parts(text: &mut Vec<u8>, parts: &[Part]) -> Result<(), AllocError>
-    ensures { OnOk result (text.new.items ≡ text.old.items ++ text_of (map part_line parts.now)) }
+fn push_parts(text: &mut Vec<u8>, names: &Names, parts: &[Part]) -> Result<(), AllocError>
+    ensures { OnOk result
+        (text.new.items ≡ text.old.items ++ text_of (map (part_line names.now) parts.now)) }
 {
     for part in parts {
-        push_part(text, part)?;
+        push_part(text, names, part)?;
     }
     Ok(())
 }
 
 // The lines of a fact.
-fn push_fact(text: &mut Vec<u8>, fact: &Fact) -> Result<(), AllocError>
+fn push_fact(text: &mut Vec<u8>, names: &Names, fact: &Fact) -> Result<(), AllocError>
     ensures { OnOk result (text.new.items ≡ text.old.items
-        ++ text_of (content_lines (thing_of fact.now).name (thing_of fact.now).content)) }
+        ++ text_of (content_lines names.now (thing_of fact.now).name (thing_of fact.now).content)) }
 {
     let name = fact.name.as_bytes();
     match &fact.worth {
@@ -117,20 +132,25 @@ fn push_fact(text: &mut Vec<u8>, fact: &Fact) -> Result<(), AllocError>
         Worth::Size(width, height) => push_size(text, name, *width, *height),
         Worth::Moves(dx, dy) => push_displacement(text, name, dx, dy),
         Worth::Text(bytes) => push_bytes(text, name, bytes),
-        Worth::Parts(parts) => push_parts(text, parts.as_slice()),
+        Worth::Parts(parts) => push_parts(text, names, parts.as_slice()),
         Worth::Engines(engines) => {
             push_one(text, name, engines.count())?;
-            push_engines(text, engines.as_slice())
+            push_engines(text, names, engines.as_slice())
         }
     }
 }
 
 /// Appends the lines of facts, one fact after another.
-pub(crate) fn push_facts(text: &mut Vec<u8>, facts: &[Fact]) -> Result<(), AllocError>
-    ensures { OnOk result (text.new.items ≡ text.old.items ++ things_lines (things_in facts.now)) }
+pub(crate) fn push_facts(
+    text: &mut Vec<u8>,
+    names: &Names,
+    facts: &[Fact],
+) -> Result<(), AllocError>
+    ensures { OnOk result
+        (text.new.items ≡ text.old.items ++ things_lines names.now (things_in facts.now)) }
 {
     for fact in facts {
-        push_fact(text, fact)?;
+        push_fact(text, names, fact)?;
     }
     Ok(())
 }

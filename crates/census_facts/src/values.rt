@@ -7,6 +7,7 @@ ghost use Rattle.census_facts.specs.Values.{content_data, kind_data, object_line
 
 use crate::fact::{Fact, Worth};
 use census_json::{counted_value, displacement_value, engines_value, push_value};
+use census_names::Names;
 use life_answer::{Engines, Part};
 use serde_json::{Map, Value, put};
 use std::alloc::{AllocError, Global};
@@ -22,48 +23,50 @@ fn size_value(alloc: Global, width: u32, height: u32) -> Result<Value, AllocErro
 }
 
 // An object for each part.
-fn part_values(alloc: Global, parts: &[Part]) -> Result<Vec<Value>, AllocError>
-    ensures { IfOk result (λ values. map view values.items ≡ map part_data parts.now) }
+fn part_values(alloc: Global, names: &Names, parts: &[Part]) -> Result<Vec<Value>, AllocError>
+    ensures { IfOk result (λ values. map view values.items ≡ map (part_data names.now) parts.now) }
 {
     let mut values = Vec::new(alloc);
     for part in parts {
-        values.push(counted_value(alloc, part.code.as_slice(), part.count, None)?)?;
+        let code = part.code.as_slice();
+        let name = names.name_of(code);
+        values.push(counted_value(alloc, code, part.count, name)?)?;
     }
     Ok(values)
 }
 
 // The object of engines of which the same is told.
-fn kind_value(alloc: Global, kind: &Engines) -> Result<Value, AllocError>
-    ensures { IfOk result (λ value. view value ≡ kind_data kind.now) }
+fn kind_value(alloc: Global, names: &Names, kind: &Engines) -> Result<Value, AllocError>
+    ensures { IfOk result (λ value. view value ≡ kind_data names.now kind.now) }
 {
     let tale = &kind.tale;
     let moved = (tale.dx as i64, tale.dy as i64);
-    let emits = part_values(alloc, tale.emits.as_slice())?;
+    let emits = part_values(alloc, names, tale.emits.as_slice())?;
     engines_value(alloc, tale.period as u64, moved, kind.count, emits)
 }
 
 // An object for each kind of engines.
-fn kind_values(alloc: Global, kinds: &[Engines]) -> Result<Vec<Value>, AllocError>
-    ensures { IfOk result (λ values. map view values.items ≡ map kind_data kinds.now) }
+fn kind_values(alloc: Global, names: &Names, kinds: &[Engines]) -> Result<Vec<Value>, AllocError>
+    ensures { IfOk result (λ values. map view values.items ≡ map (kind_data names.now) kinds.now) }
 {
     let mut values = Vec::new(alloc);
     for kind in kinds {
-        values.push(kind_value(alloc, kind)?)?;
+        values.push(kind_value(alloc, names, kind)?)?;
     }
     Ok(values)
 }
 
 // The value of a fact.
-fn value_of(alloc: Global, worth: &Worth) -> Result<Value, AllocError>
-    ensures { IfOk result (λ value. view value ≡ content_data (content_of worth.now)) }
+fn value_of(alloc: Global, names: &Names, worth: &Worth) -> Result<Value, AllocError>
+    ensures { IfOk result (λ value. view value ≡ content_data names.now (content_of worth.now)) }
 {
     match worth {
         Worth::Number(number) => Ok(Value::from(*number)),
         Worth::Size(width, height) => size_value(alloc, *width, *height),
         Worth::Moves(dx, dy) => displacement_value(alloc, *dx as i64, *dy as i64),
         Worth::Text(bytes) => Ok(Value::String(String::from_utf8_lossy(alloc, bytes)?)),
-        Worth::Parts(parts) => Ok(Value::Array(part_values(alloc, parts.as_slice())?)),
-        Worth::Engines(engines) => Ok(Value::Array(kind_values(alloc, engines.as_slice())?)),
+        Worth::Parts(parts) => Ok(Value::Array(part_values(alloc, names, parts.as_slice())?)),
+        Worth::Engines(engines) => Ok(Value::Array(kind_values(alloc, names, engines.as_slice())?)),
     }
 }
 
@@ -71,25 +74,26 @@ fn value_of(alloc: Global, worth: &Worth) -> Result<Value, AllocError>
 fn put_facts(
     alloc: Global,
     members: &mut Map<String, Value>,
+    names: &Names,
     facts: &[Fact],
 ) -> Result<(), AllocError>
     ensures { OnOk result (members_view members.new.entries
-        ≡ with_things (things_in facts.now) (members_view members.old.entries)) }
+        ≡ with_things names.now (things_in facts.now) (members_view members.old.entries)) }
 {
     for fact in facts {
-        let value = value_of(alloc, &fact.worth)?;
+        let value = value_of(alloc, names, &fact.worth)?;
         put(members, alloc, fact.name, value)?;
     }
     Ok(())
 }
 
 // The object of facts.
-fn object_of(alloc: Global, facts: &[Fact]) -> Result<Value, AllocError>
+fn object_of(alloc: Global, names: &Names, facts: &[Fact]) -> Result<Value, AllocError>
     ensures { IfOk result
-        (λ value. view value ≡ object (with_things (things_in facts.now) no_members)) }
+        (λ value. view value ≡ object (with_things names.now (things_in facts.now) no_members)) }
 {
     let mut members = Map::new(alloc);
-    put_facts(alloc, &mut members, facts)?;
+    put_facts(alloc, &mut members, names, facts)?;
     Ok(Value::Object(members))
 }
 
@@ -97,10 +101,11 @@ fn object_of(alloc: Global, facts: &[Fact]) -> Result<Value, AllocError>
 pub(crate) fn push_object(
     alloc: Global,
     text: &mut Vec<u8>,
+    names: &Names,
     facts: &[Fact],
 ) -> Result<(), AllocError>
-    ensures { OnOk result (text.new.items ≡ text.old.items ++ object_line (things_in facts.now)) }
+    ensures { OnOk result (text.new.items ≡ text.old.items ++ object_line names.now (things_in facts.now)) }
 {
-    let value = object_of(alloc, facts)?;
+    let value = object_of(alloc, names, facts)?;
     push_value(alloc, text, &value)
 }

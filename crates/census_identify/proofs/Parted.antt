@@ -2,6 +2,7 @@
 use Rattle.std.proofs.Common.{◌≡◌, ℕ, Bool, true, false, List, [], ◌∷◌, ◌++◌, max, refl, sym, ap, ◌∙◌, append_assoc, append-nil, arith}
 use Rattle.std.proofs.lemmas.List.{map-append}
 use Rattle.census_blocks.specs.declared.inquiry.Inquiry.{Inquiry}
+use Rattle.census_names.specs.Names.{Entry}
 use Rattle.census_facts.specs.Forms.{separator}
 use Rattle.census_facts.specs.declared.form.Form.{Form}
 use Rattle.census_identify.specs.Hearing.{Hearing}
@@ -66,5 +67,5 @@ any_block told block = ap has_any (block_more told block) ∙ any_more (blocks_i
 pub same_blocks : (told : List Told) (line : List ℕ) (status : ℕ) → has_any (blocks_in (told ++ Line line status ∷ [])) ≡ has_any (blocks_in told)
 same_blocks told line status = ap has_any (no_block_more told line status)
 
-pub tellings_more : (inquiry : Inquiry) (heard : List Hearing) (h : Hearing) → told_words inquiry (heard ++ h ∷ []) ≡ told_words inquiry heard ++ told_of inquiry h.word h.heard ∷ []
-tellings_more inquiry heard h = map-append (λ h. told_of inquiry h.word h.heard) heard (h ∷ [])
+pub tellings_more : (inquiry : Inquiry) (names : List Entry) (heard : List Hearing) (h : Hearing) → told_words inquiry names (heard ++ h ∷ []) ≡ told_words inquiry names heard ++ told_of inquiry names h.word h.heard ∷ []
+tellings_more inquiry names heard h = map-append (λ h. told_of inquiry names h.word h.heard) heard (h ∷ [])

@@ -3,6 +3,7 @@ use Rattle.std.proofs.Common.{◌≡◌, ℕ, suc, ◌+◌, ◌<◌, false, List
 use Rattle.std.proofs.lemmas.List.{map-append, map_more, take-append-drop}
 use Rattle.watched.specs.Watching.{ConsumesAtMost}
 use Rattle.census_blocks.specs.declared.inquiry.Inquiry.{Inquiry}
+use Rattle.census_names.specs.Names.{Entry}
 use Rattle.census_bundle.specs.Sizes.{input_limit}
 use Rattle.census_folders.specs.Told.{Told as ToldOf}
 use Rattle.census_identify.specs.Courses.{with_told}
@@ -42,17 +43,17 @@ counts_more course course' told (Line line status) before is = record {
 }
 
 -- these words were heard and told
-pub record IsUnderWay (held : List ℕ → ToldOf) (inquiry : Inquiry) (words : List (List ℕ)) (course : Course) (before now : Streams) : Type 0 where
+pub record IsUnderWay (held : List ℕ → ToldOf) (inquiry : Inquiry) (names : List Entry) (words : List (List ℕ)) (course : Course) (before now : Streams) : Type 0 where
   pub heard : List Hearing
   pub words_are : words ≡ heard_words heard
   pub hears : HearsEach held heard before.input now.input
-  pub blocks : Writes (blocks_text inquiry.form (told_words inquiry heard)) before.output now.output
-  pub lines : PutsBytes (lines_text (told_words inquiry heard)) before.errors now.errors
-  pub counts : Counts course (told_words inquiry heard)
+  pub blocks : Writes (blocks_text inquiry.form (told_words inquiry names heard)) before.output now.output
+  pub lines : PutsBytes (lines_text (told_words inquiry names heard)) before.errors now.errors
+  pub counts : Counts course (told_words inquiry names heard)
 
-pub at_first : (held : List ℕ → ToldOf) (inquiry : Inquiry) (course : Course) (streams : Streams) → course.has_block ≡ false → course.status ≡ 0
-    → streams.output.failed ≡ false → streams.errors.failed ≡ false → IsUnderWay held inquiry [] course streams streams
-at_first held inquiry course streams none zero output errors = record {
+pub at_first : (held : List ℕ → ToldOf) (inquiry : Inquiry) (names : List Entry) (course : Course) (streams : Streams) → course.has_block ≡ false → course.status ≡ 0
+    → streams.output.failed ≡ false → streams.errors.failed ≡ false → IsUnderWay held inquiry names [] course streams streams
+at_first held inquiry names course streams none zero output errors = record {
   heard = [];
   words_are = refl;
   hears = refl;
@@ -62,32 +63,32 @@ at_first held inquiry course streams none zero output errors = record {
 }
 
 -- one more word
-module _ (held : List ℕ → ToldOf) (inquiry : Inquiry) (words : List (List ℕ)) (course : Course) (before now : Streams) (w : IsUnderWay held inquiry words course before now)
+module _ (held : List ℕ → ToldOf) (inquiry : Inquiry) (names : List Entry) (words : List (List ℕ)) (course : Course) (before now : Streams) (w : IsUnderWay held inquiry names words course before now)
     (word : List ℕ) (heard : Heard) (input : Reader) (hears : Hears held word heard now.input input) where
   abbrev next : Hearing
   next = record { word = word; heard = heard }
 
   abbrev told : List Told
-  told = told_words inquiry w.heard
+  told = told_words inquiry names w.heard
 
   abbrev more : Told
-  more = told_of inquiry word heard
+  more = told_of inquiry names word heard
 
-  all_told : told_words inquiry (w.heard ++ next ∷ []) ≡ told ++ more ∷ []
-  all_told = tellings_more inquiry w.heard next
+  all_told : told_words inquiry names (w.heard ++ next ∷ []) ≡ told ++ more ∷ []
+  all_told = tellings_more inquiry names w.heard next
 
-  all_blocks : blocks_text inquiry.form (told_words inquiry (w.heard ++ next ∷ [])) ≡ blocks_text inquiry.form told ++ output_of inquiry.form course.has_block more
+  all_blocks : blocks_text inquiry.form (told_words inquiry names (w.heard ++ next ∷ [])) ≡ blocks_text inquiry.form told ++ output_of inquiry.form course.has_block more
   all_blocks = ap (blocks_text inquiry.form) all_told ∙ blocks_more inquiry.form told more ∙ ap (λ b. blocks_text inquiry.form told ++ output_of inquiry.form b more) (sym w.counts.has_block)
 
-  all_lines : lines_text (told_words inquiry (w.heard ++ next ∷ [])) ≡ lines_text told ++ line_told more
+  all_lines : lines_text (told_words inquiry names (w.heard ++ next ∷ [])) ≡ lines_text told ++ line_told more
   all_lines = ap lines_text all_told ∙ lines_more told more
 
   module _ (course' : Course) (output errors : Sink) (told_more : PutsMoreBytes (line_told more) now.errors errors) where
-    lines_so : PutsBytes (lines_text (told_words inquiry (w.heard ++ next ∷ []))) before.errors errors
+    lines_so : PutsBytes (lines_text (told_words inquiry names (w.heard ++ next ∷ []))) before.errors errors
     lines_so = subst (λ l. PutsBytes l before.errors errors) (sym all_lines) (tells_more (lines_text told) (line_told more) before.errors now.errors errors w.lines told_more)
 
     pub one_more_word : Writes (output_of inquiry.form course.has_block more) now.output output → course' ≡ with_told course more
-        → IsUnderWay held inquiry (words ++ word ∷ []) course' before (record { input = input; output = output; errors = errors })
+        → IsUnderWay held inquiry names (words ++ word ∷ []) course' before (record { input = input; output = output; errors = errors })
     one_more_word written is = record {
       heard = w.heard ++ next ∷ [];
       words_are = ap (λ ws. ws ++ word ∷ []) w.words_are ∙ sym (map-append (λ h. h.word) w.heard (next ∷ []));
@@ -98,7 +99,7 @@ module _ (held : List ℕ → ToldOf) (inquiry : Inquiry) (words : List (List �
     }
 
     pub output_lost : (all left : List (List ℕ)) → all ≡ words ++ word ∷ left → PutsPrefix (output_of inquiry.form course.has_block more) now.output output
-        → LosesOutput [] held inquiry all before (record { input = input; output = output; errors = errors })
+        → LosesOutput [] held inquiry names all before (record { input = input; output = output; errors = errors })
     output_lost all left is front = record {
       heard = w.heard;
       next = next;
@@ -107,12 +108,12 @@ module _ (held : List ℕ → ToldOf) (inquiry : Inquiry) (words : List (List �
       hears = hears_more held w.heard next before.input now.input input w.hears hears;
       blocks = subst (λ l. WritesBetween (blocks_text inquiry.form told) l before.output output) (sym all_blocks)
           (writes_between (blocks_text inquiry.form told) (output_of inquiry.form course.has_block more) before.output now.output output w.blocks front);
-      lines = subst (λ l. PutsBytes l before.errors errors) (sym (append-nil (lines_text (told_words inquiry (w.heard ++ next ∷ []))))) lines_so;
+      lines = subst (λ l. PutsBytes l before.errors errors) (sym (append-nil (lines_text (told_words inquiry names (w.heard ++ next ∷ []))))) lines_so;
     }
 
-module _ (held : List ℕ → ToldOf) (inquiry : Inquiry) (words : List (List ℕ)) (course : Course) (before now : Streams) (w : IsUnderWay held inquiry words course before now) where
+module _ (held : List ℕ → ToldOf) (inquiry : Inquiry) (names : List Entry) (words : List (List ℕ)) (course : Course) (before now : Streams) (w : IsUnderWay held inquiry names words course before now) where
   pub memory_lacks : (all : List (List ℕ)) (word : List ℕ) (left : List (List ℕ)) → all ≡ words ++ word ∷ left → (input : Reader)
-      → ConsumesAtMost (input_limit + 1) now.input.unread input.unread → LacksMemory [] held inquiry all before (record { input = input; output = now.output; errors = now.errors })
+      → ConsumesAtMost (input_limit + 1) now.input.unread input.unread → LacksMemory [] held inquiry names all before (record { input = input; output = now.output; errors = now.errors })
   memory_lacks all word left is input taken = record {
     heard = w.heard;
     word = word;
@@ -122,10 +123,10 @@ module _ (held : List ℕ → ToldOf) (inquiry : Inquiry) (words : List (List �
     hears = w.hears;
     taken = taken;
     blocks = w.blocks;
-    lines = subst (λ l. PutsBytes l before.errors now.errors) (sym (append-nil (lines_text (told_words inquiry w.heard)))) w.lines;
+    lines = subst (λ l. PutsBytes l before.errors now.errors) (sym (append-nil (lines_text (told_words inquiry names w.heard)))) w.lines;
   }
 
-  pub all_told_of : (all : List (List ℕ)) → all ≡ words → TellsAll held inquiry all course.status before now
+  pub all_told_of : (all : List (List ℕ)) → all ≡ words → TellsAll held inquiry names all course.status before now
   all_told_of all is = record {
     heard = w.heard;
     words_are = is ∙ w.words_are;
@@ -147,29 +148,29 @@ word_between words i d within =
     ap texts (sym (take-append-drop i words) ∙ ap (λ l. take i words ++ l) (drop-cons words i d within))
     ∙ map-append (λ s. s.now) (take i words) (get_or words i d ∷ drop (suc i) words)
 
-module _ (held : List ℕ → ToldOf) (inquiry : Inquiry) (words : List (Bor (List ℕ))) (i : ℕ) (d : Bor (List ℕ)) (course : Course) (before now : Streams)
-    (within : i < length words) (w : IsUnderWay held inquiry (texts (take i words)) course before now) where
+module _ (held : List ℕ → ToldOf) (inquiry : Inquiry) (names : List Entry) (words : List (Bor (List ℕ))) (i : ℕ) (d : Bor (List ℕ)) (course : Course) (before now : Streams)
+    (within : i < length words) (w : IsUnderWay held inquiry names (texts (take i words)) course before now) where
   pub lacks_memory : (input : Reader) → ConsumesAtMost (input_limit + 1) now.input.unread input.unread
-      → LacksMemory [] held inquiry (texts words) before (record { input = input; output = now.output; errors = now.errors })
-  lacks_memory input taken = memory_lacks held inquiry (texts (take i words)) course before now w (texts words) (get_or words i d).now (texts (drop (suc i) words)) (word_between words i d within) input taken
+      → LacksMemory [] held inquiry names (texts words) before (record { input = input; output = now.output; errors = now.errors })
+  lacks_memory input taken = memory_lacks held inquiry names (texts (take i words)) course before now w (texts words) (get_or words i d).now (texts (drop (suc i) words)) (word_between words i d within) input taken
 
   module _ (heard : Heard) (told : Told) (input : Reader) (output errors : Sink) (hears : Hears held (get_or words i d).now heard now.input input)
-      (is : told ≡ told_of inquiry (get_or words i d).now heard) (told_more : PutsMoreBytes (line_told told) now.errors errors) where
-    line_so : PutsMoreBytes (line_told (told_of inquiry (get_or words i d).now heard)) now.errors errors
+      (is : told ≡ told_of inquiry names (get_or words i d).now heard) (told_more : PutsMoreBytes (line_told told) now.errors errors) where
+    line_so : PutsMoreBytes (line_told (told_of inquiry names (get_or words i d).now heard)) now.errors errors
     line_so = subst (λ t. PutsMoreBytes (line_told t) now.errors errors) is told_more
 
     pub next_told : (course' : Course) → Writes (output_of inquiry.form course.has_block told) now.output output → course' ≡ with_told course told
-        → IsUnderWay held inquiry (texts (take (i + 1) words)) course' before (record { input = input; output = output; errors = errors })
+        → IsUnderWay held inquiry names (texts (take (i + 1) words)) course' before (record { input = input; output = output; errors = errors })
     next_told course' written same =
-        let written_so : Writes (output_of inquiry.form course.has_block (told_of inquiry (get_or words i d).now heard)) now.output output = subst (λ t. Writes (output_of inquiry.form course.has_block t) now.output output) is written in
-        let more : IsUnderWay held inquiry (texts (take i words) ++ (get_or words i d).now ∷ []) course' before (record { input = input; output = output; errors = errors }) =
-        one_more_word held inquiry (texts (take i words)) course before now w (get_or words i d).now heard input hears course' output errors line_so written_so (same ∙ ap (with_told course) is) in
-        subst (λ ws. IsUnderWay held inquiry ws course' before (record { input = input; output = output; errors = errors })) (sym (map_more (λ s. s.now) words i d within)) more
+        let written_so : Writes (output_of inquiry.form course.has_block (told_of inquiry names (get_or words i d).now heard)) now.output output = subst (λ t. Writes (output_of inquiry.form course.has_block t) now.output output) is written in
+        let more : IsUnderWay held inquiry names (texts (take i words) ++ (get_or words i d).now ∷ []) course' before (record { input = input; output = output; errors = errors }) =
+        one_more_word held inquiry names (texts (take i words)) course before now w (get_or words i d).now heard input hears course' output errors line_so written_so (same ∙ ap (with_told course) is) in
+        subst (λ ws. IsUnderWay held inquiry names ws course' before (record { input = input; output = output; errors = errors })) (sym (map_more (λ s. s.now) words i d within)) more
 
     pub loses_output : PutsPrefix (output_of inquiry.form course.has_block told) now.output output
-        → LosesOutput [] held inquiry (texts words) before (record { input = input; output = output; errors = errors })
+        → LosesOutput [] held inquiry names (texts words) before (record { input = input; output = output; errors = errors })
     loses_output front =
-        output_lost held inquiry (texts (take i words)) course before now w (get_or words i d).now heard input hears course output errors line_so (texts words) (texts (drop (suc i) words)) (word_between words i d within)
+        output_lost held inquiry names (texts (take i words)) course before now w (get_or words i d).now heard input hears course output errors line_so (texts words) (texts (drop (suc i) words)) (word_between words i d within)
         (subst (λ t. PutsPrefix (output_of inquiry.form course.has_block t) now.output output) is front)
 
 -- # The line of the error
@@ -177,9 +178,9 @@ module _ (held : List ℕ → ToldOf) (inquiry : Inquiry) (words : List (Bor (Li
 told_last : (xs ys : List ℕ) (a b c : Sink) → PutsBytes (xs ++ []) a b → PutsMoreBytes ys b c → PutsBytes (xs ++ ys) a c
 told_last xs ys a b c first more = tells_more xs ys a b c (subst (λ l. PutsBytes l a b) (append-nil xs) first) more
 
-pub stops_told : (error : IdentifyError) (held : List ℕ → ToldOf) (inquiry : Inquiry) (words : List (List ℕ)) (before now : Streams) (errors : Sink) → Stops error [] held inquiry words before now
-    → PutsMoreBytes (error_line error) now.errors errors → Stops error (error_line error) held inquiry words before (record now { errors = errors })
-stops_told Memory held inquiry words before now errors stops more = record {
+pub stops_told : (error : IdentifyError) (held : List ℕ → ToldOf) (inquiry : Inquiry) (names : List Entry) (words : List (List ℕ)) (before now : Streams) (errors : Sink) → Stops error [] held inquiry names words before now
+    → PutsMoreBytes (error_line error) now.errors errors → Stops error (error_line error) held inquiry names words before (record now { errors = errors })
+stops_told Memory held inquiry names words before now errors stops more = record {
   heard = stops.heard;
   word = stops.word;
   left = stops.left;
@@ -188,14 +189,14 @@ stops_told Memory held inquiry words before now errors stops more = record {
   hears = stops.hears;
   taken = stops.taken;
   blocks = stops.blocks;
-  lines = told_last (lines_text (told_words inquiry stops.heard)) (error_line Memory) before.errors now.errors errors stops.lines more;
+  lines = told_last (lines_text (told_words inquiry names stops.heard)) (error_line Memory) before.errors now.errors errors stops.lines more;
 }
-stops_told Write held inquiry words before now errors stops more = record {
+stops_told Write held inquiry names words before now errors stops more = record {
   heard = stops.heard;
   next = stops.next;
   left = stops.left;
   words_are = stops.words_are;
   hears = stops.hears;
   blocks = stops.blocks;
-  lines = told_last (lines_text (told_words inquiry (stops.heard ++ stops.next ∷ []))) (error_line Write) before.errors now.errors errors stops.lines more;
+  lines = told_last (lines_text (told_words inquiry names (stops.heard ++ stops.next ∷ []))) (error_line Write) before.errors now.errors errors stops.lines more;
 }

@@ -2,6 +2,7 @@
 use Rattle.std.specs.Prelude.{◌≡◌, ◌⊎◌, ℕ, ◌+◌, List, [], ◌∷◌, ◌++◌, codes}
 use Rattle.watched.specs.Watching.{ConsumesAtMost}
 use Rattle.census_blocks.specs.declared.inquiry.Inquiry.{Inquiry}
+use Rattle.census_names.specs.Names.{Entry}
 use Rattle.census_bundle.specs.Sizes.{input_limit}
 use Rattle.census_folders.specs.Told.{Told}
 use Rattle.census_identify.specs.Errors.{error_line, error_status}
@@ -18,16 +19,16 @@ words_or_input (word ∷ words) = word ∷ words
 
 -- Something was got of each word, in their order. Their blocks went to standard output and their lines to standard
 -- error, and this is the greatest status that a line asks for.
-pub record TellsAll (held : List ℕ → Told) (inquiry : Inquiry) (words : List (List ℕ)) (status : ℕ) (before after : Streams) : Type 0 where
+pub record TellsAll (held : List ℕ → Told) (inquiry : Inquiry) (names : List Entry) (words : List (List ℕ)) (status : ℕ) (before after : Streams) : Type 0 where
   pub heard : List Hearing
   pub words_are : words ≡ heard_words heard
   pub hears : HearsEach held heard before.input after.input
-  pub blocks : Writes (blocks_text inquiry.form (told_words inquiry heard)) before.output after.output
-  pub lines : PutsBytes (lines_text (told_words inquiry heard)) before.errors after.errors
-  pub status_is : status ≡ status_of (told_words inquiry heard)
+  pub blocks : Writes (blocks_text inquiry.form (told_words inquiry names heard)) before.output after.output
+  pub lines : PutsBytes (lines_text (told_words inquiry names heard)) before.errors after.errors
+  pub status_is : status ≡ status_of (told_words inquiry names heard)
 
 -- Memory was refused for a word. What was got of the words before it was told, and then this last line.
-pub record LacksMemory (last : List ℕ) (held : List ℕ → Told) (inquiry : Inquiry) (words : List (List ℕ)) (before after : Streams) : Type 0 where
+pub record LacksMemory (last : List ℕ) (held : List ℕ → Told) (inquiry : Inquiry) (names : List Entry) (words : List (List ℕ)) (before after : Streams) : Type 0 where
   pub heard : List Hearing
   pub word : List ℕ
   pub left : List (List ℕ)
@@ -36,32 +37,32 @@ pub record LacksMemory (last : List ℕ) (held : List ℕ → Told) (inquiry : I
   pub reached : Reader
   pub hears : HearsEach held heard before.input reached
   pub taken : ConsumesAtMost (input_limit + 1) reached.unread after.input.unread
-  pub blocks : Writes (blocks_text inquiry.form (told_words inquiry heard)) before.output after.output
-  pub lines : PutsBytes (lines_text (told_words inquiry heard) ++ last) before.errors after.errors
+  pub blocks : Writes (blocks_text inquiry.form (told_words inquiry names heard)) before.output after.output
+  pub lines : PutsBytes (lines_text (told_words inquiry names heard) ++ last) before.errors after.errors
 
 -- Standard output failed at the block of a word: what was written is a prefix of the blocks up to that one, and the
 -- blocks before it are whole. The lines up to that word were told, and then this last line.
-pub record LosesOutput (last : List ℕ) (held : List ℕ → Told) (inquiry : Inquiry) (words : List (List ℕ)) (before after : Streams) : Type 0 where
+pub record LosesOutput (last : List ℕ) (held : List ℕ → Told) (inquiry : Inquiry) (names : List Entry) (words : List (List ℕ)) (before after : Streams) : Type 0 where
   pub heard : List Hearing
   pub next : Hearing
   pub left : List (List ℕ)
   pub words_are : words ≡ heard_words heard ++ next.word ∷ left
   pub hears : HearsEach held (heard ++ next ∷ []) before.input after.input
-  pub blocks : WritesBetween (blocks_text inquiry.form (told_words inquiry heard)) (blocks_text inquiry.form (told_words inquiry (heard ++ next ∷ []))) before.output after.output
-  pub lines : PutsBytes (lines_text (told_words inquiry (heard ++ next ∷ [])) ++ last) before.errors after.errors
+  pub blocks : WritesBetween (blocks_text inquiry.form (told_words inquiry names heard)) (blocks_text inquiry.form (told_words inquiry names (heard ++ next ∷ []))) before.output after.output
+  pub lines : PutsBytes (lines_text (told_words inquiry names (heard ++ next ∷ [])) ++ last) before.errors after.errors
 
 -- what was done before this error ended it, with this line told last
-abbrev pub Stops : IdentifyError → List ℕ → (List ℕ → Told) → Inquiry → List (List ℕ) → Streams → Streams → Type 0
-Stops Memory last held inquiry words before after = LacksMemory last held inquiry words before after
-Stops Write last held inquiry words before after = LosesOutput last held inquiry words before after
+abbrev pub Stops : IdentifyError → List ℕ → (List ℕ → Told) → Inquiry → List Entry → List (List ℕ) → Streams → Streams → Type 0
+Stops Memory last held inquiry names words before after = LacksMemory last held inquiry names words before after
+Stops Write last held inquiry names words before after = LosesOutput last held inquiry names words before after
 
 -- this error ended it, and its line was told
-pub record FailsToIdentify (held : List ℕ → Told) (inquiry : Inquiry) (words : List (List ℕ)) (status : ℕ) (before after : Streams) : Type 0 where
+pub record FailsToIdentify (held : List ℕ → Told) (inquiry : Inquiry) (names : List Entry) (words : List (List ℕ)) (status : ℕ) (before after : Streams) : Type 0 where
   pub error : IdentifyError
   pub status_is : status ≡ error_status error
-  pub stops : Stops error (error_line error) held inquiry words before after
+  pub stops : Stops error (error_line error) held inquiry names words before after
 
 -- Each word was told, or an error ended it. Without a word standard input is told.
-abbrev pub Identifies : (List ℕ → Told) → Inquiry → List (List ℕ) → ℕ → Streams → Streams → Type 0
-Identifies held inquiry words status before after =
-    TellsAll held inquiry (words_or_input words) status before after ⊎ FailsToIdentify held inquiry (words_or_input words) status before after
+abbrev pub Identifies : (List ℕ → Told) → Inquiry → List Entry → List (List ℕ) → ℕ → Streams → Streams → Type 0
+Identifies held inquiry names words status before after =
+    TellsAll held inquiry names (words_or_input words) status before after ⊎ FailsToIdentify held inquiry names (words_or_input words) status before after

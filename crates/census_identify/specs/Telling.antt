@@ -4,6 +4,7 @@ use Rattle.life_text.specs.declared.rle.RleFault.{RleFault}
 use Rattle.life_faults.specs.Lines.{fault_line}
 use Rattle.census_blocks.specs.Blocks.{block_of}
 use Rattle.census_blocks.specs.declared.inquiry.Inquiry.{Inquiry}
+use Rattle.census_names.specs.Names.{Entry}
 use Rattle.census_facts.specs.Forms.{separator}
 use Rattle.census_facts.specs.declared.form.Form.{Form}
 use Rattle.census_identify.specs.Hearing.{Hearing, is_input}
@@ -33,15 +34,15 @@ unread_message None = codes " read failed"
 unread_message (Some reason) = codes " " ++ reason ++ codes " (read failed)"
 
 -- what is told of a word, by what was got of it
-abbrev pub told_of : Inquiry → List ℕ → Heard → Told
-told_of inquiry word (Text text) = told_of_block word text (block_of inquiry (file_of word) text)
-told_of inquiry word TooLong = Line (message_line word (codes " input too long")) 1
-told_of inquiry word (Unread reason) = Line (message_line word (unread_message reason)) 4
+abbrev pub told_of : Inquiry → List Entry → List ℕ → Heard → Told
+told_of inquiry names word (Text text) = told_of_block word text (block_of inquiry names (file_of word) text)
+told_of inquiry names word TooLong = Line (message_line word (codes " input too long")) 1
+told_of inquiry names word (Unread reason) = Line (message_line word (unread_message reason)) 4
 
 -- # All
 
-abbrev pub told_words : Inquiry → List Hearing → List Told
-told_words inquiry hearings = map (λ h. told_of inquiry h.word h.heard) hearings
+abbrev pub told_words : Inquiry → List Entry → List Hearing → List Told
+told_words inquiry names hearings = map (λ h. told_of inquiry names h.word h.heard) hearings
 
 abbrev pub blocks_in : List Told → List (List ℕ)
 blocks_in [] = []

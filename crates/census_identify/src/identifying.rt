@@ -10,6 +10,7 @@ use crate::heard::hear;
 use crate::told::told_of;
 use census_blocks::{HORIZON_LIMIT, Inquiry};
 use census_folders::Shelf;
+use census_names::Names;
 use life_orbit::BOUND_LIMIT;
 use std::alloc::Global;
 use std::io::{Read, Write};
@@ -27,6 +28,7 @@ fn identify_each<S: Shelf, I: Read, O: Write, E: Write>(
     shelf: &S,
     alloc: Global,
     inquiry: Inquiry,
+    names: &Names,
     words: &[&str],
     input: &mut Watched<I>,
     output: &mut Watched<O>,
@@ -37,10 +39,10 @@ fn identify_each<S: Shelf, I: Read, O: Write, E: Write>(
     requires output { has_failed output.old ≡ false }
     requires errors { has_failed errors.old ≡ false }
     ensures { MatchResult result
-        (λ status. TellsAll ((S.tellings shelf.now).held []) inquiry (map (λ s. s.now) words.now)
+        (λ status. TellsAll ((S.tellings shelf.now).held []) inquiry names.now (map (λ s. s.now) words.now)
         status (streams I.remaining O.contents E.contents input.old output.old errors.old)
         (streams I.remaining O.contents E.contents input.new output.new errors.new))
-        (λ error. Stops error [] ((S.tellings shelf.now).held []) inquiry (map (λ s. s.now) words.now)
+        (λ error. Stops error [] ((S.tellings shelf.now).held []) inquiry names.now (map (λ s. s.now) words.now)
         (streams I.remaining O.contents E.contents input.old output.old errors.old)
         (streams I.remaining O.contents E.contents input.new output.new errors.new)) }
 {
@@ -50,7 +52,7 @@ fn identify_each<S: Shelf, I: Read, O: Write, E: Write>(
     };
     for word in words {
         let heard = hear(shelf, alloc, word, input)?;
-        let told = told_of(alloc, word, &heard, inquiry)?;
+        let told = told_of(alloc, names, word, &heard, inquiry)?;
         tell(inquiry.form, &told, &mut course, output, errors)?;
     }
     Ok(course.status)
@@ -61,7 +63,8 @@ fn identify_each<S: Shelf, I: Read, O: Write, E: Write>(
 /// bound is 1 to 100,000 generations, and the horizon 1 to 10,000.
 ///
 /// The block of a text goes to standard output, and tells the file too where the word isn't `-`: lines, which an empty line
-/// parts from the block before, or a JSON object on a line of its own, as the inquiry asks. Where a text has a fault, is longer than 67,108,864 bytes or can't be read, a
+/// parts from the block before, or a JSON object on a line of its own, as the inquiry asks. Objects are told with the names
+/// that they have. Where a text has a fault, is longer than 67,108,864 bytes or can't be read, a
 /// line goes to standard error, and the next word is told. The answer is the exit status: the greatest that a line
 /// asked for, 1 for a fault or a text that is too long and 4 for one that can't be read; without such a line 0.
 ///
@@ -72,6 +75,7 @@ pub fn identify<S: Shelf, I: Read, O: Write, E: Write>(
     shelf: &S,
     alloc: Global,
     inquiry: Inquiry,
+    names: &Names,
     words: &[&str],
     input: &mut Watched<I>,
     output: &mut Watched<O>,
@@ -81,7 +85,7 @@ pub fn identify<S: Shelf, I: Read, O: Write, E: Write>(
     requires horizon { 1 ≤ inquiry.horizon × inquiry.horizon ≤ HORIZON_LIMIT }
     requires output { has_failed output.old ≡ false }
     requires errors { has_failed errors.old ≡ false }
-    ensures { Identifies ((S.tellings shelf.now).held []) inquiry (map (λ s. s.now) words.now) result
+    ensures { Identifies ((S.tellings shelf.now).held []) inquiry names.now (map (λ s. s.now) words.now) result
         (streams I.remaining O.contents E.contents input.old output.old errors.old)
         (streams I.remaining O.contents E.contents input.new output.new errors.new) }
 {
@@ -89,6 +93,7 @@ pub fn identify<S: Shelf, I: Read, O: Write, E: Write>(
         shelf,
         alloc,
         inquiry,
+        names,
         words_or_input(words),
         input,
         output,

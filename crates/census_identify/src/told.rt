@@ -8,6 +8,7 @@ use crate::bytes::Bytes;
 use crate::heard::{Heard, is_input};
 use census_blocks::{BlockText, HORIZON_LIMIT, Inquiry, block};
 use census_bundle::Text;
+use census_names::Names;
 use life_faults::fault_line;
 use life_orbit::BOUND_LIMIT;
 use std::alloc::{AllocError, Global};
@@ -68,6 +69,7 @@ fn file_of(word: &str) -> Option<&[u8]>
 // What is told of a text.
 fn told_of_text(
     alloc: Global,
+    names: &Names,
     word: &str,
     text: &[u8],
     inquiry: Inquiry,
@@ -75,9 +77,9 @@ fn told_of_text(
     requires bound { 1 ≤ inquiry.bound × inquiry.bound ≤ BOUND_LIMIT }
     requires horizon { 1 ≤ inquiry.horizon × inquiry.horizon ≤ HORIZON_LIMIT }
     ensures { IfOk result (λ told.
-        told ≡ told_of_block word.now text.now (block_of inquiry (file_of word.now) text.now)) }
+        told ≡ told_of_block word.now text.now (block_of inquiry names.now (file_of word.now) text.now)) }
 {
-    match block(alloc, file_of(word), text, inquiry)? {
+    match block(alloc, names, file_of(word), text, inquiry)? {
         Ok(block) => Ok(Told::Block(block)),
         Err(fault) => Ok(Told::Line {
             line: message_line(alloc, word, fault_line(alloc, text, &fault)?.as_slice())?,
@@ -96,16 +98,17 @@ fn told_of_text(
 /// status 4. The word is written as it is.
 pub fn told_of(
     alloc: Global,
+    names: &Names,
     word: &str,
     heard: &Heard,
     inquiry: Inquiry,
 ) -> Result<Told, AllocError>
     requires bound { 1 ≤ inquiry.bound × inquiry.bound ≤ BOUND_LIMIT }
     requires horizon { 1 ≤ inquiry.horizon × inquiry.horizon ≤ HORIZON_LIMIT }
-    ensures { IfOk result (λ told. told ≡ told_of inquiry word.now heard.now) }
+    ensures { IfOk result (λ told. told ≡ told_of inquiry names.now word.now heard.now) }
 {
     match heard {
-        Heard::Text(text) => told_of_text(alloc, word, text.as_slice(), inquiry),
+        Heard::Text(text) => told_of_text(alloc, names, word, text.as_slice(), inquiry),
         Heard::TooLong => Ok(Told::Line {
             line: message_line(alloc, word, b" input too long")?,
             status: 1,

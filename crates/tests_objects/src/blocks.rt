@@ -2,6 +2,7 @@
 
 use census_blocks::{HORIZON_LIMIT, Inquiry, block};
 use census_facts::Form;
+use census_names::{Names, read_names};
 use life_orbit::BOUND_LIMIT;
 use life_text::RleFault;
 use std::test::Fail;
@@ -88,7 +89,7 @@ fn texts_have_their_blocks(rt: HostRuntime) -> Result<(), Fail> {
                 near: *near,
                 ..USUAL
             };
-            let told = match block(rt.alloc(), None, text, inquiry)? {
+            let told = match block(rt.alloc(), &Names::none(rt.alloc()), None, text, inquiry)? {
                 Ok(block) => block.as_slice() == wanted.as_bytes(),
                 Err(_fault) => false,
             };
@@ -116,7 +117,7 @@ fn a_traffic_light_is_one_object_where_what_is_near_is_one(rt: HostRuntime) -> R
             near: *near,
             ..USUAL
         };
-        let told = match block(rt.alloc(), None, LIGHT, inquiry)? {
+        let told = match block(rt.alloc(), &Names::none(rt.alloc()), None, LIGHT, inquiry)? {
             Ok(block) => block.as_slice() == wanted.as_bytes(),
             Err(_fault) => false,
         };
@@ -154,7 +155,7 @@ fn growth_is_told_within_the_horizon_and_the_cells(rt: HostRuntime) -> Result<()
             horizon: *horizon,
             ..USUAL
         };
-        let told = match block(rt.alloc(), None, GUN, inquiry)? {
+        let told = match block(rt.alloc(), &Names::none(rt.alloc()), None, GUN, inquiry)? {
             Ok(block) => block.as_slice() == wanted.as_bytes(),
             Err(_fault) => false,
         };
@@ -227,7 +228,7 @@ fn texts_have_their_objects(rt: HostRuntime) -> Result<(), Fail> {
             form: Form::Json,
             ..USUAL
         };
-        let told = match block(rt.alloc(), *file, text, inquiry)? {
+        let told = match block(rt.alloc(), &Names::none(rt.alloc()), *file, text, inquiry)? {
             Ok(block) => block.as_slice() == wanted.as_bytes(),
             Err(_fault) => false,
         };
@@ -253,10 +254,91 @@ fn a_file_is_told_in_lines(rt: HostRuntime) -> Result<(), Fail> {
     Ok(())
 }
 
+// Names of some objects. One is in quotation marks, and has a byte that is not UTF-8.
+const NAMES: &[u8] = b"# objects\nxs4_33\tblock\nxq4_153\t\"gl\xff\"\n";
+
+/// The form, a text, the bound, and what is told where objects have names.
+type NamedCase = (Form, &'static [u8], u32, &'static [u8]);
+
+const NAMED: &[NamedCase] = &[
+    (
+        Form::Lines,
+        b"x = 3, y = 3, rule = B3/S23\nbo$2bo$3o!",
+        100,
+        b"rule B3/S23\npopulation 5\nbox 3 3\nonset 0\nperiod 4\ndisplacement 1 1\napgcode xq4_153\nname \"gl\xff\"\n",
+    ),
+    // A blinker, which has none.
+    (
+        Form::Lines,
+        b"x = 3, y = 1\n3o!",
+        100,
+        b"rule B3/S23\npopulation 3\nbox 3 1\nonset 0\nperiod 2\ndisplacement 0 0\napgcode xp2_7\n",
+    ),
+    (
+        Form::Lines,
+        THREE_OBJECTS,
+        30,
+        b"rule B3/S23\npopulation 12\nbox 43 24\nonset 0\nobjects 3\npart xp2_7 1\npart xs4_33 1 block\npart xq4_153 1 \"gl\xff\"\n",
+    ),
+    (
+        Form::Lines,
+        GUN,
+        100,
+        b"rule B3/S23\npopulation 36\nbox 36 9\nengines 1\nengine 1 30 0 0 1\nemits 1 xq4_153 1 \"gl\xff\"\n",
+    ),
+    (
+        Form::Json,
+        b"x = 2, y = 2\n2o$2o!",
+        100,
+        b"{\"apgcode\":\"xs4_33\",\"box\":[2,2],\"displacement\":[0,0],\"name\":\"block\",\"onset\":0,\"period\":1,\"population\":4,\"rule\":\"B3/S23\"}\n",
+    ),
+    (
+        Form::Json,
+        THREE_OBJECTS,
+        30,
+        b"{\"box\":[43,24],\"objects\":3,\"onset\":0,\"parts\":[{\"code\":\"xp2_7\",\"count\":1},{\"code\":\"xs4_33\",\"count\":1,\"name\":\"block\"},{\"code\":\"xq4_153\",\"count\":1,\"name\":\"\\\"gl\xef\xbf\xbd\\\"\"}],\"population\":12,\"rule\":\"B3/S23\"}\n",
+    ),
+    (
+        Form::Json,
+        GUN,
+        100,
+        b"{\"box\":[36,9],\"engines\":[{\"count\":1,\"displacement\":[0,0],\"emits\":[{\"code\":\"xq4_153\",\"count\":1,\"name\":\"\\\"gl\xef\xbf\xbd\\\"\"}],\"period\":30}],\"population\":36,\"rule\":\"B3/S23\"}\n",
+    ),
+];
+
+#[test]
+fn objects_have_their_names(rt: HostRuntime) -> Result<(), Fail> {
+    let names = match read_names(rt.alloc(), NAMES)? {
+        Ok(names) => names,
+        Err(_line) => Names::none(rt.alloc()),
+    };
+    for (form, text, bound, wanted) in NAMED {
+        assert!(rt; 1 <= *bound && *bound <= BOUND_LIMIT);
+        let inquiry = Inquiry {
+            bound: *bound,
+            form: *form,
+            ..USUAL
+        };
+        let told = match block(rt.alloc(), &names, None, text, inquiry)? {
+            Ok(block) => block.as_slice() == *wanted,
+            Err(_fault) => false,
+        };
+        assert!(rt; told);
+    }
+    Ok(())
+}
+
 #[test]
 fn a_fault(rt: HostRuntime) -> Result<(), Fail> {
     let inquiry = Inquiry { bound: 10, ..USUAL };
-    let fault = block(rt.alloc(), None, b"x = 3, y = 3\n3b?!", inquiry)?.err();
+    let fault = block(
+        rt.alloc(),
+        &Names::none(rt.alloc()),
+        None,
+        b"x = 3, y = 3\n3b?!",
+        inquiry,
+    )?
+    .err();
     assert!(rt; fault == Some(RleFault::BadChar { at: 15 }));
     Ok(())
 }

@@ -4,6 +4,7 @@ use census_blocks::Inquiry;
 use census_facts::Form;
 use census_folders::{Shelf, ShelfFault, Unread};
 use census_identify::identify;
+use census_names::Names;
 use std::alloc::Global;
 use std::test::Fail;
 use watched::Watched;
@@ -127,6 +128,7 @@ fn words_are_told(rt: HostRuntime) -> Result<(), Fail> {
             &FILES,
             rt.alloc(),
             inquiry,
+            &Names::none(rt.alloc()),
             words,
             &mut input,
             &mut output,

@@ -6,7 +6,7 @@ use Rattle.census_facts.proofs.engines.push_emits.Goals as goal
 
 pub loop-part-preserved : goal.loop-part-preserved
 loop-part-preserved c =
-    let line = emits_line c.args.number in
+    let line = emits_line c.args.names.now c.args.number in
     let text = c.args.text.now.items in
     let parts = c.args.parts.now in
     let i = c.loop-part.part-index in

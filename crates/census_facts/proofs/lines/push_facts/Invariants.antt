@@ -5,4 +5,4 @@ use Rattle.census_facts.proofs.lines.push_facts.Given as goal
 
 abbrev pub invariant-loop-fact : goal.invariant-loop-fact
 invariant-loop-fact l =
-    l.text.items ++ things_lines (things_in (drop l.fact-index l.facts)) ≡ l.fn.text.items ++ things_lines (things_in l.facts)
+    l.text.items ++ things_lines l.names (things_in (drop l.fact-index l.facts)) ≡ l.fn.text.items ++ things_lines l.names (things_in l.facts)

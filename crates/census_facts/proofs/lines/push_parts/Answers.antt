@@ -6,11 +6,12 @@ use Rattle.census_facts.proofs.lines.push_parts.Goals as goal
 
 pub loop-part-preserved : goal.loop-part-preserved
 loop-part-preserved c =
+    let line = part_line c.args.names.now in
     let text = c.args.text.now.items in
     let parts = c.args.parts.now in
     let i = c.loop-part.part-index in
     let part = c.part-item.result in
     let at : slice_get parts i ≡ Some part = slice_get_read parts (length parts) i part refl c.loop-part-test.true c.part-item.is in
-    c.in_ok-push_part.ensures ∙ ap (λ t. t ++ part_line part) c.loop-part.invariant
-    ∙ append_assoc text (text_of (map part_line (take i parts))) (part_line part)
-    ∙ ap (λ t. text ++ t) (sym (lines_taken part_line parts i part at))
+    c.in_ok-push_part.ensures ∙ ap (λ t. t ++ line part) c.loop-part.invariant
+    ∙ append_assoc text (text_of (map line (take i parts))) (line part)
+    ∙ ap (λ t. text ++ t) (sym (lines_taken line parts i part at))

@@ -5,4 +5,4 @@ use Rattle.census_facts.proofs.Floatless.{things-floatless}
 use Rattle.census_facts.proofs.values.push_object.Goals as goal
 
 pub push_value-requires : goal.push_value-requires
-push_value-requires c = ap has_float c.in_ok-value.ensures ∙ things-floatless (things_in c.args.facts.now)
+push_value-requires c = ap has_float c.in_ok-value.ensures ∙ things-floatless c.args.names.now (things_in c.args.facts.now)

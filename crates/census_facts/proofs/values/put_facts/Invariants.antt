@@ -6,4 +6,4 @@ use Rattle.census_facts.proofs.values.put_facts.Given as goal
 
 abbrev pub invariant-loop-fact : goal.invariant-loop-fact
 invariant-loop-fact l =
-    with_things (things_in (drop l.fact-index l.facts)) (members_view l.members.entries) ≡ with_things (things_in l.facts) (members_view l.fn.members.entries)
+    with_things l.names (things_in (drop l.fact-index l.facts)) (members_view l.members.entries) ≡ with_things l.names (things_in l.facts) (members_view l.fn.members.entries)

@@ -13,7 +13,7 @@ returns-in-Err g c =
     inr (record {
       error = c.in-Err.error;
       status_is = c.status.ensures;
-      stops = stops_told c.in-Err.error held c.args.inquiry (words_or_input (texts c.args.words.now)) before now errors
-          (subst (λ ws. Stops c.in-Err.error [] held c.args.inquiry ws before now) c.words_or_input.ensures c.in-Err.ensures)
+      stops = stops_told c.in-Err.error held c.args.inquiry c.args.names.now (words_or_input (texts c.args.words.now)) before now errors
+          (subst (λ ws. Stops c.in-Err.error [] held c.args.inquiry c.args.names.now ws before now) c.words_or_input.ensures c.in-Err.ensures)
           (subst (λ l. PutsMoreBytes l now.errors errors) (c.as_bytes.ensures.value ∙ c.line.ensures) c.tell_line.ensures);
     })
