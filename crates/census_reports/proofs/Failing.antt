@@ -1,5 +1,5 @@
 -- Why not all was written, from rows to texts and from texts to words.
-use Rattle.std.proofs.Common.{◌≡◌, ℕ, Bool, true, false, List, [], Result, Ok, Err, MatchResult, refl, inl, inr}
+use Rattle.std.proofs.Common.{◌≡◌, ℕ, Bool, true, false, List, [], Result, Ok, Err, MatchResult, refl, sym, subst, inl, inr}
 use Rattle.census_cut.specs.declared.mending.Cut.{Cut}
 use Rattle.census_folders.specs.Told.{Told}
 use Rattle.census_identify.specs.Identifies.{words_or_input}
@@ -7,7 +7,7 @@ use Rattle.census_identify.specs.Streams.{Sink}
 use Rattle.census_rows.specs.declared.row.Row.{Row}
 use Rattle.census_reports.specs.Forms.{RefusesRows, RefusesTexts}
 use Rattle.census_reports.specs.Looking.{FailsRead, RefusesRead, WritesRead}
-use Rattle.census_reports.specs.Mending.{AreLookedAt, LackMending}
+use Rattle.census_reports.specs.Mending.{AreLookedAt, AreMended, LackMending}
 use Rattle.census_reports.specs.Outcomes.{ReadsTexts, ReportsFail, WritesReports}
 use Rattle.census_reports.specs.Rows.{AreRowsOf, LackRows}
 use Rattle.census_reports.specs.Streams.{Streams}
@@ -97,8 +97,16 @@ unmended Memory form texts s why = inl refl
 unmended Read form texts s why = absurd why
 unmended Write form texts s why = absurd why
 
-pub read-fails : (error : ReportsError) (form : Form) (texts : List (List ℕ)) (a b : Sink) → FailsTexts error form texts a b → FailsRead error false form texts a b
-read-fails error form texts a b why = looked-fails error form false texts texts [] a b (refl, refl) why
+-- texts that are mended, where that is asked for
+pub mended-fails : (error : ReportsError) (form : Form) (cut : Bool) (texts looked : List (List ℕ)) (cuts : List Cut) (a b : Sink) → cut ≡ true → AreMended texts looked cuts
+    → FailsTexts error form looked a b → FailsRead error cut form texts a b
+mended-fails error form cut texts looked cuts a b asked are why =
+    subst (λ c. FailsRead error c form texts a b) (sym asked) (looked-fails error form true texts looked cuts a b are why)
+
+-- texts that are looked at as they were read, where that is asked for
+pub read-fails : (error : ReportsError) (form : Form) (cut : Bool) (texts : List (List ℕ)) (a b : Sink) → cut ≡ false → FailsTexts error form texts a b → FailsRead error cut form texts a b
+read-fails error form cut texts a b plain why =
+    subst (λ c. FailsRead error c form texts a b) (sym plain) (looked-fails error form false texts texts [] a b (refl, refl) why)
 
 module _ (form : Form) (reading : Reading) (held : List ℕ → Told) (words : List (List ℕ)) (a b : Streams) where
   pub stopping : (error : ReportsError) → StopsReadingTexts error reading.limit held (words_or_input words) a.input b.input → b.output ≡ a.output

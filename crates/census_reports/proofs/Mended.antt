@@ -2,7 +2,7 @@
 use Rattle.std.proofs.Common.{◌≡◌, ℕ, zero, suc, ◌+◌, ◌<◌, ◌≤◌, List, [], ◌∷◌, ◌++◌, length, map, take, drop, get_or, refl, sym, ap, subst, ◌∙◌, append_assoc, append-nil, drop-cons, Option, Some, None, Result, Ok, Err, MatchResult, arith}
 use Rattle.std.specs.Prelude.{MatchOption}
 use Rattle.std.specs.List.{AllZip}
-use Rattle.std.proofs.lemmas.List.{length-take, length-take-le, map-append, take-append-drop, take_more}
+use Rattle.std.proofs.lemmas.List.{length-take-le, map-append, take-append-drop, take_more}
 use Rattle.census_rows.specs.declared.row.Row.{Row}
 use Rattle.census_readback.specs.Reports.{ReadsAsReports}
 use Rattle.census_cut.specs.Kept.{kept_rows}

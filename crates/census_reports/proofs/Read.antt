@@ -10,7 +10,7 @@ use Rattle.census_identify.specs.Hearing.{Hears}
 use Rattle.census_identify.specs.Identifies.{words_or_input}
 use Rattle.census_identify.specs.Streams.{Reader}
 use Rattle.census_identify.specs.declared.heard.Heard.TheVariants.{Text}
-use Rattle.census_reports.specs.Texts.{FitTogether, PassesLimit, ReadsEach, RefusesNext, RefusesWord, StopsReadingTexts, bytes_in, left_behind}
+use Rattle.census_reports.specs.Texts.{FitTogether, ReadsEach, RefusesNext, RefusesWord, StopsReadingTexts, bytes_in, left_behind}
 use Rattle.census_reports.specs.declared.error.ReportsError.{ReportsError}
 use Rattle.census_reports.specs.declared.error.ReportsError.TheVariants.{Claims, Names, Fault, TooMany, TooLong, Memory, Read, Write}
 
@@ -30,30 +30,6 @@ some_text held [] [] a b read = absurd read
 some_text held [] (t ∷ texts) a b read = omega arith
 some_text held (w ∷ words) [] a b read = absurd read
 some_text held (w ∷ words) (t ∷ texts) a b read = omega arith
-
-module _ (held : List ℕ → Told) (words : List (Bor (List ℕ))) (i : ℕ) (d : Bor (List ℕ)) (texts : List (List ℕ)) (a b : Reader) (within : i < length words)
-    (read : ReadsEach held (words_of (take i words)) texts a b) where
-  pub next_text : (text : List ℕ) (all : List (List ℕ)) (c : Reader) → Hears held (get_or words i d).now (Text text) b c → all ≡ texts ++ text ∷ []
-      → ReadsEach held (words_of (take (i + 1) words)) all a c
-  next_text text all c hears e =
-      subst (λ t. ReadsEach held (words_of (take (i + 1) words)) t a c) (sym e)
-      (subst (λ ws. ReadsEach held ws (texts ++ text ∷ []) a c) (sym (map_more (λ s. s.now) words i d within))
-      (reads_more held (words_of (take i words)) texts (get_or words i d).now text a b c read hears))
-
-  pub stops_reading : (error : ReportsError) (limit : Option ℕ) (c : Reader) → FitTogether limit texts → RefusesNext error limit texts held (get_or words i d).now b c
-      → StopsReadingTexts error limit held (words_of words) a c
-  stops_reading error limit c fits why = record {
-    texts = texts;
-    done = words_of (take i words);
-    word = (get_or words i d).now;
-    left = words_of (drop (suc i) words);
-    words_are = ap words_of (sym (take-append-drop i words) ∙ ap (λ l. take i words ++ l) (drop-cons words i d within))
-        ∙ map-append (λ s. s.now) (take i words) (get_or words i d ∷ drop (suc i) words);
-    reached = b;
-    read = read;
-    fits = fits;
-    why = why;
-  }
 
 -- a text that was not read was not taken
 pub next_refused : (error : ReportsError) (limit : Option ℕ) (texts : List (List ℕ)) (held : List ℕ → Told) (word : List ℕ) (a b : Reader) → RefusesWord error held word a b
@@ -112,3 +88,40 @@ left_none (Some most) left texts text h e fits =
 pub passes_limit : (limit left : Option ℕ) (texts : List (List ℕ)) (text : List ℕ) (held : List ℕ → Told) (word : List ℕ) (a b : Reader) → Left limit texts left
     → Hears held word (Text text) a b → b.failed ≡ false → left_behind left (length text) ≡ None → RefusesNext TooLong limit texts held word a b
 passes_limit limit left texts text held word a b h hears sound e = inr (record { text = text; hears = hears; passes = left_none limit left texts text h e; sound = sound })
+
+-- # One text more
+
+module _ (held : List ℕ → Told) (words : List (Bor (List ℕ))) (i : ℕ) (d : Bor (List ℕ)) (texts : List (List ℕ)) (a b : Reader) (within : i < length words)
+    (read : ReadsEach held (words_of (take i words)) texts a b) where
+  pub next_text : (text : List ℕ) (all : List (List ℕ)) (c : Reader) → Hears held (get_or words i d).now (Text text) b c → all ≡ texts ++ text ∷ []
+      → ReadsEach held (words_of (take (i + 1) words)) all a c
+  next_text text all c hears e =
+      subst (λ t. ReadsEach held (words_of (take (i + 1) words)) t a c) (sym e)
+      (subst (λ ws. ReadsEach held ws (texts ++ text ∷ []) a c) (sym (map_more (λ s. s.now) words i d within))
+      (reads_more held (words_of (take i words)) texts (get_or words i d).now text a b c read hears))
+
+  pub stops_reading : (error : ReportsError) (limit : Option ℕ) (c : Reader) → FitTogether limit texts → RefusesNext error limit texts held (get_or words i d).now b c
+      → StopsReadingTexts error limit held (words_of words) a c
+  stops_reading error limit c fits why = record {
+    texts = texts;
+    done = words_of (take i words);
+    word = (get_or words i d).now;
+    left = words_of (drop (suc i) words);
+    words_are = ap words_of (sym (take-append-drop i words) ∙ ap (λ l. take i words ++ l) (drop-cons words i d within))
+        ∙ map-append (λ s. s.now) (take i words) (get_or words i d ∷ drop (suc i) words);
+    reached = b;
+    read = read;
+    fits = fits;
+    why = why;
+  }
+
+  -- the text of the next word was not read
+  pub stops_word : (error : ReportsError) (limit : Option ℕ) (c : Reader) → FitTogether limit texts → RefusesWord error held (get_or words i d).now b c
+      → StopsReadingTexts error limit held (words_of words) a c
+  stops_word error limit c fits why = stops_reading error limit c fits (next_refused error limit texts held (get_or words i d).now b c why)
+
+  -- with the next text they pass the limit
+  pub stops_passing : (limit left : Option ℕ) (text : List ℕ) (c : Reader) → Left limit texts left → Hears held (get_or words i d).now (Text text) b c → c.failed ≡ false
+      → left_behind left (length text) ≡ None → StopsReadingTexts TooLong limit held (words_of words) a c
+  stops_passing limit left text c h hears sound e =
+      stops_reading TooLong limit c h.fits (passes_limit limit left texts text held (get_or words i d).now b c h hears sound e)

@@ -1,5 +1,5 @@
 -- What rows tell of engines and parts doesn't depend on the number of their collection.
-use Rattle.std.proofs.Common.{◌≡◌, ℕ, Bool, true, false, Option, Some, None, List, [], ◌∷◌, map, ap, ap₂, ◌∙◌, refl, sym}
+use Rattle.std.proofs.Common.{◌≡◌, ℕ, Bool, true, false, Option, Some, List, [], ◌∷◌, map, ap, ap₂, ◌∙◌, refl, sym}
 use Rattle.std.specs.List.{take_while}
 use Rattle.std.proofs.Math.Bool.{cond}
 use Rattle.std.proofs.lemmas.List.Sums.{take_while-cons}
