@@ -15,7 +15,7 @@ dropped p y ys h = cond-false _ _ _ h
 
 module _ {X : Type 0} (lt : X → X → Bool) (order : IsStrictWeakOrder lt) where
   unmoved : (x : X) → lt x x ≡ false
-  unmoved x = elim (cases_Bool (lt x x)) [ inl yes ↦ order.one_way x x yes | inr no ↦ no ]
+  unmoved x = elim (cases_Bool (lt x x)) [ inl below ↦ order.one_way x x below | inr level ↦ level ]
 
   tied-parts : (x y : X) → ties lt x y ≡ true → (lt x y ≡ false) × (lt y x ≡ false)
   tied-parts x y h = let parts = and_parts (not (lt x y)) (not (lt y x)) h in (not-true (lt x y) parts.0, not-true (lt y x) parts.1)
@@ -40,15 +40,15 @@ module _ {X : Type 0} (lt : X → X → Bool) (order : IsStrictWeakOrder lt) whe
         | inl past ↦
             ap (filter p) (put-past x y ys past)
             ∙ elim (cases_Bool (p y)) [
-              | inr without ↦
-                  dropped p y (put_by lt x ys) without ∙ filter-put k x ys
-                  ∙ ap (λ l. cond (p x) (x ∷ l) l) (sym (dropped p y ys without))
-              | inl with ↦
+              | inr apart ↦
+                  dropped p y (put_by lt x ys) apart ∙ filter-put k x ys
+                  ∙ ap (λ l. cond (p x) (x ∷ l) l) (sym (dropped p y ys apart))
+              | inl tied ↦
                   elim (cases_Bool (p x)) [
-                    | inl both ↦ absurd (true≢false (sym past ∙ order.chain y k x (tied-parts k y with).1 (tied-parts k x both).0))
+                    | inl both ↦ absurd (true≢false (sym past ∙ order.chain y k x (tied-parts k y tied).1 (tied-parts k x both).0))
                     | inr only ↦
-                        kept p y (put_by lt x ys) with ∙ ap (λ l. y ∷ l) (filter-put k x ys ∙ dropped p x ys only)
-                        ∙ sym (dropped p x (y ∷ ys) only ∙ kept p y ys with)
+                        kept p y (put_by lt x ys) tied ∙ ap (λ l. y ∷ l) (filter-put k x ys ∙ dropped p x ys only)
+                        ∙ sym (dropped p x (y ∷ ys) only ∙ kept p y ys tied)
                   ]
             ]
       ]
@@ -105,8 +105,8 @@ module _ {X : Type 0} (lt : X → X → Bool) (order : IsStrictWeakOrder lt) whe
   found : (x z : X) (ys : List X) (w : X) (ws : List X) → NoneBefore z ys → filter (ties lt x) ys ≡ w ∷ ws → lt x z ≡ false
   found x z [] w ws h e = cc
   found x z (y ∷ ys) w ws h e = elim (cases_Bool (ties lt x y)) [
-    | inl with ↦ order.chain x y z (tied-parts x y with).0 h.0
-    | inr without ↦ found x z ys w ws h.1 (sym (dropped (ties lt x) y ys without) ∙ e)
+    | inl tied ↦ order.chain x y z (tied-parts x y tied).0 h.0
+    | inr apart ↦ found x z ys w ws h.1 (sym (dropped (ties lt x) y ys apart) ∙ e)
   ]
 
   itself : (x : X) → ties lt x x ≡ true
@@ -127,10 +127,10 @@ module _ {X : Type 0} (lt : X → X → Bool) (order : IsStrictWeakOrder lt) whe
       let head : y ≡ z = cc in
       let tails : (k : X) → filter (ties lt k) ys ≡ filter (ties lt k) zs =
       λ k. elim (cases_Bool (ties lt k y)) [
-        | inl with ↦
-            let both = sym (kept (ties lt k) y ys with) ∙ alike k ∙ kept (ties lt k) z zs (ap (ties lt k) (sym head) ∙ with) in cc
-        | inr without ↦
-            sym (dropped (ties lt k) y ys without) ∙ alike k ∙ dropped (ties lt k) z zs (ap (ties lt k) (sym head) ∙ without)
+        | inl tied ↦
+            let both = sym (kept (ties lt k) y ys tied) ∙ alike k ∙ kept (ties lt k) z zs (ap (ties lt k) (sym head) ∙ tied) in cc
+        | inr apart ↦
+            sym (dropped (ties lt k) y ys apart) ∙ alike k ∙ dropped (ties lt k) z zs (ap (ties lt k) (sym head) ∙ apart)
       ] in
       ap (λ w. w ∷ ys) head ∙ ap (λ l. z ∷ l) (same ys zs left.1 right.1 tails)
 

@@ -1,5 +1,5 @@
 -- A table of codes of patterns that are put in order, and where there is none.
-use Rattle.std.proofs.Common.{◌≡◌, Bor, ℕ, Bool, true, false, not, ◌||◌, if◌then◌else◌, true≢false, sym, List, [], ◌∷◌, ◌++◌, codes, refl, ap, ap₂}
+use Rattle.std.proofs.Common.{◌≡◌, Bor, ℕ, Bool, true, false, not, ◌||◌, if◌then◌else◌, true≢false, sym, List, [], ◌∷◌, ◌++◌, codes, refl, ap, ap₂, ◌∙◌}
 use Rattle.std.specs.List.{list_any}
 use Rattle.census_rows.specs.declared.row.Row.{Row}
 use Rattle.census_rows.specs.declared.row.Row.TheVariants.{Open, Line, Part, Engine, Emits, Code, Close, End}

@@ -89,7 +89,14 @@ first-records names safe zero number heading rows = refl
 first-records names safe (suc count) number heading [] = refl
 first-records names safe (suc count) number heading (row ∷ rows) =
     record-first names safe (entry_of_row number heading row) rows (first_patterns count number heading rows) (lines_under number heading (take count rows))
-    (first-records safe count number heading rows)
+    (first-records names safe count number heading rows)
+
+-- the records of these rows tell these patterns
+pub records-told : (names : Names) → (safe : Bool) (count number : ℕ) (heading : Row) (rows : List Row) (listed : List (List Member)) (text : List ℕ)
+    → listed ≡ map (entry_row names columns) (lines_under number heading (take count rows)) → text ≡ csv_records safe listed
+    → text ≡ rows_text (Csv safe) (map (pattern_row names (Csv safe)) (first_patterns count number heading rows))
+records-told names safe count number heading rows listed text same told =
+    told ∙ ap (csv_records safe) (same ∙ sym (first-records names safe count number heading rows))
 
 -- the patterns of one row more
 first-more : (count number : ℕ) (heading row : Row) (rows rest : List Row) → drop count rows ≡ row ∷ rest

@@ -2,7 +2,7 @@
 ghost use Rattle.std.specs.Prelude.{◌≡◌, filter, map, IfOk};
 ghost use Rattle.std.specs.Option.{option_copied};
 ghost use Rattle.census_readback.specs.Shapes.{AreReports};
-ghost use Rattle.census_table.specs.Columns.{columns, name_of, shown};
+ghost use Rattle.census_table.specs.Columns.{name_of, shown};
 ghost use Rattle.census_table.specs.ObjectColumns.{there, title_of};
 ghost use Rattle.census_table.specs.Tables.{IsListingOf, is_part, listing_of, names_in};
 
@@ -103,13 +103,17 @@ fn names_of(
     Ok(titles)
 }
 
-// What the columns of a table of patterns are called.
-fn pattern_names(alloc: Global, names: Option<&Names>) -> Result<Vec<&'static str>, AllocError>
+// What those of these columns are called that are shown.
+fn pattern_names(
+    alloc: Global,
+    names: Option<&Names>,
+    columns: &[Column],
+) -> Result<Vec<&'static str>, AllocError>
     ensures { IfOk result (λ titles. map (λ s. s.now) titles.items
-        ≡ map name_of (shown (option_copied names.entry) columns)) }
+        ≡ map name_of (shown (option_copied names.entry) columns.now)) }
 {
     let mut titles = Vec::new(alloc);
-    for column in &Column::ALL {
+    for column in columns {
         if column.is_shown(names) {
             titles.push(column.name())?;
         }
@@ -129,7 +133,7 @@ impl Table<'_> {
             ≡ names_in (option_copied names.entry) (listing_of self.now)) }
     {
         match self {
-            Table::Patterns(_) => pattern_names(alloc, names),
+            Table::Patterns(_) => pattern_names(alloc, names, &Column::ALL),
             Table::Objects { columns, .. } => names_of(alloc, names, *columns),
         }
     }

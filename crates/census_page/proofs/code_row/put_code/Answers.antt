@@ -29,7 +29,7 @@ returns-in_err-put_list g c =
     let a = sheet g.W.Write.contents c.args.block.now c.args.writer.now in
     let b = sheet g.W.Write.contents c.put.new.block c.put.new.writer in
     let d = sheet g.W.Write.contents c.put_list.new.block c.put_list.new.writer in
-    let told = subst (λ t. TellsAfter t a b) (c.as_slice.ensures.value ∙ c.in_ok-front.ensures ∙ ap (front_cells c.args.links.now.catalogue c.args.rule.now c.args.code.now c.args.count) c.way_of.ensures) c.put.ensures in
+    let told = subst (λ t. TellsAfter t a b) (c.as_slice.ensures.value ∙ c.in_ok-front.ensures ∙ ap (front_cells c.args.links.now.catalogue c.args.rule.now c.args.code.now c.args.count) c.way_of-way.ensures) c.put.ensures in
     rw p.1 (front_more first (list ++ last) a b d told (front_first (list ++ last) list last b d refl c.in_err-put_list.ensures))
 
 pub returns : goal.returns
@@ -41,5 +41,5 @@ returns g c =
     let b = sheet g.W.Write.contents c.put.new.block c.put.new.writer in
     let d = sheet g.W.Write.contents c.put_list.new.block c.put_list.new.writer in
     let e = sheet g.W.Write.contents c.put-2.new.block c.put-2.new.writer in
-    let told = subst (λ t. TellsAfter t a b) (c.as_slice.ensures.value ∙ c.in_ok-front.ensures ∙ ap (front_cells c.args.links.now.catalogue c.args.rule.now c.args.code.now c.args.count) c.way_of.ensures) c.put.ensures in
+    let told = subst (λ t. TellsAfter t a b) (c.as_slice.ensures.value ∙ c.in_ok-front.ensures ∙ ap (front_cells c.args.links.now.catalogue c.args.rule.now c.args.code.now c.args.count) c.way_of-way.ensures) c.put.ensures in
     tells_more first (list ++ last) a b e told (tells_more list last b d e c.in_ok-put_list.ensures c.put-2.ensures)

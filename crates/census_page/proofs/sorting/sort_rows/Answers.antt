@@ -1,9 +1,7 @@
-use Rattle.std.proofs.Common.{ap, ◌∙◌, sym}
-use Rattle.std.specs.Ordering.{is_lt}
-use Rattle.std.proofs.lemmas.List.Sorted.{answers_always}
-use Rattle.std.proofs.lemmas.Result.{IfOk-weaker}
+use Rattle.std.proofs.Common.{rules, ◌∙◌, sym}
+use Rattle.std.proofs.lemmas.Fn.{always_returns_same}
+use Rattle.std.proofs.lemmas.Result.{on_ok_weaker}
 use Rattle.census_readback.specs.Grouped.{rows_lent}
-use Rattle.census_page.specs.Sorting.{row_cmp}
 use Rattle.census_page.proofs.Ranks.{row-order, rows-sorted, sorted-other}
 use Rattle.census_page.proofs.sorting.sort_rows.Goals as goal
 
@@ -13,9 +11,9 @@ returns-in_default c =
     let holders = c.args.holders.now in
     let old = c.args.rows.now.items in
     let order = row-order sort holders in
-    IfOk-weaker c.sort_by.result _ _
-    (λ v sorted.
-    rows-sorted sort holders old c.sort_by.new.self.items (sorted _ order (answers_always _ _ _ (λ f a r q k. ap is_lt k.met)))
-    (c.sort_by.ensures.stable _ order (answers_always _ _ _ (λ f a r q k. ap is_lt k.met)))
+    on_ok_weaker c.sort_by.result
+    (λ sorted.
+    rows-sorted sort holders old c.sort_by.new.self.items (sorted _ order (always_returns_same _ _ _ (λ a r f k. search rules)))
+    (c.sort_by.ensures.stable _ order (always_returns_same _ _ _ (λ a r f k. search rules)))
     ∙ sym (sorted-other sort holders (rows_lent old) c.in_default.not-Report))
     c.sort_by.ensures.sorted

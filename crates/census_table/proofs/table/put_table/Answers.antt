@@ -1,4 +1,4 @@
-use Rattle.std.proofs.Common.{None, MatchResult, ap, subst}
+use Rattle.std.proofs.Common.{None, MatchResult, ap, subst, sym}
 use Rattle.std.proofs.lemmas.Result.{err_from_is_err_and}
 use Rattle.gathered.specs.Telling.{TellsAfter, TellsFront, sheet}
 use Rattle.census_table.specs.Patterns.{patterns_of}
@@ -9,7 +9,10 @@ use Rattle.census_table.proofs.table.put_table.Goals as goal
 pub returns-in_err-table : goal.returns-in_err-table
 returns-in_err-table g c =
     let p = err_from_is_err_and c.from_residual.result c.from_residual.ensures.1 in
-    rw p.1 (front_none (table_text c.args.format (patterns_of c.args.rows.now)) (sheet g.W.Write.contents c.args.block.now c.args.writer.now))
+    let made = table_text c.args.format (patterns_of c.args.rows.now) in
+    let before = sheet g.W.Write.contents c.args.block.now c.args.writer.now in
+    subst (λ r. MatchResult r (λ _. TellsAfter made before before) (λ _. TellsFront made before before)) (sym p.1)
+    (front_none made before)
 
 pub returns : goal.returns
 returns g c =
