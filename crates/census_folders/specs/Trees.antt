@@ -4,7 +4,7 @@ use Rattle.std.specs.List.{FoldsTo}
 use Rattle.census_folders.specs.declared.loss.Loss.{Loss}
 use Rattle.census_folders.specs.declared.loss.OnLoss.{OnLoss}
 use Rattle.census_folders.specs.Tellings.{Tellings}
-use Rattle.census_folders.specs.Walks.{HoldsTree, LosesInTree}
+use Rattle.census_folders.specs.Walks.{HoldsTree, IsTree, LosesInTree}
 
 -- folders that were found, and what was lost on the way to them
 pub record Planted : Type 0 where
@@ -31,3 +31,13 @@ pub record LosesInTrees (on_loss : OnLoss) (shelf : Tellings) (words : List (Lis
   pub lost : List Loss
   pub before : HoldsTrees on_loss shelf (take place words) folders lost
   pub why : LosesInTree on_loss shelf word loss
+
+-- all folders at and below a word come after those of the words before it
+pub record AddsFolders (shelf : Tellings) (old : List (List ℕ)) (word : List ℕ) (new : List (List ℕ)) : Type 0 where
+  pub tree : List (List ℕ)
+  pub is : IsTree shelf word tree
+  pub added : new ≡ old ++ tree
+
+-- These are all folders at and below each of the words, in the order of the words.
+abbrev pub AreTrees : Tellings → List (List ℕ) → List (List ℕ) → Type 0
+AreTrees shelf words folders = FoldsTo (AddsFolders shelf) [] words folders

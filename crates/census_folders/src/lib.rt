@@ -23,4 +23,5 @@ pub use shelf::Shelf;
 pub use source::{
     Source, borrowed_words, nothing_is_lost_where_reading_ends_at_the_first_loss, read_source,
 };
+pub use trees::every_folder;
 pub use unread::{ShelfFault, Unread};

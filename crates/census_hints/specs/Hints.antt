@@ -1,11 +1,13 @@
 -- What hints at what may have been overlooked in collections.
-use Rattle.std.specs.Prelude.{◌≡◌, ◌⊎◌, ℕ, ◌+◌, Bool, false, not, ◌&&◌, ◌||◌, ◌==◌, List, [], ◌∷◌, ◌++◌, length, Option, Some, None, codes, decimal, count_by, nat_eq, MatchBool, if◌then◌else◌}
+use Rattle.std.specs.Prelude.{◌≡◌, ℕ, ◌+◌, Bool, true, false, not, ◌&&◌, ◌||◌, ◌==◌, List, [], ◌∷◌, ◌++◌, length, Option, Some, None, is_some, codes, decimal, count_by, nat_eq, if◌then◌else◌}
 use Rattle.std.specs.List.{FoldsTo, after_first, ends_with, flat_map, slice_split, starts_with}
-use Rattle.std.specs.Str.{is_utf8}
 use Rattle.census_bundle.specs.declared.bundle.Entry.{Entry}
 use Rattle.census_bundle.specs.declared.bundle.Folder.{Folder}
 use Rattle.census_folders.specs.Listings.{is_end}
+use Rattle.census_folders.specs.Sources.{Asked}
+use Rattle.census_folders.specs.Tellings.{Tellings}
 use Rattle.census_folders.specs.Told.{Told, GivesTold, MayFail}
+use Rattle.census_folders.specs.Trees.{AreTrees}
 use Rattle.census_folders.specs.declared.unread.Unread.{Unread}
 
 -- # Texts that the next pattern may be lost in
@@ -70,21 +72,30 @@ abbrev pub alike_in : Option (List ℕ) → ℕ
 alike_in (Some listing) = count_by is_alike (slice_split is_end listing)
 alike_in None = 0
 
--- The folder of this name lists this, as the shelf tells; or it can't be listed, or its name is no UTF-8 and it can't be
--- asked for.
-abbrev pub Lists : Told → List ℕ → Option (List ℕ) → Type 0
-Lists told name (Some listing) = GivesTold told listing
-Lists told name None = ((why : Unread) × MayFail told why) ⊎ (is_utf8 name ≡ false)
+-- a folder lists this, as the shelf tells; or it can't be listed
+abbrev pub Lists : Told → Option (List ℕ) → Type 0
+Lists told (Some listing) = GivesTold told listing
+Lists told None = (why : Unread) × MayFail told why
 
 -- the names of one more folder are counted
-pub record PassesFolder (listed : List ℕ → Told) (before : ℕ) (folder : Folder) (after : ℕ) : Type 0 where
+pub record PassesFolder (listed : List ℕ → Told) (before : ℕ) (folder : List ℕ) (after : ℕ) : Type 0 where
   pub listing : Option (List ℕ)
-  pub lists : Lists (listed folder.name) folder.name listing
+  pub lists : Lists (listed folder) listing
   pub sum : after ≡ before + alike_in listing
 
--- so many such names stand in the folders that these collections are of
-abbrev pub PassesOver : (List ℕ → Told) → List Folder → ℕ → Type 0
-PassesOver listed bundle passed = FoldsTo (PassesFolder listed) 0 bundle passed
+-- so many such names stand in these folders
+abbrev pub PassesFolders : (List ℕ → Told) → List (List ℕ) → ℕ → Type 0
+PassesFolders listed folders passed = FoldsTo (PassesFolder listed) 0 folders passed
+
+-- so many such names stand in the folders of the words, or where those below them are read too, in all at and below them
+abbrev pub PassesBelow : Bool → Tellings → List (List ℕ) → ℕ → Type 0
+PassesBelow true shelf words passed = (folders : List (List ℕ)) × AreTrees shelf words folders × PassesFolders shelf.listed folders passed
+PassesBelow false shelf words passed = PassesFolders shelf.listed words passed
+
+-- where a bundle was not read from folders, none
+abbrev pub PassesOver : Tellings → Option Asked → ℕ → Type 0
+PassesOver shelf (Some asked) passed = PassesBelow asked.below shelf asked.words passed
+PassesOver shelf None passed = passed ≡ 0
 
 -- # All of it
 
@@ -105,7 +116,7 @@ note from_folders empty passed = if (empty == 0) && (passed == 0) then [] else n
 
 -- The lines that hint at what may have been overlooked in a bundle. Where it was read from folders the shelf tells which
 -- names were passed over; else there are none.
-pub record Hints (listed : List ℕ → Told) (from_folders : Bool) (bundle : List Folder) (lines : List ℕ) : Type 0 where
+pub record Hints (shelf : Tellings) (asked : Option Asked) (bundle : List Folder) (lines : List ℕ) : Type 0 where
   pub passed : ℕ
-  pub known : MatchBool from_folders (PassesOver listed bundle passed) (passed ≡ 0)
-  pub told : lines ≡ stray_lines bundle ++ note from_folders (empty_folder_count bundle) passed
+  pub known : PassesOver shelf asked passed
+  pub told : lines ≡ stray_lines bundle ++ note (is_some asked) (empty_folder_count bundle) passed

@@ -1,11 +1,12 @@
 //! The lines that hint at what may have been overlooked.
-ghost use Rattle.std.specs.Prelude.{◌≡◌, ◌++◌, IfOk, OnOk, decimal};
+ghost use Rattle.std.specs.Prelude.{◌≡◌, ◌++◌, IfOk, OnOk, decimal, option_map};
+ghost use Rattle.census_folders.specs.Sources.{asked_by};
 ghost use Rattle.census_hints.specs.Hints.{Hints, empty_folder_count, note, passed_text, passed_text_if};
 
 use crate::passed::passed_over;
 use crate::stray::stray_lines;
 use census_bundle::Bundle;
-use census_folders::Shelf;
+use census_folders::{Shelf, Source};
 use itoa::Buffer;
 use std::alloc::{AllocError, Global};
 
@@ -76,23 +77,22 @@ fn push_note(
 /// that look like patterns, where there are any. These end in `.RLE`, `.rle.gz`, `.cells`, `.lif` or `.mc`. A text that is
 /// lost isn't looked at.
 ///
-/// Only where the bundle was read from folders, under their names, is the shelf asked what these list, and are names told
-/// that were passed over. A folder that can't be listed has none.
+/// Only where the bundle was read from folders, whose source is given, is the shelf asked what these list, and are names told
+/// that were passed over: in the folders of its words, and where those below them were read too, in each of these, whether it
+/// became a collection or not. A folder that can't be listed has none.
 pub fn hint_lines<S: Shelf>(
     shelf: &S,
     alloc: Global,
     bundle: &Bundle,
-    from_folders: bool,
+    source: Option<Source<'_, '_>>,
 ) -> Result<Vec<u8>, AllocError>
     ensures { IfOk result
-        (λ lines. Hints (S.tellings shelf.now).listed from_folders bundle.now lines.items) }
+        (λ lines. Hints (S.tellings shelf.now) (option_map asked_by source.entry) bundle.now
+        lines.items) }
 {
     let mut lines = stray_lines(alloc, bundle)?;
-    let passed = if from_folders {
-        passed_over(shelf, alloc, bundle)?
-    } else {
-        0
-    };
-    push_note(&mut lines, from_folders, empty_folder_count(bundle), passed)?;
+    let passed = passed_over(shelf, alloc, source)?;
+    let empty = empty_folder_count(bundle);
+    push_note(&mut lines, source.is_some(), empty, passed)?;
     Ok(lines)
 }

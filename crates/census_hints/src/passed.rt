@@ -1,11 +1,11 @@
 //! Names in folders that look like those of patterns, and that were passed over.
-ghost use Rattle.std.specs.Prelude.{◌≡◌, ◌+◌, ℕ, count_by, option_map, IfOk};
+ghost use Rattle.std.specs.Prelude.{◌≡◌, ◌+◌, ℕ, true, count_by, map, option_map, IfOk};
 ghost use Rattle.std.specs.List.{slice_split};
 ghost use Rattle.census_folders.specs.Listings.{is_end};
-ghost use Rattle.census_hints.specs.Hints.{Lists, PassesFolder, PassesOver, is_alike};
+ghost use Rattle.census_folders.specs.Sources.{asked_by};
+ghost use Rattle.census_hints.specs.Hints.{Lists, PassesBelow, PassesFolder, PassesFolders, PassesOver, is_alike};
 
-use census_bundle::{Bundle, Folder};
-use census_folders::{Shelf, ShelfFault};
+use census_folders::{Shelf, ShelfFault, Source, borrowed_words, every_folder};
 use std::alloc::{AllocError, Global};
 
 // Whether a name looks like that of a pattern, and doesn't end in `.rle`.
@@ -29,42 +29,76 @@ fn count_alike(listing: &[u8]) -> usize
         .count()
 }
 
-// What the folder of this name lists, or nothing where it can't be listed.
-fn list<S: Shelf>(shelf: &S, alloc: Global, name: &[u8]) -> Result<Option<Vec<u8>>, AllocError>
+// What a folder lists, or nothing where it can't be listed.
+fn list<S: Shelf>(shelf: &S, alloc: Global, folder: &str) -> Result<Option<Vec<u8>>, AllocError>
     ensures { IfOk result
-        (λ listing. Lists ((S.tellings shelf.now).listed name.now) name.now
+        (λ listing. Lists ((S.tellings shelf.now).listed folder.now)
         (option_map (λ bytes. bytes.items) listing)) }
 {
-    let Ok(name) = str::from_utf8(name) else {
-        return Ok(None);
-    };
-    match shelf.list(alloc, name) {
+    match shelf.list(alloc, folder) {
         Ok(listing) => Ok(Some(listing)),
         Err(ShelfFault::Memory) => Err(AllocError),
         Err(ShelfFault::Unread(_) | ShelfFault::TooLong) => Ok(None),
     }
 }
 
-// How many such names the folder of a collection lists.
-fn passed_in<S: Shelf>(shelf: &S, alloc: Global, folder: &Folder) -> Result<usize, AllocError>
+// How many such names a folder lists.
+fn passed_in<S: Shelf>(shelf: &S, alloc: Global, folder: &str) -> Result<usize, AllocError>
     ensures { IfOk result
         (λ count. (before : ℕ) →
         PassesFolder (S.tellings shelf.now).listed before folder.now (before + count)) }
 {
-    match list(shelf, alloc, folder.name.as_slice())? {
+    match list(shelf, alloc, folder)? {
         Some(listing) => Ok(count_alike(listing.as_slice())),
         None => Ok(0),
     }
 }
 
-// How many such names the folders of all collections list: each no more than a list has bytes, which all together may not
-// fit in 64 bits.
-pub fn passed_over<S: Shelf>(shelf: &S, alloc: Global, bundle: &Bundle) -> Result<u128, AllocError>
-    ensures { IfOk result (λ passed. PassesOver (S.tellings shelf.now).listed bundle.now passed) }
+// How many such names these folders list: each no more than a list has bytes, which all together may not fit in 64 bits.
+fn passed_in_each<S: Shelf>(shelf: &S, alloc: Global, folders: &[&str]) -> Result<u128, AllocError>
+    ensures { IfOk result
+        (PassesFolders (S.tellings shelf.now).listed (map (λ s. s.now) folders.now)) }
 {
     let mut passed = 0;
-    for folder in bundle.folders() {
+    for folder in folders {
         passed += passed_in(shelf, alloc, folder)? as u128;
     }
     Ok(passed)
+}
+
+// How many such names all folders at and below those of words list.
+fn passed_below<S: Shelf>(shelf: &S, alloc: Global, words: &[&str]) -> Result<u128, AllocError>
+    ensures { IfOk result
+        (PassesBelow true (S.tellings shelf.now) (map (λ s. s.now) words.now)) }
+{
+    let folders = every_folder(shelf, alloc, words)?;
+    let folders = borrowed_words(alloc, folders.as_slice())?;
+    passed_in_each(shelf, alloc, folders.as_slice())
+}
+
+// How many such names the folders of a source list, and where those below them are read too, these.
+fn passed_of<S: Shelf>(shelf: &S, alloc: Global, source: Source<'_, '_>) -> Result<u128, AllocError>
+    ensures { IfOk result
+        (PassesBelow source.entry.below (S.tellings shelf.now) (asked_by source.entry).words) }
+{
+    if source.below {
+        passed_below(shelf, alloc, source.words)
+    } else {
+        passed_in_each(shelf, alloc, source.words)
+    }
+}
+
+// The same where there is a source, and else none.
+pub fn passed_over<S: Shelf>(
+    shelf: &S,
+    alloc: Global,
+    source: Option<Source<'_, '_>>,
+) -> Result<u128, AllocError>
+    ensures { IfOk result
+        (PassesOver (S.tellings shelf.now) (option_map asked_by source.entry)) }
+{
+    match source {
+        Some(source) => passed_of(shelf, alloc, source),
+        None => Ok(0),
+    }
 }

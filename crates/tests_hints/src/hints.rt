@@ -1,12 +1,12 @@
 //! Hints of bundles, and of folders on a shelf in memory.
 
 use census_bundle::{Bundle, read_bundle};
-use census_folders::{Shelf, ShelfFault};
+use census_folders::{OnLoss, Shelf, ShelfFault};
 use census_hints::hint_lines;
 use std::alloc::Global;
 use std::process::Abort;
 use std::test::Fail;
-use tests_inputs::{Leaf, Memory, plain, read};
+use tests_inputs::{Leaf, Memory, below, plain, read};
 
 // A regular file, or without a name a folder.
 macro_rules! leaf {
@@ -25,7 +25,7 @@ const NOTHING: Memory<'static> = Memory { leaves: &[] };
 // Whether these are the lines of a bundle text.
 fn check_text(rt: &impl Abort, alloc: Global, text: &[u8], wanted: &[u8]) -> Result<(), Fail> {
     let bundle = read_bundle(alloc, text)?;
-    let lines = hint_lines(&NOTHING, alloc, &bundle, false)?;
+    let lines = hint_lines(&NOTHING, alloc, &bundle, None)?;
     assert!(rt; lines.as_slice() == wanted);
     Ok(())
 }
@@ -86,7 +86,7 @@ fn a_lost_text_is_not_looked_at(rt: HostRuntime) -> Result<(), Fail> {
     bundle.add_entry(b"b.rle", b"o!@file c")?;
     const LINES: &[u8] =
         b"  t/b.rle: `@file ` or `@folder ` stands after the `!` of a text, on a line that something else begins: the next pattern may be lost in it\n";
-    let lines = hint_lines(&NOTHING, rt.alloc(), &bundle, false)?;
+    let lines = hint_lines(&NOTHING, rt.alloc(), &bundle, None)?;
     assert!(rt; lines.as_slice() == LINES);
     Ok(())
 }
@@ -98,21 +98,24 @@ fn a_collection_without_a_pattern_is_counted(rt: HostRuntime) -> Result<(), Fail
     check_text(&rt, rt.alloc(), TEXT, LINES)
 }
 
+// The line for so many names, where each collection has a pattern.
+fn note(alloc: Global, count: u32) -> Result<String, Fail> {
+    if count == 0 {
+        return Ok(String::new(alloc));
+    }
+    let line = format!(in alloc;
+        "  collections without a pattern: 0; names passed over that look like patterns: {count}; the name of a pattern file must end in `.rle`\n"
+    )?;
+    Ok(line)
+}
+
 // Whether so many names of this list are told, of a folder that has one pattern.
 fn check_names(rt: &impl Abort, alloc: Global, names: &[u8], count: u32) -> Result<(), Fail> {
     let leaves = [leaf!("t", b"", names)];
     let shelf = Memory { leaves: &leaves };
     let bundle = read_bundle(alloc, b"@folder t\n@file a.rle\no!\n")?;
-    let lines = hint_lines(&shelf, alloc, &bundle, true)?;
-    let wanted = format!(in alloc;
-        "  collections without a pattern: 0; names passed over that look like patterns: {count}; the name of a pattern file must end in `.rle`\n"
-    )?;
-    let wanted = if count == 0 {
-        b"".as_slice()
-    } else {
-        wanted.as_bytes()
-    };
-    assert!(rt; lines.as_slice() == wanted);
+    let lines = hint_lines(&shelf, alloc, &bundle, Some(plain(&["t"], None)))?;
+    assert!(rt; lines.as_slice() == note(alloc, count)?.as_bytes());
     Ok(())
 }
 
@@ -148,20 +151,50 @@ const FOLDERS: &[Leaf<'static>] = &[
 #[test]
 fn names_of_all_folders_are_counted(rt: HostRuntime) -> Result<(), Fail> {
     let shelf = Memory { leaves: FOLDERS };
-    let mut kept = read(&shelf, rt.alloc(), plain(&["t", "u/v"], None))?;
-    let bundle = &mut kept.bundle;
+    let source = plain(&["t", "u/v"], None);
+    let kept = read(&shelf, rt.alloc(), source)?;
     const LINES: &[u8] =
         b"  collections without a pattern: 1; names passed over that look like patterns: 3; the name of a pattern file must end in `.rle`\n";
-    let lines = hint_lines(&shelf, rt.alloc(), bundle, true)?;
+    let lines = hint_lines(&shelf, rt.alloc(), &kept.bundle, Some(source))?;
     assert!(rt; lines.as_slice() == LINES);
 
-    // A folder that can't be listed, and a name that is no UTF-8.
-    bundle.add_folder(b"missing")?;
-    bundle.add_folder(b"\xff")?;
-    const MORE: &[u8] =
-        b"  collections without a pattern: 3; names passed over that look like patterns: 3; the name of a pattern file must end in `.rle`\n";
-    let lines = hint_lines(&shelf, rt.alloc(), bundle, true)?;
-    assert!(rt; lines.as_slice() == MORE);
+    // A folder that can't be listed has none.
+    let source = plain(&["t", "missing", "u/v"], None);
+    let lines = hint_lines(&shelf, rt.alloc(), &kept.bundle, Some(source))?;
+    assert!(rt; lines.as_slice() == LINES);
+    Ok(())
+}
+
+// Of the folders below `t` only `t/a` is a collection; `t/b` has one in it that can't be listed.
+const TREE: &[Leaf<'static>] = &[
+    leaf!("t", b"", b"x.RLE\0"),
+    leaf!("t", b"/", b"a\0b\0"),
+    leaf!("t/a", b"", b"a.rle\0y.mc\0"),
+    leaf!("t/a", b"a.rle", b"x = 1\no!"),
+    leaf!("t/a", b"/", b""),
+    leaf!("t/b", b"", b"z.rle.gz\0w.cells\0"),
+    leaf!("t/b", b"/", b"c\0"),
+    leaf!("u", b"", b"v.lif\0"),
+    leaf!("u", b"/", b""),
+];
+
+#[test]
+fn names_of_all_folders_below_are_counted(rt: HostRuntime) -> Result<(), Fail> {
+    const CALLS: &[(&[&str], u32)] = &[
+        (&["t"], 4),
+        (&["u"], 1),
+        (&["t", "u"], 5),
+        (&["t/b"], 2),
+        (&["t/b/c"], 0),
+        (&[], 0),
+    ];
+    let shelf = Memory { leaves: TREE };
+    let bundle = read_bundle(rt.alloc(), b"@folder t/a\n@file a.rle\no!\n")?;
+    for (words, count) in CALLS {
+        let source = below(words, OnLoss::Keep);
+        let lines = hint_lines(&shelf, rt.alloc(), &bundle, Some(source))?;
+        assert!(rt; lines.as_slice() == note(rt.alloc(), *count)?.as_bytes());
+    }
     Ok(())
 }
 
@@ -172,7 +205,7 @@ fn of_a_bundle_text_no_names_are_asked_for(rt: HostRuntime) -> Result<(), Fail> 
         rt.alloc(),
         b"@folder t\n@file a\no!\n@folder u/v\n@file b\no!\n",
     )?;
-    let lines = hint_lines(&shelf, rt.alloc(), &bundle, false)?;
+    let lines = hint_lines(&shelf, rt.alloc(), &bundle, None)?;
     assert!(rt; lines.is_empty());
     Ok(())
 }
@@ -207,7 +240,7 @@ impl Shelf for Full {
 #[test]
 fn a_shelf_without_memory_is_out_of_memory_where_it_is_asked(rt: HostRuntime) -> Result<(), Fail> {
     let bundle = read_bundle(rt.alloc(), b"@folder t\n@file a\no!\n")?;
-    assert!(rt; hint_lines(&Full, rt.alloc(), &bundle, true).is_err());
-    assert!(rt; hint_lines(&Full, rt.alloc(), &bundle, false)?.is_empty());
+    assert!(rt; hint_lines(&Full, rt.alloc(), &bundle, Some(plain(&["t"], None))).is_err());
+    assert!(rt; hint_lines(&Full, rt.alloc(), &bundle, None)?.is_empty());
     Ok(())
 }
