@@ -1,3 +1,4 @@
+pub mod Gates
 pub mod Steps
 pub mod Tallies
 pub mod RunStates

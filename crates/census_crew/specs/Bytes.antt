@@ -10,6 +10,7 @@ use Rattle.census_bundle.specs.Sizes.{input_limit}
 use Rattle.census_crew.specs.declared.bytes.BytesFault.{BytesFault}
 use Rattle.census_crew.specs.declared.bytes.BytesFault.TheVariants.{Read, TooLong, Bundle, Memory, Write}
 use Rattle.census_crew.specs.declared.tally.Tally.{Tally}
+use Rattle.census_crew.specs.Gates.{Hears, News, news_of}
 use Rattle.census_crew.specs.Tallying.{TalliesPatterns}
 use Rattle.census_crew.specs.Writing.{WritesPrefix, WritesReport}
 use Rattle.life_answer.specs.declared.question.Question.{Question}
@@ -79,3 +80,18 @@ FitsBytesFault (Err TooLong) failed = failed ≡ false
 FitsBytesFault (Err (Bundle f)) failed = failed ≡ false
 FitsBytesFault (Err Memory) failed = failed ≡ false
 FitsBytesFault (Err Write) failed = failed ≡ true
+
+-- the gate was told of a run of the bundle that was read
+pub record HearsRun (before after : StreamPair) (old new : Option (List News)) : Type 0 where
+  pub bundle : List Folder
+  pub read : ReadsFolders before.unread after.unread bundle
+  pub heard : Hears old new (news_of bundle)
+
+-- what the gate was told, by what is answered: nothing, where no bundle was read
+abbrev pub HearsBytes : Result Tally BytesFault → StreamPair → StreamPair → Option (List News) → Option (List News) → Type 0
+HearsBytes (Ok t) before after old new = HearsRun before after old new
+HearsBytes (Err Read) before after old new = new ≡ old
+HearsBytes (Err TooLong) before after old new = new ≡ old
+HearsBytes (Err (Bundle f)) before after old new = new ≡ old
+HearsBytes (Err Memory) before after old new = (new ≡ old) ⊎ HearsRun before after old new
+HearsBytes (Err Write) before after old new = HearsRun before after old new

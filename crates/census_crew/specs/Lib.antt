@@ -1,3 +1,4 @@
+pub mod Gates
 pub mod Writing
 pub mod Faults
 pub mod Tallying

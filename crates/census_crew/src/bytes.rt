@@ -2,7 +2,7 @@
 ghost use Rattle.std.specs.Prelude.{◌≡◌, ◌↔◌, ◌≤◌, true, false, Err};
 ghost use Rattle.life_answer.specs.Questions.{IsAnswered};
 ghost use Rattle.watched.specs.Watching.{inner_of, has_failed};
-ghost use Rattle.census_crew.specs.Bytes.{FitsBytesFault, ReadsBundle, RunsBytes};
+ghost use Rattle.census_crew.specs.Bytes.{FitsBytesFault, HearsBytes, ReadsBundle, RunsBytes};
 ghost use Rattle.census_crew.specs.declared.bytes.BytesFault.{BytesFault};
 ghost use Rattle.census_bundle.specs.Sizes.{worker_limit};
 
@@ -59,7 +59,8 @@ fn read_input<R: Read>(alloc: Global, reader: &mut Watched<R>) -> Result<Bundle,
 }
 
 /// Reads a bundle up to the reader's end and writes the report of what is asked of its patterns, by 1 to 16 workers, as
-/// `run` does. A bound is 1 to 1,000,000 generations. Neither reader nor writer has failed before. `Ok` says that all was written. The reader is read to its
+/// `run` does, which tells the gate of the run; where no bundle was read it is told nothing. A bound is 1 to 1,000,000
+/// generations. Neither reader nor writer has failed before. `Ok` says that all was written. The reader is read to its
 /// end before the first byte is written. After `Read`, `TooLong` and `Bundle` nothing was written; after `Memory` and
 /// `Write` nothing or a prefix of a report of the bundle. `Read` is answered where the reader has failed, and only
 /// there; `Write` where the writer has, and only there.
@@ -69,7 +70,7 @@ pub fn run_bytes<R: Read, G: Gate, W: Write, T: Threads + Wait + Sync>(
     reader: &mut Watched<R>,
     question: Question,
     workers: u32,
-    gate: &G,
+    gate: &mut G,
     out: &mut Watched<W>,
 ) -> Result<Tally, BytesFault>
     requires question { IsAnswered question }
@@ -87,6 +88,15 @@ pub fn run_bytes<R: Read, G: Gate, W: Write, T: Threads + Wait + Sync>(
           unread = R.remaining (inner_of reader.new);
           written = W.contents (inner_of out.new);
         }) result }
+    ensures gate { HearsBytes result
+        (record {
+          unread = R.remaining (inner_of reader.old);
+          written = W.contents (inner_of out.old);
+        })
+        (record {
+          unread = R.remaining (inner_of reader.new);
+          written = W.contents (inner_of out.new);
+        }) (G.heard gate.old) (G.heard gate.new) }
 {
     let bundle = read_input(alloc, reader)?;
     match run(rt, alloc, &bundle, question, workers, gate, out) {

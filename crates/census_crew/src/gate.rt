@@ -1,43 +1,68 @@
-//! What workers pass before they work.
-ghost use Rattle.std.specs.Prelude.{◌≡◌};
+//! What workers pass before they work, and what is told of runs.
+ghost use Rattle.std.specs.Prelude.{◌≡◌, ◌∷◌, [], List, Option, None};
+ghost use Rattle.census_bundle.specs.declared.ticket.Ticket.{Ticket};
+ghost use Rattle.census_crew.specs.Gates.{Begun, Hears, News, Over};
 
 use census_bundle::Ticket;
 
-/// Called by each worker with a ticket that it took, before it works. It may hold the worker.
+/// Passed by each worker with a ticket that it took, before it works. It may hold the worker. It is told when a run begins
+/// and when that has ended.
 pub trait Gate: Sync {
+    /// What the gate gives to a worker that passes.
+    type Pass: Drop;
+
+    // What it was told of runs, in order, as far as it tells that.
+    ghost heard: { Self → Option (List News) } = { λ _. None };
+
+    // Whether that is given to a worker with this ticket.
+    ghost admits: { Self.Pass → Ticket → Type 0 };
+
     /// A run of so many patterns is about to begin.
-    fn begin(&self, _patterns: u64) {}
+    fn begin(&mut self, patterns: u64)
+        ensures { Hears (heard self.old) (heard self.new) (Begun patterns ∷ []) };
 
     /// A worker took this ticket.
-    fn enter(&self, ticket: Ticket);
+    fn enter(&self, ticket: Ticket) -> Self::Pass
+        ensures { admits result ticket };
 
     /// The run has ended.
-    fn end(&self) {}
+    fn end(&mut self)
+        ensures { Hears (heard self.old) (heard self.new) (Over ∷ []) };
 }
 
-/// Holds no worker.
+/// Holds no worker, and makes nothing of what it is told.
 #[derive(Drop)]
 pub struct OpenGate;
 
 impl Gate for OpenGate {
+    type Pass = ();
+
+    ghost admits = { λ _ _. Unit {0} };
+
+    fn begin(&mut self, _patterns: u64) {}
+
     fn enter(&self, _ticket: Ticket) {}
+
+    fn end(&mut self) {}
 }
 
-/// A ticket with which a worker passed the gate. Only `pass` makes one.
+/// A ticket with which a worker passed the gate, and what that gave. Only `pass` makes one.
 #[derive(Drop)]
-pub(crate) struct Passed {
+pub(crate) struct Passed<P: Drop> {
     ticket: Ticket,
+    pass: P,
 }
 
 /// Passes the gate with a ticket.
-pub(crate) fn pass<G: Gate>(gate: &G, ticket: Ticket) -> Passed
-    ensures { result.ticket ≡ ticket }
+pub(crate) fn pass<G: Gate>(gate: &G, ticket: Ticket) -> Passed<G::Pass>
+    ensures ticket { result.ticket ≡ ticket }
+    ensures admitted { G.admits result.pass ticket }
 {
-    gate.enter(ticket);
-    Passed { ticket }
+    let pass = gate.enter(ticket);
+    Passed { ticket, pass }
 }
 
-impl Passed {
+impl<P: Drop> Passed<P> {
     /// The ticket.
     pub(crate) fn ticket(&self) -> Ticket
         ensures { result ≡ self.now.ticket }

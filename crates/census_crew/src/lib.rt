@@ -16,5 +16,5 @@ mod writing;
 pub use bytes::{BytesFault, run_bytes};
 pub use fault::RunFault;
 pub use gate::{Gate, OpenGate};
-pub use running::{run, run_on, settle};
+pub use running::{run, run_on, run_untold, settle};
 pub use tally::Tally;

@@ -1,13 +1,13 @@
 //! Runs: by workers that are started here, or without any.
-ghost use Rattle.std.specs.Prelude.{◌≡◌, ◌≤◌, ◌-◌, ◌^◌, false, min, MatchResult, IfErr, IfOk};
+ghost use Rattle.std.specs.Prelude.{◌≡◌, ◌≤◌, false, MatchResult, IfErr, IfOk};
 ghost use Rattle.life_answer.specs.Questions.{IsAnswered};
 ghost use Rattle.watched.specs.Watching.{inner_of, has_failed};
 ghost use Rattle.census_crew.specs.Faults.{FitsFault, MayTellTicket};
+ghost use Rattle.census_crew.specs.Gates.{Hears, news_of, told_count};
 ghost use Rattle.census_crew.specs.Strangers.{HasStrangers};
 ghost use Rattle.census_crew.specs.Tallying.{TalliesPatterns};
 ghost use Rattle.census_crew.specs.Writing.{WritesPrefix, WritesReport};
 ghost use Rattle.census_bundle.specs.Sizes.{worker_limit};
-ghost use Rattle.census_format.specs.Lines.{pattern_count};
 
 use crate::fault::RunFault;
 use crate::gate::Gate;
@@ -25,7 +25,7 @@ use watched::Watched;
 
 // How many patterns a bundle has, as far as 64 bits go.
 fn patterns_of(bundle: &Bundle) -> u64
-    ensures { result ≡ min (pattern_count bundle.now) (2 ^ 64 - 1) }
+    ensures { result ≡ told_count bundle.now }
 {
     let mut patterns: u64 = 0;
     for folder in bundle.folders() {
@@ -37,10 +37,39 @@ fn patterns_of(bundle: &Bundle) -> u64
 /// Writes the report of what is asked of the bundle's patterns to a writer that has not failed. A bound is 1 to 1,000,000
 /// generations. The patterns are worked by 1 to 16 workers, each of which takes tickets and passes the gate with each
 /// before it works; the caller takes their results and writes, and then works itself what is missing. The gate is told
-/// before that how many patterns there are, and after it that the run has ended. `Ok` says that all was written. After
-/// `Memory` or `Write` what was written is a prefix of a report; `Write` is answered where the writer has failed, and only
-/// there. A ticket that `Memory` tells is one of the bundle's.
+/// before that how many patterns there are, and after it that the run has ended, whatever is answered. `Ok` says that all
+/// was written. After `Memory` or `Write` what was written is a prefix of a report; `Write` is answered where the writer has
+/// failed, and only there. A ticket that `Memory` tells is one of the bundle's.
 pub fn run<G: Gate, W: Write, R: Threads + Wait + Sync>(
+    rt: &R,
+    alloc: Global,
+    bundle: &Bundle,
+    question: Question,
+    workers: u32,
+    gate: &mut G,
+    out: &mut Watched<W>,
+) -> Result<Tally, RunFault>
+    requires question { IsAnswered question }
+    requires workers { (1 ≤ workers) × (workers ≤ worker_limit) }
+    requires sound { has_failed out.old ≡ false }
+    ensures failed { FitsFault result (has_failed out.new) }
+    ensures report { MatchResult result
+        (λ _. WritesReport (W.contents (inner_of out.old)) (W.contents (inner_of out.new))
+        bundle.now question)
+        (λ _. WritesPrefix (W.contents (inner_of out.old)) (W.contents (inner_of out.new))
+        bundle.now question) }
+    ensures tally { IfOk result (TalliesPatterns bundle.now question) }
+    ensures told { IfErr result (MayTellTicket bundle.now) }
+    ensures gate { Hears (G.heard gate.old) (G.heard gate.new) (news_of bundle.now) }
+{
+    gate.begin(patterns_of(bundle));
+    let written = run_untold(rt, alloc, bundle, question, workers, &*gate, out);
+    gate.end();
+    written
+}
+
+/// Does what `run` does, and doesn't tell the gate how many patterns there are, nor that the run has ended.
+pub fn run_untold<G: Gate, W: Write, R: Threads + Wait + Sync>(
     rt: &R,
     alloc: Global,
     bundle: &Bundle,
@@ -62,13 +91,10 @@ pub fn run<G: Gate, W: Write, R: Threads + Wait + Sync>(
     ensures told { IfErr result (MayTellTicket bundle.now) }
 {
     let (feed, hands) = Feed::fill(alloc, bundle, workers)?;
-    gate.begin(patterns_of(bundle));
-    let written = run_on(rt, alloc, bundle, question, feed, hands, gate, out);
-    gate.end();
-    written
+    run_on(rt, alloc, bundle, question, feed, hands, gate, out)
 }
 
-/// Does what `run` does, from a feed that the caller filled from this bundle, and all the hands of that feed: each goes
+/// Does what `run_untold` does, from a feed that the caller filled from this bundle, and all the hands of that feed: each goes
 /// to a worker. A ticket that a hand took before is worked by the caller. Feed and hands are spent, whatever is answered.
 pub fn run_on<G: Gate, W: Write, R: Threads + Wait + Sync>(
     rt: &R,

@@ -94,11 +94,11 @@ fn put_in<'a>(batch: &mut Batch<'a>, done: Done<'a>) -> bool {
 
 // Works a pattern whose worker passed the gate, where its first generations tell it and results wait: where none does, the
 // pattern may take as long as it will. The result goes into the batch. `None` also where memory is out.
-fn work_soon<'a>(
+fn work_soon<'a, P: Drop>(
     alloc: Global,
     bundle: &'a Bundle,
     question: Question,
-    passed: &Passed,
+    passed: &Passed<P>,
     batch: &mut Batch<'a>,
 ) -> Option<bool>
     requires { IsAnswered question }
@@ -115,11 +115,11 @@ fn work_soon<'a>(
 
 // Works a pattern whose worker passed the gate, however long it takes. The result goes into the batch. `None` where memory
 // is out.
-fn work_long<'a>(
+fn work_long<'a, P: Drop>(
     alloc: Global,
     bundle: &'a Bundle,
     question: Question,
-    passed: &Passed,
+    passed: &Passed<P>,
     batch: &mut Batch<'a>,
 ) -> Option<bool>
     requires { IsAnswered question }

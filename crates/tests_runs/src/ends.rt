@@ -69,7 +69,7 @@ fn fills_its_room<R: Threads + Wait + Sync>(
     room: usize,
 ) -> bool {
     let mut out = Watched::new(FailingWriter::after(alloc, room));
-    let answer = run(rt, alloc, bundle, SETTLES, 2, &OpenGate, &mut out);
+    let answer = run(rt, alloc, bundle, SETTLES, 2, &mut OpenGate, &mut out);
     let has_failed = out.failed();
     let written = out.into_inner().written;
     let is_prefix = DEMO_REPORT.starts_with(written.as_slice()) && written.len() == room;
@@ -105,7 +105,15 @@ fn a_writer_of_single_bytes_takes_the_whole_report(rt: HostRuntime) -> Result<()
         room: usize::MAX,
         at_once: 1,
     });
-    let tally = run(&rt, rt.alloc(), &bundle, SETTLES, 2, &OpenGate, &mut out)?;
+    let tally = run(
+        &rt,
+        rt.alloc(),
+        &bundle,
+        SETTLES,
+        2,
+        &mut OpenGate,
+        &mut out,
+    )?;
     assert!(rt; tally == demo_tally(0) && !out.failed());
     assert!(rt; out.into_inner().written.as_slice() == DEMO_REPORT);
     Ok(())
@@ -120,7 +128,7 @@ fn fault_of<I: Read + Drop, R: Threads + Wait + Sync>(
 ) -> (Option<BytesFault>, Vec<u8>) {
     let mut reader = Watched::new(input);
     let mut out = Watched::new(FailingWriter::after(alloc, room));
-    let answer = run_bytes(rt, alloc, &mut reader, SETTLES, 2, &OpenGate, &mut out);
+    let answer = run_bytes(rt, alloc, &mut reader, SETTLES, 2, &mut OpenGate, &mut out);
     (answer.err(), out.into_inner().written)
 }
 

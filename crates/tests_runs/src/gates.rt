@@ -23,6 +23,14 @@ struct SecondFirst {
 }
 
 impl Gate for SecondFirst {
+    type Pass = ();
+
+    ghost admits = { λ _ _. Unit {0} };
+
+    fn begin(&mut self, _patterns: u64) {}
+
+    fn end(&mut self) {}
+
     fn enter(&self, ticket: Ticket) {
         if ticket.number == 2 {
             self.entered.store(1, Ordering::SeqCst);
@@ -57,6 +65,14 @@ impl Crowd {
 }
 
 impl Gate for Crowd {
+    type Pass = ();
+
+    ghost admits = { λ _ _. Unit {0} };
+
+    fn begin(&mut self, _patterns: u64) {}
+
+    fn end(&mut self) {}
+
     fn enter(&self, _ticket: Ticket) {
         self.entered.fetch_add(1, Ordering::SeqCst);
         for _ in 0..TURNS {
@@ -74,7 +90,7 @@ fn reported<G: Gate, R: Threads + Wait + Sync>(
     alloc: Global,
     bundle: &Bundle,
     workers: u32,
-    gate: &G,
+    gate: &mut G,
 ) -> Result<(Tally, Vec<u8>), Fail>
     requires { (1 ≤ workers) × (workers ≤ 16) }
 {
@@ -86,11 +102,11 @@ fn reported<G: Gate, R: Threads + Wait + Sync>(
 #[test]
 fn one_worker_waits_for_another(rt: HostRuntime) -> Result<(), Fail> {
     let bundle = read_bundle(rt.alloc(), DEMO)?;
-    let gate = SecondFirst {
+    let mut gate = SecondFirst {
         entered: AtomicU64::new(0),
         gave_up: AtomicU64::new(0),
     };
-    let (tally, report) = reported(&rt, rt.alloc(), &bundle, 2, &gate)?;
+    let (tally, report) = reported(&rt, rt.alloc(), &bundle, 2, &mut gate)?;
     assert!(rt; tally == demo_tally(0) && gate.gave_up.load(Ordering::SeqCst) == 0);
     assert!(rt; report.as_slice() == DEMO_REPORT);
     Ok(())
@@ -100,8 +116,8 @@ fn one_worker_waits_for_another(rt: HostRuntime) -> Result<(), Fail> {
 fn as_many_workers_as_were_asked_for_meet_at_the_gate(rt: HostRuntime) -> Result<(), Fail> {
     let bundle = blinkers(rt.alloc(), 16)?;
     for workers in 1..17 {
-        let gate = Crowd::of(u64::from(workers));
-        let (tally, _) = reported(&rt, rt.alloc(), &bundle, workers, &gate)?;
+        let mut gate = Crowd::of(u64::from(workers));
+        let (tally, _) = reported(&rt, rt.alloc(), &bundle, workers, &mut gate)?;
         assert!(rt; tally.resolved == 16 && tally.caught_up == 0);
         let gave_up = gate.gave_up.load(Ordering::SeqCst);
         assert!(rt; gave_up == 0 && gate.entered.load(Ordering::SeqCst) == 16);
@@ -111,10 +127,18 @@ fn as_many_workers_as_were_asked_for_meet_at_the_gate(rt: HostRuntime) -> Result
 
 #[test]
 fn a_text_is_worked_by_as_many_as_were_asked_for(rt: HostRuntime) -> Result<(), Fail> {
-    let gate = Crowd::of(5);
+    let mut gate = Crowd::of(5);
     let mut reader = Watched::new(DEMO);
     let mut out = Watched::new(Vec::new(rt.alloc()));
-    let tally = run_bytes(&rt, rt.alloc(), &mut reader, SETTLES, 5, &gate, &mut out)?;
+    let tally = run_bytes(
+        &rt,
+        rt.alloc(),
+        &mut reader,
+        SETTLES,
+        5,
+        &mut gate,
+        &mut out,
+    )?;
     assert!(rt; tally == demo_tally(0) && out.into_inner().as_slice() == DEMO_REPORT);
     assert!(rt; gate.gave_up.load(Ordering::SeqCst) == 0);
     Ok(())
@@ -141,7 +165,15 @@ fn one_worker_works_what_is_not_soon_done(rt: HostRuntime) -> Result<(), Fail> {
         cells: None,
     };
     let mut out = Watched::new(Vec::new(rt.alloc()));
-    let tally = run(&rt, rt.alloc(), &bundle, question, 1, &OpenGate, &mut out)?;
+    let tally = run(
+        &rt,
+        rt.alloc(),
+        &bundle,
+        question,
+        1,
+        &mut OpenGate,
+        &mut out,
+    )?;
     assert!(rt; tally.resolved == 3 && tally.caught_up == 0);
     Ok(())
 }

@@ -19,7 +19,7 @@ fn a_bundle_has_one_report_by_any_number_of_workers(rt: HostRuntime) -> Result<(
             &bundle,
             SETTLES,
             workers,
-            &OpenGate,
+            &mut OpenGate,
             &mut out,
         )?;
         assert!(rt; tally == demo_tally(0) && out.into_inner().as_slice() == DEMO_REPORT);
@@ -38,7 +38,7 @@ fn a_text_has_one_report_by_any_number_of_workers(rt: HostRuntime) -> Result<(),
             &mut reader,
             SETTLES,
             workers,
-            &OpenGate,
+            &mut OpenGate,
             &mut out,
         )?;
         assert!(rt; tally == demo_tally(0) && out.into_inner().as_slice() == DEMO_REPORT);
@@ -53,6 +53,14 @@ struct Counting {
 }
 
 impl Gate for Counting {
+    type Pass = ();
+
+    ghost admits = { λ _ _. Unit {0} };
+
+    fn begin(&mut self, _patterns: u64) {}
+
+    fn end(&mut self) {}
+
     fn enter(&self, _ticket: Ticket) {
         self.entered.fetch_add(1, Ordering::SeqCst);
     }

@@ -1,8 +1,5 @@
-use Rattle.std.proofs.lemmas.Result.{err_from_is_err_and}
-use Rattle.census_crew.proofs.Steps.{front_at_start}
+use Rattle.census_crew.proofs.Gates.{hears_both}
 use Rattle.census_crew.proofs.running.run.Goals as goal
 
-pub returns-in_err-feed-clause-report : goal.returns-in_err-feed-clause-report
-returns-in_err-feed-clause-report g c =
-    let p = err_from_is_err_and c.from_residual.result c.from_residual.ensures.1 in
-    rw p.1 (front_at_start _ _ _)
+pub returns-clause-gate : goal.returns-clause-gate
+returns-clause-gate g c = hears_both _ _ _ _ _ c.begin.ensures c.end.ensures
