@@ -3,7 +3,7 @@
 
 use census_command::{Streams, program};
 use census_errors::ErrorStream;
-use census_terminal::{Announced, Screen, Shown};
+use census_terminal::{Announced, Progress, Screen, Shown};
 use std::io::IsTerminal;
 use std::process::ExitCode;
 use std::{env, io};
@@ -19,7 +19,7 @@ fn main(rt: HostRuntime) -> ExitCode {
         &rt,
         rt.alloc(),
         env::args(&rt),
-        &screen,
+        &mut Progress::new(&screen),
         &mut Streams::new(input, output),
         &mut ErrorStream::new(errors, is_terminal),
     )

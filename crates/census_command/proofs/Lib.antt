@@ -3,3 +3,4 @@ pub mod Outcomes
 pub mod Reports
 mod Kept
 mod Cuts
+pub mod Gates

@@ -167,6 +167,16 @@ module _ (shelf : Tellings) (before after : State) where
   says (command.Reports e) (Same json reports) h = absurd h
   says (command.Reports e) (Verify claims reports) h = absurd h
 
+  -- what fails is not done
+  pub never_done : (error : CommandError) (request : Request) → Fails error shelf request before after → status_of error ≡ 0 → ⊥
+  never_done error request fails done = case (says error request fails)
+    where
+      case : Says before after (status_of error) (RefusesInput shelf request before after) (ReportsInPart shelf request before after)
+          (DoesInPart shelf request before after) (StopsAtFolder shelf request) → ⊥
+      case (inl (is, refused, nothing)) = omega arith
+      case (inr (inl (is, part, sound))) = omega arith
+      case (inr (inr (is, why, part, kept))) = omega arith
+
 -- faults are explained where the words ask for that, or at a terminal
 pub are_explained : (words : List (List ℕ)) (errors : Errors) (asked explain : Bool) → AsksToExplain words asked
     → explain ≡ asked || errors.is_terminal → AreExplained words errors explain

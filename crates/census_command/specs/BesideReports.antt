@@ -1,15 +1,16 @@
 -- What is said beside a report, where faults are explained.
-use Rattle.std.specs.Prelude.{◌≡◌, ℕ, Bool, List, [], ◌++◌, MatchBool}
+use Rattle.std.specs.Prelude.{◌≡◌, ℕ, Bool, List, [], ◌++◌, Option, MatchBool}
 use Rattle.census_bundle.specs.declared.bundle.Folder.{Folder}
 use Rattle.census_faults.specs.BundleRefusals.{refusal_lines}
-use Rattle.census_folders.specs.Told.{Told}
+use Rattle.census_folders.specs.Sources.{Asked}
+use Rattle.census_folders.specs.Tellings.{Tellings}
 use Rattle.census_hints.specs.Hints.{Hints}
 
 -- The lines that explain what a report of it tells as `bad`, and then those that hint at what may have been overlooked in it. Where it
--- was read from folders, these are what they list, as far as the shelf tells.
-pub record SaysBesideReport (listed : List ℕ → Told) (from_folders : Bool) (bundle : List Folder) (lines : List ℕ) : Type 0 where
+-- was read from folders, these are what those that were asked for list, as far as the shelf tells.
+pub record SaysBesideReport (shelf : Tellings) (asked : Option Asked) (bundle : List Folder) (lines : List ℕ) : Type 0 where
   pub hints : List ℕ
-  pub hinted : Hints listed from_folders bundle hints
+  pub hinted : Hints shelf asked bundle hints
   pub lines_are : lines ≡ refusal_lines bundle ++ hints
 
 -- where faults are explained, this is said, and else there is no line

@@ -1,5 +1,5 @@
 -- A census that goes on past what can't be read: what was lost, and what it says.
-use Rattle.std.specs.Prelude.{◌≡◌, ◌⊎◌, ℕ, Bool, true, List, [], ◌∷◌, ◌++◌, None, codes}
+use Rattle.std.specs.Prelude.{◌≡◌, ◌⊎◌, ℕ, Bool, List, [], ◌∷◌, ◌++◌, None, Some, codes}
 use Rattle.std.specs.List.{flat_map}
 use Rattle.life_answer.specs.declared.question.Question.{Question}
 use Rattle.census_crew.specs.Writing.{WritesPrefix, WritesReport}
@@ -66,7 +66,7 @@ pub record KeepsWhole (shelf : Tellings) (keeping : KeptCensus) (explain : Bool)
   pub unread : after.unread ≡ before.unread
   pub sound : HasSoundStreams after
   pub lines : List ℕ
-  pub said : IfExplained explain (SaysBesideReport shelf.listed true kept.bundle lines) lines
+  pub said : IfExplained explain (SaysBesideReport shelf (Some keeping.asked) kept.bundle lines) lines
   pub told : TellsText (lost_lines kept.lost ++ lines) old new
   pub status_is : status ≡ kept_status kept.lost
 

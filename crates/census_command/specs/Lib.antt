@@ -9,4 +9,5 @@ pub mod Forms
 pub mod Remakes
 pub mod Identifying
 pub mod Requests
+pub mod Gates
 pub mod Outcomes

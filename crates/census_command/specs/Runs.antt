@@ -1,5 +1,5 @@
 -- What `run` reads and writes, and what each of its errors says.
-use Rattle.std.specs.Prelude.{◌≡◌, ◌⊎◌, ℕ, Bool, true, false, List}
+use Rattle.std.specs.Prelude.{◌≡◌, ◌⊎◌, ℕ, Bool, List, None, Some}
 use Rattle.census_bundle.specs.declared.bundle.Folder.{Folder}
 use Rattle.census_crew.specs.Bytes.{ReadsFault, ReadsFolders}
 use Rattle.census_crew.specs.Writing.{WritesPrefix, WritesReport}
@@ -25,7 +25,7 @@ pub record ReportsInput (shelf : Tellings) (question : Question) (explain : Bool
   pub bundle : List Folder
   pub read : ReadsFolders before.unread after.unread bundle
   pub report : WritesReport before.written after.written bundle question
-  pub said : IfExplained explain (SaysBesideReport shelf.listed false bundle lines) lines
+  pub said : IfExplained explain (SaysBesideReport shelf None bundle lines) lines
 
 -- as far as the writer took it
 pub record ReportsInputInPart (question : Question) (before after : State) : Type 0 where
@@ -52,7 +52,7 @@ pub record ReportsFolders (shelf : Tellings) (asked : Asked) (question : Questio
   pub kept : Kept
   pub read : Reads shelf asked kept
   pub report : WritesReport before.written after.written kept.bundle question
-  pub said : IfExplained explain (SaysBesideReport shelf.listed true kept.bundle lines) lines
+  pub said : IfExplained explain (SaysBesideReport shelf (Some asked) kept.bundle lines) lines
   pub unread : after.unread ≡ before.unread
 
 -- as far as the writer took it

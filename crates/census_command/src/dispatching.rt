@@ -1,9 +1,10 @@
 //! What the program does with its words.
-ghost use Rattle.std.specs.Prelude.{◌≡◌, ◌||◌, false, map, IfErr, IfNone, IfOk, IfSome, OnOk};
+ghost use Rattle.std.specs.Prelude.{◌≡◌, ◌⊎◌, ◌||◌, false, map, IfErr, IfNone, IfOk, IfSome, MatchResult, OnOk};
 ghost use Rattle.census_errors.specs.Errors.{status_of};
 ghost use Rattle.census_errors.specs.Messages.{error_line};
 ghost use Rattle.census_errors.specs.Places.{IsPlaceOf};
 ghost use Rattle.census_command.specs.Forms.{reading_of};
+ghost use Rattle.census_command.specs.Gates.{HearsOutcome, HearsRequest};
 ghost use Rattle.census_command.specs.Outcomes.{Answers, IsBeside, IsRemaking, Outcome};
 ghost use Rattle.census_command.specs.Requests.{Does, Fails, HasNoText, IsDone, IsLawful, MakesNothing};
 ghost use Rattle.census_errors.specs.ErrorStreams.{TellsIf, TellsText};
@@ -15,7 +16,6 @@ use crate::drawing::draw;
 use crate::forms::{Beside, format_of, options_asked, reading_of, subject_of};
 use crate::identifying::{form_told, tell_patterns};
 use crate::keeping::keep_going;
-use crate::quiet_gate::QuietGate;
 use crate::remaking::{remake, remake_with};
 use crate::running::run_command;
 use crate::streams::Streams;
@@ -99,7 +99,8 @@ fn execute<S: Shelf, I: Read, O: Write, G: Gate, R: Threads + Wait + Sync>(
     alloc: Global,
     request: &Request<'_>,
     explain: bool,
-    gate: &G,
+    quiet: bool,
+    gate: &mut G,
     streams: &mut Streams<I, O>,
 ) -> Result<Vec<u8>, Stopped>
     requires lawful { IsLawful request.now }
@@ -115,9 +116,15 @@ fn execute<S: Shelf, I: Read, O: Write, G: Gate, R: Threads + Wait + Sync>(
     ensures place { IfErr result
         (λ stopped. IsPlaceOf (S.tellings shelf.now)
         request.now stopped.error stopped.place) }
+    ensures gate { MatchResult result
+        (λ _. HearsRequest (S.tellings shelf.now) request.now quiet
+        streams.old streams.new (G.heard gate.old) (G.heard gate.new))
+        (λ _. (G.heard gate.new ≡ G.heard gate.old)
+        ⊎ HearsRequest (S.tellings shelf.now) request.now quiet
+        streams.old streams.new (G.heard gate.old) (G.heard gate.new)) }
 {
     if let Some(census) = census_of(request) {
-        return match run_command(rt, shelf, alloc, census, explain, gate, streams) {
+        return match run_command(rt, shelf, alloc, census, explain, quiet, gate, streams) {
             Ok(lines) => Ok(lines),
             Err(stopped) => Err(Stopped::from(stopped)),
         };
@@ -231,30 +238,36 @@ pub fn answer<I: Read, O: Write, E: Write>(
 /// such a line for each pattern that it tells as `bad`, and then one for each whose text may hold the next pattern, and one
 /// with how many collections are empty and how many names were passed over that look like those of patterns.
 ///
-/// With `--no-progress` the gate isn't told how many patterns a run has, nor that it has ended.
+/// The gate is told how many patterns a run has before it, and after it that it has ended, whatever ends it; with
+/// `--no-progress` it is told neither.
 pub fn dispatch<S: Shelf, I: Read, O: Write, E: Write, G: Gate, R: Threads + Wait + Sync>(
     rt: &R,
     shelf: &S,
     alloc: Global,
     words: &[&str],
-    gate: &G,
+    gate: &mut G,
     streams: &mut Streams<I, O>,
     errors: &mut ErrorStream<E>,
 ) -> u8
     requires streams { HasSoundStreams streams.old }
     requires errors { errors.old.failed ≡ false }
-    ensures { Outcome (S.tellings shelf.now)
+    ensures outcome { Outcome (S.tellings shelf.now)
         (map (λ s. s.now) words.now) result streams.old streams.new errors.old errors.new }
+    ensures gate { HearsOutcome (S.tellings shelf.now)
+        (map (λ s. s.now) words.now) result
+        streams.old streams.new (G.heard gate.old) (G.heard gate.new) }
 {
     let asked = match read_words(alloc, &*words) {
         Ok(asked) => asked,
         Err(fault) => return answer(&fault, streams, errors),
     };
     let explain = explains(asked.explain, &*errors);
-    let gate = &QuietGate::new(gate, asked.quiet);
+    let quiet = asked.quiet;
     let request = &asked.request;
     if let Some(census) = kept_of(request) {
-        return keep_going(rt, shelf, alloc, census, explain, gate, streams, errors);
+        return keep_going(
+            rt, shelf, alloc, census, explain, quiet, gate, streams, errors,
+        );
     }
     if let Some((form, reports)) = remaking_of(request) {
         let files = reports.words.as_slice();
@@ -290,7 +303,7 @@ pub fn dispatch<S: Shelf, I: Read, O: Write, E: Write, G: Gate, R: Threads + Wai
             shelf, alloc, inquiry, *names, files, explain, streams, errors,
         );
     }
-    match execute(rt, shelf, alloc, request, explain, gate, streams) {
+    match execute(rt, shelf, alloc, request, explain, quiet, gate, streams) {
         Ok(lines) => {
             tell_if(explain, lines.as_slice(), errors);
             0

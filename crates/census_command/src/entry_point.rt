@@ -3,6 +3,7 @@ ghost use Rattle.std.specs.Prelude.{◌≡◌, drop, false, map, string_bytes, I
 ghost use Rattle.std.specs.IoError.{error_kind};
 ghost use Rattle.std.specs.Process.{exit_status};
 ghost use Rattle.std.specs.Vec.Iter.{into_iter_items};
+ghost use Rattle.census_command.specs.Gates.{HearsOutcome};
 ghost use Rattle.census_command.specs.Outcomes.{Outcome, StopsUnread};
 ghost use Rattle.census_command.specs.Streams.{HasSoundStreams};
 
@@ -38,15 +39,18 @@ fn dispatch_arguments<S: Shelf, I: Read, O: Write, E: Write, G: Gate, R: Threads
     shelf: &S,
     alloc: Global,
     args: Args,
-    gate: &G,
+    gate: &mut G,
     streams: &mut Streams<I, O>,
     errors: &mut ErrorStream<E>,
 ) -> u8
     requires streams { HasSoundStreams streams.old }
     requires errors { errors.old.failed ≡ false }
-    ensures { Outcome (S.tellings shelf.now)
+    ensures outcome { Outcome (S.tellings shelf.now)
         (map (λ word. string_bytes word) (drop 1 (into_iter_items args))) result
         streams.old streams.new errors.old errors.new }
+    ensures gate { HearsOutcome (S.tellings shelf.now)
+        (map (λ word. string_bytes word) (drop 1 (into_iter_items args))) result
+        streams.old streams.new (G.heard gate.old) (G.heard gate.new) }
 {
     let Ok(own) = own_words(alloc, args) else {
         return stop(CommandError::Memory, errors);
@@ -67,18 +71,23 @@ pub fn program<S: Shelf, I: Read, O: Write, E: Write, G: Gate, R: Threads + Wait
     shelf: &S,
     alloc: Global,
     args: io::Result<Args>,
-    gate: &G,
+    gate: &mut G,
     streams: &mut Streams<I, O>,
     errors: &mut ErrorStream<E>,
 ) -> ExitCode
     requires streams { HasSoundStreams streams.old }
     requires errors { errors.old.failed ≡ false }
-    ensures { MatchResult args
+    ensures outcome { MatchResult args
         (λ args. Outcome (S.tellings shelf.now)
         (map (λ word. string_bytes word) (drop 1 (into_iter_items args)))
         (exit_status result) streams.old streams.new errors.old errors.new)
         (λ error. StopsUnread (error_kind error) (exit_status result)
         streams.old streams.new errors.old errors.new) }
+    ensures gate { MatchResult args
+        (λ args. HearsOutcome (S.tellings shelf.now)
+        (map (λ word. string_bytes word) (drop 1 (into_iter_items args)))
+        (exit_status result) streams.old streams.new (G.heard gate.old) (G.heard gate.new))
+        (λ _. G.heard gate.new ≡ G.heard gate.old) }
 {
     match args {
         Ok(args) => {

@@ -4,6 +4,7 @@ ghost use Rattle.life_answer.specs.Questions.{IsAnswered};
 ghost use Rattle.census_folders.specs.Sources.{Reads, asked_by};
 ghost use Rattle.census_errors.specs.Errors.{run_status};
 ghost use Rattle.census_command.specs.Asking.{folders_of};
+ghost use Rattle.census_command.specs.Gates.{HearsKept};
 ghost use Rattle.census_command.specs.Keeps.{Keeps, StopsKeeping, cut_lines, lost_line, lost_lines};
 ghost use Rattle.census_errors.specs.ErrorStreams.{TellsMoreText};
 ghost use Rattle.census_command.specs.Streams.{HasSoundStreams};
@@ -117,14 +118,16 @@ fn tell_cut<E: Write>(
 /// After status 1, and after a prefix or nothing at 3 and 4, the error's line was told too, and one more where faults are
 /// explained: after a prefix with the number of the pattern at which memory ran out and that of its collection, if they are
 /// known. After a whole report those are the lines that explain what it tells as `bad`, and the hints at what may have been
-/// overlooked in the folders.
+/// overlooked in the folders. The gate is told how many patterns the run has, and that it has ended, unless it is to be quiet;
+/// and nothing where nothing is run.
 pub fn keep_going<S: Shelf, I: Read, O: Write, E: Write, G: Gate, R: Threads + Wait + Sync>(
     rt: &R,
     shelf: &S,
     alloc: Global,
     census: Census<'_, '_>,
     explain: bool,
-    gate: &G,
+    quiet: bool,
+    gate: &mut G,
     streams: &mut Streams<I, O>,
     errors: &mut ErrorStream<E>,
 ) -> u8
@@ -132,12 +135,15 @@ pub fn keep_going<S: Shelf, I: Read, O: Write, E: Write, G: Gate, R: Threads + W
     requires workers { (1 ≤ census.workers) × (census.workers ≤ worker_limit) }
     requires sound { HasSoundStreams streams.old }
     requires errors { errors.old.failed ≡ false }
-    ensures { Keeps (S.tellings shelf.now) (record {
+    ensures kept { Keeps (S.tellings shelf.now) (record {
       asked = folders_of census.entry OnLoss.Keep;
       question = census.entry.question;
     }) explain result streams.old streams.new errors.old errors.new }
+    ensures gate { HearsKept (S.tellings shelf.now) (folders_of census.entry OnLoss.Keep) quiet result
+        (G.heard gate.old) (G.heard gate.new) }
 {
-    let (kept, lost) = match gather(shelf, alloc, census.source(OnLoss::Keep)) {
+    let source = census.source(OnLoss::Keep);
+    let (kept, lost) = match gather(shelf, alloc, source) {
         Ok(gathered) => gathered,
         Err(error) => {
             let saying = run_saying(error);
@@ -150,10 +156,11 @@ pub fn keep_going<S: Shelf, I: Read, O: Write, E: Write, G: Gate, R: Threads + W
         shelf,
         alloc,
         &kept.bundle,
-        true,
+        Some(source),
         census.question,
         census.workers,
         explain,
+        quiet,
         gate,
         &mut streams.output,
     ) {

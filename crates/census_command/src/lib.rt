@@ -11,7 +11,6 @@ mod entry_point;
 mod forms;
 mod identifying;
 mod keeping;
-mod quiet_gate;
 mod remaking;
 mod reporting;
 mod running;

@@ -1,16 +1,18 @@
 //! The report of a bundle, and the lines that are said beside it.
-ghost use Rattle.std.specs.Prelude.{◌≡◌, ◌≤◌, false, IfOk, MatchResult};
+ghost use Rattle.std.specs.Prelude.{◌≡◌, ◌≤◌, false, option_map, IfOk, MatchResult};
 ghost use Rattle.life_answer.specs.Questions.{IsAnswered};
 ghost use Rattle.watched.specs.Watching.{has_failed, inner_of};
 ghost use Rattle.census_crew.specs.Faults.{FitsFault};
 ghost use Rattle.census_crew.specs.Writing.{WritesPrefix, WritesReport};
+ghost use Rattle.census_folders.specs.Sources.{asked_by};
 ghost use Rattle.census_command.specs.BesideReports.{IfExplained, SaysBesideReport};
+ghost use Rattle.census_command.specs.Gates.{HearsBundle};
 ghost use Rattle.census_bundle.specs.Sizes.{worker_limit};
 
 use census_bundle::Bundle;
-use census_crew::{Gate, RunFault, run};
+use census_crew::{Gate, RunFault, Tally, run, run_untold};
 use census_faults::refusal_lines;
-use census_folders::Shelf;
+use census_folders::{Shelf, Source};
 use census_hints::hint_lines;
 use life_answer::Question;
 use std::alloc::{AllocError, Global};
@@ -25,14 +27,14 @@ fn lines_beside<S: Shelf>(
     shelf: &S,
     alloc: Global,
     bundle: &Bundle,
-    from_folders: bool,
+    source: Option<Source<'_, '_>>,
 ) -> Result<Vec<u8>, AllocError>
     ensures { IfOk result
-        (λ lines. SaysBesideReport (S.tellings shelf.now).listed from_folders bundle.now
-        lines.items) }
+        (λ lines. SaysBesideReport (S.tellings shelf.now) (option_map asked_by source.entry)
+        bundle.now lines.items) }
 {
     let mut lines = refusal_lines(alloc, bundle)?;
-    let hints = hint_lines(shelf, alloc, bundle, from_folders)?;
+    let hints = hint_lines(shelf, alloc, bundle, source)?;
     lines.extend_from_slice(hints.as_slice())?;
     Ok(lines)
 }
@@ -42,35 +44,65 @@ fn lines_of<S: Shelf>(
     shelf: &S,
     alloc: Global,
     bundle: &Bundle,
-    from_folders: bool,
+    source: Option<Source<'_, '_>>,
     explain: bool,
 ) -> Result<Vec<u8>, AllocError>
     ensures { IfOk result
         (λ lines. IfExplained explain
-        (SaysBesideReport (S.tellings shelf.now).listed from_folders bundle.now lines.items)
+        (SaysBesideReport (S.tellings shelf.now) (option_map asked_by source.entry) bundle.now lines.items)
         lines.items) }
 {
     if explain {
-        lines_beside(shelf, alloc, bundle, from_folders)
+        lines_beside(shelf, alloc, bundle, source)
     } else {
         Ok(Vec::new(alloc))
     }
 }
 
+// Writes the report of a bundle as `run` does, or, where that is to be quiet, as `run_untold` does.
+fn run_as_asked<G: Gate, W: Write, R: Threads + Wait + Sync>(
+    rt: &R,
+    alloc: Global,
+    bundle: &Bundle,
+    question: Question,
+    workers: u32,
+    quiet: bool,
+    gate: &mut G,
+    out: &mut Watched<W>,
+) -> Result<Tally, RunFault>
+    requires question { IsAnswered question }
+    requires workers { (1 ≤ workers) × (workers ≤ worker_limit) }
+    requires sound { has_failed out.old ≡ false }
+    ensures failed { FitsFault result (has_failed out.new) }
+    ensures report { MatchResult result
+        (λ _. WritesReport (W.contents (inner_of out.old)) (W.contents (inner_of out.new))
+        bundle.now question)
+        (λ _. WritesPrefix (W.contents (inner_of out.old)) (W.contents (inner_of out.new))
+        bundle.now question) }
+    ensures gate { HearsBundle quiet bundle.now (G.heard gate.old) (G.heard gate.new) }
+{
+    if quiet {
+        run_untold(rt, alloc, bundle, question, workers, &*gate, out)
+    } else {
+        run(rt, alloc, bundle, question, workers, gate, out)
+    }
+}
+
 /// Writes the report of a bundle as `run` does, and gives the lines that are said beside it, where faults are explained:
 /// those that explain what it tells as `bad`, and the hints at what may have been overlooked in the bundle. Only where that
-/// was read from folders is the shelf asked what these list. Where memory is refused for these lines, the whole report was
-/// written.
+/// was read from folders, whose source is given, is the shelf asked what these list. Where memory is refused for these lines,
+/// the whole report was written. The gate is told of the run, unless that is to be quiet.
 pub fn report<S: Shelf, G: Gate, W: Write, R: Threads + Wait + Sync>(
     rt: &R,
     shelf: &S,
     alloc: Global,
     bundle: &Bundle,
-    from_folders: bool,
+    source: Option<Source<'_, '_>>,
     question: Question,
     workers: u32,
     explain: bool,
-    gate: &G,
+    quiet: bool,
+    gate: &mut G,
     out: &mut Watched<W>,
 ) -> Result<Vec<u8>, RunFault>
     requires question { IsAnswered question }
@@ -84,11 +116,13 @@ pub fn report<S: Shelf, G: Gate, W: Write, R: Threads + Wait + Sync>(
         bundle.now question) }
     ensures lines { IfOk result
         (λ lines. IfExplained explain
-        (SaysBesideReport (S.tellings shelf.now).listed from_folders bundle.now lines.items)
+        (SaysBesideReport (S.tellings shelf.now) (option_map asked_by source.entry) bundle.now
+        lines.items)
         lines.items) }
+    ensures gate { HearsBundle quiet bundle.now (G.heard gate.old) (G.heard gate.new) }
 {
-    run(rt, alloc, bundle, question, workers, gate, out)?;
-    match lines_of(shelf, alloc, bundle, from_folders, explain) {
+    run_as_asked(rt, alloc, bundle, question, workers, quiet, gate, out)?;
+    match lines_of(shelf, alloc, bundle, source, explain) {
         Ok(lines) => Ok(lines),
         Err(_) => Err(RunFault::Memory { ticket: None }),
     }

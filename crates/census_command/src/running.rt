@@ -1,10 +1,11 @@
 //! `census run` and `census objects`: the report of collections.
-ghost use Rattle.std.specs.Prelude.{◌≡◌, ◌↔◌, ◌≤◌, true, false, map, Err, IfErr, IfOk, OnOk};
+ghost use Rattle.std.specs.Prelude.{◌≡◌, ◌⊎◌, ◌↔◌, ◌≤◌, true, false, map, Err, IfErr, IfOk, MatchResult, OnOk};
 ghost use Rattle.watched.specs.Watching.{has_failed, inner_of};
 ghost use Rattle.census_crew.specs.Bytes.{ReadsBundle};
 ghost use Rattle.census_crew.specs.declared.bytes.BytesFault.{BytesFault};
 ghost use Rattle.life_answer.specs.Questions.{IsAnswered};
 ghost use Rattle.census_command.specs.Asking.{plain_folders};
+ghost use Rattle.census_command.specs.Gates.{HearsFolders, HearsInput, HearsRun};
 ghost use Rattle.census_command.specs.Runs.{FoldersFail, InputFails, ReportsFolders, ReportsInput, RunFails, Runs};
 ghost use Rattle.census_errors.specs.Places.{IsCensusPlace, IsFoldersPlace};
 ghost use Rattle.census_errors.specs.Sources.{plain_source};
@@ -50,7 +51,8 @@ fn run_input<S: Shelf, I: Read, O: Write, G: Gate, R: Threads + Wait + Sync>(
     alloc: Global,
     census: Census<'_, '_>,
     explain: bool,
-    gate: &G,
+    quiet: bool,
+    gate: &mut G,
     streams: &mut Streams<I, O>,
 ) -> Result<Vec<u8>, RunError>
     requires question { IsAnswered census.question }
@@ -62,6 +64,10 @@ fn run_input<S: Shelf, I: Read, O: Write, G: Gate, R: Threads + Wait + Sync>(
         census.entry.question explain lines.items streams.old streams.new) }
     ensures sound { OnOk result (HasSoundStreams streams.new) }
     ensures fails { IfErr result (λ e. InputFails e census.entry.question streams.old streams.new) }
+    ensures gate { MatchResult result
+        (λ _. HearsInput quiet streams.old streams.new (G.heard gate.old) (G.heard gate.new))
+        (λ _. (G.heard gate.new ≡ G.heard gate.old)
+        ⊎ HearsInput quiet streams.old streams.new (G.heard gate.old) (G.heard gate.new)) }
 {
     let Streams { input, output } = streams;
     let bundle = read_input(alloc, input)?;
@@ -70,10 +76,11 @@ fn run_input<S: Shelf, I: Read, O: Write, G: Gate, R: Threads + Wait + Sync>(
         shelf,
         alloc,
         &bundle,
-        false,
+        None,
         census.question,
         census.workers,
         explain,
+        quiet,
         gate,
         output,
     )?;
@@ -87,7 +94,8 @@ fn run_folders<S: Shelf, I: Read, O: Write, G: Gate, R: Threads + Wait + Sync>(
     alloc: Global,
     census: Census<'_, '_>,
     explain: bool,
-    gate: &G,
+    quiet: bool,
+    gate: &mut G,
     streams: &mut Streams<I, O>,
 ) -> Result<Vec<u8>, RunStopped>
     requires question { IsAnswered census.question }
@@ -103,8 +111,15 @@ fn run_folders<S: Shelf, I: Read, O: Write, G: Gate, R: Threads + Wait + Sync>(
     ensures place { IfErr result
         (λ stopped. IsFoldersPlace (S.tellings shelf.now) (plain_folders census.entry)
         stopped.error stopped.place) }
+    ensures gate { MatchResult result
+        (λ _. HearsFolders (S.tellings shelf.now) (plain_folders census.entry) quiet
+        (G.heard gate.old) (G.heard gate.new))
+        (λ _. (G.heard gate.new ≡ G.heard gate.old)
+        ⊎ HearsFolders (S.tellings shelf.now) (plain_folders census.entry) quiet
+        (G.heard gate.old) (G.heard gate.new)) }
 {
-    let kept = match read_source(shelf, alloc, census.source(OnLoss::Stop)) {
+    let source = census.source(OnLoss::Stop);
+    let kept = match read_source(shelf, alloc, source) {
         Ok(kept) => kept,
         Err(fault) => return Err(RunStopped::reading(alloc, fault)),
     };
@@ -113,10 +128,11 @@ fn run_folders<S: Shelf, I: Read, O: Write, G: Gate, R: Threads + Wait + Sync>(
         shelf,
         alloc,
         &kept.bundle,
-        true,
+        Some(source),
         census.question,
         census.workers,
         explain,
+        quiet,
         gate,
         &mut streams.output,
     ) {
@@ -136,13 +152,17 @@ fn run_folders<S: Shelf, I: Read, O: Write, G: Gate, R: Threads + Wait + Sync>(
 ///
 /// All is read before the first byte is written, so nothing is written where a bundle, a folder or a file is refused or
 /// can't be read. Where memory is refused or the writer fails, what was written is nothing or a prefix of a report.
+///
+/// The gate is told how many patterns the run has, and that it has ended, unless it is to be quiet; and nothing where nothing
+/// is run.
 pub fn run_command<S: Shelf, I: Read, O: Write, G: Gate, R: Threads + Wait + Sync>(
     rt: &R,
     shelf: &S,
     alloc: Global,
     census: Census<'_, '_>,
     explain: bool,
-    gate: &G,
+    quiet: bool,
+    gate: &mut G,
     streams: &mut Streams<I, O>,
 ) -> Result<Vec<u8>, RunStopped>
     requires question { IsAnswered census.question }
@@ -163,11 +183,21 @@ pub fn run_command<S: Shelf, I: Read, O: Write, G: Gate, R: Threads + Wait + Syn
         (λ stopped. IsCensusPlace (S.tellings shelf.now)
         (plain_source census.entry.limit census.entry.recursive
         (map (λ s. s.now) census.entry.folders.now)) stopped.error stopped.place) }
+    ensures gate { MatchResult result
+        (λ _. HearsRun (S.tellings shelf.now)
+        (plain_source census.entry.limit census.entry.recursive
+        (map (λ s. s.now) census.entry.folders.now)) quiet
+        streams.old streams.new (G.heard gate.old) (G.heard gate.new))
+        (λ _. (G.heard gate.new ≡ G.heard gate.old)
+        ⊎ HearsRun (S.tellings shelf.now)
+        (plain_source census.entry.limit census.entry.recursive
+        (map (λ s. s.now) census.entry.folders.now)) quiet
+        streams.old streams.new (G.heard gate.old) (G.heard gate.new)) }
 {
     if !census.folders.is_empty() {
-        return run_folders(rt, shelf, alloc, census, explain, gate, streams);
+        return run_folders(rt, shelf, alloc, census, explain, quiet, gate, streams);
     }
-    match run_input(rt, shelf, alloc, census, explain, gate, streams) {
+    match run_input(rt, shelf, alloc, census, explain, quiet, gate, streams) {
         Ok(lines) => Ok(lines),
         Err(error) => Err(RunStopped::unnamed(alloc, error)),
     }

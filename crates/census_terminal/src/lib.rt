@@ -9,5 +9,5 @@ mod screen;
 mod shown;
 
 pub use announced::Announced;
-pub use screen::Screen;
+pub use screen::{Progress, Screen};
 pub use shown::Shown;

@@ -62,6 +62,30 @@ impl<'a, R: Clock + Eprint> Screen<'a, R> {
         }
     }
 
+    // A run of so many patterns is about to begin.
+    fn begin(&self, patterns: u64) {
+        if self.is_terminal {
+            self.patterns.store(patterns, Ordering::SeqCst);
+            self.taken.store(0, Ordering::SeqCst);
+            let due = self.now().saturating_add(PATIENCE);
+            self.next.store(due, Ordering::SeqCst);
+        }
+    }
+
+    // A worker took a ticket.
+    fn take_one(&self) {
+        if self.is_terminal {
+            let before = self.taken.fetch_add(1, Ordering::SeqCst);
+            self.tell(before.saturating_add(1));
+        }
+    }
+
+    // The run has ended.
+    fn end(&self) {
+        self.next.store(u64::MAX, Ordering::SeqCst);
+        self.wipe();
+    }
+
     // Tells how far the run has come, where that is due.
     fn tell(&self, taken: u64) {
         let next = self.next.load(Ordering::SeqCst);
@@ -83,25 +107,33 @@ impl<'a, R: Clock + Eprint> Screen<'a, R> {
     }
 }
 
-impl<'a, R: Clock + Eprint + Sync> Gate for Screen<'a, R> {
-    fn begin(&self, patterns: u64) {
-        if self.is_terminal {
-            self.patterns.store(patterns, Ordering::SeqCst);
-            self.taken.store(0, Ordering::SeqCst);
-            let due = self.now().saturating_add(PATIENCE);
-            self.next.store(due, Ordering::SeqCst);
-        }
+/// The gate of a program at a terminal: it tells on a screen how far a run has come, and holds no worker.
+#[derive(Drop)]
+pub struct Progress<'a, R> {
+    screen: &'a Screen<'a, R>,
+}
+
+impl<'a, R: Clock + Eprint> Progress<'a, R> {
+    /// A gate that tells on this screen.
+    pub fn new(screen: &'a Screen<'a, R>) -> Self {
+        Progress { screen }
+    }
+}
+
+impl<'a, R: Clock + Eprint + Sync> Gate for Progress<'a, R> {
+    type Pass = ();
+
+    ghost admits = { λ _ _. Unit {0} };
+
+    fn begin(&mut self, patterns: u64) {
+        self.screen.begin(patterns);
     }
 
     fn enter(&self, _ticket: Ticket) {
-        if self.is_terminal {
-            let before = self.taken.fetch_add(1, Ordering::SeqCst);
-            self.tell(before.saturating_add(1));
-        }
+        self.screen.take_one();
     }
 
-    fn end(&self) {
-        self.next.store(u64::MAX, Ordering::SeqCst);
-        self.wipe();
+    fn end(&mut self) {
+        self.screen.end();
     }
 }

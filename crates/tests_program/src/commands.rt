@@ -206,7 +206,7 @@ fn at_a_terminal_faults_are_explained_without_being_asked_for(rt: HostRuntime) {
             &rt,
             rt.alloc(),
             words,
-            &OpenGate,
+            &mut OpenGate,
             *input,
             output,
             errors,

@@ -18,6 +18,14 @@ struct Crowd {
 }
 
 impl Gate for Crowd {
+    type Pass = ();
+
+    ghost admits = { λ _ _. Unit {0} };
+
+    fn begin(&mut self, _patterns: u64) {}
+
+    fn end(&mut self) {}
+
     fn enter(&self, _ticket: Ticket) {
         self.entered.fetch_add(1, Ordering::SeqCst);
         for _ in 0..TURNS {
@@ -37,7 +45,7 @@ fn as_many_workers_as_the_words_say_meet_at_the_gate(rt: HostRuntime) {
         (&["run", "--bound", "50"], 4),
     ];
     for (words, awaited) in CALLS {
-        let gate = Crowd {
+        let mut gate = Crowd {
             awaited: *awaited,
             entered: AtomicU64::new(0),
             gave_up: AtomicU64::new(0),
@@ -46,7 +54,7 @@ fn as_many_workers_as_the_words_say_meet_at_the_gate(rt: HostRuntime) {
             &rt,
             rt.alloc(),
             words,
-            &gate,
+            &mut gate,
             DEMO,
             Vec::new(rt.alloc()),
             Vec::new(rt.alloc()),
@@ -60,21 +68,25 @@ fn as_many_workers_as_the_words_say_meet_at_the_gate(rt: HostRuntime) {
 // A gate that notes what it is told of runs.
 #[derive(Drop)]
 struct Notes {
-    patterns: AtomicU64,
-    begun: AtomicU64,
-    ended: AtomicU64,
+    patterns: u64,
+    begun: u64,
+    ended: u64,
 }
 
 impl Gate for Notes {
-    fn begin(&self, patterns: u64) {
-        self.patterns.store(patterns, Ordering::SeqCst);
-        self.begun.fetch_add(1, Ordering::SeqCst);
+    type Pass = ();
+
+    ghost admits = { λ _ _. Unit {0} };
+
+    fn begin(&mut self, patterns: u64) {
+        self.patterns = patterns;
+        self.begun = self.begun.saturating_add(1);
     }
 
     fn enter(&self, _ticket: Ticket) {}
 
-    fn end(&self) {
-        self.ended.fetch_add(1, Ordering::SeqCst);
+    fn end(&mut self) {
+        self.ended = self.ended.saturating_add(1);
     }
 }
 
@@ -87,10 +99,10 @@ fn the_gate_is_told_of_a_run_unless_it_is_to_be_quiet(rt: HostRuntime) {
         (&["draw", "xq4_153"], (0, 0, 0)),
     ];
     for (words, told) in CALLS {
-        let gate = Notes {
-            patterns: AtomicU64::new(0),
-            begun: AtomicU64::new(0),
-            ended: AtomicU64::new(0),
+        let mut gate = Notes {
+            patterns: 0,
+            begun: 0,
+            ended: 0,
         };
         let output = Vec::new(rt.alloc());
         let errors = Vec::new(rt.alloc());
@@ -98,17 +110,13 @@ fn the_gate_is_told_of_a_run_unless_it_is_to_be_quiet(rt: HostRuntime) {
             &rt,
             rt.alloc(),
             words,
-            &gate,
+            &mut gate,
             DEMO,
             output,
             errors,
             false,
         );
-        let noted = (
-            gate.patterns.load(Ordering::SeqCst),
-            gate.begun.load(Ordering::SeqCst),
-            gate.ended.load(Ordering::SeqCst),
-        );
+        let noted = (gate.patterns, gate.begun, gate.ended);
         assert!(rt; status == 0 && noted == *told);
     }
 }

@@ -1,8 +1,10 @@
 //! The lines on standard error.
 
-use census_bundle::{AddFault, BundleFault, Ticket};
+use census_bundle::{AddFault, BundleFault, Ticket, read_bundle};
+use census_crew::RunFault;
 use census_errors::{
-    AdvanceError, CommandError, DrawError, ErrorStream, RunError, kept_place, run_saying, say,
+    AdvanceError, CommandError, DrawError, ErrorStream, RunError, RunStopped, kept_place,
+    run_saying, say,
 };
 use std::test::Fail;
 
@@ -54,4 +56,19 @@ fn a_pattern_without_a_path_is_told_by_its_numbers(rt: HostRuntime) {
     let mut errors = ErrorStream::new(Vec::new(rt.alloc()), false);
     say(run_saying(error).at(&place), &mut errors);
     assert!(rt; errors.into_inner().as_slice() == LINE);
+}
+
+#[test]
+fn a_pattern_of_a_folder_is_told_by_its_path(rt: HostRuntime) -> Result<(), Fail> {
+    let bundle = read_bundle(rt.alloc(), b"@folder a\n@file b.rle\no!\n@file c.rle\no!\n")?;
+    let fault = RunFault::Memory {
+        ticket: Some(Ticket {
+            folder: 1,
+            number: 2,
+        }),
+    };
+    let stopped = RunStopped::running(rt.alloc(), &bundle, fault);
+    let path = stopped.place.path.as_ref().map(|path| path.as_slice());
+    assert!(rt; path == Some(b"a/c.rle".as_slice()));
+    Ok(())
 }

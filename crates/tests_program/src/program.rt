@@ -17,7 +17,16 @@ pub(crate) fn called<
     E: Write + Drop,
     R: Threads + Wait + Sync + Files + Alloc + Clone + Drop,
 >(rt: &R, alloc: Global, words: &[&str], input: I, output: O, errors: E) -> (u8, O, E) {
-    called_through(rt, alloc, words, &OpenGate, input, output, errors, false)
+    called_through(
+        rt,
+        alloc,
+        words,
+        &mut OpenGate,
+        input,
+        output,
+        errors,
+        false,
+    )
 }
 
 // The same through a gate, where standard error is a terminal or not.
@@ -31,7 +40,7 @@ pub(crate) fn called_through<
     rt: &R,
     alloc: Global,
     words: &[&str],
-    gate: &G,
+    gate: &mut G,
     input: I,
     output: O,
     errors: E,

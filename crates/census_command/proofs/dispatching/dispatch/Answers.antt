@@ -1,4 +1,7 @@
 use Rattle.std.proofs.Common.{List, ℕ, ◌++◌, inl, inr, refl, sym, ap, subst, map, option_map}
+use Rattle.census_command.specs.Asking.{AsksForNone, folders_of}
+use Rattle.census_folders.specs.declared.loss.OnLoss.TheVariants.{Keep}
+use Rattle.census_command.proofs.Gates.{hears_answered, hears_done, hears_failed, hears_kept, hears_none, beside_is_none, remaking_is_none}
 use Rattle.census_blocks.specs.declared.inquiry.Inquiry.{Inquiry}
 use Rattle.census_command.specs.Forms.{reading_of}
 use Rattle.census_command.specs.Identifying.{form_told}
@@ -10,11 +13,11 @@ use Rattle.census_command.proofs.Outcomes.{are_explained, ends_answered, ends_do
 use Rattle.census_errors.proofs.Said.{says_at}
 use Rattle.census_command.proofs.dispatching.dispatch.Goals as goal
 
-pub returns-in-Err : goal.returns-in-Err
-returns-in-Err g c = inr (inr (inr (ends_answered _ _ _ _ _ _ _ c.in-Err.fault c.in-Err.ensures c.answer.ensures)))
+pub returns-in-Err-clause-outcome : goal.returns-in-Err-clause-outcome
+returns-in-Err-clause-outcome g c = inr (inr (inr (ends_answered _ _ _ _ _ _ _ c.in-Err.fault c.in-Err.ensures c.answer.ensures)))
 
-pub returns-in-Identify : goal.returns-in-Identify
-returns-in-Identify g c =
+pub returns-in-Identify-clause-outcome : goal.returns-in-Identify-clause-outcome
+returns-in-Identify-clause-outcome g c =
     let arm = c.in-Identify in
     let word = option_map (λ s. s.now) arm.names in
     let words = map (λ s. s.now) c.as_slice-files.result.now in
@@ -33,8 +36,8 @@ returns-in-Identify g c =
       identifies = c.tell_patterns.ensures;
     })
 
-pub returns-in-Some-remaking_of : goal.returns-in-Some-remaking_of
-returns-in-Some-remaking_of g c =
+pub returns-in-Some-remaking_of-clause-outcome : goal.returns-in-Some-remaking_of-clause-outcome
+returns-in-Some-remaking_of-clause-outcome g c =
     let arm = c.in-Some-remaking_of in
     inr (inl (inl (record {
       request = c.in-Ok.asked.request;
@@ -48,8 +51,8 @@ returns-in-Some-remaking_of g c =
       remakes = c.remake.ensures;
     })))
 
-pub returns-in-Some-beside_of : goal.returns-in-Some-beside_of
-returns-in-Some-beside_of g c =
+pub returns-in-Some-beside_of-clause-outcome : goal.returns-in-Some-beside_of-clause-outcome
+returns-in-Some-beside_of-clause-outcome g c =
     let arm = c.in-Some-beside_of in
     inr (inl (inr (record {
       request = c.in-Ok.asked.request;
@@ -64,16 +67,16 @@ returns-in-Some-beside_of g c =
       remakes = c.remake_with.ensures;
     })))
 
-pub returns-in-Ok-execute : goal.returns-in-Ok-execute
-returns-in-Ok-execute g c =
+pub returns-in-Ok-execute-clause-outcome : goal.returns-in-Ok-execute-clause-outcome
+returns-in-Ok-execute-clause-outcome g c =
     let explain = c.explains-explain.result in
     let explained = are_explained (map (λ s. s.now) c.args.words.now) c.args.errors.now c.in-Ok.asked.explain explain c.in-Ok.ensures.1 c.explains-explain.ensures in
     let told = subst (λ (l : List ℕ). TellsIf explain l c.args.errors.now c.tell_if.new.errors) c.as_slice-in-Ok-execute.ensures.value c.tell_if.ensures in
     inr (inr (inr (ends_done _ _ _ _ _ _ c.in-Ok.asked.request explain c.in-Ok-execute.lines.items c.in-Ok.ensures.0 explained
     c.in-Ok-execute.ensures.done c.in-Ok-execute.ensures.sound told)))
 
-pub returns : goal.returns
-returns g c =
+pub returns-clause-outcome : goal.returns-clause-outcome
+returns-clause-outcome g c =
     let explain = c.explains-explain.result in
     let explained = are_explained (map (λ s. s.now) c.args.words.now) c.args.errors.now c.in-Ok.asked.explain explain c.in-Ok.ensures.1 c.explains-explain.ensures in
     let error = c.in-Err-execute.stopped.error in
@@ -82,3 +85,32 @@ returns g c =
     (says_at _ _ _ c.saying_of.result place c.at-saying.result c.saying_of.ensures c.at-saying.ensures) c.stop_saying.ensures.lines in
     rw c.stop_saying.ensures.status
     (inr (inr (inr (ends_failed _ _ _ _ _ _ c.in-Ok.asked.request explain c.in-Ok.ensures.0 explained error c.in-Err-execute.ensures.fails place c.in-Err-execute.ensures.place lines))))
+
+pub returns-in-Err-clause-gate : goal.returns-in-Err-clause-gate
+returns-in-Err-clause-gate g c = hears_answered _ _ _ _ _ _ _ c.in-Err.fault _ _ c.in-Err.ensures c.answer.ensures refl
+
+pub returns-in-Some-clause-gate : goal.returns-in-Some-clause-gate
+returns-in-Some-clause-gate g c =
+    hears_kept _ _ _ _ _ _ c.in-Ok.asked.request c.in-Ok.asked.quiet c.in-Ok.ensures.0 c.in-Ok.ensures.2 _
+    (record { asked = folders_of c.in-Some.census Keep; question = c.in-Some.census.question }) c.in-Some.ensures.some c.keep_going.ensures.gate
+
+pub returns-in-Some-remaking_of-clause-gate : goal.returns-in-Some-remaking_of-clause-gate
+returns-in-Some-remaking_of-clause-gate g c =
+    hears_none _ _ _ _ _ _ _ c.in-Ok.asked.request c.in-Ok.ensures.0 (remaking_is_none _ _ _ _ c.in-Some-remaking_of.ensures.some) refl
+
+pub returns-in-Some-beside_of-clause-gate : goal.returns-in-Some-beside_of-clause-gate
+returns-in-Some-beside_of-clause-gate g c =
+    hears_none _ _ _ _ _ _ _ c.in-Ok.asked.request c.in-Ok.ensures.0 (beside_is_none _ _ _ _ _ c.in-Some-beside_of.ensures.some) refl
+
+pub returns-in-Identify-clause-gate : goal.returns-in-Identify-clause-gate
+returns-in-Identify-clause-gate g c =
+    hears_none _ _ _ _ _ _ _ c.in-Ok.asked.request c.in-Ok.ensures.0 (subst (λ r. AsksForNone r) (sym c.in-Identify.is) tt) refl
+
+pub returns-in-Ok-execute-clause-gate : goal.returns-in-Ok-execute-clause-gate
+returns-in-Ok-execute-clause-gate g c =
+    hears_done _ _ _ _ _ _ c.in-Ok.asked.request c.in-Ok.asked.quiet c.in-Ok.ensures.0 c.in-Ok.ensures.2 0 c.in-Ok-execute.ensures.gate
+
+pub returns-clause-gate : goal.returns-clause-gate
+returns-clause-gate g c =
+    rw c.stop_saying.ensures.status
+    (hears_failed _ _ _ _ _ _ c.in-Ok.asked.request c.in-Ok.asked.quiet c.in-Ok.ensures.0 c.in-Ok.ensures.2 c.in-Err-execute.stopped.error c.in-Err-execute.ensures.fails c.in-Err-execute.ensures.gate)

@@ -1,4 +1,7 @@
 use Rattle.census_command.proofs.entry_point.program.Goals as goal
 
-pub returns-in-Ok : goal.returns-in-Ok
-returns-in-Ok g c = rw (c.in-Ok.is, c.from.ensures) c.dispatch_arguments-status.ensures
+pub returns-in-Ok-clause-outcome : goal.returns-in-Ok-clause-outcome
+returns-in-Ok-clause-outcome g c = rw (c.in-Ok.is, c.from.ensures) c.dispatch_arguments-status.ensures.outcome
+
+pub returns-in-Ok-clause-gate : goal.returns-in-Ok-clause-gate
+returns-in-Ok-clause-gate g c = rw (c.in-Ok.is, c.from.ensures) c.dispatch_arguments-status.ensures.gate

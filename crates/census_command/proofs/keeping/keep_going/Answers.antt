@@ -1,5 +1,6 @@
-use Rattle.std.proofs.Common.{List, ℕ, ◌++◌, None, inl, inr, refl, ap, subst, ◌∙◌, ◌≡◌}
+use Rattle.std.proofs.Common.{List, ℕ, ◌++◌, None, Some, inl, inr, refl, ap, subst, ◌∙◌, ◌≡◌}
 use Rattle.census_folders.specs.Sources.{Reads}
+use Rattle.census_command.specs.BesideReports.{IfExplained, SaysBesideReport}
 use Rattle.census_command.specs.Keeps.{StopsKeeping, cut_lines, lost_lines}
 use Rattle.census_errors.specs.ErrorStreams.{TellsMoreText, TellsText}
 use Rattle.census_errors.specs.Messages.{error_line}
@@ -10,21 +11,21 @@ use Rattle.census_command.proofs.Kept.{status_kept}
 use Rattle.census_command.proofs.Reports.{is_cut}
 use Rattle.census_command.proofs.keeping.keep_going.Goals as goal
 
-pub returns-in-Err : goal.returns-in-Err
-returns-in-Err g c =
+pub returns-in-Err-clause-kept : goal.returns-in-Err-clause-kept
+returns-in-Err-clause-kept g c =
     let shelf = g.S.Shelf.tellings c.args.shelf.now in
     let error = c.in-Err.error in
     let line = says_line (run_fault error) None (run_spot error) c.run_saying-saying.result c.run_saying-saying.ensures in
     inr (inr (record {
       error = error;
-      why = subst (λ a. StopsKeeping shelf a error) c.source.ensures.asked c.in-Err.ensures;
+      why = subst (λ a. StopsKeeping shelf a error) c.source-source.ensures.asked c.in-Err.ensures;
       untouched = record { unread = refl; written = refl; sound = c.requires.sound };
       told = subst (λ (l : List ℕ). TellsText (error_line (command.Run error) ++ said_if c.args.explain l) c.args.errors.now c.stop_saying.new.errors) line c.stop_saying.ensures.lines;
       status_is = c.stop_saying.ensures.status;
     }))
 
-pub returns-in-Ok-report : goal.returns-in-Ok-report
-returns-in-Ok-report g c =
+pub returns-in-Ok-report-clause-kept : goal.returns-in-Ok-report-clause-kept
+returns-in-Ok-report-clause-kept g c =
     let kept = c.in-Ok.gathered.0 in
     let lost = kept.lost in
     let lines : c.as_slice.result.now ≡ lost_lines lost = c.as_slice.ensures.value ∙ c.in-Ok.ensures.1 in
@@ -34,19 +35,19 @@ returns-in-Ok-report g c =
     subst (λ (l : List ℕ). TellsMoreText l c.tell.new.self c.tell_more.new.self) c.as_slice-in-Ok-report.ensures.value c.tell_more.ensures in
     rw (← c.streams.view_is) (inl (record {
       kept = kept;
-      read = subst (λ a. Reads (g.S.Shelf.tellings c.args.shelf.now) a kept) c.source.ensures.asked c.in-Ok.ensures.0;
+      read = subst (λ a. Reads (g.S.Shelf.tellings c.args.shelf.now) a kept) c.source-source.ensures.asked c.in-Ok.ensures.0;
       report = c.in-Ok-report.ensures.report;
       unread = refl;
       sound = record { read = ap (λ s. s.read_failed) c.streams.view_is ∙ c.requires.sound.read; write = c.in-Ok-report.ensures.failed };
       lines = beside;
-      said = c.in-Ok-report.ensures.lines;
+      said = subst (λ a. IfExplained c.args.explain (SaysBesideReport (g.S.Shelf.tellings c.args.shelf.now) (Some a) kept.bundle beside) beside) c.source-source.ensures.asked c.in-Ok-report.ensures.lines;
       told = told_after (lost_lines lost) beside c.args.errors.now c.tell.new.self c.tell_more.new.self first more;
       status_is = status_kept lost c.as_slice-in-Ok-report-2.result.now c.status_of_kept.result (c.as_slice-in-Ok-report-2.ensures.value ∙ c.in-Ok.ensures.1)
           c.status_of_kept.ensures.none c.status_of_kept.ensures.some;
     }))
 
-pub returns : goal.returns
-returns g c =
+pub returns-clause-kept : goal.returns-clause-kept
+returns-clause-kept g c =
     let kept = c.in-Ok.gathered.0 in
     let lost = kept.lost in
     let error = c.from.result in
@@ -54,7 +55,7 @@ returns g c =
     let first : TellsText (lost_lines lost) c.args.errors.now c.tell.new.self = subst (λ (l : List ℕ). TellsText l c.args.errors.now c.tell.new.self) lines c.tell.ensures in
     rw (← c.streams.view_is) (inr (inl (record {
       kept = kept;
-      read = subst (λ a. Reads (g.S.Shelf.tellings c.args.shelf.now) a kept) c.source.ensures.asked c.in-Ok.ensures.0;
+      read = subst (λ a. Reads (g.S.Shelf.tellings c.args.shelf.now) a kept) c.source-source.ensures.asked c.in-Ok.ensures.0;
       part = c.in-Err-report.ensures.report;
       unread = refl;
       error = error;
@@ -62,3 +63,18 @@ returns g c =
       told = told_after (lost_lines lost) (cut_lines c.args.explain error) c.args.errors.now c.tell.new.self c.tell_cut.new.errors first c.tell_cut.ensures.told;
       status_is = c.tell_cut.ensures.status;
     })))
+
+pub returns-in-Err-clause-gate : goal.returns-in-Err-clause-gate
+returns-in-Err-clause-gate g c =
+    let error = c.in-Err.error in
+    inr (error, subst (λ a. StopsKeeping (g.S.Shelf.tellings c.args.shelf.now) a error) c.source-source.ensures.asked c.in-Err.ensures, c.stop_saying.ensures.status, refl)
+
+pub returns-in-Ok-report-clause-gate : goal.returns-in-Ok-report-clause-gate
+returns-in-Ok-report-clause-gate g c =
+    let kept = c.in-Ok.gathered.0 in
+    inl (record { kept = kept; read = subst (λ a. Reads (g.S.Shelf.tellings c.args.shelf.now) a kept) c.source-source.ensures.asked c.in-Ok.ensures.0; heard = c.in-Ok-report.ensures.gate })
+
+pub returns-clause-gate : goal.returns-clause-gate
+returns-clause-gate g c =
+    let kept = c.in-Ok.gathered.0 in
+    inl (record { kept = kept; read = subst (λ a. Reads (g.S.Shelf.tellings c.args.shelf.now) a kept) c.source-source.ensures.asked c.in-Ok.ensures.0; heard = c.in-Err-report.ensures.gate })

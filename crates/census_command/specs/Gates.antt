@@ -1,0 +1,79 @@
+-- What the gate is told.
+use Rattle.std.specs.Prelude.{◌≡◌, ◌⊎◌, ℕ, Bool, true, false, List, Option, map}
+use Rattle.census_bundle.specs.declared.bundle.Folder.{Folder}
+use Rattle.census_cli.specs.Asking.{Asks, AsksForQuiet}
+use Rattle.census_cli.specs.Refusing.{AsksHelp}
+use Rattle.census_cli.specs.declared.request.Request.{Request}
+use Rattle.census_cli.specs.declared.request.Request.TheVariants.{Run, Objects}
+use Rattle.census_crew.specs.Bytes.{ReadsFolders}
+use Rattle.census_crew.specs.Gates.{Hears, News, news_of}
+use Rattle.census_errors.specs.Errors.{run_status}
+use Rattle.census_errors.specs.Sources.{Source, Input, Folders, source_of}
+use Rattle.census_errors.specs.declared.run_error.RunError.{RunError}
+use Rattle.census_folders.specs.Sources.{Asked, Reads}
+use Rattle.census_folders.specs.Tellings.{Tellings}
+use Rattle.census_folders.specs.declared.reading.Kept.{Kept}
+use Rattle.census_command.specs.Asking.{AsksForNone}
+use Rattle.census_command.specs.Keeps.{StopsKeeping}
+use Rattle.census_command.specs.Streams.{State}
+
+-- what a gate was told, as far as it tells that
+abbrev pub Heard : Type 0
+Heard = Option (List News)
+
+-- # Of a run
+
+-- how many patterns the bundle has, and that the run has ended; where it is to be quiet, nothing
+abbrev pub HearsBundle : Bool → List Folder → Heard → Heard → Type 0
+HearsBundle true bundle old new = new ≡ old
+HearsBundle false bundle old new = Hears old new (news_of bundle)
+
+-- standard input, read to its end, is the text of a bundle, and the gate was told of its run
+pub record HearsInput (quiet : Bool) (before after : State) (old new : Heard) : Type 0 where
+  pub bundle : List Folder
+  pub read : ReadsFolders before.unread after.unread bundle
+  pub heard : HearsBundle quiet bundle old new
+
+-- the folders were read, as the shelf tells, and the gate was told of their run
+pub record HearsFolders (shelf : Tellings) (asked : Asked) (quiet : Bool) (old new : Heard) : Type 0 where
+  pub kept : Kept
+  pub read : Reads shelf asked kept
+  pub heard : HearsBundle quiet kept.bundle old new
+
+-- the gate was told of the run of what comes from there
+abbrev pub HearsRun : Tellings → Source → Bool → State → State → Heard → Heard → Type 0
+HearsRun shelf Input quiet before after old new = HearsInput quiet before after old new
+HearsRun shelf (Folders asked) quiet before after old new = HearsFolders shelf asked quiet old new
+
+-- folders were read whatever is lost, and the gate was told of their run; or they were not, for this error, and it was told
+-- nothing
+abbrev pub HearsKept : Tellings → Asked → Bool → ℕ → Heard → Heard → Type 0
+HearsKept shelf asked quiet status old new =
+    HearsFolders shelf asked quiet old new ⊎ ((error : RunError) × StopsKeeping shelf asked error × (status ≡ run_status error) × (new ≡ old))
+
+-- # Of what is asked for
+
+-- of the run, where a census is asked for, and else nothing
+abbrev pub HearsRequest : Tellings → Request → Bool → State → State → Heard → Heard → Type 0
+HearsRequest shelf (Run bound workers cells input recursive keep_going folders) quiet before after old new =
+    HearsRun shelf (source_of (record { limit = input; recursive = recursive; keep_going = keep_going; words = map (λ s. s.now) folders.items })) quiet before after old new
+HearsRequest shelf (Objects bound workers cells near horizon input recursive keep_going folders) quiet before after old new =
+    HearsRun shelf (source_of (record { limit = input; recursive = recursive; keep_going = keep_going; words = map (λ s. s.now) folders.items })) quiet before after old new
+HearsRequest shelf request quiet before after old new = new ≡ old
+
+-- The words ask for this, and the gate was told of it; with `--no-progress`, nothing.
+pub record HearsAsked (shelf : Tellings) (words : List (List ℕ)) (before after : State) (old new : Heard) : Type 0 where
+  pub request : Request
+  pub asked : Asks words request
+  pub quiet : Bool
+  pub is_quiet : AsksForQuiet words quiet
+  pub heard : HearsRequest shelf request quiet before after old new
+
+-- the words ask for no census: for something else, or for help
+abbrev pub AskForNoCensus : List (List ℕ) → Type 0
+AskForNoCensus words = ((request : Request) × Asks words request × AsksForNone request) ⊎ AsksHelp words
+
+-- What the gate was told, by the exit status: where a census was done, of its run; and else of it, or nothing.
+abbrev pub HearsOutcome : Tellings → List (List ℕ) → ℕ → State → State → Heard → Heard → Type 0
+HearsOutcome shelf words status before after old new =
+    HearsAsked shelf words before after old new ⊎ ((status ≡ 0 → AskForNoCensus words) × (new ≡ old))
