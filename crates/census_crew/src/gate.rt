@@ -9,7 +9,7 @@ use census_bundle::Ticket;
 /// and when that has ended.
 pub trait Gate: Sync {
     /// What the gate gives to a worker that passes.
-    type Pass: Drop;
+    type Pass: Drop + Send + Sync;
 
     // What it was told of runs, in order, as far as it tells that.
     ghost heard: { Self → Option (List News) } = { λ _. None };
