@@ -15,7 +15,7 @@ use Rattle.census_cli.specs.declared.request.TableSubject.{TableSubject}
 
 -- what is written of the version: the program's, and the logic of the kit that proves it
 abbrev pub version_text : List ℕ
-version_text = codes "census 0.1.0\nrattle logic dac8208d650f15bf\n"
+version_text = codes "census 0.2.0\nrattle logic dac8208d650f15bf\n"
 
 -- how an error of clap is told, by its kind: for the version exactly its text goes out
 abbrev pub TellsKind : ErrorKind → WordsFault → Type 0

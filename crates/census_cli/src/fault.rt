@@ -43,7 +43,7 @@ impl<T: Drop> From<AllocFailed<T>> for WordsFault {
 }
 
 // What `--version` writes: the program's version, and the logic of the kit that proves it, as `rt version` ends.
-pub(crate) const VERSION_TEXT: &str = "census 0.1.0\nrattle logic dac8208d650f15bf\n";
+pub(crate) const VERSION_TEXT: &str = "census 0.2.0\nrattle logic dac8208d650f15bf\n";
 
 // The text of the version, to be printed.
 fn version_fault(alloc: Global) -> WordsFault

@@ -950,7 +950,7 @@ fn the_version_is_told(rt: HostRuntime) {
         match request_of(rt.alloc(), words) {
             Err(WordsFault::Help(text)) => assert_eq!(rt;
                 text.as_str(),
-                "census 0.1.0\nrattle logic dac8208d650f15bf\n",
+                "census 0.2.0\nrattle logic dac8208d650f15bf\n",
                 "{words:?}"
             ),
             other => panic!(rt; "{words:?}: {other:?}"),
