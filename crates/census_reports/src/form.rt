@@ -59,7 +59,7 @@ fn write_named<O: Write>(
     rows: &[Row],
     output: &mut Watched<O>,
 ) -> Result<bool, ReportsError>
-    requires names { names_given text.entry ≡ Ok (option_copied names.entry) }
+    requires names { names_given text ≡ Ok (option_copied names) }
     requires reports { AreReports rows.now }
     ensures { MatchResult result
         (λ found. WritesRows (Form.Table subject format text.entry) found rows.now (sink O.contents output.old)
