@@ -4,3 +4,5 @@ pub mod Reports
 mod Kept
 mod Cuts
 pub mod Gates
+mod Asked
+mod Named

@@ -28,29 +28,31 @@ ReadsText held word text before after =
     Hears held word (heard.Text text) (both_streams before).input (both_streams after).input
     × ((both_streams after).output ≡ (both_streams before).output)
 
--- these are the names of the text of a word, which was read; without a word there is none, and nothing was read
-abbrev pub ReadsNames : (List ℕ → Told) → Option (List ℕ) → List Entry → State → State → Type 0
-ReadsNames held None names before after = (names ≡ []) × (after ≡ before)
-ReadsNames held (Some word) names before after =
+-- the text has no names, for this error
+abbrev pub HasNoNames : ReportsError → List ℕ → Type 0
+HasNoNames (Names line) text = names_in text ≡ Err line
+HasNoNames Memory text = Unit {0}
+HasNoNames error text = ⊥
+
+-- these are the names of the text of a word, which was read, and nothing was written
+abbrev pub ReadsNames : (List ℕ → Told) → List ℕ → List Entry → State → State → Type 0
+ReadsNames held word names before after =
     (text : List ℕ) × ReadsText held word text before after × (names_in text ≡ Ok names)
 
--- the text of a word was read, and its names are not known, for this error
-abbrev pub RefusesNames : ReportsError → (List ℕ → Told) → List ℕ → State → State → Type 0
-RefusesNames (Names line) held word before after =
-    (text : List ℕ) × ReadsText held word text before after × (names_in text ≡ Err line)
-RefusesNames Memory held word before after = (text : List ℕ) × ReadsText held word text before after
-RefusesNames error held word before after = ⊥
+-- the text of a word was not read, for this error, and nothing was written
+abbrev pub LacksText : ReportsError → (List ℕ → Told) → List ℕ → State → State → Type 0
+LacksText error held word before after =
+    RefusesWord error held word (both_streams before).input (both_streams after).input
+    × ((both_streams after).output ≡ (both_streams before).output)
 
--- the text of a word was not read, or its names are not known, for this error; nothing was written
-abbrev pub LacksNames : ReportsError → (List ℕ → Told) → Option (List ℕ) → State → State → Type 0
-LacksNames error held None before after = ⊥
-LacksNames error held (Some word) before after =
-    (RefusesWord error held word (both_streams before).input (both_streams after).input
-    × ((both_streams after).output ≡ (both_streams before).output))
-    ⊎ RefusesNames error held word before after
+-- it was not read, or it was and has no names
+abbrev pub LacksNames : ReportsError → (List ℕ → Told) → List ℕ → State → State → Type 0
+LacksNames error held word before after =
+    LacksText error held word before after
+    ⊎ ((text : List ℕ) × ReadsText held word text before after × HasNoNames error text)
 
--- The names were read, and then it was told what the patterns of these files are.
-pub record IdentifiesWith (held : List ℕ → Told) (inquiry : Inquiry) (word : Option (List ℕ)) (files : List (List ℕ))
+-- The names of the text of a word were read, and then it was told what the patterns of these files are.
+pub record IdentifiesWith (held : List ℕ → Told) (inquiry : Inquiry) (word : List ℕ) (files : List (List ℕ))
     (status : ℕ) (before after : State) (old new : Errors) : Type 0 where
   pub names : List Entry
   -- the streams once the names were read
@@ -58,19 +60,17 @@ pub record IdentifiesWith (held : List ℕ → Told) (inquiry : Inquiry) (word :
   pub read : ReadsNames held word names before reached
   pub identifies : Identifies held inquiry names files status (all_streams reached old) (all_streams after new)
 
--- the file of a word, where there is one
-abbrev pub files_in : Option (List ℕ) → List (List ℕ)
-files_in None = []
-files_in (Some word) = word ∷ []
-
--- The names are not known, for an error that was told.
-pub record MissesNames (held : List ℕ → Told) (word : Option (List ℕ)) (explain : Bool) (status : ℕ)
+-- There are no names, for an error that was told.
+pub record MissesNames (held : List ℕ → Told) (word : List ℕ) (explain : Bool) (status : ℕ)
     (before after : State) (old new : Errors) : Type 0 where
   pub error : ReportsError
   pub status_is : status ≡ reports.status_of error
   pub why : LacksNames error held word before after
-  pub told : TellsOfReports held (files_in word) error explain old new
+  pub told : TellsOfReports held (word ∷ []) error explain old new
 
+-- it was told what patterns are, with the names of the text of a word, or with none where there is no word
 abbrev pub TellsPatterns : (List ℕ → Told) → Inquiry → Option (List ℕ) → List (List ℕ) → Bool → ℕ → State → State → Errors → Errors → Type 0
-TellsPatterns held inquiry word files explain status before after old new =
+TellsPatterns held inquiry None files explain status before after old new =
+    Identifies held inquiry [] files status (all_streams before old) (all_streams after new)
+TellsPatterns held inquiry (Some word) files explain status before after old new =
     IdentifiesWith held inquiry word files status before after old new ⊎ MissesNames held word explain status before after old new

@@ -62,6 +62,16 @@ fn bytes_of<'a>(text: Option<&'a str>) -> Option<&'a [u8]>
     }
 }
 
+// How many codes a page has, where that is limited, as pages count them.
+fn count_of(top: Option<u32>) -> Option<u64>
+    ensures { result ≡ top }
+{
+    match top {
+        Some(count) => Some(u64::from(count)),
+        None => None,
+    }
+}
+
 /// What a page is asked to have.
 pub fn options_asked<'a>(page: &PageAsked<'a>) -> PageOptions<'a>
     ensures { options_of result ≡ options_asked page.now }
@@ -71,7 +81,7 @@ pub fn options_asked<'a>(page: &PageAsked<'a>) -> PageOptions<'a>
         title: bytes_or(page.title, usual.title),
         note: bytes_or(page.note, usual.note),
         sort: sort_of(page.sort),
-        top: page.top.map(u64::from),
+        top: count_of(page.top),
         base: bytes_of(page.base),
         links: page.links,
         patterns: page.patterns,

@@ -1,7 +1,9 @@
 //! `census identify`: what patterns are, told with the names of codes.
-ghost use Rattle.std.specs.Prelude.{◌≡◌, ◌≤◌, false, map, option_map, MatchResult};
-ghost use Rattle.census_command.specs.Identifying.{LacksNames, ReadsNames, TellsPatterns, form_told};
-ghost use Rattle.census_command.specs.Streams.{HasSoundStreams};
+ghost use Rattle.std.specs.Prelude.{◌≡◌, ◌≤◌, [], false, map, option_map, MatchResult, Ok, OnOk};
+ghost use Rattle.census_identify.specs.Identifies.{Identifies};
+ghost use Rattle.census_names.specs.Lines.{names_in};
+ghost use Rattle.census_command.specs.Identifying.{HasNoNames, LacksNames, ReadsNames, TellsPatterns, form_told};
+ghost use Rattle.census_command.specs.Streams.{HasSoundStreams, all_streams};
 
 use crate::remaking::stop_of;
 use crate::streams::Streams;
@@ -23,28 +25,57 @@ pub fn form_told(json: bool) -> Form
     if json { Form::Json } else { Form::Lines }
 }
 
-// The names of the text of a word, or none without a word.
-fn names_of<S: Shelf, I: Read, O: Write>(
-    shelf: &S,
-    alloc: Global,
-    word: Option<&str>,
-    streams: &mut Streams<I, O>,
-) -> Result<Names, ReportsError>
-    requires { HasSoundStreams streams.old }
+// The names of a text.
+fn names_in(alloc: Global, text: &[u8]) -> Result<Names, ReportsError>
     ensures { MatchResult result
-        (λ names. ReadsNames ((S.tellings shelf.now).held []) (option_map (λ s. s.now) word.entry) names
-        streams.old streams.new)
-        (λ error. LacksNames error ((S.tellings shelf.now).held []) (option_map (λ s. s.now) word.entry)
-        streams.old streams.new) }
+        (λ names. names_in text.now ≡ Ok names)
+        (λ error. HasNoNames error text.now) }
 {
-    let Some(word) = word else {
-        return Ok(Names::none(alloc));
-    };
-    let text = read_text(shelf, alloc, word, &mut streams.input)?;
-    match read_names(alloc, text.as_slice())? {
+    match read_names(alloc, text)? {
         Ok(names) => Ok(names),
         Err(line) => Err(ReportsError::Names { line }),
     }
+}
+
+// The names of the text of a word.
+fn names_of<S: Shelf, I: Read, O: Write>(
+    shelf: &S,
+    alloc: Global,
+    word: &str,
+    streams: &mut Streams<I, O>,
+) -> Result<Names, ReportsError>
+    requires { HasSoundStreams streams.old }
+    ensures names { MatchResult result
+        (λ names. ReadsNames ((S.tellings shelf.now).held []) word.now names streams.old streams.new)
+        (λ error. LacksNames error ((S.tellings shelf.now).held []) word.now streams.old streams.new) }
+    ensures sound { OnOk result (HasSoundStreams streams.new) }
+{
+    match read_text(shelf, alloc, word, &mut streams.input) {
+        Ok(text) => names_in(alloc, text.as_slice()),
+        Err(error) => Err(error),
+    }
+}
+
+// Tells what the patterns of these files are, with these names.
+fn tell_named<S: Shelf, I: Read, O: Write, E: Write>(
+    shelf: &S,
+    alloc: Global,
+    inquiry: Inquiry,
+    names: &Names,
+    files: &[&str],
+    streams: &mut Streams<I, O>,
+    errors: &mut ErrorStream<E>,
+) -> u8
+    requires bound { 1 ≤ inquiry.bound × inquiry.bound ≤ BOUND_LIMIT }
+    requires horizon { 1 ≤ inquiry.horizon × inquiry.horizon ≤ HORIZON_LIMIT }
+    requires sound { HasSoundStreams streams.old }
+    requires errors { errors.old.failed ≡ false }
+    ensures { Identifies ((S.tellings shelf.now).held []) inquiry names.now (map (λ s. s.now) files.now) result
+        (all_streams streams.old errors.old) (all_streams streams.new errors.new) }
+{
+    let Streams { input, output } = streams;
+    let told = &mut errors.inner;
+    identify(shelf, alloc, inquiry, names, files, input, output, told)
 }
 
 /// Tells what the patterns of these files are, as `identify` does, with the names of the text of a word, which is read
@@ -68,15 +99,12 @@ pub fn tell_patterns<S: Shelf, I: Read, O: Write, E: Write>(
     ensures { TellsPatterns ((S.tellings shelf.now).held []) inquiry (option_map (λ s. s.now) word.entry)
         (map (λ s. s.now) files.now) explain result streams.old streams.new errors.old errors.new }
 {
+    let Some(word) = word else {
+        let names = Names::none(alloc);
+        return tell_named(shelf, alloc, inquiry, &names, files, streams, errors);
+    };
     match names_of(shelf, alloc, word, streams) {
-        Ok(names) => {
-            let Streams { input, output } = streams;
-            let told = &mut errors.inner;
-            identify(shelf, alloc, inquiry, &names, files, input, output, told)
-        }
-        Err(error) => match word {
-            Some(word) => stop_of(shelf, alloc, &[word], error, explain, errors),
-            None => stop_of(shelf, alloc, &[], error, explain, errors),
-        },
+        Ok(names) => tell_named(shelf, alloc, inquiry, &names, files, streams, errors),
+        Err(error) => stop_of(shelf, alloc, &[word], error, explain, errors),
     }
 }

@@ -8,6 +8,7 @@ use Rattle.census_errors.specs.Places.{IsReportsPlace, nowhere}
 -- nowhere is a place of each error of reports
 pub reports_nowhere : (held : List ℕ → Told) (error : ReportsError) → IsReportsPlace held error nowhere
 reports_nowhere held (reports.Claims line) = refl
+reports_nowhere held (reports.Names line) = refl
 reports_nowhere held (reports.Fault text line) = refl
 reports_nowhere held (reports.TooMany report) = refl
 reports_nowhere held reports.TooLong = (tt, refl, refl)
