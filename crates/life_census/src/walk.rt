@@ -25,7 +25,7 @@ const FIRST_LOOK: u32 = 512;
 
 /// For how many times the horizon one looks after the bound whether a pattern falls apart late. That spares the look for its
 /// growth, which costs about as much.
-const LATER: u32 = 2;
+const LATER: u32 = 8;
 
 /// What has more cells than this is not looked at after the bound.
 const MANY: u64 = 20_000;
