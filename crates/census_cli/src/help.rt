@@ -84,8 +84,8 @@ Tell the names of codes too. FILE has lines of a code, a tab and a name;
 
 /// What `--base` does.
 pub const BASE: &str = "\
-Make each name a link to URL/COLLECTION_NAME/NAME; URL begins with http:// or
-https://";
+Make each name a link to URL, COLLECTION_NAME, / and NAME joined; URL begins with
+http:// or https://";
 
 /// What `--cut` does.
 pub const CUT: &str = "\
@@ -167,8 +167,8 @@ page [--title TEXT] [--note TEXT] [--sort ORDER] [--top N] [--base URL]
       --sort ORDER the order of the codes: report, count, code, period or name
                    [default: report]
       --top N      codes of each collection, 1 to 4294967295 [default: all]
-      --base URL   make each name a link to URL/COLLECTION_NAME/NAME; URL begins
-                   with http:// or https://
+      --base URL   make each name a link to URL, COLLECTION_NAME, / and NAME
+                   joined; URL begins with http:// or https://
       --links      make each code a link to its page at Catagolue
       --no-patterns
                    leave out the table of patterns
@@ -343,7 +343,7 @@ falling period, or by the name of the first pattern that has it.
 Example: census page census.txt >census.html
          census page --title Soups --note 'Bound 10000' census.txt
          census page --sort count --top 100 census.txt
-         census page --base https://example.org/patterns --links census.txt
+         census page --base https://example.org/patterns/ --links census.txt
          census page --no-patterns --cut --input 1000000000 stopped.txt
          census page --explain census.txt
 
