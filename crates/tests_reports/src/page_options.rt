@@ -5,23 +5,26 @@ use census_page::{PageOptions, Sort, default_options};
 use std::alloc::{AllocError, Global};
 use std::test::Fail;
 
-// Four codes, of which one occurs twice; one pattern that is not resolved; and one that grows.
-const REPORT: &[u8] = b"open 1 7 a&b/c d
+// Four codes, of which one occurs twice, and one pattern that is not resolved; and a second report, with one that grows.
+const REPORT: &[u8] = b"open 1 6 a&b/c d
 line 1 1 ok B3/S23 4 0 1 0 0 xs4_33 block
 line 1 2 ok B3/S23 3 0 2 0 0 xp2_7 Blinker
 line 1 3 ok B3/S23 22 0 15 0 0 xp15_4r4z4r4 a
 line 1 4 ok B3/S23 5 0 4 1 1 xq4_153 q\"<'>/\xff
 line 1 5 ok B3/S23 3 0 2 0 0 xp2_7 z
 line 1 6 none B3/S23 5 n
-line 1 7 grows B3/S23 36 1 g
-engine 1 7 1 30 0 0 1
-emits 1 7 1 xq4_153 1
 code 1 B3/S23 xs4_33 1
 code 1 B3/S23 xp2_7 2
 code 1 B3/S23 xp15_4r4z4r4 1
 code 1 B3/S23 xq4_153 1
-close 1 7 6 1 0
-end 1 7
+close 1 6 5 1 0
+end 1 6
+open 1 1 e
+line 1 1 grows B3/S23 36 1 g
+engine 1 1 1 30 0 0 1
+emits 1 1 1 xq4_153 1
+close 1 1 1 0 0
+end 1 1
 ";
 
 // What is asked of pages with names and codes that are links.
