@@ -241,6 +241,7 @@ fn texts_have_their_objects(rt: HostRuntime) -> Result<(), Fail> {
 fn a_file_is_told_in_lines(rt: HostRuntime) -> Result<(), Fail> {
     let told = match block(
         rt.alloc(),
+        &Names::none(rt.alloc()),
         Some(b"a b.rle"),
         ACORN,
         Inquiry { bound: 10, ..USUAL },
