@@ -14,7 +14,7 @@ fn main(rt: HostRuntime) -> ExitCode {
     let input = Announced::new(rt.reader(), rt.stdin().is_terminal(), &screen);
     let output = Shown::new(io::writer(&rt), rt.stdout().is_terminal(), &screen);
     let errors = Shown::new(rt.stderr(), is_terminal, &screen);
-    program(
+    let status = program(
         &rt,
         &rt,
         rt.alloc(),
@@ -22,5 +22,7 @@ fn main(rt: HostRuntime) -> ExitCode {
         &mut Progress::new(&screen),
         &mut Streams::new(input, output),
         &mut ErrorStream::new(errors, is_terminal),
-    )
+    );
+    screen.wipe();
+    status
 }

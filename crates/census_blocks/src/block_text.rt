@@ -18,6 +18,7 @@ use crate::size::size;
 use census_facts::{Fact, facts_text};
 use census_names::Names;
 use life_cells::CellList;
+use life_observer::Observer;
 use life_orbit::BOUND_LIMIT;
 use life_text::{Pattern, RleFault, read_rle};
 use std::alloc::{AllocError, Global};
@@ -75,8 +76,9 @@ fn push_beginning<'a>(
 
 // The block of the pattern that a text means.
 #[tactic(auto, unfolding(crate::specs::Blocks::pattern_block))]
-fn block_of_pattern(
+fn block_of_pattern<W: Observer>(
     alloc: Global,
+    observer: &W,
     names: &Names,
     file: Option<&[u8]>,
     text: &[u8],
@@ -91,7 +93,7 @@ fn block_of_pattern(
 {
     let mut rule = Vec::new(alloc);
     pattern.rule().text_into(&mut rule)?;
-    let known = known_of(alloc, text, pattern, inquiry)?;
+    let known = known_of(alloc, observer, text, pattern, inquiry)?;
     let mut facts = Vec::new(alloc);
     push_beginning(alloc, &mut facts, file, rule.as_slice(), pattern.cells())?;
     push_known(&mut facts, names, &known, inquiry.bound)?;
@@ -108,9 +110,10 @@ fn block_of_pattern(
 /// or how many independent parts where what comes near each other is not one object, and how many of each code, with its
 /// name; else, where it grows within the horizon, by how many engines, and what is told of each; else, where some generation
 /// has more cells than it may have, the first such generation; else that it is unresolved within the bound. It may look at
-/// generations past the bound, up to four times the bound.
-pub fn block(
+/// generations past the bound, up to four times the bound. An observer is told those on the way, up to three times the bound.
+pub fn block<W: Observer>(
     alloc: Global,
+    observer: &W,
     names: &Names,
     file: Option<&[u8]>,
     text: &[u8],
@@ -122,7 +125,9 @@ pub fn block(
         block ≡ block_of inquiry names.now (option_copied file.entry) text.now) }
 {
     match read_rle(alloc, text) {
-        Ok(pattern) => Ok(Ok(block_of_pattern(alloc, names, file, text, &pattern, inquiry)?)),
+        Ok(pattern) => Ok(Ok(block_of_pattern(
+            alloc, observer, names, file, text, &pattern, inquiry,
+        )?)),
         Err(fault) => Ok(Err(told(fault)?)),
     }
 }

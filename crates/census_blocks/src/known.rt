@@ -8,6 +8,7 @@ ghost use Rattle.census_blocks.specs.Known.{known_goal, known_of, known_recurren
 
 use crate::inquiry::{HORIZON_LIMIT, Inquiry};
 use life_answer::{Answer, Code, EngineList, Outcome, Parts};
+use life_observer::Observer;
 use life_orbit::BOUND_LIMIT;
 use life_text::Pattern;
 use std::alloc::{AllocError, Global};
@@ -85,8 +86,9 @@ fn known_goal(outcome: Outcome) -> Known
 }
 
 // What is known of the pattern that a text means, where it settles within the bound.
-fn settling(
+fn settling<W: Observer>(
     alloc: Global,
+    observer: &W,
     text: &[u8],
     pattern: &Pattern,
     inquiry: Inquiry,
@@ -97,15 +99,16 @@ fn settling(
         (λ known. known ≡ known_recurrence (outcome_to (Settles inquiry.bound (Some inquiry.cells))
         pattern.now.rule pattern.now.cells)) }
 {
-    match life_find::answer(alloc, text, inquiry.bound, Some(inquiry.cells))? {
+    match life_find::answer(alloc, observer, text, inquiry.bound, Some(inquiry.cells))? {
         Answer::Found { finding, .. } => Ok(known_recurrence(finding.outcome)),
         Answer::Refused(_) => Ok(None),
     }
 }
 
 // What is known of the pattern that a text means, where it doesn't settle within the bound.
-fn going_on(
+fn going_on<W: Observer>(
     alloc: Global,
+    observer: &W,
     text: &[u8],
     pattern: &Pattern,
     inquiry: Inquiry,
@@ -119,6 +122,7 @@ fn going_on(
 {
     match life_census::answer(
         alloc,
+        observer,
         text,
         inquiry.bound,
         Some(inquiry.cells),
@@ -139,9 +143,11 @@ fn going_on(
 /// What settles within the bound is told so only where no generation up to the bound is too large, what has fallen apart only
 /// where none up to three times the bound is, and growth only where none is up to four times the generation that tells it.
 ///
-/// It may look at generations past the bound, up to four times the bound.
-pub fn known_of(
+/// It may look at generations past the bound, up to four times the bound. An observer is told those on the way, up to three
+/// times the bound.
+pub fn known_of<W: Observer>(
     alloc: Global,
+    observer: &W,
     text: &[u8],
     pattern: &Pattern,
     inquiry: Inquiry,
@@ -151,8 +157,8 @@ pub fn known_of(
     requires meant { picture_of (reading text.now) ≡ Ok pattern.now }
     ensures { IfOk result (λ known. known ≡ known_of inquiry pattern.now) }
 {
-    if let Some(known) = settling(alloc, text, pattern, inquiry)? {
+    if let Some(known) = settling(alloc, observer, text, pattern, inquiry)? {
         return Ok(known);
     }
-    going_on(alloc, text, pattern, inquiry)
+    going_on(alloc, observer, text, pattern, inquiry)
 }

@@ -11,6 +11,7 @@ use census_bundle::{Entry, Text, Ticket};
 use census_format::{push_head, push_pattern, push_tail};
 use life_answer::{Answer, Question};
 use life_find::answer_soon;
+use life_observer::Unobserved;
 use std::alloc::{AllocError, Global};
 use std::marker::Model;
 
@@ -63,13 +64,19 @@ fn find(alloc: Global, entry: &Entry, question: Question) -> Result<Answer, Allo
     }
     let text = entry.text.as_slice();
     match question {
-        Question::Settles { bound, cells } => life_find::answer(alloc, text, bound, cells),
+        Question::Settles { bound, cells } => life_find::answer(
+            alloc,
+            &Unobserved,
+            text,
+            bound,
+            cells,
+        ),
         Question::Objects {
             bound,
             cells,
             near,
             horizon,
-        } => life_census::answer(alloc, text, bound, cells, near, horizon),
+        } => life_census::answer(alloc, &Unobserved, text, bound, cells, near, horizon),
     }
 }
 

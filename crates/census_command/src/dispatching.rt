@@ -239,7 +239,7 @@ pub fn answer<I: Read, O: Write, E: Write>(
 /// with how many collections are empty and how many names were passed over that look like those of patterns.
 ///
 /// The gate is told how many patterns a run has before it, and after it that it has ended, whatever ends it; with
-/// `--no-progress` it is told neither.
+/// `--no-progress` it is told neither. By `identify` it is told to which generation each file has come.
 pub fn dispatch<S: Shelf, I: Read, O: Write, E: Write, G: Gate, R: Threads + Wait + Sync>(
     rt: &R,
     shelf: &S,
@@ -300,7 +300,7 @@ pub fn dispatch<S: Shelf, I: Read, O: Write, E: Write, G: Gate, R: Threads + Wai
         };
         let files = files.as_slice();
         return tell_patterns(
-            shelf, alloc, inquiry, *names, files, explain, streams, errors,
+            shelf, alloc, &*gate, inquiry, *names, files, explain, streams, errors,
         );
     }
     match execute(rt, shelf, alloc, request, explain, quiet, gate, streams) {

@@ -8,10 +8,11 @@ ghost use Rattle.census_command.specs.Streams.{HasSoundStreams, all_streams};
 use crate::remaking::stop_of;
 use crate::streams::Streams;
 use census_blocks::{HORIZON_LIMIT, Inquiry};
+use census_crew::Gate;
 use census_errors::ErrorStream;
 use census_facts::Form;
 use census_folders::Shelf;
-use census_identify::identify;
+use census_identify::{Onlooker, identify};
 use census_names::{Names, read_names};
 use census_reports::{ReportsError, read_text};
 use life_orbit::BOUND_LIMIT;
@@ -56,10 +57,25 @@ fn names_of<S: Shelf, I: Read, O: Write>(
     }
 }
 
+// Hands on to a gate to which generation each file has come.
+#[derive(Drop)]
+struct Reaching<'a, G> {
+    gate: &'a G,
+    /// The last generation up to which it is told.
+    last: u32,
+}
+
+impl<'a, G: Gate> Onlooker for Reaching<'a, G> {
+    fn reached(&self, word: &str, generation: u32) {
+        self.gate.reached(word.as_bytes(), generation, self.last);
+    }
+}
+
 // Tells what the patterns of these files are, with these names.
-fn tell_named<S: Shelf, I: Read, O: Write, E: Write>(
+fn tell_named<S: Shelf, I: Read, O: Write, E: Write, G: Gate>(
     shelf: &S,
     alloc: Global,
+    gate: &G,
     inquiry: Inquiry,
     names: &Names,
     files: &[&str],
@@ -75,16 +91,23 @@ fn tell_named<S: Shelf, I: Read, O: Write, E: Write>(
 {
     let Streams { input, output } = streams;
     let told = &mut errors.inner;
-    identify(shelf, alloc, inquiry, names, files, input, output, told)
+    let reaching = Reaching {
+        gate,
+        last: 3 * inquiry.bound,
+    };
+    identify(
+        shelf, alloc, &reaching, inquiry, names, files, input, output, told,
+    )
 }
 
 /// Tells what the patterns of these files are, as `identify` does, with the names of the text of a word, which is read
 /// first; `-` is standard input, and without a word there are no names. Where that text can't be read, is too long or has a
 /// fault, the status is that of the error, whose line was told, with one more where faults are explained; nothing was
-/// written, and no pattern was read.
-pub fn tell_patterns<S: Shelf, I: Read, O: Write, E: Write>(
+/// written, and no pattern was read. The gate is told to which generation each file has come, of three times the bound.
+pub fn tell_patterns<S: Shelf, I: Read, O: Write, E: Write, G: Gate>(
     shelf: &S,
     alloc: Global,
+    gate: &G,
     inquiry: Inquiry,
     word: Option<&str>,
     files: &[&str],
@@ -101,10 +124,10 @@ pub fn tell_patterns<S: Shelf, I: Read, O: Write, E: Write>(
 {
     let Some(word) = word else {
         let names = Names::none(alloc);
-        return tell_named(shelf, alloc, inquiry, &names, files, streams, errors);
+        return tell_named(shelf, alloc, gate, inquiry, &names, files, streams, errors);
     };
     match names_of(shelf, alloc, word, streams) {
-        Ok(names) => tell_named(shelf, alloc, inquiry, &names, files, streams, errors),
+        Ok(names) => tell_named(shelf, alloc, gate, inquiry, &names, files, streams, errors),
         Err(error) => stop_of(shelf, alloc, &[word], error, explain, errors),
     }
 }

@@ -28,6 +28,9 @@ pub trait Gate: Sync {
     /// The run has ended.
     fn end(&mut self)
         ensures { Hears (heard self.old) (heard self.new) (Over ∷ []) };
+
+    /// Of what stands under this name a generation was reached, of so many.
+    fn reached(&self, _name: &[u8], _generation: u32, _last: u32) {}
 }
 
 /// Holds no worker, and makes nothing of what it is told.

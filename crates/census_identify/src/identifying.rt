@@ -7,6 +7,7 @@ ghost use Rattle.census_identify.specs.Streams.{streams};
 use crate::course::{Course, tell, tell_line};
 use crate::error::IdentifyError;
 use crate::heard::hear;
+use crate::onlooker::{Onlooker, WordObserver};
 use crate::told::told_of;
 use census_blocks::{HORIZON_LIMIT, Inquiry};
 use census_folders::Shelf;
@@ -24,9 +25,10 @@ fn words_or_input<'a, 'b>(words: &'a [&'b str]) -> &'a [&'b str]
 }
 
 // Tells what each word is, and gives the greatest status that was asked for.
-fn identify_each<S: Shelf, I: Read, O: Write, E: Write>(
+fn identify_each<S: Shelf, I: Read, O: Write, E: Write, L: Onlooker>(
     shelf: &S,
     alloc: Global,
+    onlooker: &L,
     inquiry: Inquiry,
     names: &Names,
     words: &[&str],
@@ -52,7 +54,8 @@ fn identify_each<S: Shelf, I: Read, O: Write, E: Write>(
     };
     for word in words {
         let heard = hear(shelf, alloc, word, input)?;
-        let told = told_of(alloc, names, word, &heard, inquiry)?;
+        let observer = WordObserver { onlooker, word };
+        let told = told_of(alloc, &observer, names, word, &heard, inquiry)?;
         tell(inquiry.form, &told, &mut course, output, errors)?;
     }
     Ok(course.status)
@@ -71,9 +74,12 @@ fn identify_each<S: Shelf, I: Read, O: Write, E: Write>(
 /// Where memory is refused or standard output fails, that is told on standard error and ends it at once: the answer is
 /// 3 or 4, and what went out before stays. Where standard error fails, the lines from then on are lost, and nothing
 /// else changes.
-pub fn identify<S: Shelf, I: Read, O: Write, E: Write>(
+///
+/// An onlooker is told the generations that are looked at, up to three times the bound.
+pub fn identify<S: Shelf, I: Read, O: Write, E: Write, L: Onlooker>(
     shelf: &S,
     alloc: Global,
+    onlooker: &L,
     inquiry: Inquiry,
     names: &Names,
     words: &[&str],
@@ -92,6 +98,7 @@ pub fn identify<S: Shelf, I: Read, O: Write, E: Write>(
     match identify_each(
         shelf,
         alloc,
+        onlooker,
         inquiry,
         names,
         words_or_input(words),

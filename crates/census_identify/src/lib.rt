@@ -9,10 +9,12 @@ mod course;
 mod error;
 mod heard;
 mod identifying;
+mod onlooker;
 mod told;
 
 pub use bytes::Bytes;
 pub use error::IdentifyError;
 pub use heard::{Heard, hear, is_input, read_file};
 pub use identifying::identify;
+pub use onlooker::{Onlooker, Unseen};
 pub use told::{Told, told_of};

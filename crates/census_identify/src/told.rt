@@ -10,6 +10,7 @@ use census_blocks::{BlockText, HORIZON_LIMIT, Inquiry, block};
 use census_bundle::Text;
 use census_names::Names;
 use life_faults::fault_line;
+use life_observer::Observer;
 use life_orbit::BOUND_LIMIT;
 use std::alloc::{AllocError, Global};
 
@@ -67,8 +68,9 @@ fn file_of(word: &str) -> Option<&[u8]>
 }
 
 // What is told of a text.
-fn told_of_text(
+fn told_of_text<W: Observer>(
     alloc: Global,
+    observer: &W,
     names: &Names,
     word: &str,
     text: &[u8],
@@ -79,7 +81,7 @@ fn told_of_text(
     ensures { IfOk result (λ told.
         told ≡ told_of_block word.now text.now (block_of inquiry names.now (file_of word.now) text.now)) }
 {
-    match block(alloc, names, file_of(word), text, inquiry)? {
+    match block(alloc, observer, names, file_of(word), text, inquiry)? {
         Ok(block) => Ok(Told::Block(block)),
         Err(fault) => Ok(Told::Line {
             line: message_line(alloc, word, fault_line(alloc, text, &fault)?.as_slice())?,
@@ -95,9 +97,10 @@ fn told_of_text(
 /// text it is the line `census: WORD:LINE:COLUMN: WORDS (rle fault N at A)`, which asks for status 1; of one that is too
 /// long the line `census: WORD: input too long`, which asks for status 1; and of what can't be read the line
 /// `census: WORD: REASON (read failed)`, or where the system gives no reason `census: WORD: read failed`, which asks for
-/// status 4. The word is written as it is.
-pub fn told_of(
+/// status 4. The word is written as it is. An observer is told the generations that are looked at.
+pub fn told_of<W: Observer>(
     alloc: Global,
+    observer: &W,
     names: &Names,
     word: &str,
     heard: &Heard,
@@ -108,7 +111,7 @@ pub fn told_of(
     ensures { IfOk result (λ told. told ≡ told_of inquiry names.now word.now heard.now) }
 {
     match heard {
-        Heard::Text(text) => told_of_text(alloc, names, word, text.as_slice(), inquiry),
+        Heard::Text(text) => told_of_text(alloc, observer, names, word, text.as_slice(), inquiry),
         Heard::TooLong => Ok(Told::Line {
             line: message_line(alloc, word, b" input too long")?,
             status: 1,

@@ -1,29 +1,33 @@
-//! The line at a terminal that tells how far a run has come.
+//! The line at a terminal that tells how far a run has come, or a pattern.
+use crate::short_name::ShortName;
 use census_bundle::Ticket;
 use census_crew::Gate;
 use std::io::Eprint;
 use std::sync::atomic::{AtomicBool, AtomicU64, Ordering};
 use std::time::Clock;
 
-/// A run tells how far it has come once it has taken so many milliseconds.
+/// How far a run has come is told once it has taken so many milliseconds, and how far a pattern has likewise.
 const PATIENCE: u64 = 500;
 
 /// It is told again after so many milliseconds, which is at most four times a second.
 const PAUSE: u64 = 250;
 
-/// Standard error, where it is a terminal: how far a run has come stands in its last line, and is wiped before anything
-/// else is written.
+/// The clock is looked at once in so many generations.
+const STRIDE: u32 = 64;
+
+/// Standard error, where it is a terminal: how far a run has come, or a pattern, stands in its last line, and is wiped before
+/// anything else is written.
 #[derive(Drop)]
 pub struct Screen<'a, R> {
     rt: &'a R,
     is_terminal: bool,
-    /// Whether the last line tells how far the run has come.
+    /// Whether the last line tells how far something has come.
     stands: AtomicBool,
     /// How many patterns the run has, or 0 where none has begun.
     patterns: AtomicU64,
     /// How many of them were taken by workers.
     taken: AtomicU64,
-    /// The millisecond from which on it may be told again.
+    /// The millisecond from which on it may be told again; the greatest number where none is known.
     next: AtomicU64,
 }
 
@@ -40,7 +44,7 @@ impl<'a, R: Clock + Eprint> Screen<'a, R> {
         }
     }
 
-    /// Wipes the line that tells how far the run has come, if it stands.
+    /// Wipes the line that tells how far something has come, if it stands.
     pub fn wipe(&self) {
         if self.stands.swap(false, Ordering::SeqCst) {
             let _ = eprint!(self.rt; "\r\x1b[K");
@@ -86,28 +90,50 @@ impl<'a, R: Clock + Eprint> Screen<'a, R> {
         self.wipe();
     }
 
+    // Whether something is to be told now, as it then is.
+    fn is_due(&self, next: u64, now: u64) -> bool {
+        if now < next {
+            return false;
+        }
+        let later = now.saturating_add(PAUSE);
+        let is_first = self
+            .next
+            .compare_exchange(next, later, Ordering::SeqCst, Ordering::SeqCst)
+            .is_ok();
+        if is_first {
+            self.stands.store(true, Ordering::SeqCst);
+        }
+        is_first
+    }
+
     // Tells how far the run has come, where that is due.
     fn tell(&self, taken: u64) {
         let next = self.next.load(Ordering::SeqCst);
         let now = self.now();
-        if now < next {
+        if self.is_due(next, now) {
+            let patterns = self.patterns.load(Ordering::SeqCst);
+            let _ = eprint!(self.rt; "\rcensus: {taken} of {patterns} patterns");
+        }
+    }
+
+    // The pattern of a file has come to a generation, of so many.
+    fn reach(&self, name: &[u8], generation: u32, last: u32) {
+        if !self.is_terminal || generation % STRIDE != 0 {
             return;
         }
-        let later = now.saturating_add(PAUSE);
-        if self
-            .next
-            .compare_exchange(next, later, Ordering::SeqCst, Ordering::SeqCst)
-            .is_err()
-        {
-            return;
+        let next = self.next.load(Ordering::SeqCst);
+        let now = self.now();
+        if next == u64::MAX {
+            let due = now.saturating_add(PATIENCE);
+            self.next.store(due, Ordering::SeqCst);
+        } else if self.is_due(next, now) {
+            let name = ShortName(name);
+            let _ = eprint!(self.rt; "\rcensus: {name}, generation {generation} of {last}\x1b[K");
         }
-        let patterns = self.patterns.load(Ordering::SeqCst);
-        self.stands.store(true, Ordering::SeqCst);
-        let _ = eprint!(self.rt; "\rcensus: {taken} of {patterns} patterns");
     }
 }
 
-/// The gate of a program at a terminal: it tells on a screen how far a run has come, and holds no worker.
+/// The gate of a program at a terminal: it tells on a screen how far a run has come, or a pattern, and holds no worker.
 #[derive(Drop)]
 pub struct Progress<'a, R> {
     screen: &'a Screen<'a, R>,
@@ -135,5 +161,9 @@ impl<'a, R: Clock + Eprint + Sync> Gate for Progress<'a, R> {
 
     fn end(&mut self) {
         self.screen.end();
+    }
+
+    fn reached(&self, name: &[u8], generation: u32, last: u32) {
+        self.screen.reach(name, generation, last);
     }
 }

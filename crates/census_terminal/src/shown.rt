@@ -58,7 +58,7 @@ fn add_escaped<W: Write>(block: &mut Block, writer: &mut W, bytes: &[u8]) -> io:
 
 // Whether a terminal could take a character as a command, or as the direction in which to write, or as the end of a line
 // though it is no line feed.
-fn is_steering(one: char) -> bool {
+pub(crate) fn is_steering(one: char) -> bool {
     matches!(
         one,
         '\0'..='\u{8}'

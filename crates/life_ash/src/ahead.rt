@@ -14,6 +14,7 @@ use crate::found::Found;
 use crate::guess::guessed_parts;
 use crate::known::Known;
 use crate::limit::{few_until, first_past_of_ash};
+use life_observer::Observer;
 use life_onset::Trail;
 use life_orbit::Orbit;
 use life_plane::{AGE_LIMIT, Plane};
@@ -45,13 +46,15 @@ pub fn parts_if_due<P: Plane>(
 
 /// Walks on to an age, the end, and looks now and then whether the plane's cells are ash. Whether those of the end are is not
 /// asked. No generation that the walk comes to may have more cells than the limit, and where ash is found none up to the last.
-/// Some generations are kept on a trail. The rule and the bound are those of what is known.
+/// Some generations are kept on a trail. The rule and the bound are those of what is known. An observer is told each
+/// generation.
 ///
 /// Where `Nothing` is found the plane is as old as the end, and one may walk on from there: with a greater end, and the same
 /// plane, knowledge, pace, trail, limit and last. A plane's age may be the end already. The end is at most 400,000 and at
 /// most one more than the last.
-pub fn walk_on<P: Plane>(
+pub fn walk_on<P: Plane, W: Observer>(
     alloc: Global,
+    observer: &W,
     plane: &mut P,
     met: &mut Known,
     pace: &mut Pace,
@@ -79,6 +82,7 @@ pub fn walk_on<P: Plane>(
     let rule = met.rule();
     let mut known = 0;
     for age in plane.age()..end {
+        observer.reached(age);
         let Some(until) = few_until(limit, plane, age, known, pace) else {
             return Ok(Found::Large { generation: age });
         };
@@ -100,8 +104,9 @@ pub fn walk_on<P: Plane>(
 }
 
 /// Walks on from a plane that is as old as the bound, to three times the bound. The plane itself stays as it is.
-pub fn found_past<P: Plane>(
+pub fn found_past<P: Plane, W: Observer>(
     alloc: Global,
+    observer: &W,
     plane: &P,
     met: &mut Known,
     pace: &mut Pace,
@@ -119,6 +124,7 @@ pub fn found_past<P: Plane>(
     let mut trail = Trail::new(alloc);
     walk_on(
         alloc,
+        observer,
         &mut later,
         met,
         pace,

@@ -20,6 +20,7 @@ use crate::known::Known;
 use crate::pattern_fate::Fate;
 use crate::telling::{ash_by_later, ash_told};
 use life_cells::{CellList, Rule};
+use life_observer::Observer;
 use life_onset::Trail;
 use life_orbit::BOUND_LIMIT;
 use life_plane::Plane;
@@ -47,8 +48,9 @@ fn fate_of(found: AtBound, bound: u32, trail: Trail) -> Fate
 /// before has more cells than it may have. So it is where `walk_on`, from generation 0 to the bound, finds `Nothing`. The rule
 /// and the bound are those of what is known. The trail has some of the pattern's generations, and the plane stays as it is.
 ///
-pub fn fate_past<P: Plane>(
+pub fn fate_past<P: Plane, W: Observer>(
     alloc: Global,
+    observer: &W,
     plane: &P,
     met: &mut Known,
     pace: &mut Pace,
@@ -65,24 +67,28 @@ pub fn fate_past<P: Plane>(
         IsFate met.old.rule G met.old.bound limit fate) }
 {
     let bound = met.bound();
-    Ok(match found_past(alloc, plane, met, pace, limit)? {
-        Found::Large { generation } => Fate::Large { generation },
-        Found::Parts { parts, age } => {
-            fate_of(
-                ash_by_later(alloc, plane, met, parts, age - bound)?,
-                bound,
-                trail,
-            )
-        }
-        Found::Nothing => fate_of(ash_told(alloc, plane, met, pace)?, bound, trail),
-    })
+    Ok(
+        match found_past(alloc, observer, plane, met, pace, limit)? {
+            Found::Large { generation } => Fate::Large { generation },
+            Found::Parts { parts, age } => {
+                fate_of(
+                    ash_by_later(alloc, plane, met, parts, age - bound)?,
+                    bound,
+                    trail,
+                )
+            }
+            Found::Nothing => fate_of(ash_told(alloc, plane, met, pace)?, bound, trail),
+        },
+    )
 }
 
 /// What becomes of a pattern within the bound. What it falls apart into is looked for now and then on the way to the
 /// bound, since what is ash stays so. With a limit no generation from 0 to three times the bound may have more cells;
-/// generations after that at which ash is found are mostly not looked at, since the parts tell their sizes.
-pub fn fate<P: Plane>(
+/// generations after that at which ash is found are mostly not looked at, since the parts tell their sizes. An observer is
+/// told the generations on the way.
+pub fn fate<P: Plane, W: Observer>(
     alloc: Global,
+    observer: &W,
     rule: &Rule,
     cells: &CellList,
     bound: u32,
@@ -98,6 +104,7 @@ pub fn fate<P: Plane>(
     let mut trail = Trail::new(alloc);
     match walk_on(
         alloc,
+        observer,
         &mut plane,
         &mut met,
         &mut pace,
@@ -112,6 +119,6 @@ pub fn fate<P: Plane>(
             age,
             trail,
         }),
-        Found::Nothing => fate_past(alloc, &plane, &mut met, &mut pace, trail, limit),
+        Found::Nothing => fate_past(alloc, observer, &plane, &mut met, &mut pace, trail, limit),
     }
 }

@@ -7,6 +7,7 @@ ghost use Rattle.life_text.specs.Rle.{header_rule};
 use crate::pattern::census;
 use life_answer::{Answer, refused};
 use life_board::Board;
+use life_observer::Observer;
 use life_orbit::BOUND_LIMIT;
 use life_plane::Plane;
 use life_text::read_rle;
@@ -14,8 +15,9 @@ use life_things::WAY_LIMIT;
 use std::alloc::{AllocError, Global};
 
 /// The objects that the pattern of an RLE text falls apart into within the bound, over planes of one kind.
-fn answer_on<P: Plane>(
+fn answer_on<P: Plane, W: Observer>(
     alloc: Global,
+    observer: &W,
     text: &[u8],
     bound: u32,
     limit: Option<u32>,
@@ -31,7 +33,16 @@ fn answer_on<P: Plane>(
     match read_rle(alloc, text) {
         Ok(pattern) => {
             let rule = pattern.rule();
-            let finding = census::<P>(alloc, &rule, pattern.cells(), bound, limit, near, horizon)?;
+            let finding = census::<P, W>(
+                alloc,
+                observer,
+                &rule,
+                pattern.cells(),
+                bound,
+                limit,
+                near,
+                horizon,
+            )?;
             Ok(Answer::Found { rule, finding })
         }
         Err(fault) => refused(fault),
@@ -44,9 +55,11 @@ fn answer_on<P: Plane>(
 /// have more cells. What is near one another counts as one object where that is asked for; else the independent parts of
 /// each object count.
 ///
-/// It may look at generations past the bound, up to four times the bound.
-pub fn answer(
+/// It may look at generations past the bound, up to four times the bound, and an observer is told those on the way, up to
+/// three times the bound.
+pub fn answer<W: Observer>(
     alloc: Global,
+    observer: &W,
     text: &[u8],
     bound: u32,
     limit: Option<u32>,
@@ -59,5 +72,5 @@ pub fn answer(
         (λ answer. answer ≡ answer_to_question (Objects bound limit near horizon) text.now) }
     ensures memory { OnErr result (IsOk (header_rule text.now)) }
 {
-    answer_on::<Board>(alloc, text, bound, limit, near, horizon)
+    answer_on::<Board, W>(alloc, observer, text, bound, limit, near, horizon)
 }

@@ -25,6 +25,7 @@ use life_answer::{EngineList, Finding, Outcome};
 use life_ash::{Ash, Fate};
 use life_cells::{CellList, Rule};
 use life_growing::Growth;
+use life_observer::Observer;
 use life_onset::{Trail, onset};
 use life_orbit::BOUND_LIMIT;
 use life_plane::Plane;
@@ -128,9 +129,11 @@ fn outcome_of_fate<P: Plane>(
 /// generation up to four times that bound has more cells than it may have. Else `Large`, with the first such generation,
 /// where some generation from 0 to three times the bound has more cells than it may have; and that goes before `Ash`. Else
 /// `Unresolved`. The bound is 1 to 100,000 generations, and the horizon 1 to 10,000. What is near one another counts as one
-/// object where that is asked for; else the independent parts of each object count.
-pub fn census<P: Plane>(
+/// object where that is asked for; else the independent parts of each object count. An observer is told the generations on
+/// the way, up to three times the bound.
+pub fn census<P: Plane, W: Observer>(
     alloc: Global,
+    observer: &W,
     rule: &Rule,
     cells: &CellList,
     bound: u32,
@@ -145,7 +148,7 @@ pub fn census<P: Plane>(
         (λ found. found ≡ finding_to (Objects bound limit near horizon) rule.now cells.now) }
 {
     let population = cells.len() as u64;
-    let outcome = match seen::<P>(alloc, rule, cells, bound, limit, horizon)? {
+    let outcome = match seen::<P, W>(alloc, observer, rule, cells, bound, limit, horizon)? {
         Seen::Grows { growth } => Outcome::Grows {
             engines: told(alloc, &growth, near)?,
         },

@@ -12,6 +12,7 @@ use crate::growing::growth_on_the_way;
 use crate::seen::Seen;
 use life_ash::{Ash, Fate, Found, Known, fate_past, walk_on};
 use life_cells::{CellList, Rule};
+use life_observer::{Observer, Unobserved};
 use life_onset::Trail;
 use life_orbit::BOUND_LIMIT;
 use life_plane::Plane;
@@ -31,8 +32,9 @@ const LATER: u32 = 8;
 const MANY: u64 = 20_000;
 
 /// Walks on to an age up to the bound. What becomes of the pattern, where that is found before: then the trail is spent.
-fn fate_before<P: Plane>(
+fn fate_before<P: Plane, W: Observer>(
     alloc: Global,
+    observer: &W,
     plane: &mut P,
     met: &mut Known,
     pace: &mut Pace,
@@ -54,7 +56,7 @@ fn fate_before<P: Plane>(
     ensures age { IfOk result (λ found. IfNone found (P.steps_made plane.new ≡ end)) }
 {
     let last = 3 * met.bound();
-    match walk_on(alloc, plane, met, pace, trail, limit, end, last)? {
+    match walk_on(alloc, observer, plane, met, pace, trail, limit, end, last)? {
         Found::Large { generation } => Ok(Some(Fate::Large { generation })),
         Found::Parts { parts, age } => {
             Ok(Some(Fate::Ash {
@@ -91,7 +93,14 @@ fn ends_late<P: Plane>(
     let mut pace = Pace::new();
     let mut trail = Trail::new(alloc);
     match fate_before(
-        alloc, &mut later, &mut met, &mut pace, &mut trail, None, late,
+        alloc,
+        &Unobserved,
+        &mut later,
+        &mut met,
+        &mut pace,
+        &mut trail,
+        None,
+        late,
     )? {
         Some(Fate::Ash { .. }) => Ok(true),
         _ => Ok(false),
@@ -124,9 +133,11 @@ fn with_late_end<P: Plane>(
 }
 
 /// What is seen of a pattern within the bound. On the way there one looks now and then whether it has fallen apart, and each
-/// time that the age has doubled whether it grows, where its population rises steadily.
-pub fn seen<P: Plane>(
+/// time that the age has doubled whether it grows, where its population rises steadily. An observer is told the generations
+/// on the way.
+pub fn seen<P: Plane, W: Observer>(
     alloc: Global,
+    observer: &W,
     rule: &Rule,
     cells: &CellList,
     bound: u32,
@@ -145,7 +156,7 @@ pub fn seen<P: Plane>(
     let mut next = FIRST_LOOK;
     'looks: while next < bound {
         if let Some(fate) = fate_before(
-            alloc, &mut plane, &mut met, &mut pace, &mut trail, limit, next,
+            alloc, observer, &mut plane, &mut met, &mut pace, &mut trail, limit, next,
         )? {
             return Ok(Seen::Becomes { fate });
         }
@@ -155,11 +166,11 @@ pub fn seen<P: Plane>(
         next *= 2;
     }
     if let Some(fate) = fate_before(
-        alloc, &mut plane, &mut met, &mut pace, &mut trail, limit, bound,
+        alloc, observer, &mut plane, &mut met, &mut pace, &mut trail, limit, bound,
     )? {
         return Ok(Seen::Becomes { fate });
     }
-    let fate = fate_past(alloc, &plane, &mut met, &mut pace, trail, limit)?;
+    let fate = fate_past(alloc, observer, &plane, &mut met, &mut pace, trail, limit)?;
     let fate = with_late_end(alloc, plane, rule, fate, horizon)?;
     Ok(Seen::Becomes { fate })
 }

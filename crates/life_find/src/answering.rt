@@ -8,13 +8,15 @@ use crate::finding::find_limited;
 use crate::limit::BOUND_LIMIT;
 use life_answer::{Answer, refused};
 use life_board::Board;
+use life_observer::Observer;
 use life_plane::Plane;
 use life_text::read_rle;
 use std::alloc::{AllocError, Global};
 
 /// What is found of an RLE text within the bound, over planes of one kind.
-fn answer_on<P: Plane>(
+fn answer_on<P: Plane, W: Observer>(
     alloc: Global,
+    observer: &W,
     text: &[u8],
     bound: u32,
     limit: Option<u32>,
@@ -26,7 +28,7 @@ fn answer_on<P: Plane>(
 {
     match read_rle(alloc, text) {
         Ok(pattern) => {
-            let finding = find_limited::<P>(alloc, &pattern, bound, limit)?;
+            let finding = find_limited::<P, W>(alloc, observer, &pattern, bound, limit)?;
             Ok(Answer::Found {
                 rule: pattern.rule(),
                 finding,
@@ -39,9 +41,10 @@ fn answer_on<P: Plane>(
 /// What is found of an RLE text within the bound: the rule and the finding of the pattern that it means, or the number of
 /// its fault. With a limit no generation from 0 to the bound may have more cells.
 ///
-/// It may look at generations past the bound, up to twice the bound.
-pub fn answer(
+/// It may look at generations past the bound, up to twice the bound, and an observer is told those that are looked at.
+pub fn answer<W: Observer>(
     alloc: Global,
+    observer: &W,
     text: &[u8],
     bound: u32,
     limit: Option<u32>,
@@ -51,5 +54,5 @@ pub fn answer(
         (λ answer. answer ≡ answer_to_question (Settles bound limit) text.now) }
     ensures memory { OnErr result (IsOk (header_rule text.now)) }
 {
-    answer_on::<Board>(alloc, text, bound, limit)
+    answer_on::<Board, W>(alloc, observer, text, bound, limit)
 }

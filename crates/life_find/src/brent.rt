@@ -13,6 +13,7 @@ use crate::limit::BOUND_LIMIT;
 use crate::lookout::Lookout;
 use crate::recurrence::Recurrence;
 use life_cells::{CellList, Rule};
+use life_observer::Observer;
 use life_plane::{AGE_LIMIT, Plane};
 use life_width::outgrows;
 use std::alloc::{AllocError, Global};
@@ -41,7 +42,8 @@ fn note(fingerprints: &mut Vec<Fingerprint>, fingerprint: Fingerprint) -> Result
 /// Steps on, at most so many times, until the cells stand again that the plane began with, which are listed: after how many
 /// steps, and how far away. Notes the fingerprints of the generations before the last two, or before the last where they
 /// don't stand again. So a pattern that comes again at once takes no room for them.
-fn run_to_return<P: Plane>(
+fn run_to_return<P: Plane, W: Observer>(
+    observer: &W,
     runner: &mut P,
     listed: &CellList,
     rule: &Rule,
@@ -77,6 +79,7 @@ fn run_to_return<P: Plane>(
     let mut lookout = Lookout::new();
     let mut latest = marked;
     for taken in 0..steps {
+        observer.reached(runner.age());
         runner.step(rule)?;
         let spanned = taken % SPAN_STEP == SPAN_STEP - 1;
         let sight = lookout.look(listed, marked, runner, taken, spanned)?;
@@ -92,8 +95,9 @@ fn run_to_return<P: Plane>(
 /// What is known of a generation that comes again, where the generations up to the bound tell it: one that does, or that within
 /// the bound none does, as the cells grow too far apart. Each generation stands beside the one that is the greatest power of two
 /// before it, and the first few beside the first.
-fn find_return_within<P: Plane>(
+fn find_return_within<P: Plane, W: Observer>(
     alloc: Global,
+    observer: &W,
     runner: &mut P,
     cells: &CellList,
     rule: &Rule,
@@ -128,7 +132,14 @@ fn find_return_within<P: Plane>(
     ensures fingerprints { OnOk result (AreFingerprints rule.now cells.now fingerprints.new.items) }
 {
     let mut onset = FIRST_LEAD.min(bound);
-    if let Some((period, displacement)) = run_to_return(runner, cells, rule, onset, fingerprints)? {
+    if let Some((period, displacement)) = run_to_return(
+        observer,
+        runner,
+        cells,
+        rule,
+        onset,
+        fingerprints,
+    )? {
         return Ok(Some(Some(Recurrence {
             onset: 0,
             period,
@@ -142,6 +153,7 @@ fn find_return_within<P: Plane>(
         }
         let steps = onset.min(bound - onset);
         if let Some((period, displacement)) = run_to_return(
+            observer,
             runner,
             &anchor,
             rule,
@@ -160,9 +172,11 @@ fn find_return_within<P: Plane>(
 }
 
 /// A generation that comes again, where one does within the bound at all. It may be found where none does. Goes past the
-/// bound only while the fingerprints leave a period possible, and notes the fingerprint of each generation.
-pub fn find_return<P: Plane>(
+/// bound only while the fingerprints leave a period possible, and notes the fingerprint of each generation. An observer is
+/// told each.
+pub fn find_return<P: Plane, W: Observer>(
     alloc: Global,
+    observer: &W,
     runner: &mut P,
     cells: &CellList,
     rule: &Rule,
@@ -187,7 +201,15 @@ pub fn find_return<P: Plane>(
     ensures none { IfOk result
         (λ answer. IfNone answer ((g : ℕ) → SettlesAt rule.now cells.now bound g → ⊥)) }
 {
-    if let Some(known) = find_return_within(alloc, runner, cells, rule, bound, fingerprints)? {
+    if let Some(known) = find_return_within(
+        alloc,
+        observer,
+        runner,
+        cells,
+        rule,
+        bound,
+        fingerprints,
+    )? {
         return Ok(known);
     }
     let anchor = runner.cells()?;
@@ -200,6 +222,7 @@ pub fn find_return<P: Plane>(
         if periods.is_empty() {
             return Ok(None);
         }
+        observer.reached(bound + lead);
         runner.step(rule)?;
         let sight = lookout.look(&anchor, marked, runner, lead, true)?;
         fingerprints.push(sight.fingerprint)?;

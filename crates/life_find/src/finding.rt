@@ -15,6 +15,7 @@ use crate::rounds::found_early;
 use crate::search::settling;
 use life_answer::{Code, Finding, Outcome};
 use life_cells::{CellList, Rule};
+use life_observer::{Observer, Unobserved};
 use life_plane::Plane;
 use life_text::Pattern;
 use std::alloc::{AllocError, Global};
@@ -41,8 +42,9 @@ fn recurs(recurrence: Recurrence, code: Code) -> Outcome
 }
 
 /// What becomes of cells that a plane at age 0 holds.
-fn outcome_on<P: Plane>(
+fn outcome_on<P: Plane, W: Observer>(
     alloc: Global,
+    observer: &W,
     plane: &mut P,
     rule: &Rule,
     cells: &CellList,
@@ -54,7 +56,7 @@ fn outcome_on<P: Plane>(
     requires new { P.steps_made plane.old ≡ 0 }
     ensures { IfOk result (λ outcome. outcome ≡ outcome_of rule.now cells.now bound) }
 {
-    match settling(alloc, plane, cells, rule, bound)? {
+    match settling(alloc, observer, plane, cells, rule, bound)? {
         None => Ok(Outcome::Unresolved),
         Some(recurrence) => {
             let code = code_of(alloc, cells, plane, rule, &recurrence)?;
@@ -64,8 +66,9 @@ fn outcome_on<P: Plane>(
 }
 
 /// What becomes of cells whose places are from 0 to 1,048,575.
-pub fn outcome_of<P: Plane>(
+pub fn outcome_of<P: Plane, W: Observer>(
     alloc: Global,
+    observer: &W,
     rule: &Rule,
     cells: &CellList,
     bound: u32,
@@ -75,7 +78,7 @@ pub fn outcome_of<P: Plane>(
     ensures { IfOk result (λ outcome. outcome ≡ outcome_of rule.now cells.now bound) }
 {
     let mut plane = P::from_cells(alloc, cells)?;
-    outcome_on(alloc, &mut plane, rule, cells, bound)
+    outcome_on(alloc, observer, &mut plane, rule, cells, bound)
 }
 
 /// What is found of cells whose places are from 0 to 1,048,575.
@@ -90,7 +93,7 @@ pub fn find_cells<P: Plane>(
     ensures { IfOk result (λ found. found ≡ finding_of rule.now cells.now bound) }
 {
     let population = cells.len() as u64;
-    let outcome = outcome_of::<P>(alloc, rule, cells, bound)?;
+    let outcome = outcome_of::<P, Unobserved>(alloc, &Unobserved, rule, cells, bound)?;
     Ok(Finding {
         population,
         outcome,
@@ -109,8 +112,9 @@ pub fn find<P: Plane>(alloc: Global, pattern: &Pattern, bound: u32) -> Result<Fi
 }
 
 /// What becomes of cells, unless some generation from 0 to the bound has more cells than it may have.
-fn outcome_limited<P: Plane>(
+fn outcome_limited<P: Plane, W: Observer>(
     alloc: Global,
+    observer: &W,
     rule: &Rule,
     cells: &CellList,
     bound: u32,
@@ -121,20 +125,21 @@ fn outcome_limited<P: Plane>(
     ensures { IfOk result
         (λ outcome. outcome ≡ outcome_to (Settles bound limit) rule.now cells.now) }
 {
-    if let Some(outcome) = found_early::<P>(alloc, rule, cells, bound, limit)? {
+    if let Some(outcome) = found_early::<P, W>(alloc, observer, rule, cells, bound, limit)? {
         return Ok(outcome);
     }
-    if let Some(large) = too_large::<P>(alloc, rule, cells, limit, bound)? {
+    if let Some(large) = too_large::<P, W>(alloc, observer, rule, cells, limit, bound)? {
         return Ok(large);
     }
-    outcome_of::<P>(alloc, rule, cells, bound)
+    outcome_of::<P, W>(alloc, observer, rule, cells, bound)
 }
 
 /// The same as `find`, unless some generation from 0 to the bound has more cells than it may have. Where there is such a
 /// limit, the generations are looked at in rounds, the first few alone in the first one, and all those up to the bound
-/// only where no round before tells what is found.
-pub fn find_limited<P: Plane>(
+/// only where no round before tells what is found. An observer is told the generations that are looked at.
+pub fn find_limited<P: Plane, W: Observer>(
     alloc: Global,
+    observer: &W,
     pattern: &Pattern,
     bound: u32,
     limit: Option<u32>,
@@ -146,6 +151,6 @@ pub fn find_limited<P: Plane>(
     let cells = pattern.cells();
     Ok(Finding {
         population: cells.len() as u64,
-        outcome: outcome_limited::<P>(alloc, &pattern.rule(), cells, bound, limit)?,
+        outcome: outcome_limited::<P, W>(alloc, observer, &pattern.rule(), cells, bound, limit)?,
     })
 }

@@ -7,12 +7,15 @@ ghost use Rattle.life_answer.specs.declared.finding.Outcome.{Outcome as Becomes}
 
 use life_answer::Outcome;
 use life_cells::{CellList, Rule};
+use life_observer::Observer;
 use life_plane::{AGE_LIMIT, Plane};
 use std::alloc::{AllocError, Global};
 
-/// The first generation from 0 to the last that has more cells than so many. No generation after it is looked at.
-pub fn first_larger<P: Plane>(
+/// The first generation from 0 to the last that has more cells than so many. No generation after it is looked at. An
+/// observer is told each that is.
+pub fn first_larger<P: Plane, W: Observer>(
     alloc: Global,
+    observer: &W,
     rule: &Rule,
     cells: &CellList,
     most: u32,
@@ -24,6 +27,7 @@ pub fn first_larger<P: Plane>(
 {
     let mut plane = P::from_cells(alloc, cells)?;
     for n in 0..last {
+        observer.reached(n);
         if plane.population() > u64::from(most) {
             return Ok(Some(n));
         }
@@ -37,8 +41,9 @@ pub fn first_larger<P: Plane>(
 
 /// What becomes of cells of which some generation up to the last has more than it may have, whatever else would become of
 /// them. Where any number is allowed, no generation is looked at.
-pub fn too_large<P: Plane>(
+pub fn too_large<P: Plane, W: Observer>(
     alloc: Global,
+    observer: &W,
     rule: &Rule,
     cells: &CellList,
     limit: Option<u32>,
@@ -57,7 +62,7 @@ pub fn too_large<P: Plane>(
     let Some(most) = limit else {
         return Ok(None);
     };
-    let Some(generation) = first_larger::<P>(alloc, rule, cells, most, last)? else {
+    let Some(generation) = first_larger::<P, W>(alloc, observer, rule, cells, most, last)? else {
         return Ok(None);
     };
     Ok(Some(Outcome::Large { generation }))

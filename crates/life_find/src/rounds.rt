@@ -11,6 +11,7 @@ use crate::larger::too_large;
 use crate::limit::BOUND_LIMIT;
 use life_answer::Outcome;
 use life_cells::{CellList, Rule};
+use life_observer::Observer;
 use life_plane::Plane;
 use std::alloc::{AllocError, Global};
 
@@ -23,8 +24,9 @@ const REACH_GROWTH: u32 = 4;
 /// What becomes of cells, whose generations may have no more cells than the limit, within every bound from the reach
 /// on: that a generation up to the reach is too large, or where none is, how they come again within the reach. `None`
 /// where they do neither.
-fn found_to<P: Plane>(
+fn found_to<P: Plane, W: Observer>(
     alloc: Global,
+    observer: &W,
     rule: &Rule,
     cells: &CellList,
     limit: Option<u32>,
@@ -37,10 +39,10 @@ fn found_to<P: Plane>(
     ensures open { IfOk result (λ answer. IfNone answer (
         outcome_to (Settles reach limit) rule.now cells.now ≡ Unresolved)) }
 {
-    if let Some(large) = too_large::<P>(alloc, rule, cells, limit, reach)? {
+    if let Some(large) = too_large::<P, W>(alloc, observer, rule, cells, limit, reach)? {
         return Ok(Some(large));
     }
-    match outcome_of::<P>(alloc, rule, cells, reach)? {
+    match outcome_of::<P, W>(alloc, observer, rule, cells, reach)? {
         Outcome::Unresolved => Ok(None),
         found => Ok(Some(found)),
     }
@@ -50,8 +52,9 @@ fn found_to<P: Plane>(
 /// at in rounds, each of which begins again and goes four times as far as the one before it, and none further than a
 /// fourth of the bound: so all rounds together look at no more than a third as many generations as a search up to the
 /// bound may.
-pub fn found_early<P: Plane>(
+pub fn found_early<P: Plane, W: Observer>(
     alloc: Global,
+    observer: &W,
     rule: &Rule,
     cells: &CellList,
     bound: u32,
@@ -67,7 +70,7 @@ pub fn found_early<P: Plane>(
     }
     let mut reach = FIRST_REACH;
     'rounds: while reach <= bound / REACH_GROWTH {
-        if let Some(found) = found_to::<P>(alloc, rule, cells, limit, reach)? {
+        if let Some(found) = found_to::<P, W>(alloc, observer, rule, cells, limit, reach)? {
             return Ok(Some(found));
         }
         reach *= REACH_GROWTH;

@@ -10,6 +10,7 @@ use crate::limit::BOUND_LIMIT;
 use life_answer::{Code, Outcome};
 use life_board::Board;
 use life_cells::{CellList, Rule};
+use life_observer::Unobserved;
 use life_plane::Plane;
 use std::alloc::{AllocError, Global};
 
@@ -27,7 +28,7 @@ fn settled_code<P: Plane>(
     ensures unsettled { IfOk result
         (λ answer. IfNone answer ((g : ℕ) → SettlesAt rule.now cells.now bound g → ⊥)) }
 {
-    match outcome_of::<P>(alloc, rule, cells, bound)? {
+    match outcome_of::<P, Unobserved>(alloc, &Unobserved, rule, cells, bound)? {
         Outcome::Recurs { code, .. } => Ok(Some(code)),
         _ => Ok(None),
     }

@@ -12,6 +12,7 @@ use crate::limit::BOUND_LIMIT;
 use crate::offset::plane_offset;
 use crate::recurrence::Recurrence;
 use life_cells::{CellList, Rule};
+use life_observer::Observer;
 use life_plane::{AGE_LIMIT, Plane};
 use std::alloc::{AllocError, Global};
 
@@ -30,8 +31,9 @@ fn advance<P: Plane>(plane: &mut P, rule: &Rule, steps: u32) -> Result<(), Alloc
 
 /// The first generation that comes again within the bound, after how many steps, and how far away. The plane of the cells
 /// then has those of that generation, wherever they stand.
-pub fn settling<P: Plane>(
+pub fn settling<P: Plane, W: Observer>(
     alloc: Global,
+    observer: &W,
     runner: &mut P,
     cells: &CellList,
     rule: &Rule,
@@ -53,7 +55,15 @@ pub fn settling<P: Plane>(
         (λ answer. IfNone answer ((g : ℕ) → SettlesAt rule.now cells.now bound g → ⊥)) }
 {
     let mut fingerprints = Vec::new(alloc);
-    let seen = match find_return(alloc, runner, cells, rule, bound, &mut fingerprints)? {
+    let seen = match find_return(
+        alloc,
+        observer,
+        runner,
+        cells,
+        rule,
+        bound,
+        &mut fingerprints,
+    )? {
         Some(seen) => seen,
         None => return Ok(None),
     };

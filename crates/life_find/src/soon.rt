@@ -7,6 +7,7 @@ ghost use Rattle.life_find.specs.Soon.{is_open, soon_reach};
 use crate::answering::answer;
 use crate::limit::BOUND_LIMIT;
 use life_answer::{Answer, Outcome};
+use life_observer::Unobserved;
 use std::alloc::{AllocError, Global};
 
 /// The greatest bound within which no generation past 256 is looked at, as a search goes up to twice its bound.
@@ -42,7 +43,7 @@ pub fn answer_soon(
         is_open (answer_to_question (Settles soon_reach limit) text.now) ≡ true)) }
 {
     let reach = bound.min(SOON_REACH);
-    let found = answer(alloc, text, reach, limit)?;
+    let found = answer(alloc, &Unobserved, text, reach, limit)?;
     if reach < bound && is_open(&found) {
         return Ok(None);
     }

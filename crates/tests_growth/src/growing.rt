@@ -2,6 +2,7 @@
 use crate::patterns::{ACORN, BLOCK, BLOCKED, GUN, GUNS, PUFFER, R_PENTOMINO, RAKE, ROW, SMALL};
 use life_answer::{Answer, Engines, Outcome, Part};
 use life_census::answer;
+use life_observer::Unobserved;
 use std::alloc::Global;
 use std::process::Abort;
 use std::test::Fail;
@@ -127,6 +128,7 @@ fn outcome_of(rt: &impl Abort, alloc: Global, text: &[u8], asked: Asked) -> Resu
     assert!(rt; 1 <= asked.horizon && asked.horizon <= 10_000);
     let answer = answer(
         alloc,
+        &Unobserved,
         text,
         asked.bound,
         asked.limit,

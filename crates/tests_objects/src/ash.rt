@@ -2,6 +2,7 @@
 use life_answer::{Finding, Outcome, Part};
 use life_cells::{CellList, Rule};
 use life_census::census;
+use life_observer::Unobserved;
 use life_plane::ListPlane;
 use std::alloc::{AllocError, Global};
 use std::process::Abort;
@@ -272,7 +273,16 @@ fn have_their_ash_under(
         let list = CellList::of(alloc, cells)?;
         assert!(rt; list.fits());
         assert!(rt; 1 <= *bound && *bound <= 100_000);
-        let found = census::<ListPlane>(alloc, rule, &list, *bound, None, near, HORIZON)?;
+        let found = census::<ListPlane, Unobserved>(
+            alloc,
+            &Unobserved,
+            rule,
+            &list,
+            *bound,
+            None,
+            near,
+            HORIZON,
+        )?;
         assert!(rt; is_found(&found, *expected));
     }
     Ok(())
@@ -386,8 +396,9 @@ fn blocks_in_a_grid_have_their_ash(rt: HostRuntime) -> Result<(), Fail> {
             let list = CellList::of(rt.alloc(), cells)?;
             assert!(rt; list.fits());
             assert!(rt; 1 <= *bound && *bound <= 100_000);
-            let found = census::<ListPlane>(
+            let found = census::<ListPlane, Unobserved>(
                 rt.alloc(),
+                &Unobserved,
                 &Rule::life(),
                 &list,
                 *bound,

@@ -3,6 +3,7 @@
 use census_blocks::{HORIZON_LIMIT, Inquiry, block};
 use census_facts::Form;
 use census_names::{Names, read_names};
+use life_observer::Unobserved;
 use life_orbit::BOUND_LIMIT;
 use life_text::RleFault;
 use std::test::Fail;
@@ -89,7 +90,14 @@ fn texts_have_their_blocks(rt: HostRuntime) -> Result<(), Fail> {
                 near: *near,
                 ..USUAL
             };
-            let told = match block(rt.alloc(), &Names::none(rt.alloc()), None, text, inquiry)? {
+            let told = match block(
+                rt.alloc(),
+                &Unobserved,
+                &Names::none(rt.alloc()),
+                None,
+                text,
+                inquiry,
+            )? {
                 Ok(block) => block.as_slice() == wanted.as_bytes(),
                 Err(_fault) => false,
             };
@@ -117,7 +125,14 @@ fn a_traffic_light_is_one_object_where_what_is_near_is_one(rt: HostRuntime) -> R
             near: *near,
             ..USUAL
         };
-        let told = match block(rt.alloc(), &Names::none(rt.alloc()), None, LIGHT, inquiry)? {
+        let told = match block(
+            rt.alloc(),
+            &Unobserved,
+            &Names::none(rt.alloc()),
+            None,
+            LIGHT,
+            inquiry,
+        )? {
             Ok(block) => block.as_slice() == wanted.as_bytes(),
             Err(_fault) => false,
         };
@@ -155,7 +170,14 @@ fn growth_is_told_within_the_horizon_and_the_cells(rt: HostRuntime) -> Result<()
             horizon: *horizon,
             ..USUAL
         };
-        let told = match block(rt.alloc(), &Names::none(rt.alloc()), None, GUN, inquiry)? {
+        let told = match block(
+            rt.alloc(),
+            &Unobserved,
+            &Names::none(rt.alloc()),
+            None,
+            GUN,
+            inquiry,
+        )? {
             Ok(block) => block.as_slice() == wanted.as_bytes(),
             Err(_fault) => false,
         };
@@ -228,7 +250,14 @@ fn texts_have_their_objects(rt: HostRuntime) -> Result<(), Fail> {
             form: Form::Json,
             ..USUAL
         };
-        let told = match block(rt.alloc(), &Names::none(rt.alloc()), *file, text, inquiry)? {
+        let told = match block(
+            rt.alloc(),
+            &Unobserved,
+            &Names::none(rt.alloc()),
+            *file,
+            text,
+            inquiry,
+        )? {
             Ok(block) => block.as_slice() == wanted.as_bytes(),
             Err(_fault) => false,
         };
@@ -241,6 +270,7 @@ fn texts_have_their_objects(rt: HostRuntime) -> Result<(), Fail> {
 fn a_file_is_told_in_lines(rt: HostRuntime) -> Result<(), Fail> {
     let told = match block(
         rt.alloc(),
+        &Unobserved,
         &Names::none(rt.alloc()),
         Some(b"a b.rle"),
         ACORN,
@@ -320,7 +350,7 @@ fn objects_have_their_names(rt: HostRuntime) -> Result<(), Fail> {
             form: *form,
             ..USUAL
         };
-        let told = match block(rt.alloc(), &names, None, text, inquiry)? {
+        let told = match block(rt.alloc(), &Unobserved, &names, None, text, inquiry)? {
             Ok(block) => block.as_slice() == *wanted,
             Err(_fault) => false,
         };
@@ -334,6 +364,7 @@ fn a_fault(rt: HostRuntime) -> Result<(), Fail> {
     let inquiry = Inquiry { bound: 10, ..USUAL };
     let fault = block(
         rt.alloc(),
+        &Unobserved,
         &Names::none(rt.alloc()),
         None,
         b"x = 3, y = 3\n3b?!",

@@ -3,7 +3,7 @@
 use census_blocks::Inquiry;
 use census_facts::Form;
 use census_folders::{Shelf, ShelfFault, Unread};
-use census_identify::identify;
+use census_identify::{Unseen, identify};
 use census_names::Names;
 use std::alloc::Global;
 use std::test::Fail;
@@ -127,6 +127,7 @@ fn words_are_told(rt: HostRuntime) -> Result<(), Fail> {
         let status = identify(
             &FILES,
             rt.alloc(),
+            &Unseen,
             inquiry,
             &Names::none(rt.alloc()),
             words,

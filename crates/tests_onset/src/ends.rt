@@ -2,6 +2,7 @@
 use crate::patterns::PENTOMINO;
 use life_ash::{Fate, fate};
 use life_cells::{CellList, Rule};
+use life_observer::Unobserved;
 use life_plane::ListPlane;
 use std::process::Abort;
 use std::test::Fail;
@@ -58,7 +59,14 @@ fn is_unresolved(fate: &Fate, expected: bool) -> bool {
 fn the_pentomino_is_seen_to_end_after_the_bound(rt: HostRuntime) -> Result<(), Fail> {
     let cells = CellList::of(rt.alloc(), PENTOMINO)?;
     assert!(rt; cells.fits());
-    let fate = fate::<ListPlane>(rt.alloc(), &Rule::life(), &cells, 500, None)?;
+    let fate = fate::<ListPlane, Unobserved>(
+        rt.alloc(),
+        &Unobserved,
+        &Rule::life(),
+        &cells,
+        500,
+        None,
+    )?;
     assert!(rt; is_unresolved(&fate, true));
     Ok(())
 }
@@ -67,7 +75,14 @@ fn the_pentomino_is_seen_to_end_after_the_bound(rt: HostRuntime) -> Result<(), F
 fn the_gun_is_not_seen_to_end(rt: HostRuntime) -> Result<(), Fail> {
     let cells = CellList::of(rt.alloc(), GUN)?;
     assert!(rt; cells.fits());
-    let fate = fate::<ListPlane>(rt.alloc(), &Rule::life(), &cells, 200, None)?;
+    let fate = fate::<ListPlane, Unobserved>(
+        rt.alloc(),
+        &Unobserved,
+        &Rule::life(),
+        &cells,
+        200,
+        None,
+    )?;
     assert!(rt; is_unresolved(&fate, false));
     Ok(())
 }

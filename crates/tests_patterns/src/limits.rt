@@ -4,6 +4,7 @@ ghost use Rattle.std.specs.Prelude.{◌≤◌};
 
 use life_answer::{Answer, Finding, Outcome};
 use life_find::{BOUND_LIMIT, answer_soon, find_limited};
+use life_observer::Unobserved;
 use life_plane::{ListPlane, Plane};
 use life_text::read_rle;
 use life_tile::TilePlane;
@@ -49,7 +50,13 @@ fn check<P: Plane>(rt: &impl Abort, alloc: Global, example: &Example) -> Result<
     let bound = example.bound;
     assert!(rt; 1 <= bound && bound <= BOUND_LIMIT);
     let pattern = read_rle(alloc, example.text)?;
-    let finding = find_limited::<P>(alloc, &pattern, bound, Some(example.most))?;
+    let finding = find_limited::<P, Unobserved>(
+        alloc,
+        &Unobserved,
+        &pattern,
+        bound,
+        Some(example.most),
+    )?;
     assert!(rt; example.is_found(&finding));
     Ok(())
 }

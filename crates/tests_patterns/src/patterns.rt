@@ -4,6 +4,7 @@ use life_answer::{Answer, Finding, Outcome};
 use life_board::Board;
 use life_cells::Rule;
 use life_find::{BOUND_LIMIT, answer, find};
+use life_observer::Unobserved;
 use life_plane::{ListPlane, Plane};
 use life_text::read_rle;
 use life_tile::TilePlane;
@@ -155,7 +156,7 @@ fn check_answers(rt: &impl Abort, alloc: Global, examples: &[Example]) -> Result
     for example in examples {
         let bound = example.bound;
         assert!(rt; 1 <= bound && bound <= BOUND_LIMIT);
-        let answered = match &answer(alloc, example.text, bound, None)? {
+        let answered = match &answer(alloc, &Unobserved, example.text, bound, None)? {
             Answer::Found { rule, finding } => *rule == Rule::life() && example.is_found(finding),
             Answer::Refused(_) => false,
         };
@@ -176,7 +177,7 @@ fn texts_that_take_long_are_answered(rt: HostRuntime) -> Result<(), Fail> {
 
 #[test]
 fn a_text_with_a_fault_is_answered_with_its_number(rt: HostRuntime) -> Result<(), Fail> {
-    let number = match answer(rt.alloc(), b"x = 3, y = 3\n3o1 2b!", 1, None)? {
+    let number = match answer(rt.alloc(), &Unobserved, b"x = 3, y = 3\n3o1 2b!", 1, None)? {
         Answer::Found { .. } => None,
         Answer::Refused(number) => Some(number),
     };
