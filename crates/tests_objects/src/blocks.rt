@@ -277,7 +277,8 @@ fn a_file_is_told_in_lines(rt: HostRuntime) -> Result<(), Fail> {
         Inquiry { bound: 10, ..USUAL },
     )? {
         Ok(block) => {
-            block.as_slice() == b"file a b.rle\nrule B3/S23\npopulation 7\nbox 7 3\nunresolved 10\n"
+            let wanted = "file a b.rle\nrule B3/S23\npopulation 7\nbox 7 3\nunresolved 10\n";
+            block.as_slice() == wanted.as_bytes()
         }
         Err(_fault) => false,
     };
