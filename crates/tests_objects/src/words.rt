@@ -3,13 +3,17 @@
 use census_blocks::Inquiry;
 use census_facts::Form;
 use census_folders::{Shelf, ShelfFault, Unread};
-use census_identify::{Unseen, identify};
+use census_identify::{Onlooker, Unseen, identify};
 use census_names::Names;
 use std::alloc::Global;
+use std::sync::atomic::{AtomicU32, Ordering};
 use std::test::Fail;
 use watched::Watched;
 
 const GLIDER: &[u8] = b"x = 3, y = 3, rule = B3/S23\nbo$2bo$3o!";
+
+// It goes on for some thousand generations.
+const ACORN: &[u8] = b"x = 7, y = 3, rule = B3/S23\nbo$3bo$2o2b3o!";
 
 const GLIDER_LINES: &str =
     "rule B3/S23\npopulation 5\nbox 3 3\nonset 0\nperiod 4\ndisplacement 1 1\napgcode xq4_153\n";
@@ -139,5 +143,52 @@ fn words_are_told(rt: HostRuntime) -> Result<(), Fail> {
         assert!(rt; output.into_inner().as_slice() == wanted_output.as_bytes());
         assert!(rt; errors.into_inner().as_slice() == wanted_errors.as_bytes());
     }
+    Ok(())
+}
+
+// The latest generation of standard input that was told.
+#[derive(Drop)]
+struct Furthest {
+    generation: AtomicU32,
+}
+
+impl Onlooker for Furthest {
+    fn reached(&self, word: &str, generation: u32) {
+        if word == "-" {
+            self.generation.fetch_max(generation, Ordering::SeqCst);
+        }
+    }
+}
+
+#[test]
+fn an_onlooker_is_told_generations_up_to_three_times_the_bound(
+    rt: HostRuntime,
+) -> Result<(), Fail> {
+    let mut input = Watched::new(ACORN);
+    let mut output = Watched::new(Vec::new(rt.alloc()));
+    let mut errors = Watched::new(Vec::new(rt.alloc()));
+    let inquiry = Inquiry {
+        bound: 100,
+        cells: 1_000_000,
+        near: false,
+        horizon: 1_000,
+        form: Form::Lines,
+    };
+    let furthest = Furthest {
+        generation: AtomicU32::new(0),
+    };
+    let status = identify(
+        &FILES,
+        rt.alloc(),
+        &furthest,
+        inquiry,
+        &Names::none(rt.alloc()),
+        &["-"],
+        &mut input,
+        &mut output,
+        &mut errors,
+    );
+    assert!(rt; status == 0);
+    assert!(rt; furthest.generation.load(Ordering::SeqCst) == 300);
     Ok(())
 }
