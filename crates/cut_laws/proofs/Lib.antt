@@ -1,0 +1,9 @@
+pub mod Folders
+pub mod Moved
+pub mod Spelled
+pub mod Front
+pub mod Sections
+pub mod Closing
+pub mod Groups
+pub mod Shares
+pub mod Kept

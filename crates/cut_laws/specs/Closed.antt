@@ -1,0 +1,10 @@
+-- The collections of a bundle that rows close.
+use Rattle.std.specs.Prelude.{ℕ, suc, if◌then◌else◌, List, [], ◌∷◌}
+use Rattle.census_bundle.specs.declared.bundle.Folder.{Folder}
+use Rattle.census_cut.specs.Kept.{is_closed}
+use Rattle.census_rows.specs.declared.row.Row.{Row}
+
+-- of these collections, the first of which has the number c, those that the rows close, in their order
+abbrev pub closed_folders : List Row → ℕ → List Folder → List Folder
+closed_folders rows c [] = []
+closed_folders rows c (f ∷ fs) = if is_closed rows c then f ∷ closed_folders rows (suc c) fs else closed_folders rows (suc c) fs
