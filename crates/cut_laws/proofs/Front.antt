@@ -49,11 +49,11 @@ same-spelling row told h k e =
 split : (row : Row) (text : List ℕ) → line_of row ++ text ≡ row_text row ++ 10 ∷ text
 split row text = append_assoc (row_text row) (10 ∷ []) text
 
-record Same (row told : Row) (text more : List ℕ) : Type 0 where
-  spelled : spelling row ≡ spelling told
-  left : text ≡ more
+pub record Same (row told : Row) (text more : List ℕ) : Type 0 where
+  pub spelled : spelling row ≡ spelling told
+  pub left : text ≡ more
 
-same-row : (row told : Row) (rows : List Row) (rest more : List ℕ) → IsRow row × HasNoFeed (row_text row) → IsCut told
+pub same-row : (row told : Row) (rows : List Row) (rest more : List ℕ) → IsRow row × HasNoFeed (row_text row) → IsCut told
     → text_of (row ∷ rows) ++ rest ≡ line_of told ++ more → Same row told (text_of rows ++ rest) more
 same-row row told rows rest more h k e =
     let two = one-line (row_text row) (row_text told) (text_of rows ++ rest) more h.1 k.0.flat

@@ -6,4 +6,6 @@ pub mod Sections
 pub mod Closing
 pub mod Groups
 pub mod Shares
+pub mod Ending
 pub mod Kept
+pub mod Mended
