@@ -4,7 +4,7 @@ ghost use Rattle.census_page.specs.Options.{options_of};
 ghost use Rattle.census_command.specs.Forms.{form_beside, format_of, options_asked, reading_of, sort_of, subject_of};
 
 use census_cli::{PageAsked, PageSort, Reports, TableFormat, TableSubject};
-use census_page::{PageOptions, Sort, default_options};
+use census_page::{PageOptions, Sort};
 use census_reports::{Form, Reading};
 use census_table::{Format, Subject};
 
@@ -76,13 +76,13 @@ fn count_of(top: Option<u32>) -> Option<u64>
 pub fn options_asked<'a>(page: &PageAsked<'a>) -> PageOptions<'a>
     ensures { options_of result ≡ options_asked page.now }
 {
-    let usual = default_options();
+    let base = bytes_of(page.base);
     PageOptions {
-        title: bytes_or(page.title, usual.title),
-        note: bytes_or(page.note, usual.note),
+        title: bytes_or(page.title, b"Census"),
+        note: bytes_or(page.note, b""),
         sort: sort_of(page.sort),
         top: count_of(page.top),
-        base: bytes_of(page.base),
+        base,
         links: page.links,
         patterns: page.patterns,
     }
