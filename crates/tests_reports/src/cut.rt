@@ -63,13 +63,7 @@ const STEPS: &[(usize, &[u8], u64, u64)] = &[
 
 // How many whole lines a text has.
 fn lines_in(text: &[u8]) -> usize {
-    let mut lines = 0;
-    for byte in text {
-        if *byte == b'\n' {
-            lines += 1;
-        }
-    }
-    lines
+    text.iter().filter(|byte| **byte == b'\n').count()
 }
 
 // What a text of so many whole lines is mended to, and where it was cut.

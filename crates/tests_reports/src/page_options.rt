@@ -178,17 +178,17 @@ fn a_title_and_a_note_bring_no_markup(rt: HostRuntime) -> Result<(), AllocError>
 }
 
 // A pattern that has fallen apart into objects with so many codes, from 100 on.
-fn report_of_parts(alloc: Global, codes: u64) -> Result<String, Fail> {
+fn report_of_parts(alloc: Global, codes: u8) -> Result<String, Fail> {
     let mut report = String::new(alloc);
     write!(
         report,
         "open 1 1 c\nline 1 1 ash B3/S23 999 9 {} many\n",
         codes
     )?;
-    for number in 100..100 + codes {
+    for number in 100..100 + u64::from(codes) {
         write!(report, "part 1 1 xs4_{} 1\n", number)?;
     }
-    for number in 100..100 + codes {
+    for number in 100..100 + u64::from(codes) {
         write!(report, "code 1 B3/S23 xs4_{} 1\n", number)?;
     }
     report.push_str("close 1 1 1 0 0\nend 1 1\n")?;

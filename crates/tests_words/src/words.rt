@@ -700,12 +700,20 @@ const PAGES: &[(Words, PageAsked<'static>)] = &[
     ),
 ];
 
+// The page that is asked for, if one is.
+fn page_of<'r, 'a>(request: &'r Request<'a>) -> Option<&'r PageAsked<'a>> {
+    match request {
+        Request::Page { page, .. } => Some(page),
+        _ => None,
+    }
+}
+
 #[test]
 fn a_page_has_options(rt: HostRuntime) -> Result<(), Fail> {
     for (words, asked) in PAGES {
-        match request_of(rt.alloc(), words)? {
-            Request::Page { page, .. } => assert_eq!(rt; page, *asked, "{words:?}"),
-            other => panic!(rt; "{words:?}: {other:?}"),
+        match page_of(&request_of(rt.alloc(), words)?) {
+            Some(page) => assert_eq!(rt; page, asked, "{words:?}"),
+            None => panic!(rt; "{words:?}"),
         }
     }
     Ok(())
@@ -721,9 +729,9 @@ fn a_page_has_an_order(rt: HostRuntime) -> Result<(), Fail> {
         (&["page", "--sort", "name"], PageSort::Name),
     ];
     for (words, asked) in ASKED {
-        match request_of(rt.alloc(), words)? {
-            Request::Page { page, .. } => assert_eq!(rt; page.sort, *asked, "{words:?}"),
-            other => panic!(rt; "{words:?}: {other:?}"),
+        match page_of(&request_of(rt.alloc(), words)?) {
+            Some(page) => assert_eq!(rt; page.sort, *asked, "{words:?}"),
+            None => panic!(rt; "{words:?}"),
         }
     }
     Ok(())
