@@ -3,9 +3,8 @@ use Rattle.census_command.specs.Asking.{AsksForNone, folders_of}
 use Rattle.census_folders.specs.declared.loss.OnLoss.TheVariants.{Keep}
 use Rattle.census_command.proofs.Gates.{hears_answered, hears_done, hears_failed, hears_kept, hears_none, beside_is_none, remaking_is_none}
 use Rattle.census_blocks.specs.declared.inquiry.Inquiry.{Inquiry}
-use Rattle.census_command.specs.Forms.{reading_of}
-use Rattle.census_command.specs.Identifying.{form_told}
-use Rattle.census_command.specs.Outcomes.{IsIdentify}
+use Rattle.census_command.specs.Outcomes.{IsBeside, IsIdentify, IsRemaking}
+use Rattle.census_reports.specs.declared.reading.Reading.{Reading}
 use Rattle.census_errors.specs.Messages.{error_line}
 use Rattle.census_errors.specs.Sayings.{said_if}
 use Rattle.census_errors.specs.ErrorStreams.{TellsIf, TellsText}
@@ -20,8 +19,8 @@ pub returns-in-Identify-clause-outcome : goal.returns-in-Identify-clause-outcome
 returns-in-Identify-clause-outcome g c =
     let arm = c.in-Identify in
     let word = option_map (λ s. s.now) arm.names in
-    let words = map (λ s. s.now) c.as_slice-files.result.now in
-    let inquiry : Inquiry = record { bound = arm.bound; cells = arm.cells; near = arm.near; horizon = arm.horizon; form = form_told arm.json } in
+    let words = map (λ s. s.now) c.as_slice-files-in-Identify.result.now in
+    let inquiry : Inquiry = record { bound = arm.bound; cells = arm.cells; near = arm.near; horizon = arm.horizon; form = c.form_told.result } in
     inl (record {
       inquiry = inquiry;
       word = word;
@@ -29,7 +28,7 @@ returns-in-Identify-clause-outcome g c =
       asked = record {
         request = c.in-Ok.asked.request;
         asked = c.in-Ok.ensures.0;
-        is = subst (λ r. IsIdentify r inquiry word words) (sym arm.is) (refl, refl, ap (λ files. map (λ s. s.now) files) c.as_slice-files.ensures.value);
+        is = subst (λ r. IsIdentify r inquiry word words) (sym arm.is) ((λ i. record { bound = arm.bound; cells = arm.cells; near = arm.near; horizon = arm.horizon; form = c.form_told.ensures i }), refl, ap (λ files. map (λ s. s.now) files) c.as_slice-files-in-Identify.ensures.value);
       };
       explain = c.explains-explain.result;
       explained = are_explained (map (λ s. s.now) c.args.words.now) c.args.errors.now c.in-Ok.asked.explain c.explains-explain.result c.in-Ok.ensures.1 c.explains-explain.ensures;
@@ -39,13 +38,17 @@ returns-in-Identify-clause-outcome g c =
 pub returns-in-Some-remaking_of-clause-outcome : goal.returns-in-Some-remaking_of-clause-outcome
 returns-in-Some-remaking_of-clause-outcome g c =
     let arm = c.in-Some-remaking_of in
+    let files = ap (λ files. map (λ s. s.now) files) c.as_slice-files.ensures.value in
+    let is =
+    subst (λ (r : Reading). IsRemaking c.in-Ok.asked.request arm.form r (map (λ s. s.now) arm.reports.now.words.items))
+    (sym c.reading_of-reading.ensures) arm.ensures.some in
     inr (inl (inl (record {
       request = c.in-Ok.asked.request;
       asked = c.in-Ok.ensures.0;
       form = arm.form;
-      reading = reading_of arm.reports.now;
-      files = map (λ s. s.now) arm.reports.now.words.items;
-      is = arm.ensures.some;
+      reading = c.reading_of-reading.result;
+      files = map (λ s. s.now) c.as_slice-files.result.now;
+      is = subst (λ (fs : List (List ℕ)). IsRemaking c.in-Ok.asked.request arm.form c.reading_of-reading.result fs) (sym files) is;
       explain = c.explains-explain.result;
       explained = are_explained (map (λ s. s.now) c.args.words.now) c.args.errors.now c.in-Ok.asked.explain c.explains-explain.result c.in-Ok.ensures.1 c.explains-explain.ensures;
       remakes = c.remake.ensures;
@@ -54,14 +57,20 @@ returns-in-Some-remaking_of-clause-outcome g c =
 pub returns-in-Some-beside_of-clause-outcome : goal.returns-in-Some-beside_of-clause-outcome
 returns-in-Some-beside_of-clause-outcome g c =
     let arm = c.in-Some-beside_of in
+    let reading = c.reading_of-reading-in-Some-beside_of in
+    let slice = c.as_slice-files-in-Some-beside_of in
+    let files = ap (λ files. map (λ s. s.now) files) slice.ensures.value in
+    let is =
+    subst (λ (r : Reading). IsBeside c.in-Ok.asked.request arm.beside arm.word.now r (map (λ s. s.now) arm.reports.now.words.items))
+    (sym reading.ensures) arm.ensures.some in
     inr (inl (inr (record {
       request = c.in-Ok.asked.request;
       asked = c.in-Ok.ensures.0;
       beside = arm.beside;
       word = arm.word.now;
-      reading = reading_of arm.reports.now;
-      files = map (λ s. s.now) arm.reports.now.words.items;
-      is = arm.ensures.some;
+      reading = reading.result;
+      files = map (λ s. s.now) slice.result.now;
+      is = subst (λ (fs : List (List ℕ)). IsBeside c.in-Ok.asked.request arm.beside arm.word.now reading.result fs) (sym files) is;
       explain = c.explains-explain.result;
       explained = are_explained (map (λ s. s.now) c.args.words.now) c.args.errors.now c.in-Ok.asked.explain c.explains-explain.result c.in-Ok.ensures.1 c.explains-explain.ensures;
       remakes = c.remake_with.ensures;
@@ -71,7 +80,7 @@ pub returns-in-Ok-execute-clause-outcome : goal.returns-in-Ok-execute-clause-out
 returns-in-Ok-execute-clause-outcome g c =
     let explain = c.explains-explain.result in
     let explained = are_explained (map (λ s. s.now) c.args.words.now) c.args.errors.now c.in-Ok.asked.explain explain c.in-Ok.ensures.1 c.explains-explain.ensures in
-    let told = subst (λ (l : List ℕ). TellsIf explain l c.args.errors.now c.tell_if.new.errors) c.as_slice-in-Ok-execute.ensures.value c.tell_if.ensures in
+    let told = subst (λ (l : List ℕ). TellsIf explain l c.args.errors.now c.tell_if.new.errors) c.as_slice.ensures.value c.tell_if.ensures in
     inr (inr (inr (ends_done _ _ _ _ _ _ c.in-Ok.asked.request explain c.in-Ok-execute.lines.items c.in-Ok.ensures.0 explained
     c.in-Ok-execute.ensures.done c.in-Ok-execute.ensures.sound told)))
 
