@@ -65,7 +65,7 @@ complete -c census -n '__fish_seen_subcommand_from page' -l title -x -d 'The tit
 complete -c census -n '__fish_seen_subcommand_from page' -l note -x -d 'A text under the title'
 complete -c census -n '__fish_seen_subcommand_from page' -l sort -x -d 'The order of the codes: report, count, code, period or name [default: report]'
 complete -c census -n '__fish_seen_subcommand_from page' -l top -x -d 'Codes of each collection, 1 to 4294967295 [default: all]'
-complete -c census -n '__fish_seen_subcommand_from page' -l base -x -d 'Make each name a link to URL/COLLECTION_NAME/NAME; URL begins with http:// or https://'
+complete -c census -n '__fish_seen_subcommand_from page' -l base -x -d 'Make each name a link to URL, COLLECTION_NAME, / and NAME joined; URL begins with http:// or https://'
 complete -c census -n '__fish_seen_subcommand_from page' -l links -d 'Make each code a link to its page at Catagolue'
 complete -c census -n '__fish_seen_subcommand_from page' -l no-patterns -d 'Leave out the table of patterns'
 complete -c census -n '__fish_seen_subcommand_from page' -l cut -d 'Take a report that was cut: collections that are whole are kept, and a line on standard error tells what was left out'
