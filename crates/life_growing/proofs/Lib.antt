@@ -15,4 +15,5 @@ pub mod GoingAway
 pub mod GoingThings
 pub mod Counted
 pub mod Refusing
+pub mod ComingBack
 pub mod Yielded

@@ -4,3 +4,4 @@ pub mod Growths
 pub mod Picking
 pub mod Meeting
 pub mod Populations
+pub mod Returning

@@ -14,6 +14,7 @@ mod laws;
 mod lefts;
 mod picking;
 mod refusal;
+mod returning;
 mod whole;
 
 pub use emission::Engine;

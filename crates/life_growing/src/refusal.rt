@@ -10,6 +10,7 @@ ghost use Rattle.life_growth.specs.Engine.{IsEngineWithin};
 ghost use Rattle.life_orbit.specs.Kept.{orbit_age_limit};
 ghost use Rattle.life_growing.specs.Populations.{ArePopulations, FallsBack};
 
+use crate::returning::never_come_back;
 use life_cells::{CellList, Rule};
 use life_orbit::Orbit;
 use life_plane::Plane;
@@ -42,7 +43,7 @@ fn populations<P: Plane>(
 }
 
 /// Whether some of the numbers is no less than the one so many places later.
-fn falls_back(counts: &[u64], places: usize) -> bool
+pub fn falls_back(counts: &[u64], places: usize) -> bool
     ensures { OnTrue result (FallsBack counts.now places) }
 {
     for n in places..counts.len() {
@@ -77,8 +78,9 @@ fn come_again_soon(alloc: Global, rule: &Rule, cells: &CellList) -> Result<bool,
     }
 }
 
-/// Whether cells of this age show that they are no engine within the bound: they come again soon, or, whatever the period
-/// were, there is a generation in which they have no fewer cells than a period later.
+/// Whether cells of this age show that they are no engine within the bound: they come again soon; or, whatever the period
+/// were, there is a generation in which they have no fewer cells than a period later; or they don't come back a period later
+/// and leave what falls apart.
 pub fn are_no_engine<P: Plane>(
     alloc: Global,
     rule: &Rule,
@@ -95,5 +97,8 @@ pub fn are_no_engine<P: Plane>(
         return Ok(true);
     }
     let counts = populations::<P>(alloc, rule, cells, age, bound + bound)?;
-    Ok(keep_falling_back(counts.as_slice(), bound as usize))
+    if keep_falling_back(counts.as_slice(), bound as usize) {
+        return Ok(true);
+    }
+    never_come_back::<P>(alloc, rule, cells, counts.as_slice(), age, bound)
 }

@@ -17,5 +17,5 @@ mod touching;
 pub use ends::join_ends;
 pub use gathering::gathered;
 pub use inheriting::heirs;
-pub use labels::{Labels, numbers};
+pub use labels::{Labels, index_near, numbers};
 pub use places::join_in;
