@@ -1,5 +1,5 @@
 -- Cells at most one away from a place, by their numbers.
-use Rattle.std.proofs.Common.{◌≡◌, ℕ, ◌^◌, ◌<◌, ℤ, pos, ◌+ℤ◌, ◌≤ℤ◌, int_lt, true, T, List, length, get_or, inl, inr, sym, refl, ap, subst, ◌∙◌, arith}
+use Rattle.std.proofs.Common.{◌≡◌, ℕ, ◌^◌, ◌<◌, ℤ, pos, ◌+ℤ◌, ◌≤ℤ◌, int_lt, ◌-◌, ◌≤◌, true, false, T, List, length, get_or, inl, inr, sym, refl, ap, subst, ◌∙◌, arith}
 use Rattle.std.specs.List.{All}
 use Rattle.std.proofs.lemmas.Bool.{cases_lt}
 use Rattle.std.proofs.lemmas.Int.{ints}
@@ -10,11 +10,18 @@ use Rattle.life_classes.specs.Tags.{place_number}
 use Rattle.life_classes.proofs.Lookups.{either}
 use Rattle.life_classes.proofs.RowsRise.{numbers_rise}
 use Rattle.life_islands.specs.Labels.{IsParting}
-use Rattle.life_islands.proofs.Indexed.{one_number}
+use Rattle.life_islands.proofs.Indexed.{one_number, parting_here}
 use Rattle.life_islands.proofs.Labelled.{listed_cell, place_in_list}
 use Rattle.life_frames.specs.Bearers.{IsBearer, IsBetween, IsTouched}
 
 -- ---- the first cell from a number on
+
+-- a place whose neighbours stand on its two sides parts the list
+pub parted_here : (cs : List Cell) (m number : ℤ) (at : ℕ) → T (is_rising cs) → All IsPlace cs → at ≤ length cs →
+    ((d : Cell) → 0 < at → int_lt (place_number (get_or cs (at - 1) d)) m ≡ true) →
+    ((d : Cell) → at < length cs → int_lt (place_number (get_or cs at d)) m ≡ false) → m ≡ number → IsParting cs number at
+parted_here cs m number at rising placed within low high same =
+    subst (λ n. IsParting cs n at) same (parting_here cs m at rising placed within low high)
 
 not_less : (x y : ℤ) → y ≤ℤ x → int_lt x y ≡ true → ⊥
 not_less x y h e = grind (arith, ints)

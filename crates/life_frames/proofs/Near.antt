@@ -1,5 +1,5 @@
 -- The near pieces of a set, without those that have no cell.
-use Rattle.std.proofs.Common.{◌≡◌, ◌≢◌, ◌==◌, Bool, true, false, not, List, [], ◌∷◌, map, cond, inl, inr, sym, refl, ap, subst, ◌∙◌, true≢false, arith, eq-eqb, eqb-true}
+use Rattle.std.proofs.Common.{◌≡◌, ◌≢◌, ◌==◌, Bool, true, false, not, List, [], ◌∷◌, map, cond, inl, inr, sym, refl, ap, ◌∙◌, true≢false, arith, eq-eqb, eqb-true}
 use Rattle.std.specs.List.{All}
 use Rattle.std.proofs.lemmas.Bool.{cases_Bool}
 use Rattle.std.proofs.lemmas.List.Elements.{All-filter, All-map, All-weaker, filter_passes}

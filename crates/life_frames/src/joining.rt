@@ -6,14 +6,14 @@ ghost use Rattle.life_model.specs.Generation.{Generation, cells, contains};
 ghost use Rattle.life_frames.specs.Bearers.{IsTouched};
 ghost use Rattle.life_frames.specs.Ties.{AreTouched, IsFurther, IsJoined, JoinsTied};
 
-use crate::bearers::bearer;
+use crate::bearers::{bearer, rows};
 use crate::forest::{flatten, join};
 use life_cells::CellList;
 use life_islands::numbers;
 use std::alloc::{AllocError, Global};
 
-/// Joins the cells that bear the cells of a set.
-fn join_set(forest: &mut Vec<usize>, list: &CellList, set: &CellList)
+/// Joins the cells that bear the cells of a set. A table of rows says where cells were found last.
+fn join_set(forest: &mut Vec<usize>, list: &CellList, set: &CellList, near: &mut [usize])
     requires long { length forest.old.items ≡ length (cells list.now) }
     requires touched { (c : Cell) → contains set.now c ≡ true → IsTouched list.now c }
     ensures further { IsFurther forest.old.items forest.new.items }
@@ -25,15 +25,15 @@ fn join_set(forest: &mut Vec<usize>, list: &CellList, set: &CellList)
     if all.len() == 0 {
         return;
     }
-    let first = bearer(list, all[0]);
+    let first = bearer(list, all[0], near);
     for n in 0..all.len() {
-        let other = bearer(list, all[n]);
+        let other = bearer(list, all[n], near);
         join(forest, first, other);
     }
 }
 
 /// Joins the cells that bear cells of one of the sets.
-fn join_sets(forest: &mut Vec<usize>, list: &CellList, sets: &[CellList])
+fn join_sets(forest: &mut Vec<usize>, list: &CellList, sets: &[CellList], near: &mut [usize])
     requires long { length forest.old.items ≡ length (cells list.now) }
     requires touched { AreTouched list.now sets.now }
     ensures further { IsFurther forest.old.items forest.new.items }
@@ -42,7 +42,7 @@ fn join_sets(forest: &mut Vec<usize>, list: &CellList, sets: &[CellList])
         JoinsTied list.now Ss forest.old.items → JoinsTied list.now Ss forest.new.items }
 {
     for n in 0..sets.len() {
-        join_set(forest, list, &sets[n]);
+        join_set(forest, list, &sets[n], near);
     }
 }
 
@@ -63,8 +63,9 @@ pub fn joined(
         ((S : Generation) → Contains later.now S → Contains Ss S) → JoinsTied list.now Ss forest.items) }
 {
     let mut forest = numbers(alloc, list.len())?;
-    join_sets(&mut forest, list, pieces);
-    join_sets(&mut forest, list, later);
+    let mut near = rows(alloc)?;
+    join_sets(&mut forest, list, pieces, near.as_mut_slice());
+    join_sets(&mut forest, list, later, near.as_mut_slice());
     flatten(&mut forest);
     Ok(forest)
 }

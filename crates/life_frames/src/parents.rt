@@ -9,7 +9,7 @@ ghost use Rattle.life_frames.specs.Bearers.{IsTouched};
 ghost use Rattle.life_frames.specs.Frames.{IsBeside};
 ghost use Rattle.life_frames.specs.Ties.{AreTouched};
 
-use crate::bearers::{bearer, has, place_number};
+use crate::bearers::{bearer, has, place_number, rows};
 use life_cells::CellList;
 use life_classes::root;
 use std::alloc::{AllocError, Global};
@@ -48,8 +48,14 @@ fn class_of(classes: &[CellList], cell: (i32, i32), number: i64) -> usize
     0
 }
 
-/// The place of the class that bears a set.
-fn parent(list: &CellList, forest: &[usize], classes: &[CellList], set: &CellList) -> usize
+/// The place of the class that bears a set. A table of rows says where cells were found last.
+fn parent(
+    list: &CellList,
+    forest: &[usize],
+    classes: &[CellList],
+    set: &CellList,
+    near: &mut [usize],
+) -> usize
     requires some { set.now ≢ empty }
     requires touched { (c : Cell) → contains set.now c ≡ true → IsTouched list.now c }
     requires together { union_of classes.now ≡ list.now }
@@ -60,7 +66,7 @@ fn parent(list: &CellList, forest: &[usize], classes: &[CellList], set: &CellLis
         return 0;
     }
     let all = list.as_slice();
-    let at = bearer(list, cells[0]);
+    let at = bearer(list, cells[0], near);
     let first = root(forest, at);
     class_of(classes, all[at], place_number(all[first]))
 }
@@ -81,8 +87,10 @@ pub fn parents(
         IsBeside list.now classes.now (get_or later.now j empty) (get_or places.items j 0)) }
 {
     let mut places = Vec::with_capacity(alloc, later.len())?;
+    let mut near = rows(alloc)?;
     for n in 0..later.len() {
-        places.push(parent(list, forest, classes, &later[n]))?;
+        let place = parent(list, forest, classes, &later[n], near.as_mut_slice());
+        places.push(place)?;
     }
     Ok(places)
 }

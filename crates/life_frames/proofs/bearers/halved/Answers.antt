@@ -2,7 +2,7 @@ use Rattle.std.proofs.Common.{int_lt, rules, arith}
 use Rattle.std.proofs.lemmas.List.Sorted.{IsPartitionPoint-from_clause}
 use Rattle.life_classes.specs.Tags.{place_number}
 use Rattle.life_classes.proofs.RowsRise.{numbers_rise, parted_above}
-use Rattle.life_frames.proofs.bearers.parting.Goals as goal
+use Rattle.life_frames.proofs.bearers.halved.Goals as goal
 
 pub returns : goal.returns
 returns c =
