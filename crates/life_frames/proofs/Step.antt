@@ -25,9 +25,9 @@ use Rattle.life_classes.proofs.Forests.{root-le}
 use Rattle.life_islands.proofs.Labelled.{in_set, listed_cell, mark-at, of_listed, of_set, place_in_list, sets_make_up}
 use Rattle.life_frames.specs.Bearers.{IsBearer}
 use Rattle.life_frames.specs.Frames.{AreParents, IsBeside, IsParent}
+use Rattle.life_frames.specs.Nearby.{HoldsNear, IsJoinedNear}
 use Rattle.life_frames.specs.Ties.{AreTied, AreTouched, IsJoined, JoinsTied}
 use Rattle.life_frames.specs.Ties as ties
-use Rattle.life_frames.proofs.Beside.{near_itself}
 
 module _ (R : Rule) where
   apart_at_once : (P Q : Generation) → AreApartFor R 0 P Q → AreApart P Q
@@ -35,10 +35,6 @@ module _ (R : Rule) where
   apart_at_once P Q far = far 0 (omega arith)
 
   -- ---- what is touched
-
-  pub pieces_touched : (G : Generation) (Ns : List Generation) → union_of Ns ≡ G → AreTouched G Ns
-  pieces_touched G Ns together N one c h =
-      (c, ap (λ H. contains H c) (sym together) ∙ in_list_now R Ns N c one h, near_itself c)
 
   pub later_touched : (G : Generation) (Qs : List Generation) → union_of Qs ≡ next R G → AreTouched G Qs
   later_touched G Qs together Q one c h =
@@ -86,9 +82,9 @@ module _ (G : Generation) (forest : List ℕ) (long : length forest ≡ length (
 
     module _ (R : Rule) (b : ℕ) (pieces Qs : List Generation) (near : AreClasses R 0 G pieces)
         (later : AreClasses R b (next R G) Qs)
-        (pieces_joined : (S : Generation) → Contains pieces S → IsJoined G forest S)
+        (near_joined : IsJoinedNear G forest)
         (later_joined : (S : Generation) → Contains Qs S → IsJoined G forest S)
-        (tied : (Ss : List Generation) → ((S : Generation) → Contains pieces S → Contains Ss S) →
+        (tied : (Ss : List Generation) → HoldsNear G Ss →
         ((S : Generation) → Contains Qs S → Contains Ss S) → JoinsTied G Ss forest) where
       in_G : (N : Generation) → Contains pieces N → (c : Cell) → contains N c ≡ true → contains G c ≡ true
       in_G N one c h = ap (λ H. contains H c) (sym near.together) ∙ in_list_now R pieces N c one h
@@ -111,6 +107,15 @@ module _ (G : Generation) (forest : List ℕ) (long : length forest ≡ length (
       -- cells that are near each other have one mark
       near_one_mark : (c d : Cell) → contains G c ≡ true → contains G d ≡ true → AreNear c d → mark c ≡ mark d
       near_one_mark c d h k close =
+          let i = place_in_list G (cells G) refl c h in
+          let j = place_in_list G (cells G) refl d k in
+          let one = near_joined i.0 j.0 i.1 j.1 (subst (λ e. AreNear e (get_or (cells G) j.0 origin)) (sym i.2)
+          (subst (AreNear c) (sym j.2) close)) in
+          ap mark (sym i.2) ∙ mark_by_place i.0 i.1 ∙ one ∙ sym (mark_by_place j.0 j.1) ∙ ap mark j.2
+
+      -- they are in one piece
+      pieces_hold : HoldsNear G (pieces ++ Qs)
+      pieces_hold c d h k close =
           let N = piece_of c h in
           let M = piece_of d k in
           let in_N : contains N.0 d ≡ true =
@@ -118,8 +123,7 @@ module _ (G : Generation) (forest : List ℕ) (long : length forest ≡ length (
             | inl far ↦ absurd (far c d N.2 M.2 close)
             | inr same ↦ ap (λ H. contains H d) same ∙ M.2
           ] in
-          let both = pieces_joined N.0 N.1 c d N.2 in_N in
-          mark_by_bearer c both.first both.bears h ∙ both.one ∙ sym (mark_by_bearer d both.second both.bears_too k)
+          (N.0, Contains-append_left pieces Qs N.0 N.1, N.2, in_N)
 
       -- ---- what is tied is linked
 
@@ -161,7 +165,7 @@ module _ (G : Generation) (forest : List ℕ) (long : length forest ≡ length (
           let j = place_in_list G (cells G) refl d (in_whole P one d k) in
           let same : root forest i.0 ≡ root forest j.0 =
           sym (mark_by_place i.0 i.1) ∙ ap mark i.2 ∙ one_mark P one c d h k ∙ ap mark (sym j.2) ∙ mark_by_place j.0 j.1 in
-          let link = linked_by i.0 j.0 (tied (pieces ++ Qs) (λ S in_it. Contains-append_left pieces Qs S in_it)
+          let link = linked_by i.0 j.0 (tied (pieces ++ Qs) pieces_hold
           (λ S in_it. Contains-append_right pieces Qs S in_it) i.0 j.0 same) in
           subst (λ e. AreLinked R pieces Qs e d) i.2 (subst (AreLinked R pieces Qs (get_or (cells G) i.0 origin)) j.2 link)
 

@@ -1,3 +1,4 @@
 pub mod Bearers
 pub mod Ties
+pub mod Nearby
 pub mod Frames

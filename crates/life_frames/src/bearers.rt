@@ -12,7 +12,7 @@ use life_islands::numbers;
 use std::alloc::{AllocError, Global};
 
 /// How much greater the number of a cell is than that of the one above it.
-const ROW: i64 = 2_147_483_648;
+pub const ROW: i64 = 2_147_483_648;
 
 /// A number that rises along each row and from row to row.
 pub fn place_number(cell: (i32, i32)) -> i64
@@ -86,7 +86,7 @@ fn halved(all: &[(i32, i32)], number: i64) -> usize
 
 /// Before which place the cells have lesser numbers than this one. It is soon found near the guessed place, and else by
 /// halving; it is the next guess.
-fn parting(all: &[(i32, i32)], number: i64, guess: &mut usize) -> usize
+pub fn parting(all: &[(i32, i32)], number: i64, guess: &mut usize) -> usize
     requires rising { T (is_rising all.now) }
     requires placed { All IsPlace all.now }
     ensures { IsParting all.now number result }

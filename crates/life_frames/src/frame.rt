@@ -9,7 +9,7 @@ use crate::joining::joined;
 use crate::parents::parents;
 use crate::pieces::near_pieces;
 use life_cells::CellList;
-use life_film::classes_are_told_backwards;
+use life_film::{classes_are_told_backwards, film_classes_are_classes};
 use life_islands::gathered;
 use std::alloc::{AllocError, Global};
 
@@ -31,7 +31,7 @@ pub fn last_frame(alloc: Global, list: &CellList) -> Result<Frame, AllocError>
 }
 
 /// A generation, where these are the classes of the next one: its near pieces, joined wherever they bear cells of one of
-/// these.
+/// these. Cells are joined by their places.
 pub fn frame_before(alloc: Global, list: &CellList, later: &[CellList]) -> Result<Frame, AllocError>
     requires { (R : Rule) × (b : ℕ) × AreClasses R b (next R list.now) later.now }
     ensures classes { IfOk result (λ frame. (R : Rule) (b : ℕ) → AreClasses R b (next R list.now) later.now →
@@ -41,8 +41,9 @@ pub fn frame_before(alloc: Global, list: &CellList, later: &[CellList]) -> Resul
 {
     // The law by which the joined pieces are classes.
     classes_are_told_backwards();
-    let pieces = near_pieces(alloc, list)?;
-    let forest = joined(alloc, list, pieces.as_slice(), later)?;
+    // The near pieces, of which the program makes no lists here.
+    film_classes_are_classes();
+    let forest = joined(alloc, list, later)?;
     let classes = gathered(alloc, list, forest.as_slice())?;
     let parents = parents(alloc, list, forest.as_slice(), classes.as_slice(), later)?;
     Ok(Frame { classes, parents })

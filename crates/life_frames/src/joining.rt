@@ -1,13 +1,15 @@
-//! Places of a generation's cells are joined where these bear cells of one set.
+//! Places of a generation's cells are joined where these are near each other, and where they bear cells of one set.
 ghost use Rattle.std.specs.Prelude.{◌≡◌, ℕ, ◌<◌, IfOk, List, length, true};
 ghost use Rattle.std.specs.List.{Contains};
 ghost use Rattle.life_model.specs.Cell.{Cell};
 ghost use Rattle.life_model.specs.Generation.{Generation, cells, contains};
 ghost use Rattle.life_frames.specs.Bearers.{IsTouched};
+ghost use Rattle.life_frames.specs.Nearby.{HoldsNear, IsJoinedNear};
 ghost use Rattle.life_frames.specs.Ties.{AreTouched, IsFurther, IsJoined, JoinsTied};
 
 use crate::bearers::{bearer, rows};
 use crate::forest::{flatten, join};
+use crate::nearby::join_near;
 use life_cells::CellList;
 use life_islands::numbers;
 use std::alloc::{AllocError, Global};
@@ -46,25 +48,19 @@ fn join_sets(forest: &mut Vec<usize>, list: &CellList, sets: &[CellList], near: 
     }
 }
 
-/// The places of the cells, joined where the cells bear cells of one of the sets.
-pub fn joined(
-    alloc: Global,
-    list: &CellList,
-    pieces: &[CellList],
-    later: &[CellList],
-) -> Result<Vec<usize>, AllocError>
-    requires pieces { AreTouched list.now pieces.now }
+/// The places of the cells, joined where the cells are near each other, and where they bear cells of one of the sets.
+pub fn joined(alloc: Global, list: &CellList, later: &[CellList]) -> Result<Vec<usize>, AllocError>
     requires later { AreTouched list.now later.now }
     ensures long { IfOk result (λ forest. length forest.items ≡ length (cells list.now)) }
-    ensures pieces { IfOk result (λ forest. (S : Generation) → Contains pieces.now S → IsJoined list.now forest.items S) }
+    ensures near { IfOk result (λ forest. IsJoinedNear list.now forest.items) }
     ensures later { IfOk result (λ forest. (S : Generation) → Contains later.now S → IsJoined list.now forest.items S) }
     ensures tied { IfOk result (λ forest. (Ss : List Generation) →
-        ((S : Generation) → Contains pieces.now S → Contains Ss S) →
+        HoldsNear list.now Ss →
         ((S : Generation) → Contains later.now S → Contains Ss S) → JoinsTied list.now Ss forest.items) }
 {
     let mut forest = numbers(alloc, list.len())?;
+    join_near(&mut forest, list);
     let mut near = rows(alloc)?;
-    join_sets(&mut forest, list, pieces, near.as_mut_slice());
     join_sets(&mut forest, list, later, near.as_mut_slice());
     flatten(&mut forest);
     Ok(forest)

@@ -7,6 +7,7 @@ mod film;
 mod forest;
 mod frame;
 mod joining;
+mod nearby;
 mod parents;
 mod pieces;
 
