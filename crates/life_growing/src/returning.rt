@@ -13,10 +13,10 @@ ghost use Rattle.life_growing.specs.Populations.{ArePopulations};
 ghost use Rattle.life_growing.specs.Returning.{ComesBackBy, IsMove, left_by};
 
 use crate::refusal::falls_back;
-use life_ash::ash_of;
 use life_cells::{CellList, Rule, put_in_order};
 use life_islands::index_near;
 use life_plane::{Plane, move_between};
+use life_settled::falls_apart;
 use life_things::WAY_LIMIT;
 use std::alloc::{AllocError, Global};
 
@@ -116,29 +116,6 @@ fn left_beside(
     Ok(CellList::from_ordered(items))
 }
 
-/// Whether cells of this age have fallen apart within the bound.
-fn fall_apart<P: Plane>(
-    alloc: Global,
-    rule: &Rule,
-    cells: &CellList,
-    age: u32,
-    bound: u32,
-) -> Result<bool, AllocError>
-    requires bound { 1 ≤ bound × bound ≤ WAY_LIMIT }
-    requires age { age + bound ≤ ash_age_limit }
-    requires within { All (IsWithin age) (generations.cells cells.now) }
-    ensures no { IfOk result (λ do_so. do_so ≡ false → FallsApart rule.now bound cells.now → ⊥) }
-{
-    let mut plane = P::at_age(alloc, cells, age)?;
-    for _ in 0..bound {
-        plane.step(rule)?;
-    }
-    match ash_of(alloc, &plane, rule, bound)? {
-        Some(_) => Ok(true),
-        None => Ok(false),
-    }
-}
-
 /// Whether all the cells, moved, may be among those of a later generation of this age, and what is left then fall apart.
 fn may_come_back_by<P: Plane>(
     alloc: Global,
@@ -164,7 +141,7 @@ fn may_come_back_by<P: Plane>(
     }
     *tries -= 1;
     let left = left_beside(alloc, cells, by, later)?;
-    fall_apart::<P>(alloc, rule, &left, age, bound)
+    falls_apart::<P>(alloc, rule, &left, age, bound)
 }
 
 /// The same for any move. Only such moves are looked at as lead two of the cells to cells of the later generation.
@@ -227,7 +204,16 @@ pub fn never_come_back<P: Plane>(
         plane.step(rule)?;
         if !falls_back(counts, n as usize + 1) {
             let later = plane.cells()?;
-            if may_come_back::<P>(alloc, rule, cells, ends, &later, age + n + 1, bound, &mut tries)? {
+            if may_come_back::<P>(
+                alloc,
+                rule,
+                cells,
+                ends,
+                &later,
+                age + n + 1,
+                bound,
+                &mut tries,
+            )? {
                 return Ok(false);
             }
         }

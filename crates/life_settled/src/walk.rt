@@ -1,5 +1,5 @@
 //! Generations that are looked at until one of them is ash.
-ghost use Rattle.std.specs.Prelude.{◌+◌, ◌≤◌, All, IfNone, IfOk, IfSome};
+ghost use Rattle.std.specs.Prelude.{◌+◌, ◌≤◌, ◌↔◌, All, IfNone, IfOk, IfSome, IsTrue};
 ghost use Rattle.life_model.specs.Generation as generations;
 ghost use Rattle.life_cells.specs.Limits.{IsWithin};
 ghost use Rattle.life_growth.specs.Engine.{FallsApart};
@@ -13,8 +13,34 @@ use life_plane::Plane;
 use life_things::WAY_LIMIT;
 use std::alloc::{AllocError, Global};
 
+/// Of more cells than this one looks first at the generation of the bound, which decides.
+const FEW: usize = 128;
+
+/// Whether a set of cells falls apart within the bound, as the generation of the bound tells; its cells have places of this age.
+pub fn falls_apart<P: Plane>(
+    alloc: Global,
+    rule: &Rule,
+    cells: &CellList,
+    age: u32,
+    bound: u32,
+) -> Result<bool, AllocError>
+    requires bound { 1 ≤ bound × bound ≤ WAY_LIMIT }
+    requires age { age + bound ≤ ash_age_limit }
+    requires within { All (IsWithin age) (generations.cells cells.now) }
+    ensures { IfOk result (λ does. IsTrue does ↔ FallsApart rule.now bound cells.now) }
+{
+    let mut later = P::at_age(alloc, cells, age)?;
+    for _ in 0..bound {
+        later.step(rule)?;
+    }
+    match ash_of(alloc, &later, rule, bound)? {
+        Some(_) => Ok(true),
+        None => Ok(false),
+    }
+}
+
 /// What a set of cells falls apart into within the bound, if it does; its cells have places of this age. Generations
-/// 0, 1, 2, 4 and so on are looked at, and at last that of the bound.
+/// 0, 1, 2, 4 and so on are looked at, and at last that of the bound. Of many cells that is looked at first.
 pub fn settled<P: Plane>(
     alloc: Global,
     rule: &Rule,
@@ -28,6 +54,9 @@ pub fn settled<P: Plane>(
     ensures some { IfOk result (λ found. IfSome found (IsSettling rule.now bound cells.now)) }
     ensures none { IfOk result (λ found. IfNone found (FallsApart rule.now bound cells.now → ⊥)) }
 {
+    if cells.len() > FEW && !falls_apart::<P>(alloc, rule, cells, age, bound)? {
+        return Ok(None);
+    }
     let mut plane = P::at_age(alloc, cells, age)?;
     let mut early = Vec::new(alloc);
     for n in 0..bound {

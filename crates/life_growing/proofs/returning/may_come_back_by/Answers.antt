@@ -7,8 +7,8 @@ use Rattle.life_growing.specs.Returning.{left_by}
 use Rattle.life_model.specs.Symmetry.{translate_of}
 use Rattle.life_growing.proofs.returning.may_come_back_by.Goals as goal
 
-pub fall_apart-requires-clause-within : goal.fall_apart-requires-clause-within
-fall_apart-requires-clause-within g c =
+pub falls_apart-requires-clause-within : goal.falls_apart-requires-clause-within
+falls_apart-requires-clause-within g c =
     subset_within c.args.age c.args.age (omega arith) c.in_ok-left.left c.args.later.now
     (λ q h. (in_others c.args.later.now (translate_of c.args.cells.now c.args.by) q
     (ap (λ H. contains H q) (sym c.in_ok-left.ensures) ∙ h)).0) c.requires.within
