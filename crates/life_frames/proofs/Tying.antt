@@ -59,6 +59,13 @@ module _ (G : Generation) where
   pub joined_of_none : (f : List ℕ) (S : Generation) (cs : List Cell) → cs ≡ cells S → length cs ≡ 0 → IsJoined G f S
   joined_of_none f S cs is none c d h k = let at = place_in_list S cs is c h in let within = at.1 in absurd (omega arith)
 
+  -- the first has its own
+  pub first_rooted : (f : List ℕ) (cs : List Cell) (r : ℕ) → IsBearer G (get_or cs 0 origin) r → (k : ℕ) → k < 1 →
+      HasRootOf G f (get_or cs k origin) r
+  first_rooted f cs r bears k below =
+      let here : 0 ≡ k = omega arith in
+      record { place = r; bears = subst (λ j. IsBearer G (get_or cs j origin) r) here bears; one = refl }
+
   -- one more has that root
   pub one_more_rooted : (f g : List ℕ) (cs : List Cell) (n r m : ℕ) → IsUnited f g r m → IsBearer G (get_or cs n origin) m →
       ((k : ℕ) → k < n → HasRootOf G f (get_or cs k origin) r) → (k : ℕ) → k < n + 1 → HasRootOf G g (get_or cs k origin) r

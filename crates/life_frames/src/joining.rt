@@ -28,7 +28,7 @@ fn join_set(forest: &mut Vec<usize>, list: &CellList, set: &CellList, near: &mut
         return;
     }
     let first = bearer(list, all[0], near);
-    for n in 0..all.len() {
+    for n in 1..all.len() {
         let other = bearer(list, all[n], near);
         join(forest, first, other);
     }

@@ -9,35 +9,35 @@ ghost use Rattle.life_frames.specs.Bearers.{IsTouched};
 ghost use Rattle.life_frames.specs.Frames.{IsBeside};
 ghost use Rattle.life_frames.specs.Ties.{AreTouched};
 
-use crate::bearers::{bearer, has, place_number, rows};
+use crate::bearers::{bearer, has, rows};
 use life_cells::CellList;
 use life_classes::root;
 use std::alloc::{AllocError, Global};
 
-/// Whether the first cell of a set has at most this number.
-fn starts_by(set: &CellList, number: i64) -> bool {
-    match set.as_slice().first() {
-        Some(cell) => place_number(*cell) <= number,
-        None => true,
+/// For the place of each root of a forest how many roots come before it: where classes come in the order of their roots, the
+/// place of the root's class. Nothing rests on it.
+fn class_places(alloc: Global, forest: &[usize]) -> Result<Vec<usize>, AllocError> {
+    let mut places = Vec::with_capacity(alloc, forest.len())?;
+    let mut count: usize = 0;
+    for n in 0..forest.len() {
+        places.push(count)?;
+        if forest[n] == n {
+            count = count.saturating_add(1);
+        }
     }
+    Ok(places)
 }
 
-/// Before which place the first cells of the classes have at most this number, where they are in order. Nothing rests on it.
-fn guess(classes: &[CellList], number: i64) -> usize {
-    classes.partition_point(|class| starts_by(class, number))
-}
-
-/// The place of the class that has a cell. It is looked for first where the first cell of the class has this number.
-fn class_of(classes: &[CellList], cell: (i32, i32), number: i64) -> usize
+/// The place of the class that has a cell. It is looked for first in the guessed place.
+fn class_of(classes: &[CellList], cell: (i32, i32), guess: usize) -> usize
     requires placed { IsPlace cell }
     requires some { contains (union_of classes.now) cell ≡ true }
     ensures within { result < length classes.now }
     ensures has { contains (get_or classes.now result empty) cell ≡ true }
 {
-    let past = guess(classes, number);
-    if 0 < past && past <= classes.len() {
-        if has(&classes[past - 1], cell) {
-            return past - 1;
+    if guess < classes.len() {
+        if has(&classes[guess], cell) {
+            return guess;
         }
     }
     for n in 0..classes.len() {
@@ -48,12 +48,21 @@ fn class_of(classes: &[CellList], cell: (i32, i32), number: i64) -> usize
     0
 }
 
+/// What stands in a place of a table, or 0 past it.
+fn guess_at(class_places: &[usize], place: usize) -> usize {
+    match class_places.get(place) {
+        Some(guess) => *guess,
+        None => 0,
+    }
+}
+
 /// The place of the class that bears a set. A table of rows says where cells were found last.
 fn parent(
     list: &CellList,
     forest: &[usize],
     classes: &[CellList],
     set: &CellList,
+    class_places: &[usize],
     near: &mut [usize],
 ) -> usize
     requires some { set.now ≢ empty }
@@ -67,8 +76,7 @@ fn parent(
     }
     let all = list.as_slice();
     let at = bearer(list, cells[0], near);
-    let first = root(forest, at);
-    class_of(classes, all[at], place_number(all[first]))
+    class_of(classes, all[at], guess_at(class_places, root(forest, at)))
 }
 
 /// The places of the classes that bear the sets.
@@ -87,9 +95,17 @@ pub fn parents(
         IsBeside list.now classes.now (get_or later.now j empty) (get_or places.items j 0)) }
 {
     let mut places = Vec::with_capacity(alloc, later.len())?;
+    let class_places = class_places(alloc, forest)?;
     let mut near = rows(alloc)?;
     for n in 0..later.len() {
-        let place = parent(list, forest, classes, &later[n], near.as_mut_slice());
+        let place = parent(
+            list,
+            forest,
+            classes,
+            &later[n],
+            class_places.as_slice(),
+            near.as_mut_slice(),
+        );
         places.push(place)?;
     }
     Ok(places)

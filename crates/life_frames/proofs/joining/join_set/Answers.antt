@@ -1,7 +1,7 @@
 use Rattle.std.proofs.Common.{get_or, arith}
 use Rattle.life_model.specs.Cell.{origin}
 use Rattle.life_islands.proofs.Labelled.{listed_cell}
-use Rattle.life_frames.proofs.Tying.{further_through, further_united, joined_by_root, joined_of_none, one_more_rooted, tied_more}
+use Rattle.life_frames.proofs.Tying.{first_rooted, further_itself, further_through, further_united, joined_by_root, joined_of_none, one_more_rooted, tied_more}
 use Rattle.life_frames.proofs.joining.join_set.Goals as goal
 
 pub returns-then-all-eq0-clause-joined : goal.returns-then-all-eq0-clause-joined
@@ -19,6 +19,13 @@ pub bearer-other-requires-clause-touched : goal.bearer-other-requires-clause-tou
 bearer-other-requires-clause-touched c =
     c.requires.touched (get_or c.as_slice-all.result.now c.loop-n.n origin)
     (listed_cell c.args.set.now c.as_slice-all.result.now c.loop-n.n c.as_slice-all.ensures.cells (omega (arith, c.loop-n-test.true)))
+
+pub loop-n-init : goal.loop-n-init
+loop-n-init c = record {
+  further = further_itself c.args.forest.now.items;
+  rooted = first_rooted c.args.list.now c.args.forest.now.items c.as_slice-all.result.now c.bearer-first.result c.bearer-first.ensures;
+  tied = λ Ss one before. before;
+}
 
 pub loop-n-preserved : goal.loop-n-preserved
 loop-n-preserved c =
