@@ -1,6 +1,7 @@
 -- Roots stay where numbers go further up.
-use Rattle.std.proofs.Common.{◌≡◌, ℕ, true, ◌<◌, List, length, length-set, get_or, inl, inr, sym, refl, ap, ◌∙◌, arith}
+use Rattle.std.proofs.Common.{◌≡◌, ℕ, true, ◌<◌, ◌≤◌, List, length, length-set, get_or, inl, inr, sym, refl, ap, ◌∙◌, arith}
 use Rattle.std.proofs.Math.ListN.{set}
+use Rattle.std.proofs.lemmas.Bool.{cases_lt}
 use Rattle.std.proofs.lemmas.List.{get_or_default}
 use Rattle.life_classes.specs.Forest.{IsJoined, root}
 use Rattle.life_classes.proofs.Forests.{root-root, root-set_within, root-up, sum-set-le}
@@ -42,6 +43,22 @@ same_two_up f at next further h k is goes_to lower least =
 pub root_still : (f g h : List ℕ) (k r : ℕ) → AreSameRoots f g → AreSameRoots g h → r ≡ root f k → root h r ≡ r
 root_still f g h k r a b is =
     b.same r ∙ a.same r ∙ ap (root f) is ∙ root-root f k ∙ sym is
+
+-- what goes to a number that is not greater has its root
+at_most_up : (f : List ℕ) (k next : ℕ) → get_or f k k ≡ next → next ≤ k → root f k ≡ root f next
+at_most_up f k next is low = elim (cases_lt next k) [
+  | inl less ↦ root-up f k (omega arith) ∙ ap (root f) is
+  | inr past ↦
+      let same : k ≡ next = omega arith in
+      ap (root f) same
+]
+
+-- numbers that go to one number that is not greater than either have one root
+pub siblings : (f : List ℕ) (one other : ℕ) → one < length f → other < length f → get_or f one 0 ≤ one → get_or f other 0 ≤ other →
+    get_or f one 0 ≡ get_or f other 0 → root f one ≡ root f other
+siblings f one other h k low low_too same =
+    at_most_up f one (get_or f one 0) (get_or_default f one one 0 h) low ∙ ap (root f) same
+    ∙ sym (at_most_up f other (get_or f other 0) (get_or_default f other other 0 k) low_too)
 
 pub united_already : (f h : List ℕ) (one other : ℕ) → AreSameRoots f h → root f one ≡ root f other → IsUnited f h one other
 united_already f h one other a same = record {

@@ -1,5 +1,5 @@
 //! Numbers that are joined: a forest in which each number goes to a lesser one, or is a root.
-ghost use Rattle.std.specs.Prelude.{◌≡◌, ℕ, ◌<◌, ◌≤◌, length};
+ghost use Rattle.std.specs.Prelude.{◌≡◌, ℕ, ◌<◌, ◌≤◌, IsTrue, length};
 ghost use Rattle.std.specs.List.{sum};
 ghost use Rattle.life_classes.specs.Forest.{moved, root};
 ghost use Rattle.life_frames.specs.Ties.{AreSameRoots, IsUnited};
@@ -39,11 +39,34 @@ fn put(forest: &mut Vec<usize>, high: usize, low: usize)
     forest[high] = low;
 }
 
-/// Joins two numbers.
+/// Whether two numbers go to one number that is not greater than either.
+#[inline(always)]
+fn are_siblings(forest: &[usize], one: usize, other: usize) -> bool
+    requires { one < length forest.now × other < length forest.now }
+    ensures { IsTrue result → root forest.now one ≡ root forest.now other }
+{
+    let next = forest[one];
+    let other_next = forest[other];
+    if next > one {
+        return false;
+    }
+    if other_next > other {
+        return false;
+    }
+    if next != other_next {
+        return false;
+    }
+    true
+}
+
+/// Joins two numbers. Mostly both go to one number already.
 pub fn join(forest: &mut Vec<usize>, one: usize, other: usize)
     requires { one < length forest.old.items × other < length forest.old.items }
     ensures { IsUnited forest.old.items forest.new.items one other }
 {
+    if are_siblings(forest.as_slice(), one, other) {
+        return;
+    }
     let first = find(forest, one);
     let second = find(forest, other);
     if first < second {
