@@ -24,4 +24,6 @@ pub mod Repeated
 pub mod Keeping
 pub mod Grouping
 pub mod Wholes
+pub mod Lone
+pub mod Lived
 pub mod Beside

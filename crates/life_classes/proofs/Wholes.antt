@@ -1,5 +1,5 @@
 -- Labels of which all that count have one root.
-use Rattle.std.proofs.Common.{◌≡◌, ◌≢◌, ℕ, ◌<◌, pos, true, List, length, get_or, inl, inr, sym, refl, ap, subst, ◌∙◌, arith}
+use Rattle.std.proofs.Common.{◌≡◌, ◌≢◌, ℕ, ◌<◌, pos, List, length, get_or, inl, inr, sym, refl, ap, ◌∙◌, arith}
 use Rattle.std.proofs.lemmas.Bool.{cases_lt}
 use Rattle.std.proofs.lemmas.List.{get_or_default}
 use Rattle.life_model.specs.Cell.{origin}
@@ -8,20 +8,15 @@ use Rattle.life_model.specs.Generation.{Generation, cells, contains, empty}
 use Rattle.life_model.specs.Evolution.{next}
 use Rattle.life_model.proofs.Moves.{nothing_or_some}
 use Rattle.life_model.proofs.Near.{next_near}
-use Rattle.life_objects.specs.Whole.{StaysWhole}
-use Rattle.life_objects.proofs.Sides.{within_each_other}
 use Rattle.life_objects.proofs.Unions.{in_empty}
 use Rattle.life_classes.specs.declared.class.Class.{Class}
 use Rattle.life_classes.specs.declared.labels.Labelled.{Labelled}
 use Rattle.life_classes.specs.declared.tags.Tag.{Tag}
 use Rattle.life_classes.specs.Forest.{root}
 use Rattle.life_classes.specs.Labels.{AreLabelled, AreReached, HasOneRoot, class_of_root, classes_by}
-use Rattle.life_classes.specs.Tracking.{AreFew, AreTracked}
-use Rattle.life_classes.proofs.Beginning.{listed}
+use Rattle.life_classes.specs.Tracking.{AreFew}
 use Rattle.life_classes.proofs.Chosen.{class_at, count_classes, in_root, of_root}
-use Rattle.life_classes.proofs.Forests.{by_steps, root-le, root-stays, root-up}
-use Rattle.life_classes.proofs.Inherited.{stands_in}
-use Rattle.life_classes.proofs.Joined.{set_of_root}
+use Rattle.life_classes.proofs.Forests.{root-le}
 use Rattle.life_classes.proofs.Reached.{touching}
 
 -- each cell of the next generation is at most one away from one of these
@@ -30,33 +25,9 @@ reached_next R l H is c h =
     let near = next_near R l.cells c (ap (λ G. contains G c) (sym is) ∙ h) in
     touching l.cells c near.0 near.1 near.2
 
--- where each number but the first goes to a lesser one
-pub one_root : (f : List ℕ) → ((k d : ℕ) → 0 < k → k < length f → get_or f k d < k) → (k : ℕ) → k < length f → root f k ≡ 0
-one_root f lower k =
-    by_steps f (λ k. k < length f → root f k ≡ 0)
-    (λ k stops h. elim (cases_lt 0 k) [
-      | inl more ↦ absurd (let less = lower k k more h in omega arith)
-      | inr none ↦ root-stays f k stops ∙ (let z : k ≡ 0 = omega arith in z)
-    ])
-    (λ k goes up h. root-up f k goes ∙ up (omega arith)) k
-
 module _ (l : Labelled) (f : List ℕ) (labelled : AreLabelled l f) where
   abbrev tag : Tag
   tag = record { number = pos 0; label = 0 }
-
-  pub all_of_one : ((k : ℕ) → k < length f → root f k ≡ 0) → set_of_root l f 0 ≡ l.cells
-  all_of_one one =
-      within_each_other (set_of_root l f 0) l.cells
-      (λ c h.
-      let w = in_root l f 0 c h in
-      subst (λ d. contains l.cells d ≡ true) (w.is origin) (listed l.cells w.place origin w.inside))
-      (λ c h.
-      let at = stands_in l.cells c h in
-      let inside = at.1 in
-      let count = labelled.tagged.count in
-      subst (λ d. contains (set_of_root l f 0) d ≡ true) at.2
-      (of_root l f 0 at.0 tag origin inside (omega arith)
-      (one (get_or l.tags.items at.0 tag).label (labelled.within at.0 tag (omega arith)))))
 
   -- ---- at most one class lives
 
@@ -116,12 +87,3 @@ module _ (l : Labelled) (f : List ℕ) (labelled : AreLabelled l f) where
       ] in
       ap (λ (t : Tag). root f t.label) (get_or_default l.tags.items i d tag h) ∙ same
       ∙ ap (λ (t : Tag). root f t.label) (get_or_default l.tags.items j tag e k)
-
--- the class of all cells is one that no split tears
-pub whole_of_one : (R : Rule) (b n : ℕ) (G : Generation) (a l : Labelled) (f : List ℕ) → AreLabelled a f → 0 < length f →
-    ((k : ℕ) → k < length f → root f k ≡ 0) → AreTracked R b n G (classes_by a l f) → StaysWhole R b G a.cells
-whole_of_one R b n G a l f labelled some one t =
-    let count = count_classes a l f in
-    let d = class_of_root a l f 0 in
-    subst (StaysWhole R b G) (ap (λ (c : Class). c.first) (class_at a l f 0 d some) ∙ all_of_one a f labelled one)
-    (t.whole 0 d (omega arith))

@@ -29,6 +29,10 @@ class_of_cell c = record { first = from_list (c ∷ []); last = from_list (c ∷
 abbrev pub moved_on : Generation → Class → Class
 moved_on G c = record { first = c.first; last = keep G (reaches 1 c.last) }
 
+-- a class so many generations later, where no other has a say in what becomes of it
+abbrev pub after : Rule → ℕ → Class → Class
+after R n c = record { first = c.first; last = generation R c.last n }
+
 -- what has become of any two classes is apart
 abbrev pub AreApartNow : List Class → Type 0
 AreApartNow cs = AllPairs (λ c d. AreApart c.last d.last) cs

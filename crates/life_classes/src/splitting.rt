@@ -1,23 +1,21 @@
 //! The finest splitting of a plane's cells into classes that stay apart.
-ghost use Rattle.std.specs.Prelude.{◌≡◌, ◌≤◌, ◌+◌, ◌<◌, ◌∷◌, ℕ, [], All, AllPairs, IfOk, get_or, length, map};
-ghost use Rattle.std.specs.Bool.{OnTrue};
+ghost use Rattle.std.specs.Prelude.{◌≡◌, ◌≤◌, ◌+◌, ◌↔◌, ℕ, All, AllPairs, IfOk, IsTrue, length, map};
 ghost use Rattle.life_model.specs.Evolution.{generation};
 ghost use Rattle.life_model.specs.Generation as generation_sets;
 ghost use Rattle.life_cells.specs.Limits.{IsPlace};
 ghost use Rattle.life_objects.specs.Apart.{AreApartFor};
 ghost use Rattle.life_objects.specs.Union.{generations, union_of};
 ghost use Rattle.life_objects.specs.Whole.{StaysWhole};
-ghost use Rattle.life_classes.specs.declared.class.Class.{Class as ModelClass};
 ghost use Rattle.life_classes.specs.Forest.{root};
 ghost use Rattle.life_classes.specs.Labels.{AreReached};
 ghost use Rattle.life_classes.specs.Splits.{IsLabelledSplit, classes_of_split};
-ghost use Rattle.life_classes.specs.Tracking.{AreApartNow, LeadTo, class_of_cell, first_sets, last_sets, moved_on};
+ghost use Rattle.life_classes.specs.Tracking.{AreApartNow, AreFew, AreTracked, LeadTo, after, class_of_cell, first_sets, last_sets, moved_on};
 
 use crate::class::Class;
 use crate::collecting::{collected, set_of};
 use crate::inheriting::inherited;
 use crate::joining::join_near;
-use crate::labels::{Labelled, first_labels};
+use crate::labels::{Labelled, first_label, first_labels, have_one_root, labelled_alike};
 use life_cells::{CellList, Rule};
 use life_plane::{AGE_LIMIT, Plane};
 use std::alloc::{AllocError, Global};
@@ -108,44 +106,83 @@ pub fn first_classes(alloc: Global, cells: &[(i32, i32)]) -> Result<Vec<Class>, 
     Ok(all)
 }
 
-/// Whether there are numbers, and all have one root.
-fn are_one(forest: &[usize]) -> bool
-    ensures some { OnTrue result (0 < length forest.now) }
-    ensures one { OnTrue result ((k : ℕ) → k < length forest.now → root forest.now k ≡ 0) }
+/// Whether something is left of at most one of the classes.
+pub fn are_few(split: &Split) -> bool
+    requires { IsLabelledSplit split.now }
+    ensures { IsTrue result ↔ AreFew (classes_of_split split.now) }
 {
-    if forest.is_empty() {
-        return false;
-    }
-    for n in 1..forest.len() {
-        if forest[n] >= n {
-            return false;
-        }
-    }
-    true
+    have_one_root(split.forest.as_slice(), &split.last)
 }
 
-/// A class whose cells at first are these, and of which the plane's cells have become so many generations later.
-fn one_class<P: Plane>(
-    alloc: Global,
-    first: Labelled,
-    plane: P,
-    rule: &Rule,
-    left: u32,
-) -> Result<Vec<Class>, AllocError>
-    requires young { P.steps_made plane + left ≤ AGE_LIMIT }
-    ensures { IfOk result (λ all. all.items ≡
-        (record { first = first.cells; last = generation rule.now (P.members plane) left } ∷ [])) }
+/// The plane so many generations later.
+fn stepped<P: Plane>(plane: P, rule: &Rule, count: u32) -> Result<P, AllocError>
+    requires young { P.steps_made plane + count ≤ AGE_LIMIT }
+    ensures { IfOk result (λ later. P.members later ≡ generation rule.now (P.members plane) count) }
 {
     let mut plane = plane;
-    for _ in 0..left {
+    for _ in 0..count {
         plane.step(rule)?;
     }
-    Ok(vec![in alloc;
-        Class {
-            first: first.cells,
-            last: plane.cells()?,
-        },
-    ]?)
+    Ok(plane)
+}
+
+/// The classes so many generations later, where something is left of at most one of them. The plane has its cells.
+fn lone_class_later<P: Plane>(
+    alloc: Global,
+    split: Split,
+    plane: P,
+    rule: &Rule,
+    count: u32,
+) -> Result<Split, AllocError>
+    requires labelled { IsLabelledSplit split }
+    requires few { AreFew (classes_of_split split) }
+    requires cells { split.last.cells ≡ P.members plane }
+    requires young { P.steps_made plane + count ≤ AGE_LIMIT }
+    ensures labelled { IfOk result IsLabelledSplit }
+    ensures later { IfOk result
+        (λ later. classes_of_split later ≡ map (after rule.now count) (classes_of_split split)) }
+{
+    let label = first_label(&split.last);
+    let later = stepped(plane, rule, count)?;
+    let cells = later.cells()?;
+    let last = labelled_alike(alloc, cells, label)?;
+    Ok(Split {
+        first: split.first,
+        last,
+        forest: split.forest,
+    })
+}
+
+/// The classes after so many generations, joined where they came near each other. The plane has their cells.
+fn followed_for<P: Plane>(
+    alloc: Global,
+    split: Split,
+    plane: P,
+    rule: &Rule,
+    bound: u32,
+) -> Result<Split, AllocError>
+    requires labelled { IsLabelledSplit split }
+    requires cells { split.last.cells ≡ P.members plane }
+    requires tracked { AreTracked rule.now bound 0 (P.members plane) (classes_of_split split) }
+    requires apart { AreApartNow (classes_of_split split) }
+    requires young { P.steps_made plane + bound ≤ AGE_LIMIT }
+    ensures labelled { IfOk result IsLabelledSplit }
+    ensures tracked { IfOk result
+        (λ end. AreTracked rule.now bound bound (P.members plane) (classes_of_split end)) }
+    ensures apart { IfOk result (λ end. AreApartNow (classes_of_split end)) }
+{
+    let mut plane = plane;
+    let mut split = split;
+    for n in 0..bound {
+        if are_few(&split) {
+            let end = lone_class_later(alloc, split, plane, rule, bound - n)?;
+            return Ok(end);
+        }
+        plane.step(rule)?;
+        let cells = plane.cells()?;
+        split = followed(alloc, split, cells)?;
+    }
+    Ok(split)
 }
 
 /// The classes of a plane's cells that stay apart for so many generations, torn as finely as can be: however the cells
@@ -166,20 +203,11 @@ pub fn classes<P: Plane>(
     ensures later { IfOk result
         (λ all. last_sets all.items ≡ generations rule.now (first_sets all.items) bound) }
 {
-    let mut plane = plane;
     let first = plane.cells()?;
     let last = plane.cells()?;
-    let mut split = first_split(alloc, first, last)?;
-    for n in 0..bound {
-        if are_one(split.forest.as_slice()) {
-            let all = one_class(alloc, split.first, plane, rule, bound - n)?;
-            return Ok(all);
-        }
-        plane.step(rule)?;
-        let cells = plane.cells()?;
-        split = followed(alloc, split, cells)?;
-    }
-    let all = classes_in(alloc, &split)?;
+    let split = first_split(alloc, first, last)?;
+    let end = followed_for(alloc, split, plane, rule, bound)?;
+    let all = classes_in(alloc, &end)?;
     Ok(all)
 }
 

@@ -2,37 +2,11 @@
 ghost use Rattle.std.specs.Prelude.{ℕ, ◌≤◌, ◌+◌, ◌↔◌, IfOk, IsTrue};
 ghost use Rattle.life_model.specs.Rule.{Rule as ModelRule};
 ghost use Rattle.life_objects.specs.Piece.{IsUndivided};
-ghost use Rattle.life_classes.specs.Labels.{AreLabelled, HasOneRoot};
-ghost use Rattle.life_classes.specs.Splits.{IsLabelledSplit, classes_of_split};
-ghost use Rattle.life_classes.specs.Tracking.{AreFew};
 
-use crate::forest::root;
-use crate::labels::Labelled;
-use crate::splitting::{Split, first_classes, first_split, followed};
+use crate::splitting::{are_few, first_classes, first_split, followed};
 use life_cells::{CellList, Rule};
 use life_plane::{AGE_LIMIT, Plane};
 use std::alloc::{AllocError, Global};
-
-/// Whether the labels of the cells have one root.
-fn have_one_root(forest: &[usize], cells: &Labelled) -> bool
-    ensures { IsTrue result ↔ HasOneRoot cells.now.tags.items forest.now }
-{
-    let tags = cells.tags.as_slice();
-    for n in 1..tags.len() {
-        if root(forest, tags[n].label) != root(forest, tags[0].label) {
-            return false;
-        }
-    }
-    true
-}
-
-/// Whether something is left of at most one of the classes.
-fn are_few(split: &Split) -> bool
-    requires { IsLabelledSplit split.now }
-    ensures { IsTrue result ↔ AreFew (classes_of_split split.now) }
-{
-    have_one_root(split.forest.as_slice(), &split.last)
-}
 
 /// Whether cells are one class from the first. Then they are undivided under each rule and for each bound.
 pub fn hold_together(alloc: Global, cells: &CellList) -> Result<bool, AllocError>

@@ -1,7 +1,7 @@
 use Rattle.std.proofs.Common.{◌≡◌, ℕ, ◌<◌, length, get_or}
 use Rattle.life_classes.specs.declared.tags.Tag.{Tag}
 use Rattle.life_classes.specs.Forest.{root}
-use Rattle.life_classes.proofs.undivided.have_one_root.Given as goal
+use Rattle.life_classes.proofs.labels.have_one_root.Given as goal
 
 -- those looked at have the root of the first
 abbrev pub invariant-loop-n : goal.invariant-loop-n

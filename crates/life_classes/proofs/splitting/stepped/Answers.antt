@@ -1,7 +1,7 @@
 use Rattle.std.proofs.Common.{◌+◌, sym, ap, ◌∙◌, add-zero, add_assoc}
 use Rattle.life_model.specs.Evolution.{next}
 use Rattle.life_model.proofs.Recurrences.{generation-zero, generation-next}
-use Rattle.life_classes.proofs.splitting.one_class.Goals as goal
+use Rattle.life_classes.proofs.splitting.stepped.Goals as goal
 
 pub loop-init : goal.loop-init
 loop-init g c = record { members = sym (generation-zero c.args.rule.now (g.P.Plane.members c.args.plane)); aged = sym (add-zero _) }

@@ -1,6 +1,6 @@
 use Rattle.std.proofs.Common.{◌≡◌, ◌+◌}
 use Rattle.life_model.specs.Evolution.{generation}
-use Rattle.life_classes.proofs.splitting.one_class.Given as goal
+use Rattle.life_classes.proofs.splitting.stepped.Given as goal
 
 abbrev pub invariant-loop : goal.invariant-loop
 invariant-loop g l = record {

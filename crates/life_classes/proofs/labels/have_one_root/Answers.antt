@@ -2,7 +2,7 @@ use Rattle.std.proofs.Common.{◌≡◌, get_or, ap, ◌∙◌, arith}
 use Rattle.std.proofs.lemmas.List.{get_or_default}
 use Rattle.life_classes.specs.declared.tags.Tag.{Tag}
 use Rattle.life_classes.specs.Forest.{root}
-use Rattle.life_classes.proofs.undivided.have_one_root.Goals as goal
+use Rattle.life_classes.proofs.labels.have_one_root.Goals as goal
 
 pub loop-n-init : goal.loop-n-init
 loop-n-init c k d e below h =
