@@ -1,6 +1,6 @@
 //! Hints at what may have been overlooked in collections, beside the lines that explain faults.
 //!
-//! Tested in `tests_hints`.
+//! Tested in `tests_inputs`.
 #![tactic(auto)]
 
 mod hints;

@@ -1,6 +1,6 @@
 //! The objects that a set of cells falls apart into.
 //!
-//! Tested in `tests_objects`, by `life_census`, and in `tests_onset`.
+//! Tested in `tests_objects`, by `life_census`, and in `tests_parts`.
 #![tactic(auto)]
 
 mod again;

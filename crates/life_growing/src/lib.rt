@@ -1,7 +1,7 @@
 //! The growth of a generation: the engines among its classes, what becomes of what they emit, and of the debris beside
 //! them.
 //!
-//! Tested in `tests_growing`.
+//! Tested in `tests_growth`.
 #![tactic(auto)]
 
 mod apart;

@@ -1,6 +1,6 @@
 //! From which generation on a pattern is ash, where a later generation is ash of known parts.
 //!
-//! Tested in `tests_onset`.
+//! Tested in `tests_parts`.
 #![tactic(auto)]
 
 mod pattern;

@@ -1,7 +1,7 @@
 //! What a set falls apart into within a bound, as things in space and time: its generations before it is ash, and the
 //! phases of the parts of that ash.
 //!
-//! Tested in `tests_settled`.
+//! Tested in `tests_things`.
 #![tactic(auto)]
 
 mod laws;

@@ -1,6 +1,6 @@
 //! The classes of a film's first generation that come back, moved or not, and what leaves them on the way.
 //!
-//! Tested in `tests_tracks`.
+//! Tested in `tests_growth`.
 #![tactic(auto)]
 
 mod lines;

@@ -1,4 +1,5 @@
-//! Tests of what the program is given: folders of files, and readers and writers that end, fail, stop or go on without end.
+//! Tests of what the program is given: folders of files, and readers and writers that end, fail, stop or go on without end; and of
+//! hints at what may have been overlooked there.
 //!
 //! What the built program reads of folders is in `checks/rows` and `checks/disk`, and where a read fails or memory is refused in
 //! `checks/ends` and `checks/growths`.
@@ -8,6 +9,8 @@
 mod ends;
 #[cfg(test)]
 mod folders;
+#[cfg(test)]
+mod hints;
 #[cfg(test)]
 mod keeping;
 mod memory;

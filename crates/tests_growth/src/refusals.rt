@@ -1,5 +1,5 @@
 //! What is seen to be no engine by its populations, or as it comes again.
-use crate::patterns::{ACORN, BLOCK, GLIDER, GUN, PENTOMINO_AND_BLOCKS};
+use crate::growing_patterns::{ACORN, BLOCK, GLIDER, GUN, PENTOMINO_AND_BLOCKS};
 use life_board::Board;
 use life_cells::{CellList, Rule};
 use life_growing::are_no_engine;

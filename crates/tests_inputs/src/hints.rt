@@ -6,7 +6,7 @@ use census_hints::hint_lines;
 use std::alloc::Global;
 use std::process::Abort;
 use std::test::Fail;
-use tests_inputs::{Leaf, Memory, below, plain, read};
+use crate::{Leaf, Memory, below, plain, read};
 
 // A regular file, or without a name a folder.
 macro_rules! leaf {

@@ -6,7 +6,7 @@ use Rattle.life_model.proofs.Recurrences.{generation-next, generation-zero}
 use Rattle.life_objects.specs.Ash.{IsAsh}
 use Rattle.life_onset.specs.Moments.{IsMomentOf}
 use Rattle.life_onset.specs.Pasts.{sets_of}
-use Rattle.tests_onset.proofs.patterns.onset_by.Goals as goal
+use Rattle.tests_parts.proofs.patterns.onset_by.Goals as goal
 
 pub loop-init : goal.loop-init
 loop-init g c =

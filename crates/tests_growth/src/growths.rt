@@ -1,6 +1,6 @@
 //! What is found of guns, switch engines, and of what doesn't grow. Periods, displacements and what is emitted are from
 //! outside.
-use crate::patterns::{BLINKER, BLOCK, GLIDER, GLIDERS, GUN, ROW};
+use crate::growing_patterns::{BLINKER, BLOCK, GLIDER, GLIDERS, GUN, ROW};
 use life_board::Board;
 use life_cells::{CellList, Rule};
 use life_growing::{Engine, Growth, growth_of};

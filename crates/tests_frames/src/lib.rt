@@ -1,5 +1,0 @@
-//! Tests of the classes of films.
-#![tactic(auto)]
-
-#[cfg(test)]
-mod films;

@@ -1,5 +1,0 @@
-//! Tests of the tracks along which classes of a film come back.
-#![tactic(auto)]
-
-#[cfg(test)]
-mod coming_back;
