@@ -1,12 +1,12 @@
 //! Hints of bundles, and of folders on a shelf in memory.
 
+use crate::{Leaf, Memory, below, plain, read};
 use census_bundle::{Bundle, read_bundle};
 use census_folders::{OnLoss, Shelf, ShelfFault};
 use census_hints::hint_lines;
 use std::alloc::Global;
 use std::process::Abort;
 use std::test::Fail;
-use crate::{Leaf, Memory, below, plain, read};
 
 // A regular file, or without a name a folder.
 macro_rules! leaf {
