@@ -70,7 +70,7 @@ fn fate_before<P: Plane, W: Observer>(
 }
 
 /// Whether a pattern is seen to fall apart in the next generations after that of a plane, up to sixteen times the plane's age
-/// and to `LATER` times the horizon more. What has more cells than `MANY` is not looked at.
+/// and to `LATER` times the horizon more. What has more cells than `MANY`, or comes to have more, is not looked at further.
 fn ends_late<P: Plane>(
     alloc: Global,
     plane: P,
@@ -92,19 +92,28 @@ fn ends_late<P: Plane>(
     let mut met = Known::new(alloc, rule, late);
     let mut pace = Pace::new();
     let mut trail = Trail::new(alloc);
-    match fate_before(
-        alloc,
-        &Unobserved,
-        &mut later,
-        &mut met,
-        &mut pace,
-        &mut trail,
-        None,
-        late,
-    )? {
-        Some(Fate::Ash { .. }) => Ok(true),
-        _ => Ok(false),
+    let mut end = age;
+    'stretches: while end < late {
+        end = late.min(end + horizon.max(1));
+        match fate_before(
+            alloc,
+            &Unobserved,
+            &mut later,
+            &mut met,
+            &mut pace,
+            &mut trail,
+            None,
+            end,
+        )? {
+            Some(Fate::Ash { .. }) => return Ok(true),
+            Some(_) => return Ok(false),
+            None => {}
+        }
+        if later.population() > MANY {
+            return Ok(false);
+        }
     }
+    Ok(false)
 }
 
 /// What becomes of a pattern, of which a plane has a generation, with what is seen of it later where it has not fallen apart.
