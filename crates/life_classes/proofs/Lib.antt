@@ -26,4 +26,9 @@ pub mod Grouping
 pub mod Wholes
 pub mod Lone
 pub mod Lived
+pub mod Relabelled
+pub mod Others
+pub mod Taken
+pub mod Together
+pub mod Steps
 pub mod Beside

@@ -36,7 +36,7 @@ apart_by_none P Q either c d x y near = elim either [
   | inr none ↦ in_empty d (ap (λ H. contains H d) (sym none) ∙ y)
 ]
 
-firsts-after : (R : Rule) (m : ℕ) (cs : List Class) → first_sets (map (after R m) cs) ≡ first_sets cs
+pub firsts-after : (R : Rule) (m : ℕ) (cs : List Class) → first_sets (map (after R m) cs) ≡ first_sets cs
 firsts-after R m [] = refl
 firsts-after R m (c ∷ cs) = ap (λ r. c.first ∷ r) (firsts-after R m cs)
 

@@ -13,7 +13,7 @@ use Rattle.life_classes.proofs.Leading.{lead_back, lead_gathered, parted, taken_
 use Rattle.life_classes.proofs.Merging.{in_turn}
 use Rattle.life_classes.proofs.Nobody.{lead_nobody}
 
-put_back : (cs : List Class) (n : ℕ) (d : Class) → n < length cs → d ≡ get_or cs n d → LeadTo (d ∷ remove cs n) cs
+pub put_back : (cs : List Class) (n : ℕ) (d : Class) → n < length cs → d ≡ get_or cs n d → LeadTo (d ∷ remove cs n) cs
 put_back cs n d h at =
     subst (LeadTo (d ∷ remove cs n)) (sym (parted cs n d h at)) (lead_back d (take n cs) (drop (suc n) cs))
 

@@ -6,3 +6,4 @@ pub mod Labels
 pub mod Ties
 pub mod Grouped
 pub mod Splits
+pub mod Parted

@@ -1,7 +1,7 @@
 -- The classes of a pattern, as labels tell them.
 use Rattle.std.specs.Prelude.{List}
 use Rattle.life_classes.specs.declared.class.Class.{Class}
-use Rattle.life_classes.specs.declared.splitting.Split.{Split}
+use Rattle.life_classes.specs.declared.split.Split.{Split}
 use Rattle.life_classes.specs.Labels.{AreLabelled, classes_by}
 
 abbrev pub classes_of_split : Split → List Class

@@ -34,7 +34,7 @@ fn give(all: &mut Vec<Vec<(i32, i32)>>, place: usize, cell: (i32, i32)) -> Resul
 }
 
 /// The cells of each root, in the place of the root.
-fn groups(
+pub fn groups(
     alloc: Global,
     forest: &[usize],
     cells: &Labelled,

@@ -10,11 +10,15 @@ mod inheriting;
 mod joining;
 mod labels;
 mod nearness;
+mod parting;
+mod relabelling;
 mod rows;
+mod split;
 mod splitting;
 mod tags;
 mod undivided;
 mod unions;
+mod walking;
 
 pub use class::Class;
 pub use forest::{join, root};

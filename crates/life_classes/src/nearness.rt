@@ -32,3 +32,10 @@ pub fn reaches(reach: u32, set: &CellList, cell: (i32, i32)) -> bool
         cell,
     )
 }
+
+/// Whether some of the cells is at most so far from a cell of a set in both directions.
+pub fn reaches_any(reach: u32, set: &CellList, cells: &[(i32, i32)]) -> bool
+    ensures { result ≡ list_any (reaches reach set.now) cells.now }
+{
+    cells.iter().any(|cell| reaches(reach, set, *cell))
+}

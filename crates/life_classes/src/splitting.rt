@@ -1,87 +1,21 @@
 //! The finest splitting of a plane's cells into classes that stay apart.
-ghost use Rattle.std.specs.Prelude.{◌≡◌, ◌≤◌, ◌+◌, ◌↔◌, ℕ, All, AllPairs, IfOk, IsTrue, length, map};
+ghost use Rattle.std.specs.Prelude.{◌≡◌, ◌⊎◌, ◌≤◌, ◌+◌, All, AllPairs, IfOk, map};
 ghost use Rattle.life_model.specs.Evolution.{generation};
-ghost use Rattle.life_model.specs.Generation as generation_sets;
 ghost use Rattle.life_cells.specs.Limits.{IsPlace};
 ghost use Rattle.life_objects.specs.Apart.{AreApartFor};
 ghost use Rattle.life_objects.specs.Union.{generations, union_of};
 ghost use Rattle.life_objects.specs.Whole.{StaysWhole};
-ghost use Rattle.life_classes.specs.Forest.{root};
-ghost use Rattle.life_classes.specs.Labels.{AreReached};
 ghost use Rattle.life_classes.specs.Splits.{IsLabelledSplit, classes_of_split};
-ghost use Rattle.life_classes.specs.Tracking.{AreApartNow, AreFew, AreTracked, LeadTo, after, class_of_cell, first_sets, last_sets, moved_on};
+ghost use Rattle.life_classes.specs.Tracking.{AreApartNow, AreFew, AreTracked, LeadTo, after, class_of_cell, first_sets, last_sets};
 
 use crate::class::Class;
 use crate::collecting::{collected, set_of};
-use crate::inheriting::inherited;
-use crate::joining::join_near;
-use crate::labels::{Labelled, first_label, first_labels, have_one_root, labelled_alike};
-use life_cells::{CellList, Rule};
+use crate::labels::{first_label, labelled_alike};
+use crate::split::{Split, are_few, first_split};
+use crate::walking::onward;
+use life_cells::Rule;
 use life_plane::{AGE_LIMIT, Plane};
 use std::alloc::{AllocError, Global};
-
-/// The cells of a pattern at first and those that have become of them, with labels, and a forest that joins the labels.
-#[derive(Drop)]
-pub struct Split {
-    pub first: Labelled,
-    pub last: Labelled,
-    pub forest: Vec<usize>,
-}
-
-/// So many numbers, each of which is a root.
-fn roots(alloc: Global, count: usize) -> Result<Vec<usize>, AllocError>
-    ensures long { IfOk result (λ forest. length forest.items ≡ count) }
-    ensures roots { IfOk result (λ forest. (k : ℕ) → root forest.items k ≡ k) }
-{
-    let mut forest = Vec::with_capacity(alloc, count)?;
-    for n in 0..count {
-        forest.push(n)?;
-    }
-    Ok(forest)
-}
-
-/// The cells as classes of those that are near each other. The list is taken twice.
-pub fn first_split(alloc: Global, first: CellList, last: CellList) -> Result<Split, AllocError>
-    requires { last ≡ first }
-    ensures first { IfOk result (λ split. split.first.cells ≡ first) }
-    ensures cells { IfOk result (λ split. split.last.cells ≡ first) }
-    ensures labelled { IfOk result IsLabelledSplit }
-    ensures tracked { IfOk result
-        (λ split. LeadTo (map class_of_cell (generation_sets.cells first)) (classes_of_split split)) }
-    ensures apart { IfOk result (λ split. AreApartNow (classes_of_split split)) }
-{
-    let mut forest = roots(alloc, first.as_slice().len())?;
-    let first = first_labels(alloc, first)?;
-    let last = first_labels(alloc, last)?;
-    join_near(&mut forest, &last);
-    Ok(Split {
-        first,
-        last,
-        forest,
-    })
-}
-
-/// The classes a generation later, where these are all cells of that generation, with those joined that are near each other.
-pub fn followed(alloc: Global, split: Split, cells: CellList) -> Result<Split, AllocError>
-    requires labelled { IsLabelledSplit split }
-    requires apart { AreApartNow (classes_of_split split) }
-    requires reached { AreReached split.last cells }
-    ensures first { IfOk result (λ later. later.first ≡ split.first) }
-    ensures cells { IfOk result (λ later. later.last.cells ≡ cells) }
-    ensures labelled { IfOk result IsLabelledSplit }
-    ensures tracked { IfOk result
-        (λ later. LeadTo (map (moved_on cells) (classes_of_split split)) (classes_of_split later)) }
-    ensures apart { IfOk result (λ later. AreApartNow (classes_of_split later)) }
-{
-    let mut forest = split.forest;
-    let last = inherited(alloc, &split.last, forest.as_slice(), cells)?;
-    join_near(&mut forest, &last);
-    Ok(Split {
-        first: split.first,
-        last,
-        forest,
-    })
-}
 
 /// The classes that have a cell at first.
 fn classes_in(alloc: Global, split: &Split) -> Result<Vec<Class>, AllocError>
@@ -104,14 +38,6 @@ pub fn first_classes(alloc: Global, cells: &[(i32, i32)]) -> Result<Vec<Class>, 
     let split = first_split(alloc, first, last)?;
     let all = classes_in(alloc, &split)?;
     Ok(all)
-}
-
-/// Whether something is left of at most one of the classes.
-pub fn are_few(split: &Split) -> bool
-    requires { IsLabelledSplit split.now }
-    ensures { IsTrue result ↔ AreFew (classes_of_split split.now) }
-{
-    have_one_root(split.forest.as_slice(), &split.last)
 }
 
 /// The plane so many generations later.
@@ -153,6 +79,24 @@ fn lone_class_later<P: Plane>(
     })
 }
 
+/// The generation at which it is first tried to follow a class by itself.
+const FIRST_TRIAL: u32 = 16;
+
+/// The generation at which that is tried next, after it was to be at one, and from another on some more were made.
+fn next_trial(trial: u32, before: u32, made: u32) -> u32
+    requires before { before ≤ AGE_LIMIT }
+    requires made { made ≤ AGE_LIMIT }
+    ensures { trial ≤ result ⊎ before ≤ result }
+{
+    if before < trial {
+        return trial;
+    }
+    if made > 1 {
+        return before + made + FIRST_TRIAL;
+    }
+    2 * before
+}
+
 /// The classes after so many generations, joined where they came near each other. The plane has their cells.
 fn followed_for<P: Plane>(
     alloc: Global,
@@ -173,14 +117,18 @@ fn followed_for<P: Plane>(
 {
     let mut plane = plane;
     let mut split = split;
-    for n in 0..bound {
+    let mut made = 0;
+    let mut trial = FIRST_TRIAL;
+    while made < bound {
         if are_few(&split) {
-            let end = lone_class_later(alloc, split, plane, rule, bound - n)?;
+            let end = lone_class_later(alloc, split, plane, rule, bound - made)?;
             return Ok(end);
         }
-        plane.step(rule)?;
-        let cells = plane.cells()?;
-        split = followed(alloc, split, cells)?;
+        let walk = onward(alloc, split, plane, rule, bound - made, made >= trial)?;
+        trial = next_trial(trial, made, walk.made);
+        made += walk.made;
+        split = walk.split;
+        plane = walk.plane;
     }
     Ok(split)
 }

@@ -3,7 +3,8 @@ ghost use Rattle.std.specs.Prelude.{ℕ, ◌≤◌, ◌+◌, ◌↔◌, IfOk, Is
 ghost use Rattle.life_model.specs.Rule.{Rule as ModelRule};
 ghost use Rattle.life_objects.specs.Piece.{IsUndivided};
 
-use crate::splitting::{are_few, first_classes, first_split, followed};
+use crate::split::{are_few, first_split, followed};
+use crate::splitting::first_classes;
 use life_cells::{CellList, Rule};
 use life_plane::{AGE_LIMIT, Plane};
 use std::alloc::{AllocError, Global};

@@ -1,7 +1,7 @@
 use Rattle.std.proofs.Common.{subst, sym}
 use Rattle.life_classes.specs.Labels.{HasOneRoot}
 use Rattle.life_classes.proofs.Wholes.{few_by_root, one_root_by_few}
-use Rattle.life_classes.proofs.splitting.are_few.Goals as goal
+use Rattle.life_classes.proofs.split.are_few.Goals as goal
 
 pub returns : goal.returns
 returns c =

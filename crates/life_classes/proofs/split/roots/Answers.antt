@@ -2,7 +2,7 @@ use Rattle.std.proofs.Common.{◌≡◌, inl, inr, refl, arith}
 use Rattle.std.proofs.lemmas.Bool.{cases_lt}
 use Rattle.life_classes.proofs.Forests.{root-past, root-stays}
 use Rattle.life_classes.proofs.Lookups.{length_pushed, pushed}
-use Rattle.life_classes.proofs.splitting.roots.Goals as goal
+use Rattle.life_classes.proofs.split.roots.Goals as goal
 
 pub loop-n-preserved : goal.loop-n-preserved
 loop-n-preserved c =

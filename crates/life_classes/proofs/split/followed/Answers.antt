@@ -5,7 +5,7 @@ use Rattle.life_classes.specs.Tracking.{LeadTo, moved_on}
 use Rattle.life_classes.proofs.Inherited.{classes_then}
 use Rattle.life_classes.proofs.Numbers.{relabelled}
 use Rattle.life_classes.proofs.Tied.{apart_by_ties}
-use Rattle.life_classes.proofs.splitting.followed.Goals as goal
+use Rattle.life_classes.proofs.split.followed.Goals as goal
 
 pub returns-clause-tracked : goal.returns-clause-tracked
 returns-clause-tracked c =

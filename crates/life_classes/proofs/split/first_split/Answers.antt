@@ -5,7 +5,7 @@ use Rattle.life_classes.specs.Tracking.{LeadTo}
 use Rattle.life_classes.proofs.Numbers.{relabelled}
 use Rattle.life_classes.proofs.Singles.{all_alone}
 use Rattle.life_classes.proofs.Tied.{apart_by_ties}
-use Rattle.life_classes.proofs.splitting.first_split.Goals as goal
+use Rattle.life_classes.proofs.split.first_split.Goals as goal
 
 pub join_near-requires : goal.join_near-requires
 join_near-requires c =
