@@ -36,19 +36,19 @@ pub struct Walk<P> {
     pub made: u32,
 }
 
-/// The place of a list that has more than half of so many cells, where there is one.
+/// The place of a list that has more than three quarters of so many cells, where there is one.
 fn longest(lists: &[Vec<(i32, i32)>], count: usize) -> Option<usize>
     ensures { IfSome result (λ n. n < length lists.now) }
 {
     for n in 0..lists.len() {
-        if lists[n].len() > count / 2 {
+        if lists[n].len() > count - count / 4 {
             return Some(n);
         }
     }
     None
 }
 
-/// The root that more than half of the cells have, where there is one.
+/// The root that more than three quarters of the cells have, where there is one.
 pub fn main_root(
     alloc: Global,
     forest: &[usize],

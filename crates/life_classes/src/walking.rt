@@ -19,7 +19,7 @@ struct Far<P> {
     made: u32,
 }
 
-/// Whether no cell of the rest is near one of the herd, and the rest has no more cells than that.
+/// Whether no cell of the rest is near one of the herd, and the rest has few cells beside those.
 fn is_apart<P: Plane>(parted: &Parted<P>) -> Result<bool, AllocError>
     ensures { IfOk result
         (λ is. IsTrue is → AreApart (P.members parted.now.herd) parted.now.rest.last.cells) }
@@ -29,7 +29,7 @@ fn is_apart<P: Plane>(parted: &Parted<P>) -> Result<bool, AllocError>
         return Ok(true);
     }
     let herd = parted.herd.cells()?;
-    if herd.len() < rest.len() {
+    if herd.len() / 2 < rest.len() {
         return Ok(false);
     }
     Ok(!reaches_any(2, &herd, rest))
