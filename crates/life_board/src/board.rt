@@ -67,6 +67,14 @@ impl Plane for Board {
         self.kind.age()
     }
 
+    fn row(&self, cell: (i32, i32)) -> u64 {
+        self.kind.row(cell)
+    }
+
+    fn may_have_moved(&self, list: &CellList, reach: u32) -> bool {
+        self.kind.may_have_moved(list, reach)
+    }
+
     fn cells(&self) -> Result<CellList, AllocError> {
         self.kind.cells()
     }

@@ -47,7 +47,7 @@ fn is_live(square: &Square, cell: (i32, i32)) -> bool
 }
 
 /// The cell, moved as one place is from another.
-fn moved(cell: (i32, i32), from: (i32, i32), to: (i32, i32)) -> (i32, i32)
+pub fn moved(cell: (i32, i32), from: (i32, i32), to: (i32, i32)) -> (i32, i32)
     requires cell { IsFarFromEnds cell.0 cell.1 }
     requires from { IsPlace from }
     requires to { IsPlace to }
@@ -93,7 +93,7 @@ fn bits_from(word: u64, from: i32) -> u64
 }
 
 /// The cell and the 63 to the east of it.
-fn row_from(square: &Square, cell: (i32, i32)) -> u64
+pub fn row_from(square: &Square, cell: (i32, i32)) -> u64
     requires kept { IsSquare square.now }
     requires reach { IsInReach cell }
     ensures { (j : ℕ) → j < 64 →

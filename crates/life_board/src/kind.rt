@@ -1,17 +1,20 @@
 //! A pattern in one square or in many tiles.
-ghost use Rattle.std.specs.Prelude.{◌≡◌, ◌+◌, ◌<◌, ◌≤◌, All, IfNone, IfOk, IfSome, OnOk, OnErr, []};
+ghost use Rattle.std.specs.Prelude.{◌≡◌, ℕ, ◌+◌, ◌+ℤ◌, ◌<◌, ◌≤◌, pos, cond, false, All, IfNone, IfOk, IfSome, OnOk, OnErr, []};
 ghost use Rattle.life_model.specs.Evolution.{next};
-ghost use Rattle.life_model.specs.Generation.{from_list, size};
+ghost use Rattle.std.specs.Int.{bit_at};
+ghost use Rattle.life_model.specs.Generation.{contains, from_list, size};
 ghost use Rattle.life_model.specs.Generation as generation;
-ghost use Rattle.life_cells.specs.Limits.{IsWithin, age_limit};
+ghost use Rattle.life_cells.specs.Limits.{IsPlace, IsWithin, age_limit};
 ghost use Rattle.life_plane.specs.Span.{set_span};
-ghost use Rattle.life_plane.specs.Offsets.{AreNotTranslates, IsOffset};
+ghost use Rattle.life_plane.specs.Offsets.{AreNotTranslates, HasNoneWithin, IsOffset};
 ghost use Rattle.life_board.specs.Kinds.{age_of, members_of, StaysInSquare, IsKind};
 ghost use Rattle.life_board.specs.Squares as squares;
 
+use crate::covering::row_from;
 use crate::offset::{offset_from, offset_from_square};
 use crate::placing::corner_around;
 use crate::small::Square;
+use crate::standing::may_stand;
 use life_cells::{CellList, Rule};
 use life_plane::Plane;
 use life_tile::TilePlane;
@@ -161,6 +164,31 @@ impl Kind {
         match self {
             Kind::Small(square) => square.age,
             Kind::Large(plane) => plane.age(),
+        }
+    }
+
+    /// The cell and the 63 to the east of it, of which each is live where its bit is set: the first has bit 0.
+    pub fn row(&self, cell: (i32, i32)) -> u64
+        requires kept { IsKind self.now }
+        requires placed { IsPlace cell }
+        ensures { (j : ℕ) → j < 64 →
+            bit_at result j ≡ cond (contains (members_of self.now) (cell.0 +ℤ pos j, cell.1)) 1 0 }
+    {
+        match self {
+            Kind::Small(square) => row_from(square, cell),
+            Kind::Large(plane) => plane.row(cell),
+        }
+    }
+
+    /// Whether some move, of at most `reach` places to each side, may lead all cells of a list to live ones.
+    pub fn may_have_moved(&self, list: &CellList, reach: u32) -> bool
+        requires kept { IsKind self.now }
+        requires reach { reach ≤ age_limit }
+        ensures { result ≡ false → HasNoneWithin reach list.now (members_of self.now) }
+    {
+        match self {
+            Kind::Small(square) => may_stand(square, list.as_slice()),
+            Kind::Large(plane) => plane.may_have_moved(list, reach),
         }
     }
 

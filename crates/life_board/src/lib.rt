@@ -11,5 +11,6 @@ mod offset;
 mod placing;
 mod rows;
 mod small;
+mod standing;
 
 pub use board::Board;

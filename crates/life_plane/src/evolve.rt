@@ -66,7 +66,7 @@ fn walked_on(cells: &[(i32, i32)], from: usize, place: (i32, i32)) -> usize
 }
 
 /// Whether the cells in order have this one.
-fn is_live(cells: &[(i32, i32)], cursor: &mut usize, place: (i32, i32)) -> bool
+pub fn is_live(cells: &[(i32, i32)], cursor: &mut usize, place: (i32, i32)) -> bool
     requires { T (is_rising cells.now) }
     ensures { result ≡ has cells.now place }
 {

@@ -5,8 +5,10 @@
 
 mod evolve;
 mod list_plane;
+mod moved;
 mod offset;
 mod plane;
+mod row;
 mod span;
 
 pub use evolve::next_cells;

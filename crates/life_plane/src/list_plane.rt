@@ -4,7 +4,9 @@ ghost use Rattle.life_model.specs.Generation.{from_list};
 ghost use Rattle.life_cells.specs.Limits.{IsWithin};
 
 use crate::evolve::next_cells;
+use crate::moved::may_have_moved;
 use crate::plane::Plane;
+use crate::row::row_of;
 use life_cells::{CellList, Rule};
 use std::alloc::{AllocError, Global};
 use std::marker::Model;
@@ -64,6 +66,14 @@ impl Plane for ListPlane {
 
     fn age(&self) -> u32 {
         self.age
+    }
+
+    fn row(&self, cell: (i32, i32)) -> u64 {
+        row_of(self.items.as_slice(), cell)
+    }
+
+    fn may_have_moved(&self, list: &CellList, _reach: u32) -> bool {
+        may_have_moved(self.items.as_slice(), list.as_slice())
     }
 
     fn cells(&self) -> Result<CellList, AllocError> {

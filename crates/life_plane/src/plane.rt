@@ -1,11 +1,13 @@
 //! A set of cells that evolves.
-ghost use Rattle.std.specs.Prelude.{◌≡◌, ℕ, ◌+◌, ◌<◌, ◌≤◌, All, OnOk, OnErr, IfNone, IfOk, IfSome};
+ghost use Rattle.std.specs.Prelude.{◌≡◌, ℕ, ◌+◌, ◌+ℤ◌, ◌<◌, ◌≤◌, pos, cond, false, All, OnOk, OnErr, IfNone, IfOk, IfSome};
+ghost use Rattle.std.specs.Int.{bit_at};
 ghost use Rattle.life_model.specs.Evolution.{next};
 ghost use Rattle.life_model.specs.Generation.{Generation};
 ghost use Rattle.life_model.specs.Generation as generation;
-ghost use Rattle.life_cells.specs.Limits.{IsWithin};
+ghost use Rattle.life_model.specs.Generation.{contains};
+ghost use Rattle.life_cells.specs.Limits.{IsPlace, IsWithin, age_limit};
 ghost use Rattle.life_plane.specs.Span.{set_span};
-ghost use Rattle.life_plane.specs.Offsets.{AreNotTranslates, IsOffset};
+ghost use Rattle.life_plane.specs.Offsets.{AreNotTranslates, HasNoneWithin, IsOffset};
 
 use crate::offset::offset_between;
 use crate::span::span_of;
@@ -61,6 +63,18 @@ pub trait Plane: Sized + Drop {
         ensures age { result ≡ steps_made self.now }
         ensures within { All (IsWithin (steps_made self.now))
             (generation.cells (members self.now)) };
+
+    /// The cell and the 63 to the east of it, of which each is live where its bit is set: the first has bit 0.
+    fn row(&self, cell: (i32, i32)) -> u64
+        requires { IsPlace cell }
+        ensures { (j : ℕ) → j < 64 →
+            bit_at result j ≡ cond (contains (members self.now) (cell.0 +ℤ pos j, cell.1)) 1 0 };
+
+    /// Whether some move, of at most `reach` places to each side, may lead all cells of a list to live ones. That one may
+    /// tells nothing.
+    fn may_have_moved(&self, list: &CellList, reach: u32) -> bool
+        requires { reach ≤ age_limit }
+        ensures { result ≡ false → HasNoneWithin reach list.now (members self.now) };
 
     /// The live cells in order.
     fn cells(&self) -> Result<CellList, AllocError>

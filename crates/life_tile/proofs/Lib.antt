@@ -11,3 +11,4 @@ pub mod Covered
 pub mod Halved
 pub mod Fits
 pub mod Tallied
+pub mod Listed

@@ -1,2 +1,3 @@
 pub mod TileStores
 pub mod Reach
+pub mod Standing

@@ -45,7 +45,7 @@ fn row_at(store: &TileStore, column: i32, row: i32, y: usize) -> u64
 }
 
 /// The cell and the 63 to the east of it.
-fn row_from(store: &TileStore, cell: (i32, i32)) -> u64
+pub fn row_from(store: &TileStore, cell: (i32, i32)) -> u64
     requires kept { IsKept store.now }
     requires reach { IsInReach cell }
     ensures { (j : ℕ) → j < 64 →

@@ -7,6 +7,7 @@ mod changed;
 mod covering;
 mod plane;
 mod sameness;
+mod standing;
 mod tile_store;
 
 pub use life_bits::{Around, Strand, Tile, count_planes, next_row};

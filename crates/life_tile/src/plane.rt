@@ -2,7 +2,9 @@
 ghost use Rattle.std.specs.Prelude.{◌≡◌, ◌<◌, IfOk};
 ghost use Rattle.life_tile.specs.TileStores.{IsKept, members_of};
 
+use crate::covering::row_from;
 use crate::sameness;
+use crate::standing::may_stand;
 use crate::tile_store::TileStore;
 use life_cells::{CellList, Rule, put_in_order};
 use life_plane::{Plane, move_between};
@@ -120,6 +122,14 @@ impl Plane for TilePlane {
 
     fn age(&self) -> u32 {
         self.store.age
+    }
+
+    fn row(&self, cell: (i32, i32)) -> u64 {
+        row_from(&self.store, cell)
+    }
+
+    fn may_have_moved(&self, list: &CellList, reach: u32) -> bool {
+        may_stand(&self.store, list.as_slice(), reach)
     }
 
     fn cells(&self) -> Result<CellList, AllocError> {
