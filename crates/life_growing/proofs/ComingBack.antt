@@ -1,11 +1,11 @@
 -- Sets that come back, moved, in a later generation.
-use Rattle.std.proofs.Common.{◌≡◌, ℕ, ◌+◌, ◌<◌, ◌≤◌, Bool, true, false, List, [], ◌∷◌, ◌++◌, cond, filter, get_or, length, take, inl, inr, sym, ap, subst, ◌∙◌, true≢false, arith}
+use Rattle.std.proofs.Common.{◌≡◌, ℕ, ◌+◌, ◌<◌, Bool, true, false, List, [], ◌∷◌, ◌++◌, cond, filter, get_or, length, take, inl, inr, sym, ap, subst, ◌∙◌, arith}
 use Rattle.std.proofs.lemmas.Int.{ints}
 use Rattle.std.proofs.lemmas.List.{append-nil, take_more}
 use Rattle.std.proofs.lemmas.List.Elements.{filter-append}
 use Rattle.life_model.specs.Cell.{Cell, opposite, origin, plus}
 use Rattle.life_model.specs.Evolution.{generation}
-use Rattle.life_model.specs.Generation.{Generation, cells, contains, empty}
+use Rattle.life_model.specs.Generation.{Generation, cells, contains}
 use Rattle.life_model.specs.Rule.{Rule}
 use Rattle.life_model.specs.Symmetry.{translate_of}
 use Rattle.life_model.proofs.Cells.{plus-opposite}
@@ -18,7 +18,7 @@ use Rattle.life_apart.specs.Alone.{others_of}
 use Rattle.life_apart.proofs.Loners.{in_others, in_set_or_others}
 use Rattle.life_islands.proofs.Labelled.{listed_cell, place_in_list}
 use Rattle.life_plane.proofs.Offsets.{plus_back}
-use Rattle.life_growth.specs.Engine.{FallsApart, IsEngine, IsEngineWithin, Way}
+use Rattle.life_growth.specs.Engine.{FallsApart, IsEngine, Way}
 use Rattle.life_growth.specs.Onward.{debris_after, endless}
 use Rattle.life_growth.proofs.Endless.{core_first}
 use Rattle.life_growth.proofs.Lasting.{core_from_debris, debris_falls_apart, engine_becomes}
@@ -26,7 +26,7 @@ use Rattle.life_growth.proofs.Outgrowing.{outgrows_itself}
 use Rattle.life_growth.proofs.Parts.{disjoint_now}
 use Rattle.life_growing.specs.Populations.{ArePopulations, FallsBack}
 use Rattle.life_cells.specs.Limits.{IsPlace}
-use Rattle.life_growing.specs.Returning.{ComesBackBy, IsMove, left_by}
+use Rattle.life_growing.specs.Returning.{ComesBackBy, IsMove}
 
 -- what one set adds to another, with which it shares no cell, is what is left beside that
 left_is : (M X G : Generation) → union M X ≡ G → AreDisjoint M X → others_of G M ≡ X

@@ -1,4 +1,4 @@
-use Rattle.std.proofs.Common.{◌≡◌, true, get_or, sym, ap, subst, ◌∙◌, true≢false}
+use Rattle.std.proofs.Common.{get_or, sym, ap, ◌∙◌, true≢false}
 use Rattle.life_model.specs.Cell.{origin}
 use Rattle.life_model.specs.Generation.{contains}
 use Rattle.life_ash.proofs.Finding.{of_none}

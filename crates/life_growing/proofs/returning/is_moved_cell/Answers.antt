@@ -1,8 +1,8 @@
-use Rattle.std.proofs.Common.{◌≡◌, true, get_or, refl, sym, ap, subst, ◌∙◌}
-use Rattle.life_model.specs.Cell.{opposite, origin, plus}
+use Rattle.std.proofs.Common.{refl, sym, ap, ◌∙◌}
+use Rattle.life_model.specs.Cell.{plus}
 use Rattle.life_model.specs.Generation.{cells, contains}
 use Rattle.life_model.proofs.Symmetries.{contains-moved}
-use Rattle.life_ash.proofs.Finding.{of_none, of_some}
+use Rattle.life_ash.proofs.Finding.{of_none}
 use Rattle.life_islands.proofs.Labelled.{listed_cell}
 use Rattle.life_growing.proofs.returning.is_moved_cell.Goals as goal
 

@@ -1,9 +1,8 @@
-use Rattle.std.proofs.Common.{◌≡◌, Bool, List, [], ◌∷◌, ◌++◌, ◌<◌, ◌≤◌, filter, get_or, length, not, take, sym, ap, subst, ◌∙◌, arith}
-use Rattle.std.specs.List.{All}
-use Rattle.std.proofs.lemmas.List.{take_all, take_more}
-use Rattle.std.proofs.lemmas.List.Elements.{All-nil, All-push, All-same, filter-append}
+use Rattle.std.proofs.Common.{Bool, List, [], ◌∷◌, ◌++◌, filter, get_or, not, sym, ap, ◌∙◌}
+use Rattle.std.proofs.lemmas.List.{take_all}
+use Rattle.std.proofs.lemmas.List.Elements.{All-nil, All-push, All-same}
 use Rattle.life_model.specs.Cell.{Cell, origin}
-use Rattle.life_model.specs.Generation.{cells, contains, from_list}
+use Rattle.life_model.specs.Generation.{contains, from_list}
 use Rattle.life_model.specs.Symmetry.{translate_of}
 use Rattle.life_cells.specs.Limits.{IsPlace}
 use Rattle.life_classes.proofs.Kept.{from_list-filter}

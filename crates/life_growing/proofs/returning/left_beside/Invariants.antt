@@ -1,6 +1,6 @@
 use Rattle.std.proofs.Common.{◌≡◌, filter, not, take}
 use Rattle.std.specs.List.{All}
-use Rattle.life_model.specs.Generation.{cells, contains}
+use Rattle.life_model.specs.Generation.{contains}
 use Rattle.life_model.specs.Symmetry.{translate_of}
 use Rattle.life_cells.specs.Limits.{IsPlace}
 use Rattle.life_growing.proofs.returning.left_beside.Given as goal

@@ -1,8 +1,6 @@
-use Rattle.std.proofs.Common.{◌≡◌, ℕ, ◌+◌, ◌<◌, ◌≤◌, false, get_or, length, below_more, sym, ap, subst, ◌∙◌, true≢false, arith}
-use Rattle.std.proofs.lemmas.Int.{ints}
-use Rattle.life_model.specs.Cell.{Cell, opposite, origin, plus}
+use Rattle.std.proofs.Common.{◌<◌, get_or, length, below_more, sym, ap, subst, ◌∙◌, true≢false, arith}
+use Rattle.life_model.specs.Cell.{opposite, origin, plus}
 use Rattle.life_model.specs.Generation.{contains}
-use Rattle.life_model.proofs.Cells.{plus-opposite_first}
 use Rattle.life_ash.proofs.Finding.{of_none}
 use Rattle.life_islands.proofs.Labelled.{listed_cell}
 use Rattle.life_growing.specs.Returning.{ComesBackBy, IsMove}

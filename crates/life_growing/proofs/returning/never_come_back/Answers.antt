@@ -1,4 +1,4 @@
-use Rattle.std.proofs.Common.{◌≡◌, ◌==◌, ℕ, ◌+◌, ◌<◌, ◌≤◌, length, inl, inr, sym, ap, subst, ◌∙◌, add-zero, add_assoc, true≢false, arith}
+use Rattle.std.proofs.Common.{◌≡◌, ◌+◌, inl, inr, sym, ap, subst, ◌∙◌, add-zero, add_assoc, true≢false, arith}
 use Rattle.std.specs.List.{All}
 use Rattle.std.proofs.lemmas.Bool.{OnTrue_at, cases_lt}
 use Rattle.life_model.specs.Evolution.{generation, next}
@@ -8,7 +8,6 @@ use Rattle.life_cells.specs.Limits.{IsWithin}
 use Rattle.life_islands.proofs.Labelled.{place_in_list}
 use Rattle.life_growing.specs.Populations.{FallsBack}
 use Rattle.life_model.proofs.Recurrences.{generation-next, generation-zero}
-use Rattle.life_growth.specs.Engine.{IsEngine, Way}
 use Rattle.life_growing.specs.Returning.{ComesBackBy}
 use Rattle.life_growing.proofs.ComingBack.{engine_comes_back, never_falls_back}
 use Rattle.life_growing.proofs.PickingClasses.{engine_has_cell}

@@ -1,4 +1,4 @@
-use Rattle.std.proofs.Common.{◌≡◌, ℕ, ◌+◌, ◌≤◌}
+use Rattle.std.proofs.Common.{◌≡◌, ◌+◌, ◌≤◌}
 use Rattle.life_model.specs.Evolution.{generation}
 use Rattle.life_growth.specs.Engine.{IsEngine, Way}
 use Rattle.life_growing.proofs.returning.never_come_back.Given as goal
