@@ -17,3 +17,4 @@ pub mod Counted
 pub mod Refusing
 pub mod ComingBack
 pub mod Yielded
+pub mod Loosening

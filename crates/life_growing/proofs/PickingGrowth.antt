@@ -40,7 +40,7 @@ use Rattle.life_growing.proofs.PickingClasses.{engine_has_cell}
 
 -- ---- sets without a cell
 
-abbrev some_cell : Generation → Bool
+abbrev pub some_cell : Generation → Bool
 some_cell P = not (size P == 0)
 
 no_cell : (P : Generation) → some_cell P ≡ false → P ≡ empty
@@ -49,10 +49,10 @@ no_cell P e = elim (cases_Bool (size P == 0)) [
   | inr some ↦ absurd (true≢false (sym (ap not some) ∙ e))
 ]
 
-has_cell : (P : Generation) → some_cell P ≡ true → P ≢ empty
+pub has_cell : (P : Generation) → some_cell P ≡ true → P ≢ empty
 has_cell P e gone = true≢false (sym e ∙ ap not (eq-eqb (size P) 0 (ap size gone ∙ size-empty)))
 
-cell_in : (P : Generation) → P ≢ empty → some_cell P ≡ true
+pub cell_in : (P : Generation) → P ≢ empty → some_cell P ≡ true
 cell_in P some = elim (cases_Bool (some_cell P)) [
   | inl has ↦ has
   | inr none ↦ absurd (some (no_cell P none))
@@ -63,7 +63,7 @@ chosen : (b : Bool) (P : Generation) (Ps : List Generation) → some_cell P ≡ 
 chosen b P Ps e = ap (λ t. cond t (P ∷ with_cells Ps) (with_cells Ps)) e
 
 -- what has no cell adds none
-union-with_cells : (Ps : List Generation) → union_of (with_cells Ps) ≡ union_of Ps
+pub union-with_cells : (Ps : List Generation) → union_of (with_cells Ps) ≡ union_of Ps
 union-with_cells [] = refl
 union-with_cells (P ∷ Ps) = elim (cases_Bool (some_cell P)) [
   | inl some ↦ ap union_of (chosen true P Ps some) ∙ ap (union P) (union-with_cells Ps)
@@ -71,6 +71,17 @@ union-with_cells (P ∷ Ps) = elim (cases_Bool (some_cell P)) [
       ap union_of (chosen false P Ps none) ∙ union-with_cells Ps ∙ sym (union-empty (union_of Ps))
       ∙ union-comm (union_of Ps) empty ∙ ap (λ H. union H (union_of Ps)) (sym (no_cell P none))
 ]
+
+-- sets that no split tears, and that stay apart, are classes where they have a cell
+pub classes_with_cells : (R : Rule) (far : ℕ) (G : Generation) (Ps : List Generation) → union_of Ps ≡ G →
+    All (StaysWhole R far G) Ps → AllPairs (AreApartFor R far) Ps → AreClasses R far G (with_cells Ps)
+classes_with_cells R far G Ps together whole apart = record {
+  together = union-with_cells Ps ∙ together;
+  nonempty =
+      All-weaker (λ P. some_cell P ≡ true) (λ P. P ≢ empty) has_cell (with_cells Ps) (filter_passes some_cell Ps);
+  whole = All-filter some_cell (StaysWhole R far G) Ps whole;
+  apart = AllPairs-filter (AreApartFor R far) some_cell Ps apart;
+}
 
 none_mapped : (engines : List Emission) → starts_of engines ≡ [] → engines ≡ []
 none_mapped [] e = refl
@@ -186,15 +197,6 @@ module _ (R : Rule) (b far : ℕ) (G : Generation) (Ps : List Generation) (toget
 
   -- where there is a growth these are its engines and its debris
   module _ (whole : All (StaysWhole R far G) Ps) (apart : AllPairs (AreApartFor R far) Ps) where
-    are_classes : AreClasses R far G (with_cells Ps)
-    are_classes = record {
-      together = union-with_cells Ps ∙ together;
-      nonempty =
-          All-weaker (λ P. some_cell P ≡ true) (λ P. P ≢ empty) has_cell (with_cells Ps) (filter_passes some_cell Ps);
-      whole = All-filter some_cell (StaysWhole R far G) Ps whole;
-      apart = AllPairs-filter (AreApartFor R far) some_cell Ps apart;
-    }
-
     kept : (Xs : List Generation) (P : Generation) → Contains Xs P → P ≢ empty → Contains (with_cells Xs) P
     kept Xs P one some = Contains-filter some_cell Xs P one (cell_in P some)
 
@@ -218,7 +220,8 @@ module _ (R : Rule) (b far : ℕ) (G : Generation) (Ps : List Generation) (toget
         IsGrowth R b G Fs rest
     same_growth long Es S growth =
         subst (IsGrowth R b G Fs) (union-with_cells Os)
-        (picked_growth R b G Es S growth far long (with_cells Ps) are_classes Fs (with_cells Os) (picked long))
+        (picked_growth R b G Es S growth far long (with_cells Ps) (classes_with_cells R far G Ps together whole apart) Fs
+        (with_cells Os) (picked long))
 
     pub told_apart : (debris : Settling) → IsSettling R b rest debris → 2 * b ≤ far → (Es : List Generation)
         (S : Generation) → IsGrowth R b G Es S → GoApart engines debris

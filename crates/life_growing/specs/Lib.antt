@@ -5,3 +5,4 @@ pub mod Picking
 pub mod Meeting
 pub mod Populations
 pub mod Returning
+pub mod Loose
