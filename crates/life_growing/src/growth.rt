@@ -8,6 +8,7 @@ ghost use Rattle.life_growing.specs.Growths.{IsGrowthOf};
 
 use crate::apart::stay_apart;
 use crate::emission::Engine;
+use crate::loose::one_is_loose;
 use crate::picking::{all_cells, picks};
 use life_cells::Rule;
 use life_classes::classes_of;
@@ -55,7 +56,8 @@ impl Growth {
 /// one. Where these generations are at least twice as many as the bound, there is none where none is found.
 ///
 /// The cells are taken apart into classes, and each class that may be an engine is followed alone. So it holds one generation
-/// of all cells at a time, and all generations of one class.
+/// of all cells at a time, and all generations of one class. Before that the largest classes are looked at, of which one may
+/// show alone that there is no growth.
 pub fn growth_of<P: Plane>(
     alloc: Global,
     plane: &P,
@@ -71,6 +73,9 @@ pub fn growth_of<P: Plane>(
 {
     let age = plane.age();
     let classes = classes_of(alloc, plane, rule, length)?;
+    if bound <= length / 2 && one_is_loose::<P>(alloc, rule, classes.as_slice(), age, bound)? {
+        return Ok(None);
+    }
     let picks = picks::<P>(alloc, rule, classes, age, length, bound)?;
     let engines = picks.engines.as_slice();
     if engines.is_empty() {

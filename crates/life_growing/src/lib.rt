@@ -12,6 +12,7 @@ mod going;
 mod growth;
 mod laws;
 mod lefts;
+mod loose;
 mod picking;
 mod refusal;
 mod returning;
