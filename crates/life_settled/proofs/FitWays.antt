@@ -20,7 +20,7 @@ use Rattle.life_orbit.specs.Course.{Course, IsCourse}
 use Rattle.life_apart.specs.Sets.{IsCourseBy, sets_of}
 use Rattle.life_steps.specs.Short.{IsWithin, way_limit}
 use Rattle.life_settled.specs.Settling.{HasFitWay}
-use Rattle.life_settled.proofs.Speeds.{across_height, along_height, back_height, no_lower, up_height}
+use Rattle.life_strays.proofs.Speeds.{across_height, along_height, back_height, no_lower, up_height}
 
 within_way : (n : ℕ) (z : ℤ) → n ≤ way_limit → neg_ℤ (pos n) ≤ℤ z → neg_ℤ (pos n) ≤ℤ neg_ℤ z → IsWithin way_limit z
 within_way n z le low high = record { low = omega (arith, ints); high = omega (arith, ints) }

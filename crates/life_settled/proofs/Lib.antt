@@ -1,7 +1,6 @@
 pub mod Listing
 pub mod Making
 pub mod Parting
-pub mod Speeds
 pub mod FitWays
 mod Walking
 pub mod Ways

@@ -1,0 +1,133 @@
+//! What strays tell of a plane's cells.
+ghost use Rattle.std.specs.Prelude.{◌≡◌, ℕ, ◌*◌, ◌+◌, ◌≤◌, All, IfOk, List, true};
+ghost use Rattle.std.specs.Bool.{OnTrue};
+ghost use Rattle.std.specs.List.{Contains};
+ghost use Rattle.life_model.specs.Cell.{Cell};
+ghost use Rattle.life_model.specs.Generation.{Generation, contains};
+ghost use Rattle.life_model.specs.Rule.{Rule as ModelRule};
+ghost use Rattle.life_growth.specs.Growth.{IsGrowth};
+ghost use Rattle.life_objects.specs.Ash.{IsAsh};
+ghost use Rattle.life_strays.specs.Strays.{IsIslandNow, LeavesStrays};
+ghost use Rattle.life_strays.specs.declared.stray.Stray.{Stray};
+
+use crate::choosing::chosen;
+use crate::islands::islands_of;
+use crate::stray::Stray;
+use crate::straying::strays_of;
+use life_cells::{CellList, Rule};
+use life_classes::{Class, reaches};
+use life_plane::{AGE_LIMIT, Plane};
+use std::alloc::{AllocError, Global};
+
+/// Whether it is seen that a plane's cells are no ash within the bound: an island of theirs comes back nowhere within it.
+pub fn are_no_ash<P: Plane>(
+    alloc: Global,
+    plane: &P,
+    rule: &Rule,
+    bound: u32,
+) -> Result<bool, AllocError>
+    requires young { P.steps_made plane.now + bound ≤ AGE_LIMIT }
+    ensures { IfOk result (λ no. OnTrue no ((parts : List Generation) →
+        IsAsh rule.now bound (P.members plane.now) parts → ⊥)) }
+{
+    let islands = islands_of(alloc, plane, rule)?;
+    let some = chosen(alloc, plane, rule, islands, bound)?;
+    if some.is_empty() {
+        return Ok(false);
+    }
+    let mut later = plane.copy()?;
+    let strays = strays_of(alloc, &mut later, rule, some, bound, false)?;
+    if strays.is_empty() {
+        return Ok(false);
+    }
+    Ok(true)
+}
+
+/// Whether the sets have a cell in common.
+fn meet(set: &CellList, other: &CellList) -> bool
+    ensures { OnTrue result ((c : Cell) × (contains set.now c ≡ true) × (contains other.now c ≡ true)) }
+{
+    for cell in set.as_slice() {
+        if reaches(0, other, *cell) {
+            return true;
+        }
+    }
+    false
+}
+
+/// Whether something that hangs on one of the strays is in a set.
+fn hang_on_one(strays: &[Stray], set: &CellList) -> bool
+    ensures { OnTrue result ((stray : Stray) × Contains strays.now stray × (c : Cell)
+        × (contains stray.heirs c ≡ true) × (contains set.now c ≡ true)) }
+{
+    for stray in strays {
+        if meet(set, &stray.heirs) {
+            return true;
+        }
+    }
+    false
+}
+
+/// The islands that hang on strays.
+fn hanging(alloc: Global, islands: Vec<Class>, strays: &[Stray]) -> Result<Vec<Class>, AllocError>
+    ensures { IfOk result (λ left. (R : ModelRule) (G : Generation) →
+        All (IsIslandNow R G) islands.items → All (IsIslandNow R G) left.items) }
+{
+    let mut left = Vec::new(alloc);
+    for island in islands {
+        if hang_on_one(strays, &island.first) {
+            left.push(island)?;
+        }
+    }
+    Ok(left)
+}
+
+/// Whether one of some later strays hangs on one of the earlier.
+fn some_hang(strays: &[Stray], laters: &[Stray]) -> bool
+    ensures { OnTrue result ((stray : Stray) × Contains strays.now stray × (later : Stray)
+        × Contains laters.now later × (c : Cell) × (contains stray.heirs c ≡ true)
+        × (contains later.set c ≡ true)) }
+{
+    for later in laters {
+        if hang_on_one(strays, &later.set) {
+            return true;
+        }
+    }
+    false
+}
+
+/// Whether it is seen that a plane's cells do not grow within the bound, nor are ash: an island of theirs comes back nowhere
+/// within it, and one that hangs on it so many generations later does so neither.
+pub fn never_grow<P: Plane>(
+    alloc: Global,
+    plane: &P,
+    rule: &Rule,
+    bound: u32,
+) -> Result<bool, AllocError>
+    requires young { P.steps_made plane.now + 2 * bound ≤ AGE_LIMIT }
+    ensures growth { IfOk result (λ no. OnTrue no ((Es : List Generation) (S : Generation) →
+        IsGrowth rule.now bound (P.members plane.now) Es S → ⊥)) }
+    ensures ash { IfOk result (λ no. OnTrue no ((parts : List Generation) →
+        IsAsh rule.now bound (P.members plane.now) parts → ⊥)) }
+{
+    let islands = islands_of(alloc, plane, rule)?;
+    let some = chosen(alloc, plane, rule, islands, bound)?;
+    if some.is_empty() {
+        return Ok(false);
+    }
+    let mut later = plane.copy()?;
+    let strays = strays_of(alloc, &mut later, rule, some, bound, true)?;
+    if strays.is_empty() {
+        return Ok(false);
+    }
+    let islands = hanging(alloc, islands_of(alloc, &later, rule)?, strays.as_slice())?;
+    let some = chosen(alloc, &later, rule, islands, bound)?;
+    if some.is_empty() {
+        return Ok(false);
+    }
+    let laters = strays_of(alloc, &mut later, rule, some, bound, false)?;
+    if !some_hang(strays.as_slice(), laters.as_slice()) {
+        return Ok(false);
+    }
+    Ok(true)
+}
