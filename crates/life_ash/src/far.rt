@@ -9,6 +9,7 @@ use crate::known::Known;
 use crate::newcomers::is_no_ash;
 use crate::told::Told;
 use life_plane::Plane;
+use life_strays::are_no_ash;
 use life_tally::{Pace, is_uneven};
 use std::alloc::{AllocError, Global};
 
@@ -20,6 +21,9 @@ const LATE: u32 = 16;
 
 /// The greatest age of a plane whose cells are told as ash.
 const LAST: u32 = 400_000;
+
+/// Up to this bound it is looked for what comes back nowhere within it.
+const SHORT: u32 = 2_000;
 
 /// The age to which a walk goes that is so many times as long as the bound.
 fn last_age(bound: u32, times: u32) -> u32
@@ -85,7 +89,7 @@ fn told_until<P: Plane>(
 }
 
 /// What later generations tell of a plane's cells, which are as old as the bound: by how many they are, by the ash that
-/// they become, and by what stands alone and is new.
+/// they become, by what comes back nowhere, and by what stands alone and is new.
 pub fn told_later<P: Plane>(
     alloc: Global,
     plane: &P,
@@ -99,6 +103,10 @@ pub fn told_later<P: Plane>(
     match told_until(alloc, plane, met, pace, SOON)? {
         Told::Nothing => {}
         told => return Ok(told),
+    }
+    let bound = met.bound();
+    if bound <= SHORT && are_no_ash(alloc, plane, &met.rule(), bound)? {
+        return Ok(Told::Never);
     }
     if is_no_ash(alloc, plane, met)? {
         return Ok(Told::Never);

@@ -5,7 +5,8 @@ ghost use Rattle.life_model.specs.Generation.{Generation};
 ghost use Rattle.life_model.specs.Rule.{Rule as ModelRule};
 ghost use Rattle.life_model.specs.Generation as generations;
 ghost use Rattle.life_cells.specs.Limits.{IsWithin};
-ghost use Rattle.life_objects.specs.Ash.{HasFallenApart};
+ghost use Rattle.std.specs.Bool.{OnTrue};
+ghost use Rattle.life_objects.specs.Ash.{HasFallenApart, IsAsh};
 ghost use Rattle.life_onset.specs.Moments.{IsMomentOf};
 ghost use Rattle.life_ash.specs.Allowed.{AreAllowedBefore};
 ghost use Rattle.life_ash.specs.Fates.{IsFate, IsSmallEnough};
@@ -47,7 +48,7 @@ fn fate_of(found: AtBound, bound: u32, trail: Trail) -> Fate
 /// What becomes of a pattern of which a plane has the generation of the bound, where no ash was found before, and no generation
 /// before has more cells than it may have. So it is where `walk_on`, from generation 0 to the bound, finds `Nothing`. The rule
 /// and the bound are those of what is known. The trail has some of the pattern's generations, and the plane stays as it is.
-///
+/// That its cells are no ash within the bound may be known before.
 pub fn fate_past<P: Plane, W: Observer>(
     alloc: Global,
     observer: &W,
@@ -56,8 +57,11 @@ pub fn fate_past<P: Plane, W: Observer>(
     pace: &mut Pace,
     trail: Trail,
     limit: Option<u32>,
+    is_no_ash: bool,
 ) -> Result<Fate, AllocError>
     requires age { P.steps_made plane.now ≡ met.old.bound }
+    requires no_ash { OnTrue is_no_ash ((parts : List Generation) →
+        IsAsh met.old.rule met.old.bound (P.members plane.now) parts → ⊥) }
     requires later { (G : Generation) ×
         (P.members plane.now ≡ generation met.old.rule G met.old.bound) ×
         AreAllowedBefore met.old.rule G limit met.old.bound }
@@ -77,7 +81,9 @@ pub fn fate_past<P: Plane, W: Observer>(
                     trail,
                 )
             }
-            Found::Nothing => fate_of(ash_told(alloc, plane, met, pace)?, bound, trail),
+            Found::Nothing => {
+                fate_of(ash_told(alloc, plane, met, pace, is_no_ash)?, bound, trail)
+            }
         },
     )
 }
@@ -119,6 +125,8 @@ pub fn fate<P: Plane, W: Observer>(
             age,
             trail,
         }),
-        Found::Nothing => fate_past(alloc, observer, &plane, &mut met, &mut pace, trail, limit),
+        Found::Nothing => fate_past(
+            alloc, observer, &plane, &mut met, &mut pace, trail, limit, false,
+        ),
     }
 }

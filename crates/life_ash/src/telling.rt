@@ -50,17 +50,24 @@ pub fn ash_by_later<P: Plane>(
     Ok(at_bound(ash, true))
 }
 
-/// What a plane's cells are that are as old as the bound, which later generations mostly tell.
+/// What a plane's cells are that are as old as the bound, which later generations mostly tell. That they are no ash may be
+/// known before.
 pub fn ash_told<P: Plane>(
     alloc: Global,
     plane: &P,
     known: &mut Known,
     pace: &mut Pace,
+    is_no_ash: bool,
 ) -> Result<AtBound, AllocError>
     requires young { P.steps_made plane.now ≤ ash_age_limit }
     requires age { P.steps_made plane.now ≡ known.old.bound }
+    requires no_ash { OnTrue is_no_ash ((parts : List Generation) →
+        IsAsh known.old.rule known.old.bound (P.members plane.now) parts → ⊥) }
     ensures { IfOk result (IsAtBound known.old.rule known.old.bound (P.members plane.now)) }
 {
+    if is_no_ash {
+        return Ok(AtBound::NoAsh { ends: false });
+    }
     match told_later(alloc, plane, known, pace)? {
         Told::Parts { parts, ago } => ash_by_later(alloc, plane, known, parts, ago),
         Told::Never => Ok(AtBound::NoAsh { ends: false }),

@@ -11,3 +11,4 @@ pub mod Walking
 pub mod Taken
 pub mod Emissions
 pub mod OneByOne
+pub mod Refused

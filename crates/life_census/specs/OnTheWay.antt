@@ -6,11 +6,12 @@ use Rattle.life_model.specs.Generation.{Generation}
 use Rattle.life_model.specs.Rule.{Rule}
 use Rattle.life_answer.specs.Growing.{allowed_bound}
 use Rattle.life_ash.specs.Allowed.{AreAllowedBefore}
-use Rattle.life_ash.specs.Fates.{IsFate}
+use Rattle.life_ash.specs.Fates.{IsFate, IsSmallEnough}
+use Rattle.life_objects.specs.Ash.{HasFallenApart}
 use Rattle.life_onset.specs.Moments.{IsMomentOf, Moment}
-use Rattle.life_census.specs.Grown.{IsGrownWithin}
+use Rattle.life_census.specs.Grown.{IsGrownWithin, NeverGrowsThen}
 use Rattle.life_census.specs.declared.seen.Seen.{Seen}
-use Rattle.life_census.specs.declared.seen.Seen.TheVariants.{Becomes, Grows}
+use Rattle.life_census.specs.declared.seen.Seen.TheVariants.{Becomes, Grows, Unresolved}
 
 -- H is generation n of G, none before is past the limit, and these are some of G's generations.
 pub record IsOnTheWay (R : Rule) (G : Generation) (limit : Option ℕ) (H : Generation) (n : ℕ) (kept : List Moment) :
@@ -19,7 +20,9 @@ pub record IsOnTheWay (R : Rule) (G : Generation) (limit : Option ℕ) (H : Gene
   pub few : AreAllowedBefore R G limit n
   pub trail : All (IsMomentOf R G) kept
 
--- G grows within the horizon, or this becomes of it within b
+-- G grows within the horizon, or this becomes of it within b, or neither does it fall apart by then nor grow
 abbrev pub IsSeen : Rule → Generation → ℕ → Option ℕ → ℕ → Seen → Type 0
 IsSeen R G b limit horizon (Grows growth) = IsGrownWithin R G (allowed_bound limit R G b) horizon growth
 IsSeen R G b limit horizon (Becomes fate) = IsFate R G b limit fate
+IsSeen R G b limit horizon Unresolved =
+    IsSmallEnough R G b limit × ((parts : List Generation) → HasFallenApart R b G parts → ⊥) × NeverGrowsThen R G b horizon

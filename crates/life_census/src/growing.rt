@@ -15,6 +15,7 @@ use life_cells::{CellList, Rule};
 use life_growing::{Growth, growth_of};
 use life_orbit::BOUND_LIMIT;
 use life_plane::Plane;
+use life_strays::never_grow;
 use life_things::WAY_LIMIT;
 use std::alloc::{AllocError, Global};
 
@@ -44,7 +45,7 @@ fn plane_at<P: Plane>(
 }
 
 /// The growth of a plane's cells that a short film shows, if one does, each within as many generations as the film has, and
-/// these fewer than the horizon.
+/// these no more than the horizon.
 fn growth_soon<P: Plane>(
     alloc: Global,
     plane: &P,
@@ -55,6 +56,9 @@ fn growth_soon<P: Plane>(
     requires age { P.steps_made plane.now + 4 * horizon ≤ ash_age_limit }
     ensures { IfOk result (λ found. IfSome found (IsSeenWithin rule.now horizon (P.members plane.now))) }
 {
+    if horizon == 0 {
+        return Ok(None);
+    }
     let mut length = FIRST_LENGTH;
     'films: while length < horizon {
         if let Some(growth) = growth_of(alloc, plane, rule, length, length)? {
@@ -62,7 +66,7 @@ fn growth_soon<P: Plane>(
         }
         length *= 2;
     }
-    Ok(None)
+    growth_of(alloc, plane, rule, horizon, horizon)
 }
 
 /// The same, where the population seems to rise steadily over so many generations or the horizon is short. Films are dear
@@ -176,7 +180,12 @@ pub fn growth_within<P: Plane>(
     if allowed == 0 {
         return Ok(None);
     }
-    growth_at::<P>(alloc, rule, cells, allowed, horizon)
+    let plane: P = plane_at(alloc, rule, cells, allowed)?;
+    let least = horizon.min(allowed);
+    if never_grow(alloc, &plane, rule, least)? {
+        return Ok(None);
+    }
+    growth_up_to(alloc, &plane, rule, least)
 }
 
 /// What `growth_within` finds, sooner where nothing grows: the generation of the bound is looked at first, and how many cells

@@ -155,6 +155,7 @@ pub fn census<P: Plane, W: Observer>(
         Seen::Becomes { fate } => {
             outcome_of_fate::<P>(alloc, rule, cells, fate, bound, limit, near, horizon)?
         }
+        Seen::Unresolved => Outcome::Unresolved,
     };
     Ok(Finding {
         population,

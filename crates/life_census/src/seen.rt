@@ -15,4 +15,6 @@ pub enum Seen {
         /// Its fate.
         fate: Fate,
     },
+    /// It neither falls apart nor grows, and no generation has too many cells.
+    Unresolved,
 }

@@ -1,11 +1,13 @@
 //! The walk of a pattern to the bound, on which one looks for ash and for growth.
-ghost use Rattle.std.specs.Prelude.{◌≡◌, ℕ, ◌+◌, ◌≤◌, All, IfNone, IfOk, IfSome, Option};
+ghost use Rattle.std.specs.Prelude.{◌≡◌, ℕ, ◌+◌, ◌≤◌, All, IfNone, IfOk, IfSome, List, Option, min};
 ghost use Rattle.life_model.specs.Evolution.{generation};
 ghost use Rattle.std.specs.Bool.{OnTrue};
 ghost use Rattle.life_model.specs.Generation.{Generation};
 ghost use Rattle.life_model.specs.Generation as generations;
 ghost use Rattle.life_cells.specs.Limits.{IsWithin};
+ghost use Rattle.life_objects.specs.Ash.{IsAsh};
 ghost use Rattle.life_ash.specs.Fates.{EndsLater, IsFate};
+ghost use Rattle.life_census.specs.Grown.{NeverGrows};
 ghost use Rattle.life_census.specs.OnTheWay.{IsOnTheWay, IsSeen};
 
 use crate::growing::growth_on_the_way;
@@ -16,6 +18,7 @@ use life_observer::{Observer, Unobserved};
 use life_onset::Trail;
 use life_orbit::BOUND_LIMIT;
 use life_plane::Plane;
+use life_strays::never_grow;
 use life_tally::Pace;
 use life_things::WAY_LIMIT;
 use std::alloc::{AllocError, Global};
@@ -30,6 +33,9 @@ const LATER: u32 = 8;
 
 /// What has more cells than this is not looked at after the bound.
 const MANY: u64 = 20_000;
+
+/// What has fewer cells than this costs little to look at after the bound, and is looked at there first.
+const FEW: u64 = 4_000;
 
 /// Walks on to an age up to the bound. What becomes of the pattern, where that is found before: then the trail is spent.
 fn fate_before<P: Plane, W: Observer>(
@@ -116,28 +122,57 @@ fn ends_late<P: Plane>(
     Ok(false)
 }
 
-/// What becomes of a pattern, of which a plane has a generation, with what is seen of it later where it has not fallen apart.
-fn with_late_end<P: Plane>(
+/// Whether it is seen of a plane's cells, of the age of the bound, that they are no ash within it and do not grow within the
+/// horizon. Of few cells, and where the horizon is shorter, it is looked at later.
+fn are_refused<P: Plane>(
+    alloc: Global,
+    plane: &P,
+    rule: &Rule,
+    horizon: u32,
+) -> Result<bool, AllocError>
+    requires age { P.steps_made plane.now ≤ BOUND_LIMIT }
+    ensures ash { IfOk result (λ are. OnTrue are ((parts : List Generation) →
+        IsAsh rule.now (P.steps_made plane.now) (P.members plane.now) parts → ⊥)) }
+    ensures growth { IfOk result (λ are. OnTrue are
+        (NeverGrows rule.now (min horizon (P.steps_made plane.now)) (P.members plane.now))) }
+{
+    let age = plane.age();
+    if horizon < age || plane.population() < FEW {
+        return Ok(false);
+    }
+    never_grow(alloc, plane, rule, age)
+}
+
+/// What is seen of a pattern of which a plane has the generation of the bound, and of which this becomes. What does not grow
+/// mostly shows it at little cost, if it is not known yet, and else it is seen whether it falls apart late.
+fn seen_at_bound<P: Plane>(
     alloc: Global,
     plane: P,
     rule: &Rule,
     fate: Fate,
     horizon: u32,
-) -> Result<Fate, AllocError>
+    refused: bool,
+) -> Result<Seen, AllocError>
     requires age { 1 ≤ P.steps_made plane × P.steps_made plane ≤ BOUND_LIMIT }
     requires horizon { horizon ≤ WAY_LIMIT }
     requires way { (G : Generation) × (P.members plane ≡ generation rule.now G (P.steps_made plane)) }
-    ensures { IfOk result (λ later. (G : Generation) (b : ℕ) (limit : Option ℕ) →
-        P.members plane ≡ generation rule.now G (P.steps_made plane) → IsFate rule.now G b limit fate →
-        IsFate rule.now G b limit later) }
+    requires refused { OnTrue refused (NeverGrows rule.now (min horizon (P.steps_made plane)) (P.members plane)) }
+    ensures { IfOk result (λ seen. (G : Generation) (limit : Option ℕ) →
+        P.members plane ≡ generation rule.now G (P.steps_made plane) →
+        IsFate rule.now G (P.steps_made plane) limit fate →
+        IsSeen rule.now G (P.steps_made plane) limit horizon seen) }
 {
     match fate {
         Fate::Unresolved { ends: false } => {
-            Ok(Fate::Unresolved {
-                ends: ends_late(alloc, plane, rule, horizon)?,
+            if refused || never_grow(alloc, &plane, rule, horizon.min(plane.age()))? {
+                return Ok(Seen::Unresolved);
+            }
+            let ends = ends_late(alloc, plane, rule, horizon)?;
+            Ok(Seen::Becomes {
+                fate: Fate::Unresolved { ends },
             })
         }
-        fate => Ok(fate),
+        fate => Ok(Seen::Becomes { fate }),
     }
 }
 
@@ -179,7 +214,9 @@ pub fn seen<P: Plane, W: Observer>(
     )? {
         return Ok(Seen::Becomes { fate });
     }
-    let fate = fate_past(alloc, observer, &plane, &mut met, &mut pace, trail, limit)?;
-    let fate = with_late_end(alloc, plane, rule, fate, horizon)?;
-    Ok(Seen::Becomes { fate })
+    let refused = are_refused(alloc, &plane, rule, horizon)?;
+    let fate = fate_past(
+        alloc, observer, &plane, &mut met, &mut pace, trail, limit, refused,
+    )?;
+    seen_at_bound(alloc, plane, rule, fate, horizon, refused)
 }

@@ -17,3 +17,5 @@ mod patterns;
 mod refusals;
 #[cfg(test)]
 mod rising;
+#[cfg(test)]
+mod strays;

@@ -14,9 +14,29 @@ returns-then-allowed-eq0-clause-none g c Es S growth =
     let none = c.if-allowed-eq0.true in
     absurd (omega arith)
 
-pub growth_at-requires-clause-age : goal.growth_at-requires-clause-age
-growth_at-requires-clause-age g c =
+pub plane_at-requires-clause-age : goal.plane_at-requires-clause-age
+plane_at-requires-clause-age g c =
     let within = allowed_within c.args.limit c.args.rule.now c.args.cells.now c.args.bound in
     let found = c.in_ok-allowed.ensures in
     let bound = c.requires.bound.1 in
-    (omega arith, omega arith)
+    omega arith
+
+pub never_grow-requires : goal.never_grow-requires
+never_grow-requires g c =
+    let within = allowed_within c.args.limit c.args.rule.now c.args.cells.now c.args.bound in
+    let found = c.in_ok-allowed.ensures in
+    let bound = c.requires.bound.1 in
+    let aged = c.in_ok-plane.ensures.age in
+    let least = c.min-least.ensures in
+    let horizon = c.requires.horizon.1 in
+    omega arith
+
+pub growth_up_to-requires-clause-age : goal.growth_up_to-requires-clause-age
+growth_up_to-requires-clause-age g c =
+    let within = allowed_within c.args.limit c.args.rule.now c.args.cells.now c.args.bound in
+    let found = c.in_ok-allowed.ensures in
+    let bound = c.requires.bound.1 in
+    let aged = c.in_ok-plane.ensures.age in
+    let least = c.min-least.ensures in
+    let horizon = c.requires.horizon.1 in
+    omega arith

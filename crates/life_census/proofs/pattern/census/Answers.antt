@@ -5,8 +5,9 @@ use Rattle.life_answer.specs.declared.question.Question.TheVariants.{Objects}
 use Rattle.life_answer.proofs.Growing.{outcome_by}
 use Rattle.life_census.specs.OnTheWay.{IsSeen}
 use Rattle.life_census.proofs.Early.{told_grown}
+use Rattle.life_census.proofs.Refused.{told_unresolved}
 use Rattle.life_census.proofs.pattern.census.Goals as goal
-use Rattle.life_census.proofs.pattern.census.Goals.{in-Becomes+in_ok-outcome-in-Becomes, in-Grows+in_ok-told-in-Grows}
+use Rattle.life_census.proofs.pattern.census.Goals.{in-Becomes+in_ok-outcome-in-Becomes, in-Grows+in_ok-told-in-Grows, in-Unresolved}
 
 pub returns : goal.returns
 returns g c =
@@ -25,5 +26,8 @@ returns g c =
           ∙ sym (outcome_by near limit R G b horizon (Some lines)
           (told_grown near R G (allowed_bound limit R G b) horizon w.in-Grows.growth lines grown w.in_ok-told-in-Grows.ensures))
       | in-Becomes+in_ok-outcome-in-Becomes w ↦ w.outcome-is ∙ w.in_ok-outcome-in-Becomes.ensures
+      | in-Unresolved w ↦
+          let seen = subst (IsSeen R G b limit horizon) w.in-Unresolved.is c.in_ok-growth.ensures in
+          w.outcome-is ∙ told_unresolved near R G limit b horizon seen.0 seen.1 seen.2
     ] in
     λ i. record { population = c.len-population.ensures i; outcome = becomes i }

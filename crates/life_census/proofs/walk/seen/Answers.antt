@@ -1,14 +1,21 @@
-use Rattle.std.proofs.Common.{◌≡◌, ℕ, sym, subst, arith}
+use Rattle.std.proofs.Common.{◌≡◌, ℕ, List, sym, subst, ◌∙◌, arith}
+use Rattle.std.specs.Bool.{OnTrue}
+use Rattle.std.proofs.lemmas.Result.{IfOk-weaker}
 use Rattle.std.specs.List.{All}
 use Rattle.life_model.specs.Evolution.{generation}
+use Rattle.life_model.specs.Generation.{Generation}
 use Rattle.life_model.specs.Rule.{Rule}
+use Rattle.life_objects.specs.Ash.{IsAsh}
 use Rattle.life_ash.specs.Fates.{IsFate}
 use Rattle.life_ash.specs.Met.{Terms}
 use Rattle.life_ash.proofs.Finding.{of_none}
 use Rattle.life_onset.specs.Moments.{IsMomentOf}
-use Rattle.life_census.specs.OnTheWay.{IsOnTheWay}
+use Rattle.life_census.specs.OnTheWay.{IsOnTheWay, IsSeen}
 use Rattle.life_census.proofs.Walking.{way_begins, way_ends}
 use Rattle.life_census.proofs.walk.seen.Goals as goal
+
+abbrev IsNoAsh : Rule → ℕ → Generation → Type 0
+IsNoAsh R b G = (parts : List Generation) → IsAsh R b G parts → ⊥
 
 pub looks-init : goal.looks-init
 looks-init g c =
@@ -52,8 +59,8 @@ fate_past-requires-clause-later g c =
     (of_none c.in_default-3.is c.in_ok-fate-2.ensures.none G before) in
     (G, both.0, both.1)
 
-pub with_late_end-requires-clause-way : goal.with_late_end-requires-clause-way
-with_late_end-requires-clause-way g c =
+pub seen_at_bound-requires-clause-way : goal.seen_at_bound-requires-clause-way
+seen_at_bound-requires-clause-way g c =
     let G = c.args.cells.now in
     let before =
     subst (λ R. IsOnTheWay R G c.args.limit (g.P.Plane.members c.looks.plane) (g.P.Plane.steps_made c.looks.plane) c.looks.trail)
@@ -64,6 +71,16 @@ with_late_end-requires-clause-way g c =
           (λ (R : Rule). g.P.Plane.members c.fate_before-2.new.plane ≡ generation R G (g.P.Plane.steps_made c.fate_before-2.new.plane))
           c.looks.invariant.rule way.cells,
     )
+
+pub fate_past-requires-clause-no_ash : goal.fate_past-requires-clause-no_ash
+fate_past-requires-clause-no_ash g c =
+    let t = c.looks.met in
+    let refused = c.in_ok-refused.refused in
+    let H = g.P.Plane.members c.fate_before-2.new.plane in
+    let aged = of_none c.in_default-3.is c.in_ok-fate-2.ensures.age ∙ sym c.looks.invariant.bound in
+    subst (λ (u : Terms). OnTrue refused (IsNoAsh u.rule u.bound H)) (sym c.fate_before-2.ensures.same)
+    (subst (λ (R : Rule). OnTrue refused (IsNoAsh R t.bound H)) (sym c.looks.invariant.rule)
+    (subst (λ (b : ℕ). OnTrue refused (IsNoAsh c.args.rule.now b H)) aged c.in_ok-refused.ensures.ash))
 
 pub returns : goal.returns
 returns g c =
@@ -89,4 +106,8 @@ returns g c =
     subst
     (λ (R : Rule). g.P.Plane.members c.fate_before-2.new.plane ≡ generation R G (g.P.Plane.steps_made c.fate_before-2.new.plane))
     c.looks.invariant.rule way.cells in
-    c.in_ok-fate-4.ensures G c.args.bound limit cells ruled
+    let aged = of_none c.in_default-3.is c.in_ok-fate-2.ensures.age in
+    IfOk-weaker c.seen_at_bound.result _ _
+    (λ seen told. subst (λ (b : ℕ). IsSeen c.args.rule.now G b limit c.args.horizon seen) aged
+    (told G limit cells (subst (λ (b : ℕ). IsFate c.args.rule.now G b limit c.in_ok-fate-3.fate) (sym aged) ruled)))
+    c.seen_at_bound.ensures
