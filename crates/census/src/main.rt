@@ -1,9 +1,17 @@
-//! The program `census`: its arguments, its standard streams and its exit status.
+//! The program `census`: its arguments, its standard streams and its exit status, and what people see at a terminal beside what
+//! a command writes to files and pipes.
 #![tactic(auto)]
 
+mod announced;
+mod screen;
+mod short_name;
+mod shown;
+
+use announced::Announced;
 use census_command::{Streams, program};
 use census_errors::ErrorStream;
-use census_terminal::{Announced, Progress, Screen, Shown};
+use screen::{Progress, Screen};
+use shown::Shown;
 use std::io::IsTerminal;
 use std::process::ExitCode;
 use std::{env, io};

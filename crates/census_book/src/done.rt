@@ -11,7 +11,7 @@ use census_bundle::{Entry, Text, Ticket};
 use census_format::{push_head, push_pattern, push_tail};
 use life_answer::{Answer, Question};
 use life_find::answer_soon;
-use life_observer::Unobserved;
+use life_plane::Unobserved;
 use std::alloc::{AllocError, Global};
 use std::marker::Model;
 

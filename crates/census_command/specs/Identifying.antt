@@ -1,6 +1,6 @@
 -- What patterns are, told with the names of codes.
 use Rattle.std.specs.Prelude.{◌≡◌, ◌⊎◌, ℕ, Bool, true, false, List, [], ◌∷◌, Option, None, Some, Ok, Err}
-use Rattle.census_blocks.specs.declared.inquiry.Inquiry.{Inquiry}
+use Rattle.census_identify.specs.declared.blocks.inquiry.Inquiry.{Inquiry}
 use Rattle.census_errors.specs.ErrorStreams.{Errors}
 use Rattle.census_facts.specs.declared.form.Form.{Form}
 use Rattle.census_facts.specs.declared.form.Form.TheVariants as facts

@@ -20,7 +20,7 @@ use Rattle.census_cli.specs.declared.request.Reports.{Reports}
 use Rattle.census_cli.specs.declared.request.Request.{Request}
 use Rattle.census_cli.specs.declared.request.Request.TheVariants.{Run, Objects, Identify, Advance, Draw, Merge, Table, Page, Same, Verify}
 use Rattle.life_answer.specs.declared.question.Question.TheVariants as question
-use Rattle.census_blocks.specs.declared.inquiry.Inquiry.{Inquiry}
+use Rattle.census_identify.specs.declared.blocks.inquiry.Inquiry.{Inquiry}
 use Rattle.census_faults.specs.declared.fault.Fault.{Fault}
 use Rattle.census_faults.specs.declared.spot.Spot.{Spot}
 use Rattle.census_folders.specs.Told.{MayExceed, MayFail}

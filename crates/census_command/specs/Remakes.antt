@@ -11,7 +11,7 @@ use Rattle.census_reports.specs.Texts.{RefusesWord}
 use Rattle.census_reports.specs.declared.error.ReportsError.{ReportsError}
 use Rattle.census_reports.specs.declared.form.Form.{Form}
 use Rattle.census_reports.specs.declared.form.Form.TheVariants as form
-use Rattle.lawful_merge.specs.Lawful.{MergesLawfully}
+use Rattle.census_reports.specs.Lawful.Lawful.{MergesLawfully}
 use Rattle.census_reports.specs.declared.reading.Reading.{Reading}
 use Rattle.census_reports.specs.declared.reading.Written.{Written}
 use Rattle.census_cut.specs.declared.mending.Cut.{Cut}

@@ -19,13 +19,13 @@ use crate::keeping::keep_going;
 use crate::remaking::{remake, remake_with};
 use crate::running::run_command;
 use crate::streams::Streams;
-use census_blocks::Inquiry;
 use census_cli::{Reports, Request, WordsFault, read_words};
 use census_crew::Gate;
 use census_errors::{
     CommandError, ErrorStream, Place, Stopped, file_place, saying_of, stop_saying,
 };
 use census_folders::Shelf;
+use census_identify::Inquiry;
 use census_reports::Form;
 use std::alloc::Global;
 use std::io::{Read, Write};

@@ -7,12 +7,11 @@ ghost use Rattle.census_command.specs.Streams.{HasSoundStreams, all_streams};
 
 use crate::remaking::stop_of;
 use crate::streams::Streams;
-use census_blocks::{HORIZON_LIMIT, Inquiry};
 use census_crew::Gate;
 use census_errors::ErrorStream;
 use census_facts::Form;
 use census_folders::Shelf;
-use census_identify::{Onlooker, identify};
+use census_identify::{HORIZON_LIMIT, Inquiry, Onlooker, identify};
 use census_names::{Names, read_names};
 use census_reports::{ReportsError, read_text};
 use life_orbit::BOUND_LIMIT;

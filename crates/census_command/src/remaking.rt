@@ -13,8 +13,9 @@ use census_errors::{
     CommandError, ErrorStream, cut_line, reports_place_if, reports_saying, stop_saying,
 };
 use census_folders::Shelf;
-use census_reports::{Form, Reading, ReportsError, Written, read_text, write_reports};
-use lawful_merge::merge_reports;
+use census_reports::{
+    Form, Reading, ReportsError, Written, merge_reports, read_text, write_reports,
+};
 use std::alloc::Global;
 use std::io::{Read, Write};
 

@@ -1,2 +1,3 @@
 pub mod Floatless
 mod Parts
+pub mod JsonLemmas

@@ -2,3 +2,4 @@ pub mod Facts
 pub mod Lines
 pub mod Values
 pub mod Forms
+pub mod Json

@@ -3,8 +3,8 @@ use Rattle.std.specs.Prelude.{ℕ, List, [], ◌∷◌, map}
 use Rattle.std.specs.Str.Lossy.{utf8_lossy}
 use Rattle.serde_json.specs.Data.{Data, Members, array, item, no_items, no_members, number, object, put, string, unsigned}
 use Rattle.serde_json.specs.View.{items_of}
-use Rattle.census_json.specs.Lines.{data_line}
-use Rattle.census_json.specs.Values.{counted_data, displacement_data, engines_data}
+use Rattle.census_facts.specs.Json.Lines.{data_line}
+use Rattle.census_facts.specs.Json.Values.{counted_data, displacement_data, engines_data}
 use Rattle.life_answer.specs.declared.part.Part.{Part}
 use Rattle.life_answer.specs.declared.tale.Engines.{Engines}
 use Rattle.census_names.specs.Names.{Entry, name_in}

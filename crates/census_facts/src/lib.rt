@@ -1,4 +1,4 @@
-//! What is told of a pattern: facts, one after another, as lines or as one JSON object.
+//! What is told of a pattern: facts, one after another, as lines or as one JSON object. `json` has JSON on lines of its own.
 //!
 //! Tested in `tests_objects`.
 #![tactic(auto)]
@@ -6,8 +6,10 @@
 mod engines;
 mod fact;
 mod form;
+mod json;
 mod lines;
 mod values;
 
 pub use fact::{Fact, Worth};
 pub use form::{Form, facts_text};
+pub use json::{counted_value, engines_value, push_value};

@@ -6,7 +6,7 @@ ghost use Rattle.census_facts.specs.Facts.{content_of, things_in};
 ghost use Rattle.census_facts.specs.Values.{content_data, kind_data, object_line, part_data, size_data, with_things};
 
 use crate::fact::{Fact, Worth};
-use census_json::{counted_value, displacement_value, engines_value, push_value};
+use crate::json::{counted_value, displacement_value, engines_value, push_value};
 use census_names::Names;
 use life_answer::{Engines, Part};
 use serde_json::{Map, Value, put};

@@ -9,10 +9,10 @@ use Rattle.census_bundle.specs.declared.fault.BundleFault.{BundleFault}
 use Rattle.census_bundle.specs.declared.fault.BundleFault.TheVariants as bundle
 use Rattle.census_bundle.specs.declared.bundle.AddFault.{AddFault}
 use Rattle.census_bundle.specs.declared.bundle.AddFault.TheVariants as add
-use Rattle.life_faults.specs.declared.files.FileKind.{FileKind}
-use Rattle.life_faults.specs.declared.files.FileKind.TheVariants as files
-use Rattle.life_faults.specs.declared.kinds.RuleKind.{RuleKind}
-use Rattle.life_faults.specs.declared.kinds.RuleKind.TheVariants as kinds
+use Rattle.census_faults.specs.declared.rle.files.FileKind.{FileKind}
+use Rattle.census_faults.specs.declared.rle.files.FileKind.TheVariants as files
+use Rattle.census_faults.specs.declared.rle.kinds.RuleKind.{RuleKind}
+use Rattle.census_faults.specs.declared.rle.kinds.RuleKind.TheVariants as kinds
 use Rattle.census_faults.specs.declared.fault.Fault.{Fault}
 use Rattle.census_faults.specs.declared.fault.Fault.TheVariants.{Text, File, Rule, Bundle, Folder, Code, Generation, Report, Claims, Names, TooLong, Read, FileForFolder, Write, Arguments, Words, Memory}
 use Rattle.census_faults.specs.Faults.{canonical_fault}

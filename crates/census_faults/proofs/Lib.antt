@@ -1,3 +1,4 @@
 mod Differing
 mod Shown
 mod Refused
+pub mod RleLemmas

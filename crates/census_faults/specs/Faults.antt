@@ -10,10 +10,10 @@ use Rattle.census_bundle.specs.declared.fault.BundleFault.{BundleFault}
 use Rattle.census_bundle.specs.declared.fault.BundleFault.TheVariants as bundles
 use Rattle.census_bundle.specs.declared.bundle.AddFault.{AddFault}
 use Rattle.census_bundle.specs.declared.bundle.AddFault.TheVariants as adds
-use Rattle.life_faults.specs.declared.files.FileKind.TheVariants as files
-use Rattle.life_faults.specs.declared.kinds.RuleKind.TheVariants as kinds
-use Rattle.life_faults.specs.Files.{file_kind}
-use Rattle.life_faults.specs.Rules.{rule_in_header, rule_kind}
+use Rattle.census_faults.specs.declared.rle.files.FileKind.TheVariants as files
+use Rattle.census_faults.specs.declared.rle.kinds.RuleKind.TheVariants as kinds
+use Rattle.census_faults.specs.Rle.Files.{file_kind}
+use Rattle.census_faults.specs.Rle.Rules.{rule_in_header, rule_kind}
 use Rattle.census_faults.specs.declared.fault.Fault.{Fault}
 use Rattle.census_faults.specs.declared.fault.Fault.TheVariants.{Text, File, Rule, Bundle, Folder, Code, Generation, Report, Claims, Names, TooLong, Read, FileForFolder, Write, Arguments, Words, Memory}
 

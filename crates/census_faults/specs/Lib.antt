@@ -5,3 +5,4 @@ pub mod Spots
 pub mod Explained
 pub mod Refusals
 pub mod BundleRefusals
+pub mod Rle

@@ -1,7 +1,7 @@
 -- The line that explains why a pattern of a report was refused.
 use Rattle.std.specs.Prelude.{ℕ, List, ◌++◌, codes}
 use Rattle.life_text.specs.declared.rle.RleFault.{RleFault}
-use Rattle.life_faults.specs.Lines.{sentence_line}
+use Rattle.census_faults.specs.Rle.Lines.{sentence_line}
 use Rattle.census_faults.specs.Printed.{printable_text}
 
 -- two blanks, `COLLECTION/NAME:LINE:COLUMN: WORDS`, and LF

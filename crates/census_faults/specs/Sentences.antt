@@ -7,7 +7,7 @@ use Rattle.census_bundle.specs.declared.fault.BundleFault.{BundleFault}
 use Rattle.census_bundle.specs.declared.fault.BundleFault.TheVariants as bundle
 use Rattle.census_bundle.specs.declared.bundle.AddFault.{AddFault}
 use Rattle.census_bundle.specs.declared.bundle.AddFault.TheVariants as add
-use Rattle.life_faults.specs.Sentences as texts
+use Rattle.census_faults.specs.Rle.Sentences as texts
 use Rattle.census_faults.specs.declared.fault.Fault.{Fault}
 use Rattle.census_faults.specs.declared.fault.Fault.TheVariants.{Text, File, Rule, Bundle, Folder, Code, Generation, Report, Claims, Names, TooLong, Read, FileForFolder, Write, Arguments, Words, Memory}
 use Rattle.census_faults.specs.Faults.{canonical_fault}

@@ -5,7 +5,7 @@ use Rattle.life_text.specs.declared.rle.RleFault.TheVariants as rle
 use Rattle.life_shape.specs.TextOrder.{body_of}
 use Rattle.life_shape.specs.declared.reader.CodeFault.{CodeFault}
 use Rattle.life_shape.specs.declared.reader.CodeFault.TheVariants as code
-use Rattle.life_faults.specs.Places.{line_and_column, place_of_fault}
+use Rattle.census_faults.specs.Rle.Places.{line_and_column, place_of_fault}
 use Rattle.census_bundle.specs.declared.fault.BundleFault.{BundleFault}
 use Rattle.census_bundle.specs.declared.fault.BundleFault.TheVariants as bundle
 use Rattle.census_faults.specs.declared.spot.Spot.{Spot}

@@ -1,12 +1,12 @@
 //! What can be wrong.
 ghost use Rattle.std.specs.Prelude.{◌≡◌};
-ghost use Rattle.life_faults.specs.Sentences.{words_of};
+ghost use Rattle.census_faults.specs.Rle.Sentences.{words_of};
 ghost use Rattle.census_faults.specs.Faults.{rule_fault, text_fault};
 ghost use Rattle.census_faults.specs.Sentences.{sentence_of};
 
+use crate::rle::{FileKind, RuleKind, file_kind, rule_in_header, rule_kind};
 use census_bundle::{AddFault, BundleFault};
 use life_cells::RuleFault;
-use life_faults::{FileKind, RuleKind, file_kind, rule_in_header, rule_kind};
 use life_shape::CodeFault;
 use life_text::RleFault;
 

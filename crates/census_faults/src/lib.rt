@@ -1,5 +1,5 @@
 //! Every fault that the program tells, in words: the line that explains an error, and the line that explains why a
-//! pattern was refused.
+//! pattern was refused. `rle` has those of patterns' texts.
 //!
 //! Tested in `tests_objects`.
 #![tactic(auto)]
@@ -9,6 +9,7 @@ mod fault;
 mod printing;
 mod refusal;
 mod refusals;
+mod rle;
 mod sentences;
 mod spot;
 
@@ -17,5 +18,9 @@ pub use fault::{Fault, rule_fault, text_fault};
 pub use printing::{is_name_byte, printable_text, shown_names};
 pub use refusal::refusal_line;
 pub use refusals::refusal_lines;
+pub use rle::{
+    FileKind, Place, RleFault, RuleKind, fault_line, fault_words, line_and_column, place_of,
+    refused_rules_are_told, rule_kind, sentence_line, sentences_differ,
+};
 pub use sentences::{faults_differ, sentence};
 pub use spot::{Spot, spot_of_bundle, spot_of_code, spot_of_text};

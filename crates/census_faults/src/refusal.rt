@@ -5,7 +5,7 @@ ghost use Rattle.life_text.specs.Rle.{refusal};
 ghost use Rattle.census_faults.specs.Refusals.{refusal_line};
 
 use crate::printing::push_printed;
-use life_faults::sentence_line;
+use crate::rle::sentence_line;
 use life_text::{RleFault, read_rle};
 use std::alloc::{AllocError, Global};
 

@@ -3,8 +3,8 @@ ghost use Rattle.std.specs.Prelude.{◌≡◌};
 ghost use Rattle.census_faults.specs.Sentences.{FaultsDiffer, bundle_sentence, code_sentence, folder_sentence, sentence_of};
 
 use crate::fault::Fault;
+use crate::rle::{file_sentence, rule_sentence, sentence as text_sentence};
 use census_bundle::{AddFault, BundleFault};
-use life_faults::{file_sentence, rule_sentence, sentence as text_sentence};
 use life_shape::CodeFault;
 use life_text::RleFault;
 

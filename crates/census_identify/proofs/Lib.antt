@@ -1,3 +1,4 @@
 pub mod Written
 pub mod Parted
 pub mod Words
+pub mod BlocksLemmas

@@ -1,7 +1,7 @@
 -- What is read and written where words are identified, one after another.
 use Rattle.std.specs.Prelude.{◌≡◌, ◌⊎◌, ℕ, ◌+◌, List, [], ◌∷◌, ◌++◌, codes}
 use Rattle.watched.specs.Watching.{ConsumesAtMost}
-use Rattle.census_blocks.specs.declared.inquiry.Inquiry.{Inquiry}
+use Rattle.census_identify.specs.declared.blocks.inquiry.Inquiry.{Inquiry}
 use Rattle.census_names.specs.Names.{Entry}
 use Rattle.census_bundle.specs.Sizes.{input_limit}
 use Rattle.census_folders.specs.Told.{Told}

@@ -4,3 +4,4 @@ pub mod Telling
 pub mod Courses
 pub mod Errors
 pub mod Identifies
+pub mod Blocks

@@ -1,9 +1,9 @@
 -- What is told of what was heard: blocks, lines and statuses.
 use Rattle.std.specs.Prelude.{ℕ, Bool, true, false, if◌then◌else◌, List, [], ◌∷◌, ◌++◌, codes, map, max, Option, Some, None, Result, Ok, Err}
 use Rattle.life_text.specs.declared.rle.RleFault.{RleFault}
-use Rattle.life_faults.specs.Lines.{fault_line}
-use Rattle.census_blocks.specs.Blocks.{block_of}
-use Rattle.census_blocks.specs.declared.inquiry.Inquiry.{Inquiry}
+use Rattle.census_faults.specs.Rle.Lines.{fault_line}
+use Rattle.census_identify.specs.Blocks.Blocks.{block_of}
+use Rattle.census_identify.specs.declared.blocks.inquiry.Inquiry.{Inquiry}
 use Rattle.census_names.specs.Names.{Entry}
 use Rattle.census_facts.specs.Forms.{separator}
 use Rattle.census_facts.specs.declared.form.Form.{Form}

@@ -4,12 +4,12 @@ ghost use Rattle.watched.specs.Watching.{has_failed};
 ghost use Rattle.census_identify.specs.Identifies.{Identifies, Stops, TellsAll, words_or_input};
 ghost use Rattle.census_identify.specs.Streams.{streams};
 
+use crate::blocks::{HORIZON_LIMIT, Inquiry};
 use crate::course::{Course, tell, tell_line};
 use crate::error::IdentifyError;
 use crate::heard::hear;
 use crate::onlooker::{Onlooker, WordObserver};
 use crate::told::told_of;
-use census_blocks::{HORIZON_LIMIT, Inquiry};
 use census_folders::Shelf;
 use census_names::Names;
 use life_orbit::BOUND_LIMIT;

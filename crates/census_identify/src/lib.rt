@@ -1,9 +1,10 @@
 //! What is told of single patterns: a block of lines for each text that means one, and a line for each that can't be
-//! read or has a fault.
+//! read or has a fault. `blocks` has what is written of one pattern.
 //!
 //! Tested in `tests_objects`.
 #![tactic(auto)]
 
+mod blocks;
 mod bytes;
 mod course;
 mod error;
@@ -12,9 +13,10 @@ mod identifying;
 mod onlooker;
 mod told;
 
+pub use blocks::{BlockText, HORIZON_LIMIT, Inquiry, Known, block};
 pub use bytes::Bytes;
 pub use error::IdentifyError;
-pub use heard::{Heard, hear, is_input, read_file};
+pub use heard::{Heard, is_input, read_file};
 pub use identifying::identify;
 pub use onlooker::{Onlooker, Unseen};
 pub use told::{Told, told_of};

@@ -1,5 +1,5 @@
 //! Who is told how far the telling has come.
-use life_observer::Observer;
+use life_plane::Observer;
 
 /// Is told how far each file has come. What is told of a file does not depend on it.
 pub trait Onlooker {

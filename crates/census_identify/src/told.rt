@@ -1,17 +1,17 @@
 //! What is told of what was got.
 ghost use Rattle.std.specs.Prelude.{◌≡◌, ◌≤◌, IfOk};
 ghost use Rattle.std.specs.Option.{option_copied};
-ghost use Rattle.census_blocks.specs.Blocks.{block_of};
+ghost use Rattle.census_identify.specs.Blocks.Blocks.{block_of};
 ghost use Rattle.census_identify.specs.Telling.{file_of, message_line, told_of, told_of_block, unread_message};
 
+use crate::blocks::{BlockText, HORIZON_LIMIT, Inquiry, block};
 use crate::bytes::Bytes;
 use crate::heard::{Heard, is_input};
-use census_blocks::{BlockText, HORIZON_LIMIT, Inquiry, block};
 use census_bundle::Text;
+use census_faults::fault_line;
 use census_names::Names;
-use life_faults::fault_line;
-use life_observer::Observer;
 use life_orbit::BOUND_LIMIT;
+use life_plane::Observer;
 use std::alloc::{AllocError, Global};
 
 /// What is told of one text.

@@ -1,6 +1,6 @@
 -- What becomes of patterns that do not recur.
 use Rattle.std.specs.Prelude.{ℕ, Bool, true, false, if◌then◌else◌, List, [], ◌++◌, codes}
-use Rattle.life_faults.specs.Reported.{fault_words}
+use Rattle.census_faults.specs.Rle.Reported.{fault_words}
 use Rattle.census_rows.specs.declared.row.Finding.{Finding}
 use Rattle.census_rows.specs.declared.row.Finding.TheVariants.{Ok, Ash, Unresolved, Large, Grows}
 use Rattle.census_rows.specs.declared.row.Outcome.{Outcome}

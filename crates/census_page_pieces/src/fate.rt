@@ -10,8 +10,8 @@ use crate::growth::push_growth;
 use crate::link::{Links, push_name};
 use crate::numbers::{push_grouped, push_labelled, push_plural};
 use crate::parts::push_parts;
+use census_faults::fault_words;
 use census_rows::{Finding, Outcome, Row};
-use life_faults::fault_words;
 use std::alloc::{AllocError, Global};
 
 // Adds that a pattern has fallen apart.

@@ -8,3 +8,4 @@ pub mod Halted
 pub mod SameLists
 pub mod SameTable
 pub mod Merging
+pub mod LawfulLemmas

@@ -7,3 +7,4 @@ pub mod Forms
 pub mod Mending
 pub mod Looking
 pub mod Outcomes
+pub mod Lawful

@@ -1,11 +1,12 @@
 //! Reports that are read from files or from standard input, and written as one report, as a table, as a page, as the
-//! patterns that are one object, or as what does not agree with claims.
+//! patterns that are one object, or as what does not agree with claims. `lawful` has what `census merge` promises.
 //!
 //! Tested in `tests_reports`.
 #![tactic(auto)]
 
 mod error;
 mod form;
+mod lawful;
 mod limit;
 mod looking;
 mod merged;
@@ -16,6 +17,7 @@ mod words;
 
 pub use error::ReportsError;
 pub use form::{Form, merging_changes_no_table};
+pub use lawful::merge_reports;
 pub use reading::{Reading, Written};
 pub use reports::write_reports;
 pub use words::read_text;

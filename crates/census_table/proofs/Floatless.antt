@@ -2,7 +2,7 @@
 use Rattle.std.proofs.Common.{◌≡◌, ℕ, false, List, [], ◌∷◌, Option, Some, None, refl, map}
 use Rattle.serde_json.specs.Data.{Members, no_members, object, put}
 use Rattle.serde_json.specs.Written.{has_float, members_have_float}
-use Rattle.census_json.proofs.Floatless.{counted-floatless, engines-floatless, integer-floatless, items-floatless, put-floatless}
+use Rattle.census_facts.proofs.JsonLemmas.Floatless.{counted-floatless, engines-floatless, integer-floatless, items-floatless, put-floatless}
 use Rattle.census_table.specs.Contents.{Content, Member, content_data, count, data_or_null, engines, hex, hex_of, kind_data, nothing, parts, portion_data, shift, text}
 use Rattle.census_table.specs.Lists.{Engines}
 use Rattle.census_table.specs.declared.lists.Portion.{Portion}

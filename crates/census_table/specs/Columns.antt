@@ -6,7 +6,7 @@ use Rattle.census_rows.specs.declared.kinds.Value.{Value}
 use Rattle.census_rows.specs.declared.kinds.Value.TheVariants.{Number, Signed, Text}
 use Rattle.census_rows.specs.declared.row.Outcome.{Outcome}
 use Rattle.census_rows.specs.Kinds.{said, value_at}
-use Rattle.life_faults.specs.Reported.{fault_words}
+use Rattle.census_faults.specs.Rle.Reported.{fault_words}
 use Rattle.census_table.specs.declared.column.Column.{Column}
 use Rattle.census_table.specs.declared.column.Column.TheVariants as column
 use Rattle.census_table.specs.declared.entry.Entry.{Entry}

@@ -8,8 +8,8 @@ use Rattle.hex.specs.Hex.{encode_lower}
 use Rattle.serde_json.specs.Data.{Data, array, null, number, string, unsigned}
 use Rattle.serde_json.specs.Find.{of_integer}
 use Rattle.serde_json.specs.View.{items_of}
-use Rattle.life_faults.specs.Reported.{fault_words}
-use Rattle.census_json.specs.Values.{counted_data, engines_data}
+use Rattle.census_faults.specs.Rle.Reported.{fault_words}
+use Rattle.census_facts.specs.Json.Values.{counted_data, engines_data}
 use Rattle.census_table.specs.Lists.{Engines}
 use Rattle.census_table.specs.declared.cell.Cell.{Cell}
 use Rattle.census_table.specs.declared.cell.Cell.TheVariants.{Empty, Count, Shift, Text, Hex, Fault}

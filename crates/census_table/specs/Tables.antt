@@ -2,7 +2,7 @@
 use Rattle.std.specs.Prelude.{◌≡◌, ℕ, Bool, None, List, [], ◌∷◌, ◌++◌, filter, map}
 use Rattle.csv.specs.Writing.{default_writer, row_text}
 use Rattle.serde_json.specs.Data.{Members, no_members, object, put}
-use Rattle.census_json.specs.Lines.{data_line}
+use Rattle.census_facts.specs.Json.Lines.{data_line}
 use Rattle.census_rows.specs.Kinds.{said}
 use Rattle.census_rows.specs.declared.kinds.Behind.TheVariants as behind
 use Rattle.census_rows.specs.declared.row.Row.{Row}

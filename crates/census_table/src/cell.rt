@@ -2,11 +2,11 @@
 ghost use Rattle.std.specs.Prelude.{◌≡◌, IfOk, option_map, string_bytes};
 ghost use Rattle.std.specs.Str.Lossy.{utf8_lossy};
 ghost use Rattle.serde_json.specs.View.{view};
-ghost use Rattle.life_faults.specs.Reported.{fault_words};
+ghost use Rattle.census_faults.specs.Rle.Reported.{fault_words};
 ghost use Rattle.census_table.specs.Contents.{TextsAreSafe, begins_formula, content_bytes, content_data, content_of, hex_of, text_bytes};
 
+use census_faults::fault_words;
 use itoa::Buffer;
-use life_faults::fault_words;
 use serde_json::Value;
 use std::alloc::{AllocError, Global};
 

@@ -7,7 +7,7 @@ ghost use Rattle.census_table.specs.Tables.{json_line, json_rows, with_row};
 ghost use Rattle.census_table.specs.Told.{rows_in};
 
 use crate::cell::Field;
-use census_json::push_value;
+use census_facts::push_value;
 use serde_json::{Map, Value, put};
 use std::alloc::{AllocError, Global};
 

@@ -18,11 +18,11 @@ mod subject;
 mod table;
 
 pub use cell::{Cell, Field, safe_texts_are_no_formulas};
-pub use column::{Column, entry_row};
+pub use column::Column;
 pub use counting::kinds;
 pub use entry::{Entry, entries_under};
 pub use json_lines::push_object;
 pub use object::{Object, objects};
-pub use object_column::{ObjectColumn, object_row};
+pub use object_column::ObjectColumn;
 pub use subject::{Subject, Table, table_of};
 pub use table::{Format, each_line_has_a_row, put_listing, put_table};

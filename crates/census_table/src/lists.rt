@@ -5,7 +5,7 @@ ghost use Rattle.census_readback.specs.Grouped.{rows_lent};
 ghost use Rattle.census_table.specs.Contents.{kind_data, portion_data};
 ghost use Rattle.census_table.specs.Lists.{all_engines, engines_of, portion_of, portions};
 
-use census_json::{counted_value, engines_value};
+use census_facts::{counted_value, engines_value};
 use census_readback::emits_first;
 use census_rows::Row;
 use serde_json::Value;

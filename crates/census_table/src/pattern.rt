@@ -15,7 +15,7 @@ use crate::column::{Column, entry_row};
 use crate::entry::{Entry, entry_of_row};
 use crate::json_lines::put_row;
 use crate::lists::{engine_values, portion_values};
-use census_json::push_value;
+use census_facts::push_value;
 use census_names::Names;
 use census_readback::rows_behind;
 use census_rows::{Behind, Row};

@@ -1,1 +1,2 @@
 pub mod Laters
+pub mod WidthLemmas

@@ -1,4 +1,5 @@
-//! Later generations of a pattern, by steps in tiles and by leaps, as work shows.
+//! Later generations of a pattern, by steps in tiles and by leaps, as work shows. `width` tells by leaps that a pattern grows too
+//! wide to come again.
 //!
 //! Tested in `tests_leaps`.
 #![tactic(auto)]
@@ -7,5 +8,7 @@ mod advancing;
 mod effort;
 mod leaping;
 mod walking;
+mod width;
 
 pub use advancing::generation_of;
+pub use width::{outgrows, what_settles_stays_narrow};

@@ -8,9 +8,9 @@ use Rattle.life_objects.specs.Ash.{HasFallenApart, IsAsh}
 use Rattle.life_objects.specs.Union.{generations, union, union_of}
 use Rattle.life_objects.proofs.Ashes.{IsAsh-until, IsAsh-wider}
 use Rattle.life_objects.proofs.Beginning.{one_onset}
-use Rattle.life_decided.specs.Decided.{ash_of}
-use Rattle.life_decided.proofs.Deciding.{ash_if_found}
-use Rattle.life_decided.proofs.Lasting.{parts_found}
+use Rattle.life_objects.specs.Decided.Decided.{ash_of}
+use Rattle.life_objects.proofs.DecidedLemmas.Deciding.{ash_if_found}
+use Rattle.life_objects.proofs.DecidedLemmas.Lasting.{parts_found}
 use Rattle.life_growth.specs.Growth.{IsGrowth}
 use Rattle.life_growth.proofs.Alike.{count_later, later_ashes_are_alike}
 use Rattle.life_growth.proofs.Lasting.{growth_later, shed}

@@ -9,8 +9,8 @@ use Rattle.std.proofs.lemmas.List.Sums.{AllPass-from_list_all, list_all-from_All
 use Rattle.life_model.specs.Rule.{Rule}
 use Rattle.life_model.specs.Generation.{Generation}
 use Rattle.life_objects.specs.Ash.{RecursWithin}
-use Rattle.life_decided.specs.Parts.{period}
-use Rattle.life_decided.proofs.Periods.{period_found, recurs_within}
+use Rattle.life_objects.specs.Decided.Parts.{period}
+use Rattle.life_objects.proofs.DecidedLemmas.Periods.{period_found, recurs_within}
 use Rattle.life_answer.specs.Census.{counted_parts, part_code}
 use Rattle.life_answer.specs.Counted.{all_come_again, code_bound, counted_as, counted_of}
 use Rattle.life_answer.specs.Parts.{counted_codes}

@@ -10,7 +10,7 @@ use Rattle.std.proofs.lemmas.List.Sorted.{sum_by-IsPermutation}
 use Rattle.std.proofs.lemmas.List.Sums.{sum_by-cons}
 use Rattle.std.proofs.lemmas.Option.{none-some, same_Some}
 use Rattle.life_objects.proofs.Lists.{AllPairs-map, Contains-head, Contains-later, head_or_later}
-use Rattle.life_decided.proofs.Kept.{Contains-map}
+use Rattle.life_objects.proofs.DecidedLemmas.Kept.{Contains-map}
 use Rattle.life_answer.specs.CountedTales.{counted_tales, engines_in, same_tale, tale_cmp}
 use Rattle.life_answer.specs.declared.tale.Engines.{Engines}
 use Rattle.life_answer.specs.declared.tale.Tale.{Tale}

@@ -7,7 +7,7 @@ use Rattle.life_model.specs.Generation.{Generation}
 use Rattle.life_model.specs.Evolution.{generation}
 use Rattle.life_model.proofs.Recurrences.{generation-zero}
 use Rattle.life_objects.specs.Ash.{HasFallenApart}
-use Rattle.life_decided.specs.Decided.{ash_of}
+use Rattle.life_objects.specs.Decided.Decided.{ash_of}
 use Rattle.life_growth.specs.Growth.{IsGrowth}
 use Rattle.life_growth.proofs.OneGrowth.{engine_of, some_element}
 use Rattle.life_answer.specs.Census.{ash_onset, census_found, census_of}

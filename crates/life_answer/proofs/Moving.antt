@@ -11,8 +11,8 @@ use Rattle.life_model.proofs.Moves.{nothing_or_some}
 use Rattle.life_model.proofs.Near.{next_near}
 use Rattle.life_model.proofs.Symmetries.{contains-moved}
 use Rattle.life_objects.proofs.Unions.{contains-union}
-use Rattle.life_decided.specs.Parts.{reach}
-use Rattle.life_decided.proofs.Reaching.{IsReached, reached_now}
+use Rattle.life_objects.specs.Decided.Parts.{reach}
+use Rattle.life_objects.proofs.DecidedLemmas.Reaching.{IsReached, reached_now}
 use Rattle.life_growth.specs.Engine.{IsEngine, Way}
 use Rattle.life_growth.proofs.OneGrowth.{IsUnsplit-engine}
 

@@ -7,8 +7,8 @@ use Rattle.life_model.specs.Evolution.{generation}
 use Rattle.life_objects.specs.Ash.{HasFallenApart}
 use Rattle.life_objects.specs.Onset.{HasAsh, IsAshOnset}
 use Rattle.life_objects.proofs.Beginning.{one_onset}
-use Rattle.life_decided.specs.Decided.{ash_of}
-use Rattle.life_decided.proofs.Deciding.{ash_if_found, found_if_ash}
+use Rattle.life_objects.specs.Decided.Decided.{ash_of}
+use Rattle.life_objects.proofs.DecidedLemmas.Deciding.{ash_if_found, found_if_ash}
 use Rattle.life_answer.specs.Census.{ash_onset, census_found, census_of, is_ash_then}
 use Rattle.life_answer.specs.Recurrence.{first_from}
 use Rattle.life_answer.specs.declared.part.Part.{Part}

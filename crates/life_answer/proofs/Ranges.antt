@@ -11,8 +11,8 @@ use Rattle.life_objects.specs.Ash.{IsObject}
 use Rattle.life_objects.specs.Limits.{objects_bound_limit}
 use Rattle.life_objects.specs.Union.{union_of}
 use Rattle.life_objects.proofs.Lists.{Contains-later, head_or_later}
-use Rattle.life_independent.specs.Independent.{independent_parts_of}
-use Rattle.life_independent.proofs.Finest.{are_the_parts}
+use Rattle.life_objects.specs.Independent.Independent.{independent_parts_of}
+use Rattle.life_objects.proofs.IndependentLemmas.Finest.{are_the_parts}
 use Rattle.life_growth.specs.Engine.{Emits, IsEngine, Way, joined}
 use Rattle.life_growth.proofs.Emitting.{emits_some}
 use Rattle.life_growth.proofs.OneGrowth.{engine_of, some_element}

@@ -11,9 +11,9 @@ use Rattle.life_model.proofs.Recurrences.{generation-add, generation-zero}
 use Rattle.life_objects.specs.Union.{union, union_of}
 use Rattle.life_growth.specs.Growth.{IsGrowth}
 use Rattle.life_growth.proofs.Lasting.{IsGrowth-wider, growth_later, shed}
-use Rattle.life_fates.specs.Decided.{growth_of}
-use Rattle.life_fates.proofs.Growths.{growth_right, its_growth, none_found}
-use Rattle.life_fates.proofs.Lasting.{told_later}
+use Rattle.life_growth.specs.Fates.Decided.{growth_of}
+use Rattle.life_growth.proofs.FatesLemmas.Growths.{growth_right, its_growth, none_found}
+use Rattle.life_growth.proofs.FatesLemmas.Lasting.{told_later}
 use Rattle.life_answer.specs.CountedTales.{counted_tales}
 use Rattle.life_answer.specs.Tales.{tale_of}
 use Rattle.life_answer.specs.Told.{growth_told, told_of_engines}

@@ -3,7 +3,7 @@ use Rattle.std.specs.Prelude.{ℕ, List, [], Bool, Option, Some, None, is_some, 
 use Rattle.life_model.specs.Rule.{Rule}
 use Rattle.life_model.specs.Generation.{Generation}
 use Rattle.life_model.specs.Evolution.{generation}
-use Rattle.life_decided.specs.Decided.{ash_of}
+use Rattle.life_objects.specs.Decided.Decided.{ash_of}
 use Rattle.life_answer.specs.Answers.{outcome_of}
 use Rattle.life_answer.specs.Counted.{code_bound, counted_of}
 use Rattle.life_answer.specs.Parts.{counted_codes}

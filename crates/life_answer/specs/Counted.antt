@@ -4,8 +4,8 @@ use Rattle.std.specs.List.{list_all}
 use Rattle.life_model.specs.Rule.{Rule}
 use Rattle.life_model.specs.Generation.{Generation}
 use Rattle.life_objects.specs.Limits.{objects_bound_limit}
-use Rattle.life_decided.specs.Parts.{period}
-use Rattle.life_independent.specs.Independent.{independent_parts_of}
+use Rattle.life_objects.specs.Decided.Parts.{period}
+use Rattle.life_objects.specs.Independent.Independent.{independent_parts_of}
 
 -- whether each of the sets comes again within b
 abbrev pub all_come_again : Rule → ℕ → List Generation → Bool

@@ -6,3 +6,4 @@ pub mod Rooms
 pub mod Boxes
 pub mod Listed
 pub mod Loners
+pub mod OnsetsLemmas

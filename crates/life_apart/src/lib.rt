@@ -1,4 +1,4 @@
-//! Whether sets that recur make up a set, and stay apart for ever.
+//! Whether sets that recur make up a set, and stay apart for ever. `onsets` tells from which generation on a pattern is ash.
 //!
 //! Tested in `tests_objects`, by `life_census`.
 #![tactic(auto)]
@@ -6,9 +6,11 @@
 mod alone;
 mod checks;
 mod clearance;
+mod onsets;
 mod span;
 mod sweep;
 
 pub use alone::end_alone;
 pub use checks::{are_apart, are_together};
 pub use clearance::room;
+pub use onsets::{Trail, onset};

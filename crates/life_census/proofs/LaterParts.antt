@@ -8,8 +8,8 @@ use Rattle.life_objects.specs.Ash.{HasFallenApart, IsAsh}
 use Rattle.life_objects.specs.Onset.{IsAshOnset}
 use Rattle.life_objects.specs.Union.{generations}
 use Rattle.life_objects.proofs.Ashes.{IsAsh-until}
-use Rattle.life_decided.proofs.Deciding.{none_if_no_ash}
-use Rattle.life_decided.proofs.Lasting.{parts_found}
+use Rattle.life_objects.proofs.DecidedLemmas.Deciding.{none_if_no_ash}
+use Rattle.life_objects.proofs.DecidedLemmas.Lasting.{parts_found}
 use Rattle.life_answer.specs.Census.{ash_onset, census_found, census_of, counted_parts}
 use Rattle.life_answer.specs.declared.finding.Outcome.TheVariants.{Ash, Unresolved}
 use Rattle.life_answer.specs.declared.part.Part.{Part}

@@ -7,15 +7,15 @@ use Rattle.life_model.specs.Rule.{Rule}
 use Rattle.life_model.specs.Generation.{Generation, empty}
 use Rattle.life_objects.specs.Ash.{RecursWithin}
 use Rattle.life_objects.specs.Limits.{objects_bound_limit}
-use Rattle.life_parts.specs.Parts.{AreIndependentParts, IsIndependentPart}
-use Rattle.life_independent.specs.Independent.{independent_parts_of}
-use Rattle.life_independent.proofs.Finest.{are_the_parts}
+use Rattle.life_objects.specs.Parts.Parts.{AreIndependentParts, IsIndependentPart}
+use Rattle.life_objects.specs.Independent.Independent.{independent_parts_of}
+use Rattle.life_objects.proofs.IndependentLemmas.Finest.{are_the_parts}
 use Rattle.life_answer.specs.Census.{part_code}
 use Rattle.life_answer.specs.Counted.{all_come_again}
 use Rattle.life_answer.proofs.CountedSets.{come_again_by, come_again_tells}
 use Rattle.life_apart.specs.Sets.{sets_of}
 use Rattle.life_orbit.specs.Course.{Course, IsCourse}
-use Rattle.life_split.specs.Courses.{IsCourseWithin}
+use Rattle.life_islands.specs.Split.Courses.{IsCourseWithin}
 use Rattle.life_census.specs.Courses.{course_code}
 use Rattle.life_census.proofs.CountedParts.{HasCodes}
 use Rattle.life_census.proofs.PartCodes.{code_alone}

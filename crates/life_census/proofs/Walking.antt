@@ -8,7 +8,7 @@ use Rattle.life_model.specs.Rule.{Rule}
 use Rattle.life_model.proofs.Recurrences.{generation-zero}
 use Rattle.life_ash.specs.Allowed.{AreAllowedBefore}
 use Rattle.life_ash.specs.Met.{Terms}
-use Rattle.life_onset.specs.Moments.{IsMomentOf, Moment}
+use Rattle.life_apart.specs.Onsets.Moments.{IsMomentOf, Moment}
 use Rattle.life_census.specs.OnTheWay.{IsOnTheWay}
 
 -- at the start

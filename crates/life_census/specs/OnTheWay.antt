@@ -8,7 +8,7 @@ use Rattle.life_answer.specs.Growing.{allowed_bound}
 use Rattle.life_ash.specs.Allowed.{AreAllowedBefore}
 use Rattle.life_ash.specs.Fates.{IsFate, IsSmallEnough}
 use Rattle.life_objects.specs.Ash.{HasFallenApart}
-use Rattle.life_onset.specs.Moments.{IsMomentOf, Moment}
+use Rattle.life_apart.specs.Onsets.Moments.{IsMomentOf, Moment}
 use Rattle.life_census.specs.Grown.{IsGrownWithin, NeverGrowsThen}
 use Rattle.life_census.specs.declared.seen.Seen.{Seen}
 use Rattle.life_census.specs.declared.seen.Seen.TheVariants.{Becomes, Grows, Unresolved}

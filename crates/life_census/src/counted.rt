@@ -7,8 +7,8 @@ ghost use Rattle.life_census.specs.Courses.{course_code};
 
 use crate::code::code_of;
 use life_answer::Code;
+use life_islands::part_orbits;
 use life_orbit::Orbit;
-use life_split::part_orbits;
 use std::alloc::{AllocError, Global};
 
 /// The code of an orbit's set, alone in a list.

@@ -12,7 +12,7 @@ ghost use Rattle.life_answer.specs.Questions.{finding_to, outcome_to};
 ghost use Rattle.life_answer.specs.Told.{growth_told};
 ghost use Rattle.life_answer.specs.declared.question.Question.TheVariants.{Objects};
 ghost use Rattle.life_apart.specs.Sets.{IsCourseBy, sets_of};
-ghost use Rattle.life_onset.specs.Moments.{IsMomentOf};
+ghost use Rattle.life_apart.specs.Onsets.Moments.{IsMomentOf};
 ghost use Rattle.life_ash.specs.Fates.{IsFate};
 ghost use Rattle.life_census.specs.Grown.{IsGrownWithin, NeverGrowsThen};
 
@@ -22,13 +22,12 @@ use crate::seen::Seen;
 use crate::telling::told;
 use crate::walk::seen;
 use life_answer::{EngineList, Finding, Outcome};
+use life_apart::{Trail, onset};
 use life_ash::{Ash, Fate};
 use life_cells::{CellList, Rule};
 use life_growing::Growth;
-use life_observer::Observer;
-use life_onset::{Trail, onset};
 use life_orbit::BOUND_LIMIT;
-use life_plane::Plane;
+use life_plane::{Observer, Plane};
 use life_things::WAY_LIMIT;
 use std::alloc::{AllocError, Global};
 

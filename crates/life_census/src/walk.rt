@@ -12,12 +12,11 @@ ghost use Rattle.life_census.specs.OnTheWay.{IsOnTheWay, IsSeen};
 
 use crate::growing::growth_on_the_way;
 use crate::seen::Seen;
+use life_apart::Trail;
 use life_ash::{Ash, Fate, Found, Known, fate_past, walk_on};
 use life_cells::{CellList, Rule};
-use life_observer::{Observer, Unobserved};
-use life_onset::Trail;
 use life_orbit::BOUND_LIMIT;
-use life_plane::Plane;
+use life_plane::{Observer, Plane, Unobserved};
 use life_strays::never_grow;
 use life_tally::Pace;
 use life_things::WAY_LIMIT;

@@ -8,8 +8,7 @@ use crate::finding::find_limited;
 use crate::limit::BOUND_LIMIT;
 use life_answer::{Answer, refused};
 use life_board::Board;
-use life_observer::Observer;
-use life_plane::Plane;
+use life_plane::{Observer, Plane};
 use life_text::read_rle;
 use std::alloc::{AllocError, Global};
 

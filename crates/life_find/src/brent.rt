@@ -12,10 +12,9 @@ use crate::fingerprint::{Fingerprint, fingerprint_of};
 use crate::limit::BOUND_LIMIT;
 use crate::lookout::Lookout;
 use crate::recurrence::Recurrence;
+use life_advance::outgrows;
 use life_cells::{CellList, Rule};
-use life_observer::Observer;
-use life_plane::{AGE_LIMIT, Plane};
-use life_width::outgrows;
+use life_plane::{AGE_LIMIT, Observer, Plane};
 use std::alloc::{AllocError, Global};
 
 /// How many generations are compared with the first one: most known oscillators and spaceships have no longer period.

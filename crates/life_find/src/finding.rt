@@ -15,8 +15,7 @@ use crate::rounds::found_early;
 use crate::search::settling;
 use life_answer::{Code, Finding, Outcome};
 use life_cells::{CellList, Rule};
-use life_observer::{Observer, Unobserved};
-use life_plane::Plane;
+use life_plane::{Observer, Plane, Unobserved};
 use life_text::Pattern;
 use std::alloc::{AllocError, Global};
 

@@ -7,8 +7,7 @@ ghost use Rattle.life_answer.specs.declared.finding.Outcome.{Outcome as Becomes}
 
 use life_answer::Outcome;
 use life_cells::{CellList, Rule};
-use life_observer::Observer;
-use life_plane::{AGE_LIMIT, Plane};
+use life_plane::{AGE_LIMIT, Observer, Plane};
 use std::alloc::{AllocError, Global};
 
 /// The first generation from 0 to the last that has more cells than so many. No generation after it is looked at. An

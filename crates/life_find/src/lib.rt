@@ -23,7 +23,6 @@ mod soon;
 
 pub use answering::answer;
 pub use finding::{find, find_cells, find_limited};
-pub use larger::{first_larger, too_large};
 pub use laws::fingerprints_follow_moves;
 pub use limit::BOUND_LIMIT;
 pub use sameness::same_object;

@@ -11,8 +11,7 @@ use crate::larger::too_large;
 use crate::limit::BOUND_LIMIT;
 use life_answer::Outcome;
 use life_cells::{CellList, Rule};
-use life_observer::Observer;
-use life_plane::Plane;
+use life_plane::{Observer, Plane};
 use std::alloc::{AllocError, Global};
 
 /// Up to which generation the first round goes.

@@ -10,8 +10,7 @@ use crate::limit::BOUND_LIMIT;
 use life_answer::{Code, Outcome};
 use life_board::Board;
 use life_cells::{CellList, Rule};
-use life_observer::Unobserved;
-use life_plane::Plane;
+use life_plane::{Plane, Unobserved};
 use std::alloc::{AllocError, Global};
 
 /// The code of the object that a set of cells settles into, where it does within the bound.

@@ -12,8 +12,7 @@ use crate::limit::BOUND_LIMIT;
 use crate::offset::plane_offset;
 use crate::recurrence::Recurrence;
 use life_cells::{CellList, Rule};
-use life_observer::Observer;
-use life_plane::{AGE_LIMIT, Plane};
+use life_plane::{AGE_LIMIT, Observer, Plane};
 use std::alloc::{AllocError, Global};
 
 /// Makes so many steps.

@@ -7,7 +7,7 @@ ghost use Rattle.life_find.specs.Soon.{is_open, soon_reach};
 use crate::answering::answer;
 use crate::limit::BOUND_LIMIT;
 use life_answer::{Answer, Outcome};
-use life_observer::Unobserved;
+use life_plane::Unobserved;
 use std::alloc::{AllocError, Global};
 
 /// The greatest bound within which no generation past 256 is looked at, as a search goes up to twice its bound.

@@ -18,8 +18,8 @@ use Rattle.life_objects.proofs.Unions.{union-empty}
 use Rattle.life_growth.specs.Unsplit.{AreClasses, IsUnsplit}
 use Rattle.life_growth.proofs.Classes.{one_class_by_unsplit}
 use Rattle.life_growth.proofs.Endless.{IsUnsplit-wider}
-use Rattle.life_frames.specs.declared.film.Film.{Film}
-use Rattle.life_frames.specs.Frames.{IsFilm, classes_at}
+use Rattle.life_tracks.specs.declared.frames.film.Film.{Film}
+use Rattle.life_tracks.specs.Frames.Frames.{IsFilm, classes_at}
 use Rattle.life_tracks.proofs.Classes.{class_is_unsplit}
 
 abbrev same_places : Cell → Cell → Bool

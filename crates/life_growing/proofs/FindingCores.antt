@@ -7,7 +7,7 @@ use Rattle.life_model.specs.Generation.{Generation}
 use Rattle.life_model.specs.Rule.{Rule}
 use Rattle.life_ash.proofs.Finding.{of_some}
 use Rattle.life_growth.specs.Unsplit.{IsUnsplit}
-use Rattle.life_frames.specs.Frames.{IsFilm, classes_at}
+use Rattle.life_tracks.specs.Frames.Frames.{IsFilm, classes_at}
 use Rattle.life_growing.specs.declared.whole.Seen.{Seen}
 use Rattle.life_growing.proofs.FindingClasses.{told_by_film}
 

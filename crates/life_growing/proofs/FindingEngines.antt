@@ -8,8 +8,8 @@ use Rattle.life_growth.specs.Engine.{IsEngine, IsEngineWithin, Way}
 use Rattle.life_growth.specs.Unsplit.{IsUnsplit}
 use Rattle.life_growth.proofs.Classes.{one_class_by_unsplit}
 use Rattle.life_growth.proofs.Endless.{IsUnsplit-wider}
-use Rattle.life_frames.specs.declared.film.Film.{Film}
-use Rattle.life_frames.specs.Frames.{IsFilm, classes_at}
+use Rattle.life_tracks.specs.declared.frames.film.Film.{Film}
+use Rattle.life_tracks.specs.Frames.Frames.{IsFilm, classes_at}
 use Rattle.life_tracks.specs.Films.{IsTrackOf}
 use Rattle.life_tracks.specs.Tracks.{HasTrack, Path, way_of}
 use Rattle.life_growing.proofs.FindingClasses.{film_classes}

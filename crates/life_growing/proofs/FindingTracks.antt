@@ -11,8 +11,8 @@ use Rattle.life_objects.specs.Union.{IsSubsetOf}
 use Rattle.life_objects.proofs.Members.{in_list_now}
 use Rattle.life_objects.proofs.Unions.{in_second}
 use Rattle.life_growth.specs.Unsplit.{AreClasses}
-use Rattle.life_frames.specs.declared.film.Film.{Film}
-use Rattle.life_frames.specs.Frames.{IsFilm, classes_at}
+use Rattle.life_tracks.specs.declared.frames.film.Film.{Film}
+use Rattle.life_tracks.specs.Frames.Frames.{IsFilm, classes_at}
 use Rattle.life_tracks.specs.Films.{IsTrackOf}
 use Rattle.life_tracks.specs.Tracks.{Path, way_of}
 use Rattle.life_growing.specs.Places.{AreWithinAlong}

@@ -2,8 +2,8 @@
 use Rattle.std.proofs.Common.{◌≡◌, ℕ, ◌+◌, ◌<◌, ◌≤◌, List, [], map, length, get_or, inl, inr, sym, ap, subst, ◌∙◌, arith}
 use Rattle.std.specs.List.{Contains}
 use Rattle.std.proofs.lemmas.Bool.{cases_lt}
-use Rattle.life_decided.proofs.Kept.{Contains-map}
-use Rattle.life_engines.proofs.Lists.{of_map}
+use Rattle.life_objects.proofs.DecidedLemmas.Kept.{Contains-map}
+use Rattle.life_growth.proofs.EnginesLemmas.Lists.{of_map}
 use Rattle.life_growth.specs.Engine.{Way}
 use Rattle.life_growth.specs.Things.{NeverMeet, NeverMeetAgain, Thing, a_period_later, core_thing, left_once, left_thing, listed}
 use Rattle.life_model.specs.Cell.{origin}

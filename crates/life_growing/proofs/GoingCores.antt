@@ -1,7 +1,7 @@
 -- The cores of a track, each before a step, as things.
 use Rattle.std.proofs.Common.{◌≡◌, ◌≢◌, ℕ, zero, suc, ◌+◌, ◌-◌, ◌<◌, ◌≤◌, List, [], ◌∷◌, ◌++◌, length, get_or, refl, sym, ap, ◌∙◌, arith}
 use Rattle.life_model.specs.Generation.{Generation}
-use Rattle.life_engines.specs.Tracks.{Step, core_along, left_along}
+use Rattle.life_growth.specs.Engines.Tracks.{Step, core_along, left_along}
 use Rattle.life_growth.specs.Engine.{Way}
 use Rattle.life_growth.specs.Things.{Thing, core_thing}
 use Rattle.life_settled.specs.Things.{first_things}

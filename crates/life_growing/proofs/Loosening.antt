@@ -23,11 +23,11 @@ use Rattle.life_objects.proofs.OneList.{union_of-IsPermutation}
 use Rattle.life_objects.proofs.Sides.{AreSides, first_side}
 use Rattle.life_objects.proofs.Staying.{the_sides}
 use Rattle.life_objects.proofs.Times.{AreApartForEver-swap, before_from_while, disjoint_a_while, generation-union}
-use Rattle.life_decided.specs.Classes.{classes}
-use Rattle.life_decided.proofs.Kept.{Contains-filter}
-use Rattle.life_engines.proofs.Classes.{are_classes}
-use Rattle.life_fates.proofs.Classes.{is_class, same_class}
-use Rattle.life_frames.specs.Frames.{with_cells}
+use Rattle.life_objects.specs.Decided.Classes.{classes}
+use Rattle.life_objects.proofs.DecidedLemmas.Kept.{Contains-filter}
+use Rattle.life_growth.proofs.EnginesLemmas.Classes.{are_classes}
+use Rattle.life_growth.proofs.FatesLemmas.Classes.{is_class, same_class}
+use Rattle.life_tracks.specs.Frames.Frames.{with_cells}
 use Rattle.life_growth.specs.Engine.{FallsApart, IsEngineWithin}
 use Rattle.life_growth.specs.Growth.{IsGrowth}
 use Rattle.life_growth.specs.Unsplit.{AreClasses}

@@ -15,8 +15,8 @@ use Rattle.life_objects.proofs.Lists.{Contains-head, Contains-later, head_or_lat
 use Rattle.life_objects.proofs.Members.{found_now, in_list_now}
 use Rattle.life_objects.proofs.Sides.{within_each_other}
 use Rattle.life_objects.proofs.Unions.{union-comm, union-empty}
-use Rattle.life_decided.proofs.Kept.{Contains-filter, of_filter}
-use Rattle.life_engines.proofs.Lists.{of_map}
+use Rattle.life_objects.proofs.DecidedLemmas.Kept.{Contains-filter, of_filter}
+use Rattle.life_growth.proofs.EnginesLemmas.Lists.{of_map}
 use Rattle.life_growth.specs.Engine.{IsEngineWithin}
 use Rattle.life_growth.specs.Growth.{IsGrowth}
 use Rattle.life_growth.specs.Things.{IsMadeOf}
@@ -24,10 +24,10 @@ use Rattle.life_growth.specs.Unsplit.{AreClasses}
 use Rattle.life_growth.proofs.Things.{apart_by_things, things_by_apart}
 use Rattle.life_cells.specs.Limits.{IsWithin}
 use Rattle.life_ash.proofs.Places.{subset_within}
-use Rattle.life_frames.specs.Frames.{with_cells}
-use Rattle.life_frames.proofs.Near.{none_is_empty}
-use Rattle.life_fates.specs.Picked.{ArePicked}
-use Rattle.life_fates.proofs.Classes.{picked_growth}
+use Rattle.life_tracks.specs.Frames.Frames.{with_cells}
+use Rattle.life_tracks.proofs.FramesLemmas.Near.{none_is_empty}
+use Rattle.life_growth.specs.Fates.Picked.{ArePicked}
+use Rattle.life_growth.proofs.FatesLemmas.Classes.{picked_growth}
 use Rattle.life_settled.specs.Settling.{IsSettling, Settling}
 use Rattle.life_settled.proofs.Making.{is_made_of_its_things}
 use Rattle.life_settled.proofs.Parting.{parts_by_then}

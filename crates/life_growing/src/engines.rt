@@ -4,7 +4,7 @@ ghost use Rattle.life_model.specs.Generation.{Generation};
 ghost use Rattle.life_model.specs.Generation as generations;
 ghost use Rattle.life_cells.specs.Limits.{IsWithin};
 ghost use Rattle.life_ash.specs.Parts.{ash_age_limit};
-ghost use Rattle.life_frames.specs.Frames.{IsFilm};
+ghost use Rattle.life_tracks.specs.Frames.Frames.{IsFilm};
 ghost use Rattle.life_growth.specs.Engine.{IsEngineWithin};
 ghost use Rattle.life_growth.specs.Unsplit.{IsUnsplit};
 ghost use Rattle.life_growing.specs.Growths.{IsEngineFound, start_of};
@@ -14,10 +14,9 @@ use crate::finding::engine_along;
 use crate::refusal::are_no_engine;
 use crate::whole::film_if_whole;
 use life_cells::{CellList, Rule};
-use life_frames::Film;
 use life_plane::Plane;
 use life_things::WAY_LIMIT;
-use life_tracks::tracks;
+use life_tracks::{Film, tracks};
 use std::alloc::{AllocError, Global};
 
 /// The engine within the bound that goes along a track of a film of a set of this age, if there is one. Where the set is

@@ -7,16 +7,15 @@ ghost use Rattle.life_model.specs.Generation.{Generation};
 ghost use Rattle.life_model.specs.Rule.{Rule as ModelRule};
 ghost use Rattle.life_cells.specs.Limits.{IsWithin};
 ghost use Rattle.life_ash.specs.Parts.{ash_age_limit};
-ghost use Rattle.life_frames.specs.Frames.{IsFilm, classes_at};
+ghost use Rattle.life_tracks.specs.Frames.Frames.{IsFilm, classes_at};
 ghost use Rattle.life_growth.specs.Unsplit.{IsUnsplit};
 ghost use Rattle.life_tracks.specs.Tracks.{way_of};
 ghost use Rattle.life_growing.specs.Places.{AreWithinAlong};
 
 use crate::lefts::core_before;
 use life_cells::{CellList, Rule};
-use life_frames::Film;
 use life_plane::{AGE_LIMIT, Plane};
-use life_tracks::Track;
+use life_tracks::{Film, Track};
 use std::alloc::{AllocError, Global};
 
 /// Whether some class of a film's generation has these cells.

@@ -15,3 +15,8 @@ pub mod Counting
 pub mod Classes
 pub mod Pieces
 pub mod Things
+pub mod EnginesLemmas
+pub mod FilmLemmas
+pub mod MeetingLemmas
+pub mod RelationsLemmas
+pub mod FatesLemmas

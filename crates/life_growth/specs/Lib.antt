@@ -5,3 +5,8 @@ pub mod Population
 pub mod Onward
 pub mod Told
 pub mod Things
+pub mod Engines
+pub mod Film
+pub mod Meeting
+pub mod Relations
+pub mod Fates

@@ -1,6 +1,13 @@
 //! Steady growth of patterns of a Life-like rule, as of guns and puffers: definitions in `specs/`, and their laws as the
-//! contracts of functions that do nothing.
+//! contracts of functions that do nothing. `engines` searches the ways of engines, `film` tells classes backwards, `meeting` and
+//! `relations` tell whether two things ever meet, and `fates` what becomes of a pattern.
 #![tactic(auto)]
+
+mod engines;
+mod fates;
+mod film;
+mod meeting;
+mod relations;
 
 ghost use Rattle.std.specs.Prelude.{◌≡◌, ◌≢◌, ℕ, suc, ◌+◌, ◌-◌, ◌<◌, ◌≤◌, List, [], ◌∷◌, ◌++◌, ◌↔◌, Bool, Contains, count_by};
 ghost use Rattle.std.specs.List.{AllPairs, AllZip};
@@ -23,6 +30,24 @@ ghost use Rattle.life_growth.specs.Population.{HasBound, HasNoBound};
 ghost use Rattle.life_growth.specs.Things.{AreThingsOfLefts, IsEngineThing, IsMadeOf, IsSettledThing, NeverMeet, NeverMeetAgain, Thing, lefts_within, listed, move_of, time_then};
 ghost use Rattle.life_growth.specs.Told.{AreToldAlike, EmitsOver, emitted_by};
 ghost use Rattle.life_growth.specs.Unsplit.{AreClasses, IsUnsplit, Leaves};
+
+pub use engines::{
+    each_growth_is_found, each_way_is_found, found_tracks_are_ways, tests_are_right,
+};
+pub use fates::{
+    ash_never_grows, classes_tell_growth, each_fate_is_found, fates_are_right, fates_last,
+    growth_is_decided, growths_are_found, tracks_are_right, what_was_found_grows_on,
+};
+pub use film::{classes_are_told_backwards, film_classes_are_classes, splits_are_told_backwards};
+pub use meeting::{
+    engines_are_decided, listed_things_tell_what_stays_apart, meetings_are_found,
+    sums_of_steps_are_found, things_are_listed, what_meets_again_is_found,
+};
+pub use relations::{
+    cross_products_are_square, four_steps_are_related, no_steps_stay, numbers_are_a_relation,
+    products_single_a_step_out, relations_leave_few_numbers,
+    what_singles_a_step_out_tells_its_number,
+};
 
 /// What is unsplit within a bound is so within each greater one, and no two sets that stay apart for ever make it up.
 pub fn what_is_unsplit_stays_so()

@@ -16,3 +16,4 @@ pub mod Touched
 pub mod Joins
 pub mod Rows
 pub mod Inherited
+pub mod SplitLemmas

@@ -4,3 +4,4 @@ pub mod Seats
 pub mod Labels
 pub mod Heirs
 pub mod Collected
+pub mod Split

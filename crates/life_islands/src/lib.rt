@@ -1,7 +1,7 @@
 //! Which sets that make up a generation are joined there: its islands, and its places with the ways to put what is around
 //! them into groups.
 //!
-//! Each cell has a label, and sets are joined by joining labels.
+//! Each cell has a label, and sets are joined by joining labels. `split` tells so the independent parts of a set that recurs.
 #![tactic(auto)]
 
 mod around;
@@ -12,6 +12,7 @@ mod inheriting;
 mod labels;
 mod places;
 mod seating;
+mod split;
 mod touching;
 
 pub use ends::join_ends;
@@ -19,3 +20,4 @@ pub use gathering::gathered;
 pub use inheriting::heirs;
 pub use labels::{Labels, index_near, numbers};
 pub use places::join_in;
+pub use split::{independent_parts, part_orbits};

@@ -11,9 +11,9 @@ use Rattle.life_bits.specs.declared.window.Window.{Window}
 use Rattle.life_bits.specs.Windows.{IsWindowOf, next_in_window, window_row}
 use Rattle.life_bits.proofs.Joining.{area_second}
 use Rattle.life_bits.proofs.Strips.{strip_middle}
-use Rattle.kernel_laws.specs.Rows.{state, IsWindowAt}
-use Rattle.kernel_laws.proofs.Kernels.{window_next}
-use Rattle.kernel_laws.proofs.Sets.{window_of_set}
+use Rattle.life_leaves.specs.Kernels.Rows.{state, IsWindowAt}
+use Rattle.life_leaves.proofs.KernelsLemmas.Kernels.{window_next}
+use Rattle.life_leaves.proofs.KernelsLemmas.Sets.{window_of_set}
 use Rattle.life_leaves.specs.Areas.{ShowsWithin}
 use Rattle.life_leaves.proofs.Local.{AreAlikeAround, same_next}
 

@@ -5,3 +5,4 @@ pub mod Bands
 pub mod Quarters
 pub mod Listed
 pub mod Quiet
+pub mod KernelsLemmas

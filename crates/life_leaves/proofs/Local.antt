@@ -8,7 +8,7 @@ use Rattle.life_model.specs.Generation.{Generation, contains}
 use Rattle.life_model.specs.Evolution.{count, lives, next}
 use Rattle.life_model.proofs.Evolution.{contains-next}
 use Rattle.life_bits.specs.Flags.{as_bit}
-use Rattle.kernel_laws.specs.Rows.{state}
+use Rattle.life_leaves.specs.Kernels.Rows.{state}
 
 same_flag : (a b : Bool) → as_bit a ≡ as_bit b → a ≡ b
 same_flag true true same = refl

@@ -8,7 +8,7 @@ use Rattle.life_model.specs.Evolution.{next, generation}
 use Rattle.life_model.proofs.Recurrences.{generation-next}
 use Rattle.life_bits.specs.declared.tile.Tile.{Tile}
 use Rattle.life_bits.specs.Area.{tile_cell}
-use Rattle.kernel_laws.specs.Rows.{state}
+use Rattle.life_leaves.specs.Kernels.Rows.{state}
 use Rattle.life_leaves.specs.declared.leaf.Leaf.{Leaf}
 use Rattle.life_leaves.specs.Areas.{ShowsWithin}
 use Rattle.life_leaves.specs.Leaves.{leaf_cell, ShowsLeaf}

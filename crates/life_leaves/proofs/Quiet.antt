@@ -12,7 +12,7 @@ use Rattle.life_model.proofs.Near.{next_near}
 use Rattle.life_bits.specs.declared.tile.Tile.{Tile}
 use Rattle.life_bits.specs.Flags.{as_bit}
 use Rattle.life_slots.proofs.Orders.{true_or_false}
-use Rattle.kernel_laws.specs.Rows.{state}
+use Rattle.life_leaves.specs.Kernels.Rows.{state}
 use Rattle.life_leaves.specs.Areas.{ShowsWithin}
 use Rattle.life_leaves.proofs.Local.{AreAlikeAround, same_next}
 

@@ -4,7 +4,7 @@ use Rattle.life_model.specs.Cell.{Cell, plus}
 use Rattle.life_model.specs.Generation.{Generation}
 use Rattle.life_bits.specs.declared.tile.Tile.{Tile}
 use Rattle.life_bits.specs.Area.{tile_cell}
-use Rattle.kernel_laws.specs.Rows.{state}
+use Rattle.life_leaves.specs.Kernels.Rows.{state}
 
 -- the tile has the cells of a set from a place on, but for so many rows and columns at each side
 pub record ShowsWithin (rim : ℕ) (tile : Tile) (G : Generation) (place : Cell) : Type 0 where

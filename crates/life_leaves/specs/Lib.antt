@@ -1,3 +1,4 @@
 pub mod Leaves
 pub mod Areas
 pub mod Lists
+pub mod Kernels

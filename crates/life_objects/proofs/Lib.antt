@@ -19,3 +19,6 @@ pub mod Drifting
 pub mod Beginning
 pub mod Settling
 pub mod Phases
+pub mod DecidedLemmas
+pub mod PartsLemmas
+pub mod IndependentLemmas

@@ -7,3 +7,6 @@ pub mod Drift
 pub mod Limits
 pub mod Onset
 pub mod Kinds
+pub mod Decided
+pub mod Parts
+pub mod Independent

@@ -16,7 +16,7 @@ mod shift;
 mod walk;
 mod watch;
 
-pub use hull::{Hull, are_far, hull_of};
+pub use hull::{Hull, hull_of};
 pub use near::are_clear;
 pub use orbit::{BOUND_LIMIT, Orbit};
-pub use shift::{offset_at, repeated};
+pub use shift::repeated;

@@ -1,4 +1,4 @@
-//! Planes: sets of cells that evolve.
+//! Planes: sets of cells that evolve, and who looks on while they do.
 //!
 //! Tested in `tests_patterns`.
 #![tactic(auto)]
@@ -6,6 +6,7 @@
 mod evolve;
 mod list_plane;
 mod moved;
+mod observer;
 mod offset;
 mod plane;
 mod row;
@@ -13,6 +14,7 @@ mod span;
 
 pub use evolve::next_cells;
 pub use list_plane::ListPlane;
+pub use observer::{Observer, Unobserved};
 pub use offset::offset_between;
 pub use plane::{AGE_LIMIT, Plane};
 pub use span::{move_between, span_of};

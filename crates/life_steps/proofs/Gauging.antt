@@ -2,8 +2,8 @@
 use Rattle.std.proofs.Common.{◌≡◌, ℕ, ℤ, pos, neg_ℤ, ◌+◌, ◌*◌, arith}
 use Rattle.std.proofs.Math.IntN.{*ℤ_comm, zero-*ℤ}
 use Rattle.std.proofs.lemmas.Int.{ints}
-use Rattle.life_meeting.specs.Sums.{Step}
-use Rattle.life_relations.specs.Relations.{product}
+use Rattle.life_growth.specs.Meeting.Sums.{Step}
+use Rattle.life_growth.specs.Relations.Relations.{product}
 use Rattle.life_steps.specs.Gauges.{across_gauge, along_gauge}
 use Rattle.life_steps.specs.Short.{IsShort, IsWithin}
 use Rattle.life_steps.proofs.Lowering.{neg-left}

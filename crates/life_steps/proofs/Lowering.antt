@@ -6,11 +6,11 @@ use Rattle.std.specs.Prelude.{unsigned_abs}
 use Rattle.std.specs.Int.{◌∣◌}
 use Rattle.std.proofs.lemmas.Bool.{cases_lt}
 use Rattle.life_orbit.proofs.Divisors.{some_divisor}
-use Rattle.life_meeting.specs.Sums.{Step, and_then, stay}
-use Rattle.life_meeting.proofs.Reach.{step_is}
-use Rattle.life_relations.specs.Relations.{above, combination, scaled}
-use Rattle.life_relations.proofs.Crosses.{last_two, left_sum}
-use Rattle.life_relations.proofs.Products.{spreads}
+use Rattle.life_growth.specs.Meeting.Sums.{Step, and_then, stay}
+use Rattle.life_growth.proofs.MeetingLemmas.Reach.{step_is}
+use Rattle.life_growth.specs.Relations.Relations.{above, combination, scaled}
+use Rattle.life_growth.proofs.RelationsLemmas.Crosses.{last_two, left_sum}
+use Rattle.life_growth.proofs.RelationsLemmas.Products.{spreads}
 use Rattle.life_steps.specs.Numbers.{DividesAll, IsLighter, numbers_of, total_above, turned}
 use Rattle.life_steps.specs.declared.numbers.Numbers.{Numbers}
 

@@ -3,10 +3,10 @@ use Rattle.std.proofs.Common.{◌≡◌, ◌≢◌, suc, ℤ, pos, negsuc, neg_�
 use Rattle.std.specs.Prelude.{unsigned_abs}
 use Rattle.std.proofs.Math.IntN.{◌*ℤ◌, *ℤ-zero, zero-*ℤ}
 use Rattle.std.proofs.lemmas.Int.{ints}
-use Rattle.life_meeting.specs.Sums.{Step, and_then, stay}
-use Rattle.life_meeting.proofs.Reach.{step_is, then-stay}
-use Rattle.life_relations.specs.Relations.{combination, cross, product, scaled, spanned}
-use Rattle.life_relations.proofs.Spans.{related}
+use Rattle.life_growth.specs.Meeting.Sums.{Step, and_then, stay}
+use Rattle.life_growth.proofs.MeetingLemmas.Reach.{step_is, then-stay}
+use Rattle.life_growth.specs.Relations.Relations.{combination, cross, product, scaled, spanned}
+use Rattle.life_growth.proofs.RelationsLemmas.Spans.{related}
 use Rattle.life_steps.specs.Gauges.{across_gauge, along_gauge}
 use Rattle.life_steps.specs.Numbers.{StayBy, four_numbers, numbers_of, total_above, turned}
 use Rattle.life_steps.specs.declared.numbers.Numbers.{Numbers}

@@ -6,9 +6,9 @@ use Rattle.std.specs.Prelude.{unsigned_abs}
 use Rattle.std.proofs.Math.IntN.{◌*ℤ◌, ◌-ℤ◌, suc_ℤ-*ℤ, zero-*ℤ}
 use Rattle.std.proofs.Math.Nat.{mul-le-mul}
 use Rattle.std.proofs.lemmas.Int.{ints, to_z-of_z, unsigned_abs-mul}
-use Rattle.life_meeting.specs.Sums.{Step, and_then, stay, times}
-use Rattle.life_meeting.proofs.Reach.{step_is}
-use Rattle.life_relations.specs.Relations.{product, scaled}
+use Rattle.life_growth.specs.Meeting.Sums.{Step, and_then, stay, times}
+use Rattle.life_growth.proofs.MeetingLemmas.Reach.{step_is}
+use Rattle.life_growth.specs.Relations.Relations.{product, scaled}
 use Rattle.life_steps.specs.Short.{IsShort, IsWithin}
 
 pub abs_within : (n : ℕ) (x : ℤ) → IsWithin n x → unsigned_abs x ≤ n

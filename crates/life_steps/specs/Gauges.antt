@@ -1,7 +1,7 @@
 -- Gauges: steps by the product with which others are told apart.
 use Rattle.std.specs.Prelude.{pos, neg_ℤ, ◌≤ℤ◌, List, [], ◌∷◌}
-use Rattle.life_meeting.specs.Sums.{Step}
-use Rattle.life_relations.specs.Relations.{product}
+use Rattle.life_growth.specs.Meeting.Sums.{Step}
+use Rattle.life_growth.specs.Relations.Relations.{product}
 
 -- the product with these is 0 of the step, and tells how far another goes from its way along each axis
 abbrev pub across_gauge : Step → Step

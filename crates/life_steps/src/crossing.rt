@@ -1,6 +1,6 @@
 //! Cross products, and the numbers by which four steps stay, or three in a plane.
 ghost use Rattle.std.specs.Prelude.{◌≡◌, ◌+◌, ◌≤◌, ◌*ℤ◌, ◌-ℤ◌, [], ◌∷◌, pos};
-ghost use Rattle.life_relations.specs.Relations.{cross, product, spanned};
+ghost use Rattle.life_growth.specs.Relations.Relations.{cross, product, spanned};
 ghost use Rattle.life_steps.specs.Gauges.{across_gauge, along_gauge};
 ghost use Rattle.life_steps.specs.Numbers.{AreFew, StayBy, four_numbers, number_limit, total_above, turned};
 ghost use Rattle.life_steps.specs.Short.{IsShort, IsStride, IsWithin, cross_limit, way_limit};

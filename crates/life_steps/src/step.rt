@@ -1,7 +1,7 @@
 //! Steps: so many generations and a move.
 ghost use Rattle.std.specs.Prelude.{◌≡◌, ◌*◌, ◌≤◌, ◌^◌, ◌*ℤ◌, unsigned_abs};
-ghost use Rattle.life_meeting.specs.Sums.{and_then, times};
-ghost use Rattle.life_relations.specs.Relations.{product};
+ghost use Rattle.life_growth.specs.Meeting.Sums.{and_then, times};
+ghost use Rattle.life_growth.specs.Relations.Relations.{product};
 ghost use Rattle.life_steps.specs.Short.{AreShort, IsShort, IsStride, count_limit};
 
 /// So many generations, and a move along both axes.

@@ -5,7 +5,7 @@ use Rattle.std.proofs.lemmas.Bool.{cases_lt}
 use Rattle.std.proofs.lemmas.Int.{ints}
 use Rattle.life_model.specs.Cell.{Cell}
 use Rattle.life_model.specs.Generation.{Generation}
-use Rattle.life_meeting.specs.Sums.{Step, and_then, times}
+use Rattle.life_growth.specs.Meeting.Sums.{Step, and_then, times}
 use Rattle.life_things.specs.Clear.{IsClear, StaysClear}
 use Rattle.life_things.specs.Fields.{IsFieldOf}
 use Rattle.life_steps.specs.Short.{IsWithin}

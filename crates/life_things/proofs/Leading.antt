@@ -4,10 +4,10 @@ use Rattle.std.specs.Bool.{OnTrue}
 use Rattle.std.proofs.Math.IntN.{*ℤ-zero}
 use Rattle.std.proofs.lemmas.Int.{ints}
 use Rattle.life_model.specs.Cell.{Cell}
-use Rattle.life_meeting.specs.Sums.{Step, and_then, sum_of, times}
-use Rattle.life_meeting.proofs.Reach.{step_is}
-use Rattle.life_relations.specs.Relations.{product}
-use Rattle.life_relations.proofs.Products.{product-stay, product-then, product-times}
+use Rattle.life_growth.specs.Meeting.Sums.{Step, and_then, sum_of, times}
+use Rattle.life_growth.proofs.MeetingLemmas.Reach.{step_is}
+use Rattle.life_growth.specs.Relations.Relations.{product}
+use Rattle.life_growth.proofs.RelationsLemmas.Products.{product-stay, product-then, product-times}
 use Rattle.life_things.specs.Clear.{IsClearOver, left_to}
 use Rattle.life_things.specs.Fields.{IsInField}
 use Rattle.life_steps.specs.Gauges.{NoneFalls}

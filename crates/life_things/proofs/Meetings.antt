@@ -8,10 +8,10 @@ use Rattle.life_model.proofs.Cells.{pair}
 use Rattle.life_model.proofs.Symmetries.{contains-moved}
 use Rattle.life_objects.specs.Apart.{AreNear}
 use Rattle.life_growth.specs.Things.{NeverMeet, Thing, move_of, time_then}
-use Rattle.life_meeting.specs.Meeting.{steps_between}
-use Rattle.life_meeting.specs.Sums.{Step, and_then}
-use Rattle.life_meeting.proofs.Meeting.{back, forth, joined, parted}
-use Rattle.life_meeting.proofs.Reach.{step_is}
+use Rattle.life_growth.specs.Meeting.Meeting.{steps_between}
+use Rattle.life_growth.specs.Meeting.Sums.{Step, and_then}
+use Rattle.life_growth.proofs.MeetingLemmas.Meeting.{back, forth, joined, parted}
+use Rattle.life_growth.proofs.MeetingLemmas.Reach.{step_is}
 use Rattle.life_things.specs.Clear.{StaysClear, left_to}
 
 module _ (A B : Thing) where

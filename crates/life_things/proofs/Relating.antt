@@ -4,10 +4,10 @@ use mir.Val.{of_z, to_z}
 use Rattle.std.proofs.Common.{◌≡◌, ℕ, zero, suc, ◌<◌, ◌≤◌, ℤ, pos, List, [], ◌∷◌, map, inl, inr, sym, ap, subst, ◌∙◌, arith}
 use Rattle.std.proofs.lemmas.Bool.{cases_lt}
 use Rattle.life_model.specs.Generation.{Generation}
-use Rattle.life_meeting.specs.Sums.{Step, times}
-use Rattle.life_relations.specs.Relations.{IsRelation, IsSumOf, above, below, left_out, number_at, step_at}
-use Rattle.life_relations.proofs.Relations.{few_numbers, from_few}
-use Rattle.life_relations.proofs.Signed.{is_relation}
+use Rattle.life_growth.specs.Meeting.Sums.{Step, times}
+use Rattle.life_growth.specs.Relations.Relations.{IsRelation, IsSumOf, above, below, left_out, number_at, step_at}
+use Rattle.life_growth.proofs.RelationsLemmas.Relations.{few_numbers, from_few}
+use Rattle.life_growth.proofs.RelationsLemmas.Signed.{is_relation}
 use Rattle.life_things.specs.Clear.{StaysClear, StaysClearBetween, left_to}
 use Rattle.life_steps.specs.Numbers.{StayBy, number_limit, numbers_of, total_above}
 use Rattle.life_steps.specs.Short.{IsWithin}

@@ -1,6 +1,6 @@
 //! What is reached by no step, and by one step made as often as may be.
 ghost use Rattle.std.specs.Prelude.{◌≡◌, ◌↔◌, ◌≤◌, ◌^◌, IsTrue, [], ◌∷◌};
-ghost use Rattle.life_meeting.specs.Sums.{and_then, times};
+ghost use Rattle.life_growth.specs.Meeting.Sums.{and_then, times};
 ghost use Rattle.life_things.specs.Clear.{IsClear, StaysClear};
 ghost use Rattle.life_things.specs.Fields.{IsFieldOf};
 ghost use Rattle.life_steps.specs.Short.{IsShort, IsStride, one_start};

@@ -9,10 +9,10 @@ use Rattle.life_model.specs.Symmetry.{normal, translate_of}
 use Rattle.life_model.proofs.Moves.{moved_from_normal, normal-moved}
 use Rattle.life_objects.specs.Apart.{AreDisjoint}
 use Rattle.life_objects.specs.Union.{union}
-use Rattle.life_engines.specs.Tracks.{core_along}
+use Rattle.life_growth.specs.Engines.Tracks.{core_along}
 use Rattle.life_growth.specs.Unsplit.{AreClasses, IsUnsplit}
-use Rattle.life_frames.specs.declared.film.Film.{Film}
-use Rattle.life_frames.specs.Frames.{AreParents, IsFilm, classes_at, parents_at}
+use Rattle.life_tracks.specs.declared.frames.film.Film.{Film}
+use Rattle.life_tracks.specs.Frames.Frames.{AreParents, IsFilm, classes_at, parents_at}
 use Rattle.life_tracks.specs.Films.{IsLinkedFilm, IsTrackOf, last_of}
 use Rattle.life_tracks.specs.Lines.{AreLinked, ComesToReturn, ancestor, core_of}
 use Rattle.life_tracks.specs.Readings.{AreLeft, IsReadOff}

@@ -14,3 +14,4 @@ pub mod Backs
 pub mod Alike
 pub mod Engines
 pub mod Found
+pub mod FramesLemmas

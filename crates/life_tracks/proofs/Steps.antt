@@ -18,7 +18,7 @@ use Rattle.life_objects.proofs.Members.{found_now, in_list}
 use Rattle.life_objects.proofs.Sides.{within_each_other}
 use Rattle.life_objects.proofs.Unions.{in_empty, in_first, in_second, in_union}
 use Rattle.life_growth.specs.Unsplit.{AreClasses}
-use Rattle.life_frames.specs.Frames.{AreParents}
+use Rattle.life_tracks.specs.Frames.Frames.{AreParents}
 use Rattle.life_tracks.specs.Lines.{IsSibling}
 use Rattle.life_tracks.specs.Readings.{AreLeft}
 

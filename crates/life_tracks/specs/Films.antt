@@ -3,8 +3,8 @@ use Rattle.std.specs.Prelude.{◌≡◌, ℕ, ◌-◌, ◌<◌, ◌≤◌, lengt
 use Rattle.std.specs.List.{Contains}
 use Rattle.life_model.specs.Generation.{empty}
 use Rattle.life_model.specs.Rule.{Rule}
-use Rattle.life_frames.specs.declared.film.Film.{Film}
-use Rattle.life_frames.specs.Frames.{classes_at, parents_at}
+use Rattle.life_tracks.specs.declared.frames.film.Film.{Film}
+use Rattle.life_tracks.specs.Frames.Frames.{classes_at, parents_at}
 use Rattle.life_tracks.specs.declared.returns.Return.{Return}
 use Rattle.life_tracks.specs.Lines.{AreLinked}
 use Rattle.life_tracks.specs.Tracks.{ComesBack, Path, way_of}

@@ -3,3 +3,4 @@ pub mod Returns
 pub mod Tracks
 pub mod Readings
 pub mod Films
+pub mod Frames

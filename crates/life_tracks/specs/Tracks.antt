@@ -9,7 +9,7 @@ use Rattle.life_model.specs.Rule.{Rule}
 use Rattle.life_model.specs.Evolution.{next}
 use Rattle.life_model.specs.Symmetry.{translate_of}
 use Rattle.life_objects.specs.Union.{union}
-use Rattle.life_engines.specs.Tracks.{Step, way_along}
+use Rattle.life_growth.specs.Engines.Tracks.{Step, way_along}
 use Rattle.life_growth.specs.Engine.{IsEngine, Way}
 use Rattle.life_growth.specs.Unsplit.{IsUnsplit}
 

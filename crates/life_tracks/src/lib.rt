@@ -1,13 +1,16 @@
-//! The classes of a film's first generation that come back, moved or not, and what leaves them on the way.
+//! The classes of a film's first generation that come back, moved or not, and what leaves them on the way. `frames` has the
+//! classes of each generation of a film.
 //!
 //! Tested in `tests_growth`.
 #![tactic(auto)]
 
+mod frames;
 mod lines;
 mod reading;
 mod returns;
 mod track;
 mod tracking;
 
+pub use frames::Film;
 pub use track::{Step, Track};
 pub use tracking::tracks;

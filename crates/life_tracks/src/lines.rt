@@ -4,12 +4,12 @@ ghost use Rattle.life_model.specs.Cell.{Cell};
 ghost use Rattle.life_model.specs.Generation.{empty};
 ghost use Rattle.life_model.specs.Symmetry.{translate_of};
 ghost use Rattle.life_plane.specs.Offsets.{AreNotTranslates};
-ghost use Rattle.life_frames.specs.Frames.{classes_at, parents_at};
+ghost use Rattle.life_tracks.specs.Frames.Frames.{classes_at, parents_at};
 ghost use Rattle.life_tracks.specs.Films.{IsLinkedFilm, last_of};
 ghost use Rattle.life_tracks.specs.Lines.{AreLines, GoesOn, IsSibling};
 
+use crate::frames::Film;
 use life_cells::CellList;
-use life_frames::Film;
 use life_plane::offset_between;
 use std::alloc::{AllocError, Global};
 

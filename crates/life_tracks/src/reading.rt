@@ -1,16 +1,16 @@
 //! Tracks, read off a film.
 ghost use Rattle.std.specs.Prelude.{◌≡◌, ℕ, suc, ◌+◌, ◌<◌, IfOk, get_or, length};
 ghost use Rattle.life_model.specs.Generation.{empty};
-ghost use Rattle.life_frames.specs.Frames.{classes_at, parents_at};
+ghost use Rattle.life_tracks.specs.Frames.Frames.{classes_at, parents_at};
 ghost use Rattle.life_tracks.specs.Films.{IsLinkedFilm, IsReturnOf};
 ghost use Rattle.life_tracks.specs.Readings.{AreLeft, AreOnLine, AreStepsAlong, IsReadOff, IsWithSibling};
 
+use crate::frames::Film;
 use crate::lines::class_in;
 use crate::returns::Return;
 use crate::track::{Step, Track};
 use life_cells::CellList;
 use life_classes::union;
-use life_frames::Film;
 use std::alloc::{AllocError, Global};
 
 /// The same set again.

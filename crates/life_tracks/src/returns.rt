@@ -1,12 +1,12 @@
 //! Where the lines of a film come back.
 ghost use Rattle.std.specs.Prelude.{◌≡◌, ℕ, ◌≤◌, IfOk, OnOk};
 ghost use Rattle.std.specs.List.{Contains};
-ghost use Rattle.life_frames.specs.Frames.{classes_at, parents_at};
+ghost use Rattle.life_tracks.specs.Frames.Frames.{classes_at, parents_at};
 ghost use Rattle.life_tracks.specs.Films.{IsLinkedFilm, last_of};
 ghost use Rattle.life_tracks.specs.Returns.{AreReturns, IsWithReturns};
 
+use crate::frames::Film;
 use crate::lines::{Line, first_lines, later_lines};
-use life_frames::Film;
 use std::alloc::{AllocError, Global};
 
 /// A class of a film, by its generation and its place there.

@@ -4,15 +4,15 @@ ghost use Rattle.std.specs.List.{All, Contains};
 ghost use Rattle.life_model.specs.Generation.{Generation, empty};
 ghost use Rattle.life_model.specs.Rule.{Rule};
 ghost use Rattle.life_growth.specs.Engine.{IsEngine, Way};
-ghost use Rattle.life_frames.specs.Frames.{IsFilm, classes_at, parents_at};
+ghost use Rattle.life_tracks.specs.Frames.Frames.{IsFilm, classes_at, parents_at};
 ghost use Rattle.life_tracks.specs.Films.{IsLinkedFilm, IsReturnOf, IsTrackOf};
 ghost use Rattle.life_tracks.specs.Readings.{AreReadOff};
 ghost use Rattle.life_tracks.specs.Tracks.{HasTrack};
 
+use crate::frames::Film;
 use crate::reading::track_to;
 use crate::returns::{Return, returns};
 use crate::track::Track;
-use life_frames::Film;
 use std::alloc::{AllocError, Global};
 
 /// The tracks along the lines that come back at the classes.

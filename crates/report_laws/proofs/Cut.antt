@@ -10,7 +10,7 @@ use Rattle.report_laws.proofs.Named.{IsCut}
 use Rattle.report_laws.proofs.Parsed.{end-cut, parse, row-parsed}
 
 -- two texts whose first lines are these have the same first line
-one-line : (a b x y : List ℕ) → HasNoFeed a → HasNoFeed b → a ++ 10 ∷ x ≡ b ++ 10 ∷ y → (a ≡ b) × (x ≡ y)
+pub one-line : (a b x y : List ℕ) → HasNoFeed a → HasNoFeed b → a ++ 10 ∷ x ≡ b ++ 10 ∷ y → (a ≡ b) × (x ≡ y)
 one-line [] [] x y h k e = let same : x ≡ y = cc in (refl, same)
 one-line [] (c ∷ b) x y h k e = let same : c ≡ 10 = cc in absurd (k.0 same)
 one-line (c ∷ a) [] x y h k e = let same : c ≡ 10 = cc in absurd (h.0 same)
@@ -36,7 +36,7 @@ small-number (Close collection patterns resolved unresolved refused) h = h.0
 small-number (End collections patterns) h = h.0
 
 -- a row with the text of one that can be cut is spelled so
-same-spelling : (row told : Row) → IsRow row → IsCut told → row_text row ≡ row_text told → spelling row ≡ spelling told
+pub same-spelling : (row told : Row) → IsRow row → IsCut told → row_text row ≡ row_text told → spelling row ≡ spelling told
 same-spelling row told h k e =
     let items : (spelling row).word ∷ decimal (spelling row).number ∷ (spelling row).fields ≡ (spelling told).word ∷ decimal (spelling told).number ∷ (spelling told).fields =
     sym (row-parsed row h) ∙ ap parse e ∙ k.0.parsed in
@@ -47,7 +47,7 @@ same-spelling row told h k e =
     λ i. record { word = words i; number = same i; fields = fields i }
 
 -- a first line and what follows it
-split : (row : Row) (text : List ℕ) → line_of row ++ text ≡ row_text row ++ 10 ∷ text
+pub split : (row : Row) (text : List ℕ) → line_of row ++ text ≡ row_text row ++ 10 ∷ text
 split row text = append_assoc (row_text row) (10 ∷ []) text
 
 record RowCut (told : Row) (rows : List Row) (more : List ℕ) : Type 0 where

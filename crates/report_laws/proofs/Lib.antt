@@ -24,3 +24,6 @@ pub mod Grown
 pub mod Whole
 pub mod Tallied
 pub mod Readable
+pub mod RunsLemmas
+pub mod BoundsLemmas
+pub mod CutsLemmas

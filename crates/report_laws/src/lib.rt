@@ -1,6 +1,11 @@
-//! Laws of reports that are read back: what rows tell of a bundle, that a report's rows tell its bundle, and that reports
-//! made one are a report of their bundles, one after another.
+//! Laws of reports: what rows tell of a bundle, that a report's rows tell its bundle, and that reports made one are a report of
+//! their bundles, one after another. `runs` says what a report's numbers count, `bounds` that every lawful report is read back,
+//! and `cuts` what is kept of one that was cut.
 #![tactic(auto)]
+
+mod bounds;
+mod cuts;
+mod runs;
 
 ghost use Rattle.std.specs.Prelude.{◌≡◌, ◌≤◌, ℕ, List, None, length};
 ghost use Rattle.census_format.specs.Reports.{IsReport};
@@ -16,6 +21,18 @@ ghost use Rattle.life_answer.specs.declared.question.Question.{Question};
 ghost use Rattle.report_laws.specs.Joining.{AreBundles, EachIsReport, EachTells, IsBundle, bundles, texts};
 ghost use Rattle.report_laws.specs.Ranges.{InRange, Readable};
 ghost use Rattle.report_laws.specs.Telling.{TellsBundle};
+
+pub use bounds::{
+    every_lawful_report_is_read, lawful_reports_are_made_one, what_is_found_is_in_range,
+};
+pub use cuts::{
+    a_cut_report_is_mended_to_a_report, what_is_kept_of_a_cut_report_is_a_report,
+    what_is_kept_tells_the_closed_collections,
+};
+pub use runs::{
+    ash_lines_tell_the_onset, codes_count_objects_of_ash, growth_is_told_exactly,
+    one_collection_has_one_report,
+};
 
 /// Rows that tell what is found of a bundle's patterns are, written line by line, a lawful report of it.
 pub fn rows_that_tell_are_a_report()

@@ -1,9 +1,8 @@
 //! The plane that leaps, and generations that are made by steps and by leaps.
 
-use life_advance::generation_of;
+use life_advance::{generation_of, outgrows};
 use life_cells::{CellList, Rule};
 use life_leaps::{LeapPlane, Side};
-use life_width::outgrows;
 use std::alloc::Global;
 use std::test::Fail;
 

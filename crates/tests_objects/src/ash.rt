@@ -2,8 +2,7 @@
 use life_answer::{Finding, Outcome, Part};
 use life_cells::{CellList, Rule};
 use life_census::census;
-use life_observer::Unobserved;
-use life_plane::ListPlane;
+use life_plane::{ListPlane, Unobserved};
 use std::alloc::{AllocError, Global};
 use std::process::Abort;
 use std::test::Fail;

@@ -1,10 +1,10 @@
 //! Texts and their blocks.
 
-use census_blocks::{HORIZON_LIMIT, Inquiry, block};
 use census_facts::Form;
+use census_identify::{HORIZON_LIMIT, Inquiry, block};
 use census_names::{Names, read_names};
-use life_observer::Unobserved;
 use life_orbit::BOUND_LIMIT;
+use life_plane::Unobserved;
 use life_text::RleFault;
 use std::test::Fail;
 

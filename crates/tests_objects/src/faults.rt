@@ -1,7 +1,7 @@
 //! Texts of every fault, and the lines that tell them.
 
-use life_faults::{
-    RuleKind, fault_line, line_and_column, place_of, rule_kind, sentence, sentence_line,
+use census_faults::{
+    Fault, RuleKind, fault_line, line_and_column, place_of, rule_kind, sentence, sentence_line,
 };
 use life_text::{RleFault, read_rle};
 use std::alloc::Global;
@@ -230,5 +230,5 @@ fn line_without_number(rt: HostRuntime) -> Result<(), Fail> {
 #[test]
 fn sentence_of_refused_memory(rt: HostRuntime) {
     let wanted = "memory ran out: what was given may be right, but more memory is needed";
-    assert!(rt; sentence(RleFault::Memory) == wanted);
+    assert!(rt; sentence(Fault::Text(RleFault::Memory)) == wanted);
 }

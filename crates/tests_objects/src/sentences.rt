@@ -2,11 +2,10 @@
 
 use census_bundle::{AddFault, BundleFault};
 use census_faults::{
-    Fault, Spot, explanation, printable_text, refusal_line, rule_fault, spot_of_bundle,
-    spot_of_code, spot_of_text, text_fault,
+    Fault, FileKind, Place, RuleKind, Spot, explanation, printable_text, refusal_line, rule_fault,
+    spot_of_bundle, spot_of_code, spot_of_text, text_fault,
 };
 use life_cells::RuleFault;
-use life_faults::{FileKind, Place, RuleKind};
 use life_shape::CodeFault;
 use life_text::RleFault;
 use std::test::Fail;

@@ -1,8 +1,8 @@
 //! The codes of the independent parts of sets, as the definitions give them by another program.
 use life_cells::CellList;
 use life_census::code_of;
+use life_islands::independent_parts;
 use life_orbit::Orbit;
-use life_split::independent_parts;
 use life_text::read_rle;
 use std::alloc::Global;
 use std::process::Abort;

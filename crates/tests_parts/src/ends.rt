@@ -2,8 +2,7 @@
 use crate::patterns::PENTOMINO;
 use life_ash::{Fate, fate};
 use life_cells::{CellList, Rule};
-use life_observer::Unobserved;
-use life_plane::ListPlane;
+use life_plane::{ListPlane, Unobserved};
 use std::process::Abort;
 use std::test::Fail;
 

@@ -1,6 +1,6 @@
 //! The orbits of the independent parts of sets, as their objects are known.
+use life_islands::part_orbits;
 use life_orbit::Orbit;
-use life_split::part_orbits;
 use life_text::read_rle;
 use std::alloc::Global;
 use std::process::Abort;

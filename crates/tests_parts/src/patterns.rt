@@ -3,9 +3,9 @@ ghost use Rattle.std.specs.Prelude.{◌≤◌, All};
 ghost use Rattle.life_model.specs.Generation as generations;
 ghost use Rattle.life_cells.specs.Limits.{IsWithin};
 
+use life_apart::{Trail, onset};
 use life_ash::{Known, guessed_parts};
 use life_cells::{CellList, Rule};
-use life_onset::{Trail, onset};
 use life_plane::{ListPlane, Plane};
 use std::alloc::{AllocError, Global};
 use std::process::Abort;

@@ -1,6 +1,6 @@
 //! How many cells the independent parts of sets have, as another program tells it.
+use life_islands::independent_parts;
 use life_orbit::Orbit;
-use life_split::independent_parts;
 use life_text::read_rle;
 use std::alloc::Global;
 use std::process::Abort;

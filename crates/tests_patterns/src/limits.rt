@@ -4,8 +4,7 @@ ghost use Rattle.std.specs.Prelude.{◌≤◌};
 
 use life_answer::{Answer, Finding, Outcome};
 use life_find::{BOUND_LIMIT, answer_soon, find_limited};
-use life_observer::Unobserved;
-use life_plane::{ListPlane, Plane};
+use life_plane::{ListPlane, Plane, Unobserved};
 use life_text::read_rle;
 use life_tile::TilePlane;
 use std::alloc::Global;

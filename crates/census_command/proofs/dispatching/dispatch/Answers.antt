@@ -2,7 +2,7 @@ use Rattle.std.proofs.Common.{List, ℕ, ◌++◌, inl, inr, refl, sym, ap, subs
 use Rattle.census_command.specs.Asking.{AsksForNone, folders_of}
 use Rattle.census_folders.specs.declared.loss.OnLoss.TheVariants.{Keep}
 use Rattle.census_command.proofs.Gates.{hears_answered, hears_done, hears_failed, hears_kept, hears_none, beside_is_none, remaking_is_none}
-use Rattle.census_blocks.specs.declared.inquiry.Inquiry.{Inquiry}
+use Rattle.census_identify.specs.declared.blocks.inquiry.Inquiry.{Inquiry}
 use Rattle.census_command.specs.Outcomes.{IsBeside, IsIdentify, IsRemaking}
 use Rattle.census_reports.specs.declared.reading.Reading.{Reading}
 use Rattle.census_errors.specs.Messages.{error_line}

@@ -2,12 +2,12 @@ use Rattle.std.proofs.Common.{◌≡◌, false, true, None, Option, Some, IfNone
 use Rattle.std.specs.List.{All}
 use Rattle.std.proofs.lemmas.Result.{IfOk-weaker}
 use Rattle.life_objects.specs.Limits.{objects_bound_limit}
-use Rattle.life_parts.specs.Parts.{AreIndependentParts}
+use Rattle.life_objects.specs.Parts.Parts.{AreIndependentParts}
 use Rattle.life_apart.specs.Sets.{sets_of}
 use Rattle.life_ash.specs.Parts.{IsPlaced, ash_age_limit}
 use Rattle.life_ash.proofs.Places.{itself_within}
 use Rattle.life_orbit.specs.Kept.{orbit_age_limit}
-use Rattle.life_split.specs.Courses.{IsCourseWithin}
+use Rattle.life_islands.specs.Split.Courses.{IsCourseWithin}
 use Rattle.life_census.specs.Counted.{CountsAs}
 use Rattle.life_census.proofs.MovedCodes.{counts_everywhere}
 use Rattle.life_census.proofs.PartsFound.{counts_as_parts, counts_as_whole}

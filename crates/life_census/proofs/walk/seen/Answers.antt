@@ -9,7 +9,7 @@ use Rattle.life_objects.specs.Ash.{IsAsh}
 use Rattle.life_ash.specs.Fates.{IsFate}
 use Rattle.life_ash.specs.Met.{Terms}
 use Rattle.life_ash.proofs.Finding.{of_none}
-use Rattle.life_onset.specs.Moments.{IsMomentOf}
+use Rattle.life_apart.specs.Onsets.Moments.{IsMomentOf}
 use Rattle.life_census.specs.OnTheWay.{IsOnTheWay, IsSeen}
 use Rattle.life_census.proofs.Walking.{way_begins, way_ends}
 use Rattle.life_census.proofs.walk.seen.Goals as goal

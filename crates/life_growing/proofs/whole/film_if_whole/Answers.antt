@@ -1,5 +1,5 @@
 use Rattle.std.proofs.Common.{subst}
-use Rattle.life_frames.specs.Frames.{IsFilm}
+use Rattle.life_tracks.specs.Frames.Frames.{IsFilm}
 use Rattle.life_growing.proofs.FindingClasses.{film_alone, film_by_unsplit}
 use Rattle.life_growing.proofs.whole.film_if_whole.Goals as goal
 

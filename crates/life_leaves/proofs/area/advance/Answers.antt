@@ -6,7 +6,7 @@ use Rattle.life_model.specs.Cell.{plus}
 use Rattle.life_model.specs.Evolution.{next}
 use Rattle.life_bits.specs.Area.{tile_cell}
 use Rattle.life_bits.specs.declared.tile.Tile.{Tile}
-use Rattle.kernel_laws.specs.Rows.{state}
+use Rattle.life_leaves.specs.Kernels.Rows.{state}
 use Rattle.life_leaves.proofs.Bands.{band_cell}
 use Rattle.life_leaves.proofs.Quiet.{quiet_cell}
 use Rattle.life_leaves.proofs.area.advance.Goals as goal

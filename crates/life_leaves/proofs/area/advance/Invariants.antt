@@ -5,7 +5,7 @@ use Rattle.life_model.specs.Generation.{Generation}
 use Rattle.life_model.specs.Evolution.{next}
 use Rattle.life_bits.specs.Area.{tile_cell}
 use Rattle.life_bits.specs.Logics.{IsLogicOf}
-use Rattle.kernel_laws.specs.Rows.{state}
+use Rattle.life_leaves.specs.Kernels.Rows.{state}
 use Rattle.life_leaves.specs.Areas.{ShowsWithin}
 use Rattle.life_leaves.proofs.area.advance.Given as goal
 

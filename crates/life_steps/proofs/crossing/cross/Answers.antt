@@ -2,8 +2,8 @@ use mir.Syntax.{w128}
 use mir.Val.{of_z, to_z}
 use Rattle.std.proofs.Common.{◌≡◌, ℤ, ◌∙◌, arith}
 use Rattle.std.proofs.Math.IntN.{◌*ℤ◌, ◌-ℤ◌}
-use Rattle.life_meeting.proofs.Reach.{step_is}
-use Rattle.life_relations.specs.Relations.{cross}
+use Rattle.life_growth.proofs.MeetingLemmas.Reach.{step_is}
+use Rattle.life_growth.specs.Relations.Relations.{cross}
 use Rattle.life_steps.specs.Short.{IsWithin, cross_limit, way_limit}
 use Rattle.life_steps.proofs.Within.{read_back}
 use Rattle.life_steps.proofs.crossing.cross.Goals as goal

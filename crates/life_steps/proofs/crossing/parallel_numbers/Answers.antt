@@ -3,9 +3,9 @@ use mir.Val.{of_z, to_z}
 use Rattle.std.proofs.Common.{◌≡◌, [], ◌∷◌, ℤ, pos, neg_ℤ, ◌+ℤ◌, ◌-ℤ◌, ◌∙◌, arith}
 use Rattle.std.proofs.Math.IntN.{◌*ℤ◌, *ℤ_comm, zero-*ℤ}
 use Rattle.std.proofs.lemmas.Int.{ints}
-use Rattle.life_meeting.specs.Sums.{Step, and_then, stay}
-use Rattle.life_meeting.proofs.Reach.{step_is}
-use Rattle.life_relations.specs.Relations.{combination, product, scaled}
+use Rattle.life_growth.specs.Meeting.Sums.{Step, and_then, stay}
+use Rattle.life_growth.proofs.MeetingLemmas.Reach.{step_is}
+use Rattle.life_growth.specs.Relations.Relations.{combination, product, scaled}
 use Rattle.life_steps.specs.Gauges.{across_gauge, along_gauge}
 use Rattle.life_steps.specs.Numbers.{number_limit}
 use Rattle.life_steps.specs.Short.{IsWithin, way_limit}

@@ -2,7 +2,7 @@ use mir.Syntax.{w128}
 use mir.Val.{of_z}
 use Rattle.std.proofs.Common.{◌≡◌, ℤ, pos, neg_ℤ, [], ◌∷◌, sym, ap, subst, arith}
 use Rattle.std.proofs.lemmas.Int.{ints}
-use Rattle.life_relations.specs.Relations.{spanned}
+use Rattle.life_growth.specs.Relations.Relations.{spanned}
 use Rattle.life_steps.specs.Numbers.{StayBy, number_limit}
 use Rattle.life_steps.specs.Short.{IsWithin}
 use Rattle.life_steps.specs.declared.numbers.Numbers.{Numbers}

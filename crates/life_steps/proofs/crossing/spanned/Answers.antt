@@ -1,5 +1,5 @@
 use Rattle.std.proofs.Common.{sym, ap, subst, ◌∙◌, arith}
-use Rattle.life_relations.specs.Relations.{product}
+use Rattle.life_growth.specs.Relations.Relations.{product}
 use Rattle.life_steps.specs.Numbers.{number_limit}
 use Rattle.life_steps.specs.Short.{IsWithin, cross_limit, way_limit}
 use Rattle.life_steps.proofs.Within.{read_back, within_product_of, within_wider}

@@ -3,9 +3,9 @@ use mir.Val.{SFits, to_z}
 use Rattle.std.proofs.Common.{◌≡◌, ℕ, ◌*◌, ◌^◌, pos, sym, subst, ◌∙◌, rules, arith}
 use Rattle.std.proofs.Math.IntN.{◌*ℤ◌, ◌+ℤ◌}
 use Rattle.std.proofs.lemmas.Int.{to_z-of_z, to_z_pos}
-use Rattle.life_meeting.proofs.Reach.{step_is}
-use Rattle.life_meeting.specs.Sums.{and_then}
-use Rattle.life_relations.specs.Relations.{scaled}
+use Rattle.life_growth.proofs.MeetingLemmas.Reach.{step_is}
+use Rattle.life_growth.specs.Meeting.Sums.{and_then}
+use Rattle.life_growth.specs.Relations.Relations.{scaled}
 use Rattle.life_steps.specs.Short.{IsWithin, way_limit}
 use Rattle.life_steps.proofs.Within.{count_within, sizes_product, sum_fits, sum_is, times_is, within_product}
 use Rattle.life_steps.proofs.step.after.Goals as goal

@@ -4,7 +4,7 @@ use Rattle.std.proofs.Common.{◌≡◌, ◌^◌, ℕ, ℤ, pos, ◌+ℤ◌, ref
 use Rattle.std.proofs.Math.IntN.{◌*ℤ◌}
 use Rattle.std.proofs.lemmas.Int.{to_z-of_z}
 use Rattle.life_model.specs.Cell.{Cell}
-use Rattle.life_meeting.specs.Sums.{Step, and_then, times}
+use Rattle.life_growth.specs.Meeting.Sums.{Step, and_then, times}
 use Rattle.life_things.specs.Clear.{IsClear}
 use Rattle.life_steps.specs.Short.{IsWithin}
 use Rattle.life_things.proofs.Arriving.{out_of_columns, out_of_rows}

@@ -1,8 +1,8 @@
 use Rattle.std.proofs.Common.{◌≡◌, ℕ, ◌+◌, ◌*◌, ◌<◌, ◌≤◌, ◌^◌, pos, [], ◌∷◌, sym, subst, arith}
 use Rattle.life_model.specs.Cell.{Cell}
 use Rattle.life_model.specs.Generation.{Generation}
-use Rattle.life_meeting.specs.Sums.{Step, and_then, times}
-use Rattle.life_relations.specs.Relations.{product}
+use Rattle.life_growth.specs.Meeting.Sums.{Step, and_then, times}
+use Rattle.life_growth.specs.Relations.Relations.{product}
 use Rattle.life_things.specs.Clear.{StaysClearOutside}
 use Rattle.life_things.specs.Fields.{IsFieldOf, IsInField}
 use Rattle.life_steps.specs.Gauges.{across_gauge}

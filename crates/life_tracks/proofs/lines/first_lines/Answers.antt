@@ -1,6 +1,6 @@
 use Rattle.std.proofs.Common.{false, length, refl, ap, ◌∙◌, arith}
 use Rattle.std.proofs.lemmas.List.{length_push}
-use Rattle.life_frames.specs.Frames.{classes_at, parents_at}
+use Rattle.life_tracks.specs.Frames.Frames.{classes_at, parents_at}
 use Rattle.life_tracks.specs.declared.lines.Line.{Line}
 use Rattle.life_tracks.specs.Lines.{IsLine}
 use Rattle.life_tracks.proofs.GoingOn.{first_line}

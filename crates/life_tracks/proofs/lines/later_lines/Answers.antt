@@ -1,7 +1,7 @@
 use Rattle.std.proofs.Common.{suc, ◌<◌, length, get_or, ap, subst, ◌∙◌, add-one, arith}
 use Rattle.std.proofs.lemmas.List.{length_push}
 use Rattle.life_model.specs.Generation.{empty}
-use Rattle.life_frames.specs.Frames.{classes_at, parents_at}
+use Rattle.life_tracks.specs.Frames.Frames.{classes_at, parents_at}
 use Rattle.life_tracks.specs.declared.lines.Line.{Line}
 use Rattle.life_tracks.specs.Films.{last_of}
 use Rattle.life_tracks.specs.Lines.{GoesOn, IsLine}

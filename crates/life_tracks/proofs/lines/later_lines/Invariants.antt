@@ -1,5 +1,5 @@
 use Rattle.std.proofs.Common.{◌≡◌, ℕ, suc, ◌<◌, length, get_or}
-use Rattle.life_frames.specs.Frames.{classes_at, parents_at}
+use Rattle.life_tracks.specs.Frames.Frames.{classes_at, parents_at}
 use Rattle.life_tracks.specs.declared.lines.Line.{Line}
 use Rattle.life_tracks.specs.Lines.{IsLine}
 use Rattle.life_tracks.proofs.lines.later_lines.Given as goal

@@ -1,6 +1,6 @@
 use Rattle.std.proofs.Common.{suc, ◌+◌, ◌-◌, length, get_or, ap, ◌∙◌, add-one, arith}
 use Rattle.std.proofs.lemmas.List.{length-replicate, length-set}
-use Rattle.life_frames.specs.Frames.{classes_at, parents_at}
+use Rattle.life_tracks.specs.Frames.Frames.{classes_at, parents_at}
 use Rattle.life_tracks.specs.Films.{last_of}
 use Rattle.life_tracks.proofs.Ancestors.{ancestor-within}
 use Rattle.life_tracks.proofs.Placing.{last_place, more_places, next_is}

@@ -1,5 +1,5 @@
 use Rattle.std.proofs.Common.{◌≡◌, ℕ, suc, ◌+◌, ◌≤◌, length, get_or}
-use Rattle.life_frames.specs.Frames.{parents_at}
+use Rattle.life_tracks.specs.Frames.Frames.{parents_at}
 use Rattle.life_tracks.specs.Lines.{ancestor}
 use Rattle.life_tracks.proofs.reading.line_places.Given as goal
 

@@ -1,5 +1,5 @@
 use Rattle.std.proofs.Common.{length, ap, ◌∙◌, add-one, arith}
-use Rattle.life_frames.specs.Frames.{classes_at, parents_at}
+use Rattle.life_tracks.specs.Frames.Frames.{classes_at, parents_at}
 use Rattle.life_tracks.specs.Films.{last_of}
 use Rattle.life_tracks.proofs.Stepping.{more_steps, place_within}
 use Rattle.life_tracks.proofs.reading.line_steps.Goals as goal

@@ -1,4 +1,4 @@
-use Rattle.life_frames.specs.Frames.{classes_at, parents_at}
+use Rattle.life_tracks.specs.Frames.Frames.{classes_at, parents_at}
 use Rattle.life_tracks.specs.Readings.{AreStepsAlong}
 use Rattle.life_tracks.proofs.reading.line_steps.Given as goal
 

@@ -1,6 +1,6 @@
 use Rattle.std.proofs.Common.{length, ap, ◌∙◌, arith}
 use Rattle.std.proofs.lemmas.List.{get_or_default}
-use Rattle.life_frames.specs.Frames.{classes_at, parents_at}
+use Rattle.life_tracks.specs.Frames.Frames.{classes_at, parents_at}
 use Rattle.life_tracks.specs.Films.{last_of}
 use Rattle.life_tracks.proofs.Ancestors.{ancestor-within}
 use Rattle.life_tracks.proofs.reading.track_to.Goals as goal

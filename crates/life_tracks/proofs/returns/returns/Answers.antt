@@ -1,5 +1,5 @@
 use Rattle.std.proofs.Common.{◌≡◌, suc, ◌+◌, sym, subst, ◌∙◌, arith}
-use Rattle.life_frames.specs.Frames.{classes_at, parents_at}
+use Rattle.life_tracks.specs.Frames.Frames.{classes_at, parents_at}
 use Rattle.life_tracks.specs.Lines.{AreLines}
 use Rattle.life_tracks.specs.Returns.{AreReturns, IsWithReturns}
 use Rattle.life_tracks.proofs.Adding.{returns_more}

@@ -1,4 +1,4 @@
-use Rattle.life_frames.specs.Frames.{classes_at, parents_at}
+use Rattle.life_tracks.specs.Frames.Frames.{classes_at, parents_at}
 use Rattle.life_tracks.specs.Lines.{AreLines}
 use Rattle.life_tracks.specs.Returns.{AreReturns}
 use Rattle.life_tracks.proofs.returns.returns.Given as goal

@@ -1,6 +1,6 @@
 use Rattle.std.proofs.Common.{sym, subst}
 use Rattle.std.specs.List.{All}
-use Rattle.life_frames.specs.Frames.{classes_at, parents_at}
+use Rattle.life_tracks.specs.Frames.Frames.{classes_at, parents_at}
 use Rattle.life_tracks.specs.Films.{IsReturnOf}
 use Rattle.life_tracks.specs.Readings.{AreReadOff}
 use Rattle.life_tracks.proofs.Found.{all_tracks, engine_tracks, returns_of}

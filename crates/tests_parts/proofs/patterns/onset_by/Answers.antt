@@ -4,8 +4,8 @@ use Rattle.std.proofs.lemmas.List.Elements.{All-nil}
 use Rattle.life_model.specs.Evolution.{generation, next}
 use Rattle.life_model.proofs.Recurrences.{generation-next, generation-zero}
 use Rattle.life_objects.specs.Ash.{IsAsh}
-use Rattle.life_onset.specs.Moments.{IsMomentOf}
-use Rattle.life_onset.specs.Pasts.{sets_of}
+use Rattle.life_apart.specs.Onsets.Moments.{IsMomentOf}
+use Rattle.life_apart.specs.Onsets.Pasts.{sets_of}
 use Rattle.tests_parts.proofs.patterns.onset_by.Goals as goal
 
 pub loop-init : goal.loop-init

@@ -1,7 +1,7 @@
 use Rattle.std.proofs.Common.{◌≡◌}
 use Rattle.std.specs.List.{All}
 use Rattle.life_model.specs.Evolution.{generation}
-use Rattle.life_onset.specs.Moments.{IsMomentOf}
+use Rattle.life_apart.specs.Onsets.Moments.{IsMomentOf}
 use Rattle.tests_parts.proofs.patterns.onset_by.Given as goal
 
 -- the plane is the generation of its age, and those on the trail are earlier ones

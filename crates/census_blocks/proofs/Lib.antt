@@ -1,4 +1,0 @@
-mod Joining
-mod Meant
-mod Refusing
-mod Sizes

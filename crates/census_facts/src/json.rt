@@ -1,0 +1,9 @@
+//! JSON on lines of its own, and what is told in it of objects and of engines.
+//!
+//! Tested in `tests_reports` and in `tests_objects`.
+
+mod line;
+mod told;
+
+pub use line::push_value;
+pub use told::{counted_value, displacement_value, engines_value};

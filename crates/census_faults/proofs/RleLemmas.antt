@@ -1,0 +1,2 @@
+pub mod SentenceLemmas
+pub mod RefusedLemmas

@@ -1,0 +1,5 @@
+use Rattle.census_faults.proofs.RleLemmas.SentenceLemmas.{words_differ}
+use Rattle.census_faults.proofs.rle.sentences.sentences_differ.Goals as goal
+
+pub returns-clause-words : goal.returns-clause-words
+returns-clause-words c = words_differ

@@ -1,0 +1,4 @@
+pub mod Joining
+pub mod Meant
+pub mod Refusing
+pub mod Sizes

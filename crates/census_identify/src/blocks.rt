@@ -1,0 +1,13 @@
+//! What is written of one pattern: a block of lines, or a JSON object, that tells what it is.
+//!
+//! Tested in `tests_objects`.
+
+mod block_text;
+mod facts;
+mod inquiry;
+mod known;
+mod size;
+
+pub use block_text::{BlockText, block};
+pub use inquiry::{HORIZON_LIMIT, Inquiry};
+pub use known::{Known, known_of};

@@ -1,5 +1,0 @@
-use Rattle.cut_laws.proofs.Kept.{kept-report}
-use Rattle.cut_laws.proofs.what_is_kept_of_a_cut_report_is_a_report.Goals as goal
-
-pub returns : goal.returns
-returns c = kept-report

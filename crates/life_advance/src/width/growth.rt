@@ -1,0 +1,102 @@
+//! Growth past what settles.
+ghost use Rattle.std.specs.Prelude.{ℕ, ℤ, pos, ◌≡◌, ◌≤◌, ◌≤ℤ◌, All, IfSome, IsTrue};
+ghost use Rattle.life_model.specs.Evolution.{generation};
+ghost use Rattle.life_model.specs.Generation as sets;
+ghost use Rattle.life_model.specs.Recurrence.{SettlesAt};
+ghost use Rattle.life_cells.specs.Limits.{IsWithin};
+ghost use Rattle.life_leaps.specs.Planes.{members};
+ghost use Rattle.life_advance.specs.Width.Spans.{SpansColumns, SpansRows};
+
+use crate::width::spread::spread_of;
+use life_cells::{CellList, Rule};
+use life_leaps::{LeapPlane, Side};
+use std::alloc::Global;
+
+/// The exponent of how many generations are leapt over at once. What sends something out at a fourth of a place a generation, to
+/// one side alone, is then wider than it may be within a bound of 1,000,000.
+const FAR: u32 = 23;
+
+/// After so many generations it is first asked how far apart the cells grow.
+const FIRST_ASKED: u32 = 2_048;
+
+/// After so many it is last asked.
+const LAST_ASKED: u32 = 1_048_576;
+
+/// How many cells make a leap as dear as a band of eight rows of 64 cells in each generation before it.
+const CELLS_OF_WORK: u64 = 16;
+
+/// A generation far after this one, where the memory that there is makes one and some work: about a part of that of the
+/// generations before.
+fn far_generation(alloc: Global, rule: &Rule, cells: &CellList, age: u32) -> Option<LeapPlane>
+    requires age { age ≤ 1048576 }
+    requires within { All (IsWithin age) (sets.cells cells.now) }
+    ensures { IfSome result
+        (λ plane. (t : ℕ) × (members plane ≡ generation rule.now cells.now t)) }
+{
+    let Ok(mut plane) = LeapPlane::at_age(alloc, rule, cells, age) else {
+        return None;
+    };
+    let work = u64::from(age).saturating_mul(cells.len() as u64 / CELLS_OF_WORK);
+    match plane.leap(FAR, work) {
+        Ok(()) => Some(plane),
+        Err(_) => None,
+    }
+}
+
+/// Whether two cells stand in columns further apart than so many.
+fn is_wider(plane: &LeapPlane, most: i64) -> bool
+    ensures { IsTrue result →
+        (n : ℕ) → pos n ≤ℤ most → SpansColumns (members plane.now) n → ⊥ }
+{
+    let Some(west) = plane.far_cell(Side::West) else {
+        return false;
+    };
+    let Some(east) = plane.far_cell(Side::East) else {
+        return false;
+    };
+    i64::from(east.0) - i64::from(west.0) > most
+}
+
+/// The same of rows.
+fn is_higher(plane: &LeapPlane, most: i64) -> bool
+    ensures { IsTrue result →
+        (n : ℕ) → pos n ≤ℤ most → SpansRows (members plane.now) n → ⊥ }
+{
+    let Some(north) = plane.far_cell(Side::North) else {
+        return false;
+    };
+    let Some(south) = plane.far_cell(Side::South) else {
+        return false;
+    };
+    i64::from(south.1) - i64::from(north.1) > most
+}
+
+/// Whether cells are seen to grow further apart than they may where a generation comes again within a bound, as those of a later
+/// generation show, of this age. A far generation is made of these, by leaps. It is not asked before age 2,048, and nothing is
+/// known where the leaps would be too much work, where memory is refused, and where the cells of the far generation are near
+/// enough.
+pub fn outgrows(
+    alloc: Global,
+    rule: &Rule,
+    cells: &CellList,
+    later: &CellList,
+    age: u32,
+    bound: u32,
+) -> bool
+    requires later { later.now ≡ generation rule.now cells.now age }
+    requires within { All (IsWithin age) (sets.cells later.now) }
+    ensures { IsTrue result → (g : ℕ) → SettlesAt rule.now cells.now bound g → ⊥ }
+{
+    if age < FIRST_ASKED || age > LAST_ASKED {
+        return false;
+    }
+    let Some(plane) = far_generation(alloc, rule, later, age) else {
+        return false;
+    };
+    let spread = spread_of(cells.as_slice());
+    let growth = 2 * i64::from(bound);
+    if is_wider(&plane, i64::from(spread.columns) + growth) {
+        return true;
+    }
+    is_higher(&plane, i64::from(spread.rows) + growth)
+}

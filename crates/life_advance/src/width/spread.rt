@@ -1,0 +1,34 @@
+//! How far apart the cells of a list stand.
+ghost use Rattle.std.specs.Prelude.{All};
+ghost use Rattle.life_model.specs.Generation.{from_list};
+ghost use Rattle.life_cells.specs.Limits.{IsPlace};
+ghost use Rattle.life_advance.specs.Width.Spans.{SpansColumns, SpansRows};
+
+/// How many columns the last cell stands to the right of the first, and how many rows below it.
+#[derive(Clone, Copy)]
+pub struct Spread {
+    pub columns: u32,
+    pub rows: u32,
+}
+
+/// How far apart cells stand. Where there is none, any number is one that they don't pass.
+pub fn spread_of(cells: &[(i32, i32)]) -> Spread
+    requires { All IsPlace cells.now }
+    ensures columns { SpansColumns (from_list cells.now) result.columns }
+    ensures rows { SpansRows (from_list cells.now) result.rows }
+{
+    let mut west = i32::MAX;
+    let mut east = i32::MIN;
+    let mut north = i32::MAX;
+    let mut south = i32::MIN;
+    for cell in cells {
+        west = west.min(cell.0);
+        east = east.max(cell.0);
+        north = north.min(cell.1);
+        south = south.max(cell.1);
+    }
+    Spread {
+        columns: east.abs_diff(west),
+        rows: south.abs_diff(north),
+    }
+}

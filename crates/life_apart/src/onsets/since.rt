@@ -1,0 +1,89 @@
+//! Since when any two of some sets that recur are apart.
+ghost use Rattle.std.specs.Prelude.{◌≡◌, ℕ, ◌<◌, ◌≤◌, ◌↔◌, IsTrue, length};
+ghost use Rattle.life_model.specs.Cell.{origin};
+ghost use Rattle.life_model.specs.Rule.{Rule as ModelRule};
+ghost use Rattle.life_apart.specs.Onsets.Pasts.{pasts};
+ghost use Rattle.life_apart.specs.Onsets.Since.{AreAllApartSince, AreApartCourses, ArePlacesApartFrom, IsMoverApartFrom, IsNeeded, IsPlaceApartFrom};
+
+use life_orbit::Orbit;
+
+/// Whether a set comes again where it is.
+fn rests(orbit: &Orbit) -> bool
+    ensures { IsTrue result ↔ (orbit.now.displacement ≡ origin) }
+{
+    orbit.displacement() == (0, 0)
+}
+
+/// The later of two generations.
+fn later(one: u32, other: u32) -> u32
+    ensures first { one ≤ result }
+    ensures second { other ≤ result }
+    ensures most { (n : ℕ) → one ≤ n → other ≤ n → result ≤ n }
+{
+    one.max(other)
+}
+
+/// Since when the sets in two places are apart, or 0 where they are one.
+fn places_apart_since(parts: &[Orbit], place: usize, other: usize, age: u32) -> u32
+    requires parts { (R : ModelRule) × AreApartCourses R parts.now }
+    requires place { place < length parts.now }
+    requires other { other < length parts.now }
+    ensures apart { (R : ModelRule) → AreApartCourses R parts.now →
+        ArePlacesApartFrom R age parts.now result place other }
+    ensures needed { (R : ModelRule) → AreApartCourses R parts.now →
+        IsNeeded R age parts.now result }
+    ensures within { result ≤ age }
+{
+    if place == other {
+        return 0;
+    }
+    parts[place].apart_since(&parts[other], age)
+}
+
+/// Since when a set is apart from all others.
+fn place_apart_since(parts: &[Orbit], place: usize, age: u32) -> u32
+    requires parts { (R : ModelRule) × AreApartCourses R parts.now }
+    requires place { place < length parts.now }
+    ensures apart { (R : ModelRule) → AreApartCourses R parts.now →
+        IsPlaceApartFrom R age parts.now result place }
+    ensures needed { (R : ModelRule) → AreApartCourses R parts.now →
+        IsNeeded R age parts.now result }
+    ensures within { result ≤ age }
+{
+    let mut since = 0;
+    for other in 0..parts.len() {
+        since = later(since, places_apart_since(parts, place, other, age));
+    }
+    since
+}
+
+/// The same of a set that moves, and 0 of one that stays where it is.
+fn mover_apart_since(parts: &[Orbit], place: usize, age: u32) -> u32
+    requires parts { (R : ModelRule) × AreApartCourses R parts.now }
+    requires place { place < length parts.now }
+    ensures apart { (R : ModelRule) → AreApartCourses R parts.now →
+        IsMoverApartFrom R age parts.now result place }
+    ensures needed { (R : ModelRule) → AreApartCourses R parts.now →
+        IsNeeded R age parts.now result }
+    ensures within { result ≤ age }
+{
+    if rests(&parts[place]) {
+        return 0;
+    }
+    place_apart_since(parts, place, age)
+}
+
+/// From which generation on any two of the sets are apart for ever, where they are so at this age, and each was always
+/// what comes again as it does. Two that stay where they are have never been near.
+pub fn all_apart_since(parts: &[Orbit], age: u32) -> u32
+    requires { (R : ModelRule) × AreApartCourses R parts.now }
+    ensures since { (R : ModelRule) → AreApartCourses R parts.now →
+        AreAllApartSince R (pasts age parts.now) result }
+    ensures within { result ≤ age }
+{
+    let mut since = 0;
+    for place in 0..parts.len() {
+        since = later(since, mover_apart_since(parts, place, age));
+    }
+    since
+}

@@ -1,6 +1,0 @@
-use Rattle.life_decided.proofs.Deciding.{none_if_no_ash}
-use Rattle.life_decided.proofs.Lasting.{nothing_found, parts_found}
-use Rattle.life_decided.proofs.parts_are_found.Goals as goal
-
-pub returns : goal.returns
-returns c = record { parts = parts_found; otherwise = none_if_no_ash; nothing = nothing_found }

@@ -1,2 +1,0 @@
-mod SentenceLemmas
-mod RefusedLemmas

@@ -1,4 +1,0 @@
-mod Splits
-mod Joined
-mod Joining
-mod Passes

@@ -1,7 +1,0 @@
-use Rattle.std.proofs.Common.{◌≡◌, ℕ, ◌<◌, false, get_or}
-use Rattle.life_model.specs.Generation.{contains, empty}
-use Rattle.life_frames.proofs.parents.class_of.Given as goal
-
--- those looked at don't have the cell
-abbrev pub invariant-loop-n : goal.invariant-loop-n
-invariant-loop-n l = (k : ℕ) → k < l.n → contains (get_or l.classes k empty) l.cell ≡ false

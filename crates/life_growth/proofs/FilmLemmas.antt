@@ -1,0 +1,4 @@
+pub mod Splits
+pub mod Joined
+pub mod Joining
+pub mod Passes

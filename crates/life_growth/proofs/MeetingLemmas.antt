@@ -1,0 +1,9 @@
+pub mod Reach
+pub mod Blocks
+pub mod Sums
+pub mod Meeting
+pub mod Apart
+pub mod Listed
+pub mod Engines
+pub mod Again
+pub mod IsEngine

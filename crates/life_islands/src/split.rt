@@ -1,0 +1,10 @@
+//! The independent parts of a set that recurs.
+//!
+//! Tested in `tests_parts`.
+
+mod orbits;
+mod rounds;
+mod splitting;
+
+pub use orbits::part_orbits;
+pub use splitting::independent_parts;

@@ -1,0 +1,78 @@
+-- What the tests of cells and sets that touch tell.
+use Rattle.std.proofs.Common.{◌≡◌, ℕ, ◌≤◌, ℤ, pos, negsuc, neg_ℤ, ◌-ℤ◌, ◌≤ℤ◌, Bool, true, not, List, get_or, sym, subst, ◌∙◌, arith}
+use Rattle.std.specs.Prelude.{nat_le, unsigned_abs}
+use Rattle.std.specs.List.{AllPairs, Contains, list_any}
+use Rattle.std.proofs.lemmas.Int.{ints}
+use Rattle.std.proofs.lemmas.Bool.{and_from, and_parts, leb-true, le-leb}
+use Rattle.life_model.specs.Cell.{Cell, IsNear, same_cell}
+use Rattle.life_model.specs.Generation.{Generation, cells, contains}
+use Rattle.life_model.proofs.Cells.{same_cell-is}
+use Rattle.life_model.proofs.Generations.{contains-cells}
+use Rattle.life_model.proofs.Moves.{same_cell_itself}
+use Rattle.life_objects.proofs.DecidedLemmas.Tests.{abs_small, each_pair_by, each_pair_tells, not_true, true_not}
+use Rattle.life_objects.specs.Parts.Splittings.{AreUntouching}
+use Rattle.life_objects.specs.Independent.Groupings.{are_untouching, touch, touches}
+use Rattle.life_objects.proofs.IndependentLemmas.Found.{any_passes, some_passes}
+
+small_abs : (x : ℤ) (r : ℕ) → neg_ℤ (pos r) ≤ℤ x → x ≤ℤ pos r → unsigned_abs x ≤ r
+small_abs (pos n) r h k = omega (arith, ints)
+small_abs (negsuc n) r h k = omega (arith, ints)
+
+near_by_touch : (c d : Cell) → touch c d ≡ true → IsNear c d
+near_by_touch c d h =
+    let parts = and_parts (nat_le (unsigned_abs (c.0 -ℤ d.0)) 1) (nat_le (unsigned_abs (c.1 -ℤ d.1)) 1) h in
+    let across = abs_small (c.0 -ℤ d.0) 1 (leb-true (unsigned_abs (c.0 -ℤ d.0)) 1 parts.0) in
+    let along = abs_small (c.1 -ℤ d.1) 1 (leb-true (unsigned_abs (c.1 -ℤ d.1)) 1 parts.1) in
+    record {
+      left = omega (arith, ints);
+      right = omega (arith, ints);
+      above = omega (arith, ints);
+      below = omega (arith, ints);
+    }
+
+touch_by_near : (c d : Cell) → IsNear c d → touch c d ≡ true
+touch_by_near c d h =
+    and_from (nat_le (unsigned_abs (c.0 -ℤ d.0)) 1) (nat_le (unsigned_abs (c.1 -ℤ d.1)) 1)
+    (le-leb (unsigned_abs (c.0 -ℤ d.0)) 1 (small_abs (c.0 -ℤ d.0) 1 (omega (arith, ints)) (omega (arith, ints))))
+    (le-leb (unsigned_abs (c.1 -ℤ d.1)) 1 (small_abs (c.1 -ℤ d.1) 1 (omega (arith, ints)) (omega (arith, ints))))
+
+module _ (H : Generation) where
+  pub listed_cell : (c : Cell) → Contains (cells H) c → contains H c ≡ true
+  listed_cell c one = contains-cells H c ∙ any_passes (same_cell c) (cells H) c one (same_cell_itself c)
+
+  pub cell_listed : (c : Cell) → contains H c ≡ true → Contains (cells H) c
+  cell_listed c h =
+      let one = some_passes (same_cell c) (cells H) (sym (contains-cells H c) ∙ h) in
+      subst (Contains (cells H)) (sym ((same_cell-is c one.0).0 one.2)) one.1
+
+  pub touched : (c : Cell) → touches c H ≡ true → (d : Cell) × (contains H d ≡ true) × IsNear c d
+  unfolding touches
+  touched c h =
+      let one = some_passes (touch c) (cells H) h in
+      (one.0, listed_cell one.0 one.1, near_by_touch c one.0 one.2)
+
+  pub touches_by_near : (c d : Cell) → contains H d ≡ true → IsNear c d → touches c H ≡ true
+  unfolding touches
+  touches_by_near c d h near = any_passes (touch c) (cells H) d (cell_listed d h) (touch_by_near c d near)
+
+abbrev sets_touch : Generation → Generation → Bool
+sets_touch A B = list_any (λ c. touches c B) (cells A)
+
+pub untouching_by_test : (Hs : List Generation) → are_untouching Hs ≡ true → AllPairs AreUntouching Hs
+unfolding are_untouching
+untouching_by_test Hs h i j x less within c d in_A in_B near =
+    let A = get_or Hs i x in
+    let B = get_or Hs j x in
+    not_true (sets_touch A B) (each_pair_tells (λ A B. not (sets_touch A B)) Hs h i j x less within)
+    (any_passes (λ c. touches c B) (cells A) c (cell_listed A c in_A) (touches_by_near B c d in_B near))
+
+pub test_by_untouching : (Hs : List Generation) → AllPairs AreUntouching Hs → are_untouching Hs ≡ true
+unfolding are_untouching
+test_by_untouching Hs far =
+    each_pair_by (λ A B. not (sets_touch A B)) Hs (λ i j x less within.
+    let A = get_or Hs i x in
+    let B = get_or Hs j x in
+    true_not (sets_touch A B) (λ h.
+    let c = some_passes (λ c. touches c B) (cells A) h in
+    let d = touched B c.0 c.2 in
+    far i j x less within c.0 d.0 (listed_cell A c.0 c.1) d.1 d.2))

@@ -1,0 +1,50 @@
+//! Whether a set is ash within a bound, and of which parts: a definition that computes, in `specs/`, and as the
+//! contracts of functions that do nothing the laws that it decides this and that what it finds lasts.
+//!
+//! Tested in `tests_objects`, by `life_census`.
+
+ghost use Rattle.std.specs.Prelude.{◌≡◌, ℕ, ◌-◌, ◌≤◌, List, [], None, Some};
+ghost use Rattle.std.specs.List.Sorted.{IsPermutation};
+ghost use Rattle.life_model.specs.Evolution.{generation};
+ghost use Rattle.life_model.specs.Generation.{Generation, empty};
+ghost use Rattle.life_model.specs.Rule.{Rule};
+ghost use Rattle.life_objects.specs.Ash.{IsAsh};
+ghost use Rattle.life_objects.specs.Union.{generations};
+ghost use Rattle.life_objects.specs.Decided.Decided.{ash_of};
+
+/// The parts that are found make the set ash, and where none are found it is no ash, of whatever parts.
+pub fn ash_is_decided()
+    ensures some { (R : Rule) (b : ℕ) (G : Generation) (parts : List Generation) →
+        ash_of R b G ≡ Some parts →
+        IsAsh R b G parts }
+    ensures none { (R : Rule) (b : ℕ) (G : Generation) (parts : List Generation) →
+        ash_of R b G ≡ None →
+        IsAsh R b G parts → ⊥ }
+{}
+
+/// Of ash its parts are found, in some order, of what is no ash none, and of the empty set the empty list.
+pub fn parts_are_found()
+    ensures parts { (R : Rule) (b : ℕ) (G : Generation) (parts : List Generation) →
+        IsAsh R b G parts →
+        (found : List Generation) × (ash_of R b G ≡ Some found) × IsPermutation parts found }
+    ensures otherwise { (R : Rule) (b : ℕ) (G : Generation) →
+        ((parts : List Generation) → IsAsh R b G parts → ⊥) →
+        ash_of R b G ≡ None }
+    ensures nothing { (R : Rule) (b : ℕ) → ash_of R b empty ≡ Some [] }
+{}
+
+/// What was found is found of each later generation too, within each bound that is no smaller: what the parts have
+/// become by then, in some order. Within a smaller bound nothing else is found.
+pub fn what_was_found_lasts()
+    ensures later { (R : Rule) (b c n : ℕ) (G : Generation) (parts : List Generation) → b ≤ c →
+        ash_of R b G ≡ Some parts → (found : List Generation) ×
+        (ash_of R c (generation R G n) ≡ Some found)
+        × IsPermutation (generations R parts n) found }
+    ensures bound { (R : Rule) (b c : ℕ) (G : Generation) (parts : List Generation) → b ≤ c →
+        ash_of R b (generation R G b) ≡ Some parts →
+        (found : List Generation) × (ash_of R c (generation R G c) ≡ Some found)
+        × IsPermutation (generations R parts (c - b)) found }
+    ensures same { (R : Rule) (b c n : ℕ) (G : Generation) (parts found : List Generation) →
+        ash_of R b G ≡ Some parts → ash_of R c (generation R G n) ≡ Some found →
+        IsPermutation (generations R parts n) found }
+{}

@@ -1,7 +1,0 @@
-use Rattle.std.proofs.Common.{◌≡◌, ℕ, ◌<◌}
-use Rattle.life_classes.specs.Forest.{root}
-use Rattle.life_split.proofs.rounds.are_all_joined.Given as goal
-
--- those passed are joined with the first
-abbrev pub invariant-loop-n : goal.invariant-loop-n
-invariant-loop-n l = (k : ℕ) → k < l.n → root l.forest k ≡ root l.forest 0

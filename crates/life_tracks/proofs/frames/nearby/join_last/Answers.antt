@@ -1,0 +1,43 @@
+use Rattle.std.proofs.Common.{◌≡◌, ◌-◌, ◌≤ℤ◌, get_or, subst, ap, arith}
+use Rattle.std.specs.List.{All}
+use Rattle.std.proofs.lemmas.Int.{ints}
+use Rattle.life_model.specs.Cell.{origin}
+use Rattle.life_model.specs.Generation.{cells}
+use Rattle.life_cells.specs.Limits.{IsPlace}
+use Rattle.life_classes.specs.Tags.{place_number}
+use Rattle.life_tracks.specs.Frames.Nearby.{number_at}
+use Rattle.life_tracks.proofs.FramesLemmas.Chained.{less_by_test, near_by_number, nearer_united}
+use Rattle.life_tracks.proofs.frames.nearby.join_last.Goals as goal
+
+pub returns-then-place_number-number-clause-last : goal.returns-then-place_number-number-clause-last
+returns-then-place_number-number-clause-last c some near =
+    let G = c.args.list.now in
+    let at = c.args.at in
+    let is = c.as_slice-all.ensures.cells in
+    let same : place_number (get_or c.as_slice-all.result.now (at - 1) origin) ≡ number_at G (at - 1) =
+    ap (λ xs. place_number (get_or xs (at - 1) origin)) is in
+    let first = c.place_number.ensures.number in
+    let far = c.if-place_number-number.true in
+    let low = c.requires.low in
+    let high = c.requires.high in
+    absurd (omega (arith, ints))
+
+pub returns-clause-nearer : goal.returns-clause-nearer
+returns-clause-nearer c =
+    let G = c.args.list.now in
+    let n = c.args.n in
+    let at = c.args.at in
+    let is = c.as_slice-all.ensures.cells in
+    let all : All IsPlace (cells G) = subst (All IsPlace) is c.as_slice-all.ensures.placed in
+    let some = c.if-at-eq0.false in
+    let within = c.requires.parts.within in
+    let same : place_number (get_or c.as_slice-all.result.now (at - 1) origin) ≡ number_at G (at - 1) =
+    ap (λ xs. place_number (get_or xs (at - 1) origin)) is in
+    let first = c.place_number.ensures.number in
+    let close = c.if-place_number-number.false in
+    let low = c.requires.low in
+    let high = c.requires.high in
+    let less : number_at G (at - 1) ≤ℤ c.args.number = less_by_test _ _ (c.requires.parts.before (at - 1) origin (omega arith)) in
+    nearer_united G c.args.forest.now.items c.join.new.forest.items (at - 1) n (omega arith) c.requires.inside
+    (near_by_number G all n (at - 1) c.args.number c.requires.inside (omega arith) c.requires.above (omega (arith, ints)) (omega (arith, ints)))
+    c.join.ensures
