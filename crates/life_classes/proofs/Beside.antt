@@ -3,16 +3,17 @@ use Rattle.std.proofs.Common.{◌≡◌, ◌⊎◌, ℕ, ◌^◌, ◌<◌, ℤ, 
 use Rattle.std.proofs.lemmas.Int.{ints}
 use Rattle.std.proofs.lemmas.List.{get_or_default}
 use Rattle.life_model.specs.Cell.{Cell, origin}
-use Rattle.life_model.specs.Generation.{cells}
+use Rattle.life_model.specs.Generation.{cells, contains}
 use Rattle.life_cells.specs.Limits.{IsPlace}
 use Rattle.life_classes.specs.declared.labels.Labelled.{Labelled}
 use Rattle.life_classes.specs.declared.tags.Tag.{Tag}
 use Rattle.life_classes.specs.Labels.{IsLabelOf, IsTagged}
 use Rattle.life_classes.specs.Nearness.{reaches}
 use Rattle.life_classes.specs.Tags.{HasNoneBeside, IsBeside, IsFrom, place_number}
+use Rattle.life_classes.proofs.Beginning.{listed}
 use Rattle.life_classes.proofs.Inherited.{stands_in}
 use Rattle.life_classes.proofs.Lookups.{either}
-use Rattle.life_classes.proofs.Numbers.{near_by_number, number_at, place_at}
+use Rattle.life_classes.proofs.Numbers.{cell_by_number, near_by_number, number_at, place_at}
 use Rattle.life_classes.proofs.Reached.{touched_by}
 
 pub beside_by : (ts : List Tag) (number low row : ℤ) (place : ℕ) →
@@ -41,6 +42,18 @@ module _ (l : Labelled) (tagged : IsTagged l) (c : Cell) (placed : IsPlace c) (t
             (omega (arith, ints)) (omega (arith, ints));
         same = λ d. ap (λ (s : Tag). s.label) (get_or_default l.tags.items place d t inside ∙ sym here);
       }
+
+  pub was_there : (place : ℕ) (t : Tag) → t ≡ get_or l.tags.items place t → IsBeside ts number place → t.number ≡ number →
+      contains l.cells c ≡ true
+  was_there place t here beside same =
+      let w : IsBeside l.tags.items number place = subst (λ us. IsBeside us number place) tags beside in
+      let inside = w.from.inside in
+      let count = tagged.count in
+      let at = number_at l tagged place t origin inside in
+      let one : get_or (cells l.cells) place origin ≡ c =
+      cell_by_number (get_or (cells l.cells) place origin) c (place_at l tagged place origin inside) placed
+      (sym at ∙ ap (λ (s : Tag). s.number) (sym here) ∙ same ∙ is) in
+      subst (λ d. contains l.cells d ≡ true) one (listed l.cells place origin (omega arith))
 
   pub some_beside : HasNoneBeside ts number → reaches 1 l.cells c ≡ true → ⊥
   some_beside has_none reached =

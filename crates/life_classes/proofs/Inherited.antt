@@ -3,11 +3,12 @@ use Rattle.std.proofs.Common.{◌≡◌, ℕ, ◌<◌, pos, true, List, length, 
 use Rattle.std.proofs.lemmas.Bool.{and_from, and_parts, cases_lt}
 use Rattle.std.proofs.lemmas.List.{get_or-map, get_or_default, length-map, same_lists}
 use Rattle.std.proofs.lemmas.List.Folds.{Any-from_list_any}
-use Rattle.life_model.specs.Cell.{Cell, IsNear, origin, same_cell}
+use Rattle.life_model.specs.Cell.{Cell, origin, same_cell}
 use Rattle.life_model.specs.Generation.{Generation, cells, contains, keep}
 use Rattle.life_model.proofs.Cells.{same_cell-is}
 use Rattle.life_model.proofs.Generations.{contains-cells, contains-keep}
-use Rattle.life_objects.proofs.Distances.{near_through}
+use Rattle.life_objects.specs.Apart.{AreNear}
+use Rattle.life_objects.proofs.Distances.{AreNear-swap, near_through}
 use Rattle.life_objects.proofs.Sides.{within_each_other}
 use Rattle.life_classes.specs.declared.class.Class.{Class}
 use Rattle.life_classes.specs.declared.labels.Labelled.{Labelled}
@@ -36,28 +37,38 @@ module _ (a old new : Labelled) (f : List ℕ) (before : AreLabelled old f) (aft
   tag = record { number = pos 0; label = 0 }
 
   -- the cell is one of the set of the root of the label
-  of_label : (c : Cell) (label : ℕ) (w : IsLabelOf old c label) →
+  pub of_label : (c : Cell) (label : ℕ) (w : IsLabelOf old c label) →
       contains (set_of_root old f (root f label)) (get_or (cells old.cells) w.by origin) ≡ true
   of_label c label w =
       let count = before.tagged.count in
       let inside = w.inside in
       of_root old f (root f label) w.by tag origin (omega arith) inside (ap (root f) (w.same tag))
 
-  label_within : (c : Cell) (label : ℕ) → IsLabelOf old c label → root f label < length f
+  pub label_within : (c : Cell) (label : ℕ) → IsLabelOf old c label → root f label < length f
   label_within c label w =
       let within = before.within w.by tag w.inside in
       let same = w.same tag in
       omega (arith, root-le f label)
 
-  -- two sets of which cells are at most one away from a cell are one
-  one_set : (r s : ℕ) (c g h : Cell) → r < length f → s < length f → contains (set_of_root old f r) g ≡ true →
-      contains (set_of_root old f s) h ≡ true → IsNear c g → IsNear c h → (r < s → ⊥)
-  one_set r s c g h k l in_r in_s near too less =
+  apart_less : (r s : ℕ) (g h : Cell) → r < length f → s < length f → contains (set_of_root old f r) g ≡ true →
+      contains (set_of_root old f s) h ≡ true → AreNear g h → (r < s → ⊥)
+  apart_less r s g h k l in_r in_s near less =
       let count = count_classes a old f in
       let d = class_of_root a old f r in
       apart r s d less (omega arith) g h
       (ap (λ (e : Class). contains e.last g) (class_at a old f r d k) ∙ in_r)
-      (ap (λ (e : Class). contains e.last h) (class_at a old f s d l) ∙ in_s) (near_through c g h near too)
+      (ap (λ (e : Class). contains e.last h) (class_at a old f s d l) ∙ in_s) near
+
+  -- two sets of which cells are near each other are one
+  pub one_set : (r s : ℕ) (g h : Cell) → r < length f → s < length f → contains (set_of_root old f r) g ≡ true →
+      contains (set_of_root old f s) h ≡ true → AreNear g h → r ≡ s
+  one_set r s g h k l in_r in_s near = elim (cases_lt r s) [
+    | inl less ↦ absurd (apart_less r s g h k l in_r in_s near less)
+    | inr more ↦ elim (cases_lt s r) [
+      | inl less ↦ absurd (apart_less s r h g l k in_s in_r (AreNear-swap g h near) less)
+      | inr both ↦ omega arith
+    ]
+  ]
 
   pub set_then : (r : ℕ) → r < length f → set_of_root new f r ≡ keep new.cells (reaches 1 (set_of_root old f r))
   set_then r inside =
@@ -86,17 +97,9 @@ module _ (a old new : Labelled) (f : List ℕ) (before : AreLabelled old f) (aft
       let s = root f heir.label in
       let within : s < length f = label_within c heir.label from in
       let there = of_label c heir.label from in
-      let same : s ≡ r = elim (cases_lt s r) [
-        | inl less ↦
-            absurd (one_set s r c (get_or (cells old.cells) from.by origin) touched.0 within inside there touched.1 (from.near origin)
-            touched.2 less)
-        | inr more ↦ elim (cases_lt r s) [
-          | inl less ↦
-              absurd (one_set r s c touched.0 (get_or (cells old.cells) from.by origin) inside within touched.1 there touched.2
-              (from.near origin) less)
-          | inr both ↦ omega arith
-        ]
-      ] in
+      let same : s ≡ r =
+      one_set s r (get_or (cells old.cells) from.by origin) touched.0 within inside there touched.1
+      (near_through c (get_or (cells old.cells) from.by origin) touched.0 (from.near origin) touched.2) in
       let count = after.tagged.count in
       let placed = at.1 in
       subst (λ d. contains (set_of_root new f r) d ≡ true) at.2

@@ -17,7 +17,11 @@ pub mod Chosen
 pub mod Nobody
 pub mod Putting
 pub mod Joined
+pub mod Level
+pub mod Across
 pub mod Tied
+pub mod Born
+pub mod Settled
 pub mod Inherited
 pub mod Singles
 pub mod Repeated

@@ -1,5 +1,5 @@
 -- Numbers that are compared, and lists that are gone through.
-use Rattle.std.proofs.Common.{◌≡◌, ◌⊎◌, ℕ, ◌+◌, ◌<◌, ◌≤◌, ℤ, pos, ◌+ℤ◌, ◌<ℤ◌, ◌≤ℤ◌, List, [], ◌∷◌, ◌++◌, length, get_or}
+use Rattle.std.proofs.Common.{◌≡◌, ◌⊎◌, ℕ, ◌+◌, ◌-◌, ◌<◌, ◌≤◌, ℤ, neg_ℤ, pos, ◌+ℤ◌, ◌<ℤ◌, ◌≤ℤ◌, List, [], ◌∷◌, ◌++◌, length, get_or}
 use Rattle.std.proofs.Common.{true, inl, inr, sym, ap, subst, ◌∙◌, arith, Ordering, Less, Equal, Greater, int_cmp, int_lt}
 use Rattle.std.specs.Cmp.{int_ranks}
 use Rattle.std.specs.List.{Contains}
@@ -78,3 +78,45 @@ module _ (ts : List Tag) (low : ℤ) (place : ℕ) (less : AreLess ts place low)
     first = λ d. least place d (omega arith) inside;
     last = λ d. subst (λ (t : Tag). t.number ≤ℤ (low +ℤ pos 2)) (get_or_default ts place s d inside) small;
   }
+
+-- ---- tags whose numbers are at most one from a number
+
+module _ (ts : List Tag) (number : ℤ) (place : ℕ) (less : AreLess ts place number) (within : place ≤ length ts) where
+  pub just_before : (s : Tag) → 0 < place → (number +ℤ neg_ℤ (pos 1)) ≤ℤ (get_or ts (place - 1) s).number →
+      IsFrom ts (number +ℤ neg_ℤ (pos 1)) (place - 1)
+  just_before s some near =
+      let inside : place - 1 < length ts = omega arith in
+      record {
+        inside = inside;
+        first = λ d.
+            let same = ap (λ (t : Tag). t.number) (get_or_default ts (place - 1) d s inside) in
+            omega (arith, ints);
+        last = λ d. let below = less (place - 1) d (omega arith) inside in omega (arith, ints);
+      }
+
+  pub just_at : (s : Tag) → place < length ts → AreFrom ts place number →
+      (get_or ts place s).number ≤ℤ (number +ℤ pos 1) → IsFrom ts (number +ℤ neg_ℤ (pos 1)) place
+  just_at s inside least near = record {
+    inside = inside;
+    first = λ d. let above = least place d (omega arith) inside in omega (arith, ints);
+    last = λ d.
+        let same = ap (λ (t : Tag). t.number) (get_or_default ts place d s inside) in
+        omega (arith, ints);
+  }
+
+  pub none_level : (s : Tag) → AreRisingTags ts →
+      (place < length ts → (number +ℤ pos 1) <ℤ (get_or ts place s).number) →
+      (0 < place → (get_or ts (place - 1) s).number <ℤ (number +ℤ neg_ℤ (pos 1))) →
+      HasNoneFrom ts (number +ℤ neg_ℤ (pos 1))
+  none_level s rise great small k d h from to =
+      let same = ap (λ (t : Tag). t.number) (get_or_default ts k d s h) in
+      elim (cases_lt k place) [
+        | inl before ↦
+            let up = rise k (place - 1) s (omega arith) (omega arith) in
+            let below = small (omega arith) in
+            omega (arith, ints)
+        | inr after ↦
+            let up = rise place k s after h in
+            let above = great (omega arith) in
+            omega (arith, ints)
+      ]

@@ -5,15 +5,26 @@ use Rattle.std.specs.List.{All}
 use Rattle.std.proofs.lemmas.Int.{ints}
 use Rattle.life_model.specs.Cell.{Cell, IsNear, origin}
 use Rattle.life_model.specs.Generation.{cells}
+use Rattle.life_model.proofs.Cells.{pair}
 use Rattle.life_model.proofs.Generations.{cells-rise}
 use Rattle.life_cells.specs.Limits.{IsPlace}
 use Rattle.life_objects.specs.Apart.{AreNear}
+use Rattle.life_objects.proofs.Distances.{AreNear-swap}
 use Rattle.life_classes.specs.declared.labels.Labelled.{Labelled}
 use Rattle.life_classes.specs.declared.tags.Tag.{Tag}
 use Rattle.life_classes.specs.Labels.{AreLabelled, AreNearAt, IsTagged}
 use Rattle.life_classes.specs.Tags.{AreRisingTags, IsNumbered, place_number}
-use Rattle.life_classes.specs.Ties.{IsAbove}
+use Rattle.life_classes.specs.Ties.{IsRowsAway}
 use Rattle.life_classes.proofs.RowsRise.{numbers_rise}
+
+-- cells that have one number are one
+pub cell_by_number : (c d : Cell) → IsPlace c → IsPlace d → place_number c ≡ place_number d → c ≡ d
+cell_by_number c d p q same =
+    let a = p.left in
+    let b = p.right in
+    let e = q.left in
+    let f = q.right in
+    pair (omega (arith, ints)) (omega (arith, ints))
 
 -- cells whose numbers are so far apart are at most one away from each other
 pub near_by_number : (c g : Cell) (row : ℤ) → IsPlace c → IsPlace g →
@@ -103,13 +114,21 @@ module _ (l : Labelled) (tagged : IsTagged l) where
       let up = tags_rise (n - 1) n t (omega arith) h in
       near_at (n - 1) n (pos 0) t (omega arith) h (inl refl) (omega (arith, ints)) (omega (arith, ints))
 
-  -- a cell whose number is at most two from that of a place above one
-  pub above_near : (k n : ℕ) (number : ℤ) (t : Tag) → k < length l.tags.items → n < length l.tags.items →
-      IsAbove l.tags.items n number → (number -ℤ pos 2) ≤ℤ (get_or l.tags.items k t).number →
+  -- a cell whose number is at most two from that of a place above one or below it
+  pub away_near : (k n : ℕ) (number : ℤ) (t : Tag) → k < length l.tags.items → n < length l.tags.items →
+      IsRowsAway l.tags.items n number → (number -ℤ pos 2) ≤ℤ (get_or l.tags.items k t).number →
       (get_or l.tags.items k t).number ≤ℤ (number +ℤ pos 2) → AreNearAt l k n
-  above_near k n number t h i above from to =
-      let is = above.is t in
-      near_at k n above.row t h i (inr above.rows) (omega (arith, ints)) (omega (arith, ints))
+  away_near k n number t h i away from to =
+      let is = away.is t in
+      elim away.rows [
+        | inl above ↦ near_at k n away.row t h i (inr above) (omega (arith, ints)) (omega (arith, ints))
+        | inr below ↦ λ d e.
+            AreNear-swap (get_or (cells l.cells) n e) (get_or (cells l.cells) k d)
+            (elim below [
+              | inl next ↦ near_at n k (pos (2 ^ 31)) t i h (inr (inl refl)) (omega (arith, ints)) (omega (arith, ints)) e d
+              | inr further ↦ near_at n k (pos (2 ^ 32)) t i h (inr (inr refl)) (omega (arith, ints)) (omega (arith, ints)) e d
+            ])
+      ]
 
 -- the same labels and a forest as long
 pub relabelled : (l : Labelled) (f g : List ℕ) → length g ≡ length f → AreLabelled l f → AreLabelled l g

@@ -9,7 +9,7 @@ use Rattle.std.proofs.lemmas.List.{get_or_default}
 use Rattle.std.proofs.lemmas.List.Elements.{All-from_recursion}
 use Rattle.life_model.specs.Cell.{Cell, cell_cmp, origin}
 use Rattle.life_model.specs.Generation.{Generation, cells, contains}
-use Rattle.life_model.proofs.Cells.{cell_cmp_total, pair}
+use Rattle.life_model.proofs.Cells.{cell_cmp_total}
 use Rattle.life_model.proofs.Generations.{cells-rise}
 use Rattle.life_cells.specs.Limits.{IsPlace}
 use Rattle.life_cells.proofs.Sorted.{sorted_from_rising}
@@ -23,18 +23,10 @@ use Rattle.life_classes.proofs.Beginning.{listed}
 use Rattle.life_classes.proofs.Chosen.{in_root, of_root}
 use Rattle.life_classes.proofs.Inherited.{stands_in}
 use Rattle.life_classes.proofs.Joined.{set_of_root}
-use Rattle.life_classes.proofs.Numbers.{number_at, place_at, tags_rise}
+use Rattle.life_classes.proofs.Numbers.{cell_by_number, number_at, place_at, tags_rise}
 
 abbrev tag : Tag
 tag = record { number = pos 0; label = 0 }
-
-cell_by_number : (c d : Cell) → IsPlace c → IsPlace d → place_number c ≡ place_number d → c ≡ d
-cell_by_number c d p q same =
-    let a = p.left in
-    let b = p.right in
-    let e = q.left in
-    let f = q.right in
-    pair (omega (arith, ints)) (omega (arith, ints))
 
 -- ---- where a cell is looked for
 

@@ -1,6 +1,6 @@
 -- Cells with labels, and the classes that they tell.
-use Rattle.std.specs.Prelude.{◌≡◌, ℕ, ◌<◌, ◌==◌, cond, true, List, [], ◌∷◌, length, get_or, map}
-use Rattle.std.specs.List.{All, range_with_len}
+use Rattle.std.specs.Prelude.{◌≡◌, ◌⊎◌, ℕ, ◌<◌, ◌==◌, cond, true, List, [], ◌∷◌, length, get_or, map}
+use Rattle.std.specs.List.{All, Contains, range_with_len}
 use Rattle.life_model.specs.Cell.{Cell, IsNear}
 use Rattle.life_model.specs.Generation.{Generation, cells, contains, from_list}
 use Rattle.life_objects.specs.Apart.{AreNear}
@@ -56,6 +56,10 @@ pub record IsHeir (l : Labelled) (f : List ℕ) (c : Cell) (t : Tag) : Type 0 wh
 -- each of the first n cells is so
 abbrev pub AreHeirs : Labelled → List ℕ → List Cell → ℕ → List Tag → Type 0
 AreHeirs l f cs n ts = (k : ℕ) (d : Tag) (e : Cell) → k < n → IsHeir l f (get_or cs k e) (get_or ts k d)
+
+-- each of the first n cells stands in a listed place, or was there before
+abbrev pub AreBornOrOld : Labelled → List Cell → ℕ → List ℕ → Type 0
+AreBornOrOld l cs n born = (k : ℕ) (e : Cell) → k < n → Contains born k ⊎ (contains l.cells (get_or cs k e) ≡ true)
 
 -- a cell that is at most one away from each
 abbrev pub AreReached : Labelled → Generation → Type 0

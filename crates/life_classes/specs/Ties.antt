@@ -1,9 +1,10 @@
 -- Labels that are joined where their cells are near each other.
-use Rattle.std.specs.Prelude.{◌≡◌, ◌⊎◌, ℕ, ◌-◌, ◌<◌, ◌≤◌, ◌^◌, ℤ, pos, ◌+ℤ◌, ◌-ℤ◌, ◌≤ℤ◌, List, length, get_or}
+use Rattle.std.specs.Prelude.{◌≡◌, ◌⊎◌, ℕ, ◌+◌, ◌-◌, ◌<◌, ◌≤◌, ◌^◌, ℤ, pos, neg_ℤ, ◌+ℤ◌, ◌-ℤ◌, ◌≤ℤ◌, List, length, get_or}
+use Rattle.std.specs.List.{Contains}
 use Rattle.life_classes.specs.declared.labels.Labelled.{Labelled}
 use Rattle.life_classes.specs.declared.tags.Tag.{Tag}
 use Rattle.life_classes.specs.Forest.{root}
-use Rattle.life_classes.specs.Labels.{classes_by}
+use Rattle.life_classes.specs.Labels.{AreNearAt, classes_by}
 use Rattle.life_classes.specs.Tags.{AreFrom, AreLess}
 use Rattle.life_classes.specs.Tracking.{LeadTo}
 
@@ -16,6 +17,17 @@ pub record IsTied (l : Labelled) (old new : List ℕ) : Type 0 where
 -- the labels of the tags in two places are joined
 abbrev pub AreOne : List Tag → List ℕ → ℕ → ℕ → Type 0
 AreOne ts f i j = (d e : Tag) → root f (get_or ts i d).label ≡ root f (get_or ts j e).label
+
+-- the labels of any two cells that are near each other are joined
+abbrev pub AreNearOne : Labelled → List ℕ → Type 0
+AreNearOne l f =
+    (i j : ℕ) → i < length l.tags.items → j < length l.tags.items → AreNearAt l i j → AreOne l.tags.items f i j
+
+-- of any two cells that are near each other one stands in a listed place, or their labels are joined
+abbrev pub AreOneOrListed : Labelled → List ℕ → List ℕ → Type 0
+AreOneOrListed l f places =
+    (i j : ℕ) → i < length l.tags.items → j < length l.tags.items → AreNearAt l i j →
+    Contains places i ⊎ (Contains places j ⊎ AreOne l.tags.items f i j)
 
 -- The first tag from a number on, and the last before it, have labels that are joined with that of the n-th, unless their
 -- numbers are more than two away from it.
@@ -34,12 +46,19 @@ pub record IsTiedAt (ts : List Tag) (f : List ℕ) (n : ℕ) : Type 0 where
   pub above : (d : Tag) → IsTiedAround ts f n ((get_or ts n d).number -ℤ pos (2 ^ 31))
   pub further : (d : Tag) → IsTiedAround ts f n ((get_or ts n d).number -ℤ pos (2 ^ 32))
 
--- those in the first n places are
+-- the label of the tag in this place is joined with those that are near it, after it and in the two rows below it
+pub record IsTiedAfter (ts : List Tag) (f : List ℕ) (n : ℕ) : Type 0 where
+  pub next : (d : Tag) → n + 1 < length ts → ((get_or ts (n + 1) d).number -ℤ pos 2) ≤ℤ (get_or ts n d).number →
+      AreOne ts f n (n + 1)
+  pub below : (d : Tag) → IsTiedAround ts f n ((get_or ts n d).number +ℤ pos (2 ^ 31))
+  pub beyond : (d : Tag) → IsTiedAround ts f n ((get_or ts n d).number +ℤ pos (2 ^ 32))
+
+-- the labels of the tags in the first n places are joined with those that are near them, before them and above
 abbrev pub AreTiedUpTo : List Tag → List ℕ → ℕ → Type 0
 AreTiedUpTo ts f n = (k : ℕ) → k < n → IsTiedAt ts f k
 
--- the number is that of the place one row or two rows above the n-th tag
-pub record IsAbove (ts : List Tag) (n : ℕ) (number : ℤ) : Type 0 where
+-- the number is that of the place one row or two rows above the n-th tag or below it
+pub record IsRowsAway (ts : List Tag) (n : ℕ) (number : ℤ) : Type 0 where
   pub row : ℤ
-  pub rows : (row ≡ pos (2 ^ 31)) ⊎ (row ≡ pos (2 ^ 32))
+  pub rows : ((row ≡ pos (2 ^ 31)) ⊎ (row ≡ pos (2 ^ 32))) ⊎ ((row ≡ neg_ℤ (pos (2 ^ 31))) ⊎ (row ≡ neg_ℤ (pos (2 ^ 32))))
   pub is : (d : Tag) → number ≡ (get_or ts n d).number -ℤ row

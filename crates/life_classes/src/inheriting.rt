@@ -1,8 +1,9 @@
 //! The labels of cells of the next generation, told by those of the generation before in one sweep.
-ghost use Rattle.std.specs.Prelude.{◌≡◌, ◌≤ℤ◌, ◌≤◌, ◌-◌, ◌+◌, ◌^◌, neg_ℤ, pos, true, IfNone, IfOk, IfSome, length};
+ghost use Rattle.std.specs.Prelude.{◌≡◌, ◌≤ℤ◌, ◌≤◌, ◌<◌, ◌-◌, ◌+◌, ◌+ℤ◌, ◌^◌, ℕ, neg_ℤ, pos, false, true, All, Contains, IfNone, IfOk, IfSome, OnOk, length};
 ghost use Rattle.life_model.specs.Generation as generations;
+ghost use Rattle.life_model.specs.Generation.{contains};
 ghost use Rattle.life_cells.specs.Limits.{IsPlace};
-ghost use Rattle.life_classes.specs.Labels.{AreHeirs, AreLabelled, AreReached, IsLabelOf, IsTagged};
+ghost use Rattle.life_classes.specs.Labels.{AreBornOrOld, AreHeirs, AreLabelled, AreReached, IsLabelOf, IsTagged};
 ghost use Rattle.life_classes.specs.Nearness.{reaches};
 ghost use Rattle.life_classes.specs.Tags.{AreRisingTags, HasNoneBeside, HasNoneFrom, IsBeside, IsFrom};
 
@@ -11,6 +12,20 @@ use crate::labels::Labelled;
 use crate::tags::{ROW, Tag, place_number, place_of};
 use life_cells::CellList;
 use std::alloc::{AllocError, Global};
+
+/// Cells with labels, and the places of those that were not there in the generation before.
+#[derive(Drop)]
+pub struct Heirs {
+    pub cells: Labelled,
+    pub born: Vec<usize>,
+}
+
+/// The label that a cell takes, and whether the cell was not there before.
+#[derive(Clone, Copy)]
+struct Heir {
+    label: usize,
+    is_born: bool,
+}
 
 /// Where tags were found that may be beside the last cell, in its row, above it and below it.
 #[derive(Drop)]
@@ -41,6 +56,36 @@ fn place_from(tags: &[Tag], low: i64, cursor: &mut usize) -> Option<usize>
     Some(at)
 }
 
+/// The place of a tag whose number is at most one from this one. It is that of the number itself, where there is one.
+#[inline(always)]
+fn place_level(tags: &[Tag], number: i64, cursor: &mut usize) -> Option<usize>
+    requires rising { AreRisingTags tags.now }
+    requires low { neg_ℤ (pos (2 ^ 62 + 2 ^ 31)) ≤ℤ number }
+    requires high { number ≤ℤ pos (2 ^ 62 + 2 ^ 31) }
+    requires within { cursor.old ≤ length tags.now }
+    ensures within { cursor.new ≤ length tags.now }
+    ensures found { IfSome result (IsFrom tags.now (number +ℤ neg_ℤ (pos 1))) }
+    ensures none { IfNone result (HasNoneFrom tags.now (number +ℤ neg_ℤ (pos 1))) }
+{
+    let near = *cursor;
+    if near < tags.len() && tags[near].number == number {
+        *cursor = near + 1;
+        return Some(near);
+    }
+    let at = place_of(tags, near, number);
+    *cursor = at;
+    if at < tags.len() && tags[at].number <= number + 1 {
+        if tags[at].number == number {
+            *cursor = at + 1;
+        }
+        return Some(at);
+    }
+    if at > 0 && tags[at - 1].number >= number - 1 {
+        return Some(at - 1);
+    }
+    None
+}
+
 /// The place of a tag whose number is at most one from this one, or from those of the cells above and below it.
 #[inline(always)]
 fn place_beside(tags: &[Tag], number: i64, cursors: &mut Cursors) -> Option<usize>
@@ -56,10 +101,10 @@ fn place_beside(tags: &[Tag], number: i64, cursors: &mut Cursors) -> Option<usiz
     ensures found { IfSome result (IsBeside tags.now number) }
     ensures none { IfNone result (HasNoneBeside tags.now number) }
 {
-    let low = number - 1;
-    if let Some(at) = place_from(tags, low, &mut cursors.level) {
+    if let Some(at) = place_level(tags, number, &mut cursors.level) {
         return Some(at);
     }
+    let low = number - 1;
     if let Some(at) = place_from(tags, low - ROW, &mut cursors.above) {
         return Some(at);
     }
@@ -69,9 +114,9 @@ fn place_beside(tags: &[Tag], number: i64, cursors: &mut Cursors) -> Option<usiz
     None
 }
 
-/// The label of a cell that is at most one away from this one.
+/// The label of a cell that is at most one away from this one, and whether this one is born.
 #[inline(always)]
-fn label_of(old: &Labelled, cell: (i32, i32), cursors: &mut Cursors) -> usize
+fn heir_of(old: &Labelled, cell: (i32, i32), cursors: &mut Cursors) -> Heir
     requires tagged { IsTagged old.now }
     requires placed { IsPlace cell }
     requires reached { reaches 1 old.now.cells cell ≡ true }
@@ -81,12 +126,33 @@ fn label_of(old: &Labelled, cell: (i32, i32), cursors: &mut Cursors) -> usize
     ensures level { cursors.new.level ≤ length old.now.tags.items }
     ensures above { cursors.new.above ≤ length old.now.tags.items }
     ensures below { cursors.new.below ≤ length old.now.tags.items }
-    ensures label { IsLabelOf old.now cell result }
+    ensures label { IsLabelOf old.now cell result.label }
+    ensures old { result.is_born ≡ false → contains old.now.cells cell ≡ true }
 {
-    match place_beside(old.tags.as_slice(), place_number(cell), cursors) {
-        Some(at) => old.tags[at].label,
-        None => 0,
+    let number = place_number(cell);
+    match place_beside(old.tags.as_slice(), number, cursors) {
+        Some(at) => Heir {
+            label: old.tags[at].label,
+            is_born: old.tags[at].number != number,
+        },
+        None => Heir {
+            label: 0,
+            is_born: true,
+        },
     }
+}
+
+/// Lists a place, where its cell is born.
+#[inline(always)]
+fn list_born(born: &mut Vec<usize>, place: usize, is_born: bool) -> Result<(), AllocError>
+    ensures kept { OnOk result ((k : ℕ) → Contains born.old.items k → Contains born.new.items k) }
+    ensures listed { OnOk result (is_born ≡ true → Contains born.new.items place) }
+    ensures within { OnOk result (All (λ k. k < place) born.old.items → All (λ k. k < place + 1) born.new.items) }
+{
+    if is_born {
+        born.push(place)?;
+    }
+    Ok(())
 }
 
 /// The cells of the next generation, each with the root of the label of one that is at most one away.
@@ -95,26 +161,34 @@ pub fn inherited(
     old: &Labelled,
     forest: &[usize],
     cells: CellList,
-) -> Result<Labelled, AllocError>
+) -> Result<Heirs, AllocError>
     requires labelled { AreLabelled old.now forest.now }
     requires reached { AreReached old.now cells }
-    ensures cells { IfOk result (λ new. new.cells ≡ cells) }
-    ensures labelled { IfOk result (λ new. AreLabelled new forest.now) }
+    ensures cells { IfOk result (λ new. new.cells.cells ≡ cells) }
+    ensures labelled { IfOk result (λ new. AreLabelled new.cells forest.now) }
     ensures heirs { IfOk result (λ new. AreHeirs old.now forest.now (generations.cells cells)
-        (length (generations.cells cells)) new.tags.items) }
+        (length (generations.cells cells)) new.cells.tags.items) }
+    ensures born { IfOk result (λ new. AreBornOrOld old.now (generations.cells cells)
+        (length (generations.cells cells)) new.born.items) }
+    ensures within { IfOk result (λ new. All (λ k. k < length new.cells.tags.items) new.born.items) }
 {
     let mut tags = Vec::with_capacity(alloc, cells.len())?;
+    let mut born = Vec::new(alloc);
     let mut cursors = Cursors {
         level: 0,
         above: 0,
         below: 0,
     };
     for cell in cells.as_slice() {
-        let label = root(forest, label_of(old, *cell, &mut cursors));
+        let heir = heir_of(old, *cell, &mut cursors);
+        list_born(&mut born, tags.len(), heir.is_born)?;
         tags.push(Tag {
             number: place_number(*cell),
-            label,
+            label: root(forest, heir.label),
         })?;
     }
-    Ok(Labelled { cells, tags })
+    Ok(Heirs {
+        cells: Labelled { cells, tags },
+        born,
+    })
 }

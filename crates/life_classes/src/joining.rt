@@ -1,19 +1,29 @@
 //! Labels of cells that are near each other become one.
-ghost use Rattle.std.specs.Prelude.{◌≡◌, ◌+◌, ◌-◌, ◌≤◌, ◌<◌, ◌^◌, ◌+ℤ◌, ◌-ℤ◌, ◌≤ℤ◌, neg_ℤ, pos, length, get_or};
+ghost use Rattle.std.specs.Prelude.{◌≡◌, ◌+◌, ◌-◌, ◌≤◌, ◌<◌, ◌^◌, ◌+ℤ◌, ◌-ℤ◌, ◌≤ℤ◌, All, neg_ℤ, pos, length, get_or};
 ghost use Rattle.life_classes.specs.declared.tags.Tag.{Tag as ModelTag};
 ghost use Rattle.life_classes.specs.Labels.{AreLabelled, AreNearAt, IsTagged};
 ghost use Rattle.life_classes.specs.Tags.{AreFrom, AreLess};
-ghost use Rattle.life_classes.specs.Ties.{AreOne, AreTiedUpTo, IsAbove, IsTied, IsTiedAround, IsTiedAt};
+ghost use Rattle.life_classes.specs.Ties.{AreNearOne, AreOne, AreOneOrListed, AreTiedUpTo, IsRowsAway, IsTied, IsTiedAfter, IsTiedAround, IsTiedAt};
 
 use crate::forest::join;
 use crate::labels::Labelled;
 use crate::tags::{ROW, place_of};
+
+/// Where more than one cell of so many is born, it is quicker to go over all cells.
+const MANY: usize = 8;
 
 /// Where tags were found that may be near the last one, in the two rows above it.
 #[derive(Drop)]
 struct Cursors {
     above: usize,
     further: usize,
+}
+
+/// Where tags were found that may be near the last one, in the two rows below it.
+#[derive(Drop)]
+struct CursorsBelow {
+    below: usize,
+    beyond: usize,
 }
 
 /// Joins the labels of two cells that are near each other.
@@ -73,7 +83,7 @@ fn tie_before(forest: &mut Vec<usize>, cells: &Labelled, n: usize, number: i64)
 fn tie_next(forest: &mut Vec<usize>, cells: &Labelled, n: usize, number: i64, at: usize)
     requires labelled { AreLabelled cells.now forest.old.items }
     requires inside { n < length cells.now.tags.items }
-    requires above { IsAbove cells.now.tags.items n number }
+    requires away { IsRowsAway cells.now.tags.items n number }
     requires low { neg_ℤ (pos (2 ^ 62 + 2 ^ 33)) ≤ℤ number }
     requires high { number ≤ℤ pos (2 ^ 62 + 2 ^ 33) }
     requires least { AreFrom cells.now.tags.items at number }
@@ -99,7 +109,7 @@ fn tie_last(forest: &mut Vec<usize>, cells: &Labelled, n: usize, number: i64, at
     requires labelled { AreLabelled cells.now forest.old.items }
     requires inside { n < length cells.now.tags.items }
     requires within { at ≤ length cells.now.tags.items }
-    requires above { IsAbove cells.now.tags.items n number }
+    requires away { IsRowsAway cells.now.tags.items n number }
     requires low { neg_ℤ (pos (2 ^ 62 + 2 ^ 33)) ≤ℤ number }
     requires high { number ≤ℤ pos (2 ^ 62 + 2 ^ 33) }
     requires less { AreLess cells.now.tags.items at number }
@@ -119,13 +129,13 @@ fn tie_last(forest: &mut Vec<usize>, cells: &Labelled, n: usize, number: i64, at
 }
 
 /// Joins the label of a cell with those of the cells next to this number, where they are near. It is that of a place in a row
-/// above the cell.
+/// above the cell or below it.
 #[inline(always)]
 fn tie_around(forest: &mut Vec<usize>, cells: &Labelled, n: usize, number: i64, cursor: &mut usize)
     requires labelled { AreLabelled cells.now forest.old.items }
     requires inside { n < length cells.now.tags.items }
     requires within { cursor.old ≤ length cells.now.tags.items }
-    requires above { IsAbove cells.now.tags.items n number }
+    requires away { IsRowsAway cells.now.tags.items n number }
     requires low { neg_ℤ (pos (2 ^ 62 + 2 ^ 33)) ≤ℤ number }
     requires high { number ≤ℤ pos (2 ^ 62 + 2 ^ 33) }
     ensures within { cursor.new ≤ length cells.now.tags.items }
@@ -168,5 +178,66 @@ pub fn join_near(forest: &mut Vec<usize>, cells: &Labelled)
     };
     for n in 0..cells.tags.len() {
         tie_at(forest, cells, n, &mut cursors);
+    }
+}
+
+/// Joins the label of a cell with that of the one after it, where that is near.
+#[inline(always)]
+fn tie_after(forest: &mut Vec<usize>, cells: &Labelled, n: usize)
+    requires labelled { AreLabelled cells.now forest.old.items }
+    requires inside { n < length cells.now.tags.items }
+    ensures tied { IsTied cells.now forest.old.items forest.new.items }
+    ensures next { (d : ModelTag) → n + 1 < length cells.now.tags.items →
+        ((get_or cells.now.tags.items (n + 1) d).number -ℤ pos 2) ≤ℤ (get_or cells.now.tags.items n d).number →
+        AreOne cells.now.tags.items forest.new.items n (n + 1) }
+{
+    let next = n + 1;
+    if next < cells.tags.len() {
+        tie_before(forest, cells, next, number_at(cells, next));
+    }
+}
+
+/// Joins the label of a cell with those of the cells after it that are near.
+#[inline(always)]
+fn tie_below(forest: &mut Vec<usize>, cells: &Labelled, n: usize, cursors: &mut CursorsBelow)
+    requires labelled { AreLabelled cells.now forest.old.items }
+    requires inside { n < length cells.now.tags.items }
+    requires below { cursors.old.below ≤ length cells.now.tags.items }
+    requires beyond { cursors.old.beyond ≤ length cells.now.tags.items }
+    ensures below { cursors.new.below ≤ length cells.now.tags.items }
+    ensures beyond { cursors.new.beyond ≤ length cells.now.tags.items }
+    ensures tied { IsTied cells.now forest.old.items forest.new.items }
+    ensures after { IsTiedAfter cells.now.tags.items forest.new.items n }
+{
+    let number = number_at(cells, n);
+    tie_after(forest, cells, n);
+    tie_around(forest, cells, n, number + ROW, &mut cursors.below);
+    tie_around(forest, cells, n, number + 2 * ROW, &mut cursors.beyond);
+}
+
+/// Joins the labels of cells that are near each other, where those are joined already of which neither stands in a listed
+/// place.
+pub fn join_born(forest: &mut Vec<usize>, cells: &Labelled, born: &[usize])
+    requires labelled { AreLabelled cells.now forest.old.items }
+    requires inside { All (λ k. k < length cells.now.tags.items) born.now }
+    requires others { AreOneOrListed cells.now forest.old.items born.now }
+    ensures tied { IsTied cells.now forest.old.items forest.new.items }
+    ensures near { AreNearOne cells.now forest.new.items }
+{
+    if born.len() > cells.tags.len() / MANY {
+        join_near(forest, cells);
+        return;
+    }
+    let mut above = Cursors {
+        above: 0,
+        further: 0,
+    };
+    let mut below = CursorsBelow {
+        below: 0,
+        beyond: 0,
+    };
+    for n in born {
+        tie_at(forest, cells, *n, &mut above);
+        tie_below(forest, cells, *n, &mut below);
     }
 }

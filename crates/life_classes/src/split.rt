@@ -7,7 +7,7 @@ ghost use Rattle.life_classes.specs.Splits.{IsLabelledSplit, classes_of_split};
 ghost use Rattle.life_classes.specs.Tracking.{AreApartNow, AreFew, LeadTo, class_of_cell, moved_on};
 
 use crate::inheriting::inherited;
-use crate::joining::join_near;
+use crate::joining::{join_born, join_near};
 use crate::labels::{Labelled, first_labels, have_one_root};
 use life_cells::CellList;
 use std::alloc::{AllocError, Global};
@@ -66,11 +66,11 @@ pub fn followed(alloc: Global, split: Split, cells: CellList) -> Result<Split, A
     ensures apart { IfOk result (λ later. AreApartNow (classes_of_split later)) }
 {
     let mut forest = split.forest;
-    let last = inherited(alloc, &split.last, forest.as_slice(), cells)?;
-    join_near(&mut forest, &last);
+    let heirs = inherited(alloc, &split.last, forest.as_slice(), cells)?;
+    join_born(&mut forest, &heirs.cells, heirs.born.as_slice());
     Ok(Split {
         first: split.first,
-        last,
+        last: heirs.cells,
         forest,
     })
 }

@@ -7,6 +7,9 @@ use std::alloc::{AllocError, Global};
 /// How much greater the number of a cell is than that of the one above it.
 pub const ROW: i64 = 2_147_483_648;
 
+/// How many tags are looked at one by one, before they are passed over in greater steps.
+const SHORT: usize = 32;
+
 /// A cell, told by its number, and its label: the place of a cell of the first generation, of whose class it is.
 #[derive(Clone, Copy)]
 pub struct Tag {
@@ -40,6 +43,63 @@ fn start_from(tags: &[Tag], near: usize, low: i64) -> usize
     near
 }
 
+/// A place from which on no number is less. It is looked for in steps that double, so that it is not much further than it
+/// has to be.
+#[inline(always)]
+fn leap(tags: &[Tag], from: usize, low: i64) -> usize
+    requires rising { AreRisingTags tags.now }
+    requires within { from ≤ length tags.now }
+    ensures from { from ≤ result }
+    ensures within { result ≤ length tags.now }
+    ensures least { AreFrom tags.now result low }
+{
+    let mut step = 0;
+    while step < tags.len() - from {
+        if tags[from + step].number >= low {
+            return from + step;
+        }
+        step = 2 * step + 1;
+    }
+    tags.len()
+}
+
+/// The place of the first tag whose number is not less, where it is one from the first of these places to the last.
+#[inline(always)]
+fn place_between(tags: &[Tag], first: usize, last: usize, low: i64) -> usize
+    requires rising { AreRisingTags tags.now }
+    requires order { first ≤ last }
+    requires within { last ≤ length tags.now }
+    requires less { AreLess tags.now first low }
+    requires least { AreFrom tags.now last low }
+    ensures within { result ≤ length tags.now }
+    ensures less { AreLess tags.now result low }
+    ensures least { AreFrom tags.now result low }
+{
+    let mut from = first;
+    let mut to = last;
+    while from < to {
+        let middle = from + (to - from) / 2;
+        if tags[middle].number < low {
+            from = middle + 1;
+        } else {
+            to = middle;
+        }
+    }
+    from
+}
+
+/// The place of the first tag whose number is not less, where those before this place have lesser ones.
+fn far_place(tags: &[Tag], from: usize, low: i64) -> usize
+    requires rising { AreRisingTags tags.now }
+    requires within { from ≤ length tags.now }
+    requires less { AreLess tags.now from low }
+    ensures within { result ≤ length tags.now }
+    ensures less { AreLess tags.now result low }
+    ensures least { AreFrom tags.now result low }
+{
+    place_between(tags, from, leap(tags, from, low), low)
+}
+
 /// The place of the first tag whose number is not less. It is looked for from a place on that may be near it, and mostly
 /// is where tags are asked for in order.
 #[inline(always)]
@@ -50,12 +110,14 @@ pub fn place_of(tags: &[Tag], near: usize, low: i64) -> usize
     ensures less { AreLess tags.now result low }
     ensures least { AreFrom tags.now result low }
 {
-    for at in start_from(tags, near, low)..tags.len() {
+    let from = start_from(tags, near, low);
+    let end = from + (tags.len() - from).min(SHORT);
+    for at in from..end {
         if tags[at].number >= low {
             return at;
         }
     }
-    tags.len()
+    far_place(tags, end, low)
 }
 
 /// The numbers of the cells, each with its place as its label.

@@ -4,10 +4,10 @@ use Rattle.life_classes.proofs.Joined.{tied_through}
 use Rattle.life_classes.proofs.Tied.{around_as}
 use Rattle.life_classes.proofs.joining.tie_at.Goals as goal
 
-pub tie_around-requires-clause-above : goal.tie_around-requires-clause-above
-tie_around-requires-clause-above c = record {
+pub tie_around-requires-clause-away : goal.tie_around-requires-clause-away
+tie_around-requires-clause-away c = record {
   row = pos (2 ^ 31);
-  rows = inl refl;
+  rows = inl (inl refl);
   is = λ d.
       let same = c.number_at-number.ensures.same d in
       let low = c.number_at-number.ensures.low in
@@ -15,10 +15,10 @@ tie_around-requires-clause-above c = record {
       omega (arith, ints);
 }
 
-pub tie_around-requires-2-clause-above : goal.tie_around-requires-2-clause-above
-tie_around-requires-2-clause-above c = record {
+pub tie_around-requires-2-clause-away : goal.tie_around-requires-2-clause-away
+tie_around-requires-2-clause-away c = record {
   row = pos (2 ^ 32);
-  rows = inr refl;
+  rows = inl (inr refl);
   is = λ d.
       let same = c.number_at-number.ensures.same d in
       let low = c.number_at-number.ensures.low in

@@ -2,7 +2,7 @@ use Rattle.std.proofs.Common.{◌≡◌, ◌<◌, length, pos, get_or, ap, ◌�
 use Rattle.std.proofs.lemmas.Int.{ints}
 use Rattle.std.proofs.lemmas.List.{get_or_default}
 use Rattle.life_classes.specs.declared.tags.Tag.{Tag}
-use Rattle.life_classes.proofs.Numbers.{above_near}
+use Rattle.life_classes.proofs.Numbers.{away_near}
 use Rattle.life_classes.proofs.joining.tie_next.Goals as goal
 
 pub returns-then-tags-at-clause-next : goal.returns-then-tags-at-clause-next
@@ -31,5 +31,5 @@ tie-requires-clause-near c =
     let least = c.requires.least c.args.at t (omega arith) inside in
     let here : (get_or c.as_slice-tags.result.now c.args.at t).number ≡ (get_or ts c.args.at t).number =
     ap (λ us. (get_or us c.args.at t).number) c.as_slice-tags.ensures.value in
-    above_near c.args.cells.now c.requires.labelled.tagged c.args.at c.args.n c.args.number t inside c.requires.inside
-    c.requires.above (omega (arith, ints)) (omega (arith, ints))
+    away_near c.args.cells.now c.requires.labelled.tagged c.args.at c.args.n c.args.number t inside c.requires.inside
+    c.requires.away (omega (arith, ints)) (omega (arith, ints))
