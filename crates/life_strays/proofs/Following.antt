@@ -59,12 +59,19 @@ stray_alone R b G class is = record {
   heirs = λ c here. absurd (in_empty c here);
 }
 
-module _ (R : Rule) (b n : ℕ) (G : Generation) (stray : Stray) (is : IsStray R b n G stray) where
-  hangs_next : (later : Generation) → AreHeirs (generation R G (suc n)) stray.heirs later →
-      HangsOn R G stray.set (suc n) later
-  unfolding HangsOn
-  hangs_next later heirs = (stray.heirs, is.heirs, heirs)
+hang_further : (R : Rule) (n : ℕ) (G P K L : Generation) → HangsOn R G P n K → AreHeirs (generation R G (suc n)) K L →
+    HangsOn R G P (suc n) L
+unfolding HangsOn
+hang_further R n G P K L hangs heirs = (K, hangs, heirs)
 
+-- heirs of what hangs on a set hang on it too
+pub hangs_next : (R : Rule) (n : ℕ) (G P K L : Generation) → HangsOn R G P n K → AreHeirs (generation R G (n + 1)) K L →
+    HangsOn R G P (n + 1) L
+hangs_next R n G P K L hangs heirs =
+    subst (λ k. HangsOn R G P k L) (sym (add-one n))
+    (hang_further R n G P K L hangs (subst (λ k. AreHeirs (generation R G k) K L) (add-one n) heirs))
+
+module _ (R : Rule) (b n : ℕ) (G : Generation) (stray : Stray) (is : IsStray R b n G stray) where
   gone_next : (b < 2 * (n + 1) → HasNoneWithin (n + 1) stray.set (generation R G (n + 1))) →
       ComesBackNowhere R b (n + 1) G stray.set
   gone_next none m late early = elim (cases_lt m (n + 1)) [
@@ -80,6 +87,5 @@ module _ (R : Rule) (b n : ℕ) (G : Generation) (stray : Stray) (is : IsStray R
   still_stray later heirs none = record {
     island = is.island;
     gone = gone_next none;
-    heirs = subst (λ k. HangsOn R G stray.set k later) (sym (add-one n))
-        (hangs_next later (subst (λ k. AreHeirs (generation R G k) stray.heirs later) (add-one n) heirs));
+    heirs = hangs_next R n G stray.set stray.heirs later is.heirs heirs;
   }

@@ -2,4 +2,8 @@ pub mod Speeds
 pub mod Places
 pub mod Yielded
 pub mod Following
+pub mod Trails
+pub mod Windows
+pub mod Belonging
+pub mod Lacking
 pub mod Telling

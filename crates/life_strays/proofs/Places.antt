@@ -1,10 +1,10 @@
 -- Cells of lists, and what single tests tell of them.
-use Rattle.std.proofs.Common.{◌≡◌, ℕ, ◌<◌, ◌+ℤ◌, ◌-ℤ◌, pos, Bool, true, false, cond, List, get_or, length, sym, refl, ap, subst, ◌∙◌, arith}
+use Rattle.std.proofs.Common.{◌≡◌, ℕ, ◌%◌, ◌<◌, ◌+ℤ◌, ◌-ℤ◌, pos, Bool, true, false, cond, List, get_or, length, sym, refl, ap, subst, ◌∙◌, arith}
 use Rattle.std.specs.Int.{bit_at}
 use Rattle.std.specs.List.{All, list_any}
 use Rattle.std.proofs.lemmas.Int.{ints}
 use Rattle.std.proofs.lemmas.List.Folds.{list_any_at}
-use Rattle.life_model.specs.Cell.{Cell, origin, same_cell}
+use Rattle.life_model.specs.Cell.{Cell, opposite, origin, plus, same_cell}
 use Rattle.life_model.specs.Generation.{Generation, cells, contains, from_list}
 use Rattle.life_model.proofs.Cells.{pair, same_cell-is}
 use Rattle.life_model.proofs.Generations.{contains-cells, contains-from_list}
@@ -61,3 +61,25 @@ heir_by_row G K cell first row rows j bits here is few less set =
         below = omega (arith, ints);
       },
     )
+
+-- a cell whose place has an even row is not led to a live one
+pub dead_by_row : (G : Generation) (cell by place : Cell) (row : ℕ) →
+    ((j : ℕ) → j < 64 → bit_at row j ≡ cond (contains G (place.0 +ℤ pos j, place.1)) 1 0) → place ≡ plus cell by →
+    row % 2 ≡ 0 → contains G (plus cell by) ≡ true → ⊥
+dead_by_row G cell by place row bits is even here =
+    let across : place.0 ≡ (cell.0 +ℤ by.0) = ap (λ c. c.0) is in
+    let e : ◌≡◌ {A = Cell} (place.0 +ℤ pos 0, place.1) (plus cell by) = pair (omega (arith, ints)) (ap (λ c. c.1) is) in
+    let set : bit_at row 0 ≡ 1 = bits 0 (omega arith) ∙ ap (λ t. cond t 1 0) (ap (contains G) e ∙ here) in
+    absurd (omega arith)
+
+-- where a set's cell stands in the list of its cells
+pub place_listed : (G : Generation) (cs : List Cell) (c : Cell) → cs ≡ cells G → contains G c ≡ true →
+    (i : ℕ) × (i < length cs) × (get_or cs i origin ≡ c)
+place_listed G cs c is here = place_of cs c (ap (list_any (same_cell c)) is ∙ sym (contains-cells G c) ∙ here)
+
+-- the move from a cell to another is the one that led it there
+pub move_back : (cell d other : Cell) → other ≡ plus cell d → plus other (opposite cell) ≡ d
+move_back cell d other is =
+    let across : other.0 ≡ (cell.0 +ℤ d.0) = ap (λ c. c.0) is in
+    let along : other.1 ≡ (cell.1 +ℤ d.1) = ap (λ c. c.1) is in
+    pair (omega (arith, ints)) (omega (arith, ints))

@@ -1,14 +1,15 @@
--- Islands of cells that come back nowhere, and what hangs on them later.
+-- Islands of cells that come back nowhere, or only with something new, and what hangs on them later.
 use Rattle.std.specs.Prelude.{◌≡◌, ℕ, zero, suc, ◌*◌, ◌<◌, ◌≤◌, true}
-use Rattle.life_model.specs.Cell.{Cell, IsNear}
+use Rattle.life_model.specs.Cell.{Cell, IsNear, opposite}
 use Rattle.life_model.specs.Evolution.{generation}
 use Rattle.life_model.specs.Generation.{Generation, contains}
 use Rattle.life_model.specs.Rule.{Rule}
 use Rattle.life_objects.specs.Union.{IsSubsetOf}
 use Rattle.life_objects.specs.Whole.{StaysWhole}
 use Rattle.life_classes.specs.declared.class.Class.{Class}
-use Rattle.life_plane.specs.Offsets.{HasNoneWithin}
+use Rattle.life_plane.specs.Offsets.{HasNoneWithin, IsMovedInto, IsMoveWithin}
 use Rattle.life_strays.specs.declared.stray.Stray.{Stray}
+use Rattle.life_strays.specs.declared.trail.Trail.{Trail}
 
 -- P is some of G's cells, one at least, and in whichever two sets G splits that are apart now, it lies in one of them.
 pub record IsIsland (R : Rule) (G P : Generation) : Type 0 where
@@ -39,6 +40,25 @@ AreHeirs G K L = (c : Cell) → contains L c ≡ true → IsHeir G K c
 unfoldable pub HangsOn : Rule → Generation → Generation → ℕ → Generation → Type 0
 HangsOn R G P zero L = IsSubsetOf L P
 HangsOn R G P (suc n) L = (K : Generation) × HangsOn R G P n K × AreHeirs (generation R G (suc n)) K L
+
+-- A move of at most m places does not both lead P to cells of H and, back, L to cells of G.
+abbrev pub IsNoReturn : ℕ → Generation → Generation → Generation → Generation → Cell → Type 0
+IsNoReturn m G H P L d = IsMoveWithin m d → IsMovedInto P H d → IsMovedInto L G (opposite d) → ⊥
+
+-- Each move of at most m places that leads P to cells of H leads, back, some of L out of G.
+abbrev pub LacksSome : ℕ → Generation → Generation → Generation → Generation → Type 0
+LacksSome m G H P L = (d : Cell) → IsNoReturn m G H P L d
+
+-- In each generation past the first of the two numbers, up to the other, some of what hangs on P is lacking in G.
+abbrev pub LacksSomeUntil : Rule → ℕ → ℕ → Generation → Generation → Type 0
+LacksSomeUntil R after n G P =
+    (m : ℕ) → after < m → m ≤ n → (L : Generation) × HangsOn R G P m L × LacksSome m G (generation R G m) P L
+
+-- an island of G that is followed, and cells that hang on it at n; where it tells, it lacks some each time past `after`
+pub record IsTrail (R : Rule) (after n : ℕ) (G : Generation) (trail : Trail) : Type 0 where
+  pub island : IsIsland R G trail.set
+  pub heirs : HangsOn R G trail.set n trail.heirs
+  pub lacks : trail.tells ≡ true → LacksSomeUntil R after n G trail.set
 
 -- an island of G that comes back nowhere in n generations, and cells that hang on it then
 pub record IsStray (R : Rule) (b n : ℕ) (G : Generation) (stray : Stray) : Type 0 where

@@ -1,17 +1,26 @@
 //! Which islands are followed. Nothing rests on the choice.
-ghost use Rattle.std.specs.Prelude.{◌+◌, ◌<◌, ◌≤◌, All, IfOk, length};
+ghost use Rattle.std.specs.Prelude.{◌+◌, ◌<◌, ◌≤◌, All, IfOk, OnOk, length};
 ghost use Rattle.life_model.specs.Generation.{Generation};
 ghost use Rattle.life_model.specs.Rule.{Rule as ModelRule};
 ghost use Rattle.life_strays.specs.Strays.{IsIslandNow};
 
-use crate::stray::Stray;
 use life_cells::{CellList, Rule};
 use life_classes::Class;
 use life_plane::{AGE_LIMIT, Plane};
 use std::alloc::{AllocError, Global};
 
-/// How many islands are followed at once.
-const FEW: usize = 2;
+/// For how many generations it is looked whether islands stand where they are, to tell that there is no ash, or of islands that
+/// hang on others.
+pub const LOOK: u32 = 64;
+
+/// An island that stands where it is within so few generations is not followed.
+const SOON: u32 = 2;
+
+/// How many islands are followed to tell that there is no growth.
+const SOME: u32 = 2;
+
+/// How many islands of each of two kinds are followed to tell that there is no ash.
+const FEW: u32 = 2;
 
 /// Whether all the cells stand in a plane, where they are.
 fn stand<P: Plane>(plane: &P, cells: &CellList) -> bool {
@@ -23,31 +32,44 @@ fn stand<P: Plane>(plane: &P, cells: &CellList) -> bool {
     true
 }
 
-/// The islands that do not stand in a plane, where they are.
-fn absent<P: Plane>(alloc: Global, plane: &P, islands: Vec<Class>) -> Result<Vec<Class>, AllocError>
-    ensures { IfOk result (λ left. (R : ModelRule) (G : Generation) →
+/// The islands that do not stand in a plane, where they are. Those that do are put behind others.
+fn absent<P: Plane>(
+    alloc: Global,
+    plane: &P,
+    islands: Vec<Class>,
+    standing: &mut Vec<Class>,
+) -> Result<Vec<Class>, AllocError>
+    ensures left { IfOk result (λ left. (R : ModelRule) (G : Generation) →
         All (IsIslandNow R G) islands.items → All (IsIslandNow R G) left.items) }
+    ensures standing { OnOk result ((R : ModelRule) (G : Generation) → All (IsIslandNow R G) islands.items →
+        All (IsIslandNow R G) standing.old.items → All (IsIslandNow R G) standing.new.items) }
 {
     let mut left = Vec::new(alloc);
     for island in islands {
-        if !stand(plane, &island.first) {
+        if stand(plane, &island.first) {
+            standing.push(island)?;
+        } else {
             left.push(island)?;
         }
     }
     Ok(left)
 }
 
-/// The islands that stand where they are in none of so many next generations.
+/// The islands that stand where they are in none of the next generations, up to the bound. Those that do are put behind
+/// others.
 fn unsettled<P: Plane>(
     alloc: Global,
     plane: &P,
     rule: &Rule,
     islands: Vec<Class>,
     bound: u32,
+    standing: &mut Vec<Class>,
 ) -> Result<Vec<Class>, AllocError>
     requires young { P.steps_made plane.now + bound ≤ AGE_LIMIT }
-    ensures { IfOk result (λ left. (R : ModelRule) (G : Generation) →
+    ensures left { IfOk result (λ left. (R : ModelRule) (G : Generation) →
         All (IsIslandNow R G) islands.items → All (IsIslandNow R G) left.items) }
+    ensures standing { OnOk result ((R : ModelRule) (G : Generation) → All (IsIslandNow R G) islands.items →
+        All (IsIslandNow R G) standing.old.items → All (IsIslandNow R G) standing.new.items) }
 {
     let mut later = plane.copy()?;
     let mut left = islands;
@@ -56,7 +78,7 @@ fn unsettled<P: Plane>(
             return Ok(left);
         }
         later.step(rule)?;
-        left = absent(alloc, &later, left)?;
+        left = absent(alloc, &later, left, standing)?;
     }
     Ok(left)
 }
@@ -75,7 +97,29 @@ fn largest(islands: &[Class]) -> usize
     best
 }
 
-/// A few of the islands, the largest, which stand where they are in none of so many next generations.
+/// Takes the largest of the islands, up to that count, and puts them behind others.
+fn take_largest(
+    islands: &mut Vec<Class>,
+    count: u32,
+    some: &mut Vec<Class>,
+) -> Result<(), AllocError>
+    ensures left { OnOk result ((R : ModelRule) (G : Generation) →
+        All (IsIslandNow R G) islands.old.items → All (IsIslandNow R G) islands.new.items) }
+    ensures some { OnOk result ((R : ModelRule) (G : Generation) → All (IsIslandNow R G) islands.old.items →
+        All (IsIslandNow R G) some.old.items → All (IsIslandNow R G) some.new.items) }
+{
+    for _ in 0..count {
+        if islands.is_empty() {
+            return Ok(());
+        }
+        let place = largest(islands.as_slice());
+        some.push(islands.remove(place))?;
+    }
+    Ok(())
+}
+
+/// A few of the islands: the largest that stand where they are in none of the next generations. It is looked no further than
+/// to the bound.
 pub fn chosen<P: Plane>(
     alloc: Global,
     plane: &P,
@@ -87,14 +131,33 @@ pub fn chosen<P: Plane>(
     ensures { IfOk result (λ some. (R : ModelRule) (G : Generation) →
         All (IsIslandNow R G) islands.items → All (IsIslandNow R G) some.items) }
 {
-    let mut rest = unsettled(alloc, plane, rule, islands, bound)?;
+    let mut standing = Vec::new(alloc);
+    let mut rest = unsettled(alloc, plane, rule, islands, bound, &mut standing)?;
     let mut some = Vec::new(alloc);
-    for _ in 0..FEW {
-        if rest.is_empty() {
-            return Ok(some);
-        }
-        let place = largest(rest.as_slice());
-        some.push(rest.remove(place))?;
-    }
+    take_largest(&mut rest, SOME, &mut some)?;
+    Ok(some)
+}
+
+/// A few of the islands: the largest that stand where they are in none of the next generations, and the largest of the others.
+/// One that stands where it is very soon is left out. It is looked no further than to the bound.
+pub fn chosen_for_ash<P: Plane>(
+    alloc: Global,
+    plane: &P,
+    rule: &Rule,
+    islands: Vec<Class>,
+    bound: u32,
+) -> Result<Vec<Class>, AllocError>
+    requires young { P.steps_made plane.now + bound ≤ AGE_LIMIT }
+    ensures { IfOk result (λ some. (R : ModelRule) (G : Generation) →
+        All (IsIslandNow R G) islands.items → All (IsIslandNow R G) some.items) }
+{
+    let mut still = Vec::new(alloc);
+    let restless = unsettled(alloc, plane, rule, islands, bound.min(SOON), &mut still)?;
+    let mut others = Vec::new(alloc);
+    let mut rest = unsettled(alloc, plane, rule, restless, bound.min(LOOK), &mut others)?;
+    let mut some = Vec::new(alloc);
+    take_largest(&mut rest, FEW, &mut some)?;
+    others.append(&mut rest)?;
+    take_largest(&mut others, FEW, &mut some)?;
     Ok(some)
 }

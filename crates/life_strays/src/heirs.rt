@@ -1,5 +1,5 @@
 //! Cells that hang on others, a generation later.
-ghost use Rattle.std.specs.Prelude.{◌+ℤ◌, ◌-ℤ◌, ℕ, pos, ◌≡◌, ◌<◌, All, IfOk, IsTrue, OnOk, true};
+ghost use Rattle.std.specs.Prelude.{◌≤◌, ◌+ℤ◌, ◌-ℤ◌, ℕ, pos, ◌≡◌, ◌<◌, All, IfOk, IsTrue, OnOk, true};
 ghost use Rattle.std.specs.Int.{bit_at};
 ghost use Rattle.life_model.specs.Generation.{Generation, contains};
 ghost use Rattle.life_cells.specs.Limits.{IsPlace};
@@ -9,14 +9,11 @@ use life_cells::{CellList, put_in_order};
 use life_plane::Plane;
 use std::alloc::{AllocError, Global};
 
-/// Next to how many cells one looks. What hangs on the others is left out.
-const MANY: usize = 64;
-
 /// The greatest place of a cell of a list. The least is below zero by one more.
 const LAST_PLACE: i32 = 16_777_215;
 
 /// Whether a cell may be in a list.
-fn is_place(cell: (i32, i32)) -> bool
+pub fn is_place(cell: (i32, i32)) -> bool
     ensures { IsTrue result → IsPlace cell }
 {
     -LAST_PLACE <= cell.0 && cell.0 <= LAST_PLACE && -LAST_PLACE <= cell.1 && cell.1 <= LAST_PLACE
@@ -81,16 +78,18 @@ fn push_heirs<P: Plane>(
 }
 
 /// Cells of a plane, each next to one of those of the generation before, or one of them itself. All that are so next to some
-/// of them, spread over the others.
+/// of them, spread over the others. It is looked next to about so many of the cells.
 pub fn heirs_of<P: Plane>(
     alloc: Global,
     plane: &P,
     cells: &CellList,
+    many: u32,
 ) -> Result<CellList, AllocError>
+    requires { 1 ≤ many }
     ensures { IfOk result (AreHeirs (P.members plane.now) cells.now) }
 {
     let all = cells.as_slice();
-    let every = all.len() / MANY + 1;
+    let every = all.len() / many as usize + 1;
     let mut heirs = Vec::new(alloc);
     for n in 0..all.len() {
         if n % every == 0 {

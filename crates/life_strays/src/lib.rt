@@ -1,10 +1,15 @@
-//! What is told by islands of cells that come back nowhere: that a pattern is no ash, and that it doesn't grow.
+//! What is told by a few islands of cells that are followed: that a pattern is no ash, and that it doesn't grow.
 //!
-//! A part of ash comes again after a period, moved or not, and so do all of its cells: each island of a part is then among
-//! the cells of a later generation, moved. An engine comes again too, and what is neither in an engine nor leaves one falls
-//! apart, so that after the horizon its islands are parts of ash. So an island that comes back nowhere within the horizon,
-//! and that becomes one which does so neither, belongs to nothing that a growth is made of. This costs no more than to step
-//! the pattern and to look for a few sets in it, since nothing else of it is followed.
+//! A part of ash comes again after a period, moved or not, and so do all of its cells. Each island of a part is then among the
+//! cells of a later generation, moved, and what hangs on it there is, moved back, among the first cells. So an island that
+//! comes back nowhere, or only with something new, is no part of ash. It is looked for that in the later half of the bound,
+//! and then from twice the bound to three times, since each period up to the bound has a multiple among either. The second is
+//! for guns: what one has shot before stands where later shots come by, until these are further out than the first.
+//!
+//! An engine comes again too, and what is neither in an engine nor leaves one falls apart, so that after the horizon its
+//! islands are parts of ash. So an island that comes back nowhere within the horizon, and that becomes one which does so
+//! neither, belongs to nothing that a growth is made of. This costs little more than to step the pattern and to look for a few
+//! sets in it, since nothing else of it is followed.
 //!
 //! Tested in `tests_growth`.
 #![tactic(auto)]
@@ -13,7 +18,10 @@ mod choosing;
 mod heirs;
 mod islands;
 mod refusing;
+mod returning;
 mod stray;
 mod straying;
+mod trail;
+mod trailing;
 
 pub use refusing::{are_no_ash, never_grow};

@@ -10,16 +10,19 @@ ghost use Rattle.life_objects.specs.Ash.{IsAsh};
 ghost use Rattle.life_strays.specs.Strays.{IsIslandNow, LeavesStrays};
 ghost use Rattle.life_strays.specs.declared.stray.Stray.{Stray};
 
-use crate::choosing::chosen;
+use crate::choosing::{LOOK, chosen, chosen_for_ash};
 use crate::islands::islands_of;
 use crate::stray::Stray;
 use crate::straying::strays_of;
+use crate::trailing::{first_told, later_told, some_tell};
 use life_cells::{CellList, Rule};
 use life_classes::{Class, reaches};
 use life_plane::{AGE_LIMIT, Plane};
 use std::alloc::{AllocError, Global};
 
-/// Whether it is seen that a plane's cells are no ash within the bound: an island of theirs comes back nowhere within it.
+/// Whether it is seen that a plane's cells are no ash within the bound. Each time that an island of theirs comes back, moved,
+/// some of what hangs on it then is, moved back, not among these cells. That need not be so in all generations: only in those
+/// of the later half of the bound, or in those from twice the bound to three times.
 pub fn are_no_ash<P: Plane>(
     alloc: Global,
     plane: &P,
@@ -31,13 +34,20 @@ pub fn are_no_ash<P: Plane>(
         IsAsh rule.now bound (P.members plane.now) parts → ⊥)) }
 {
     let islands = islands_of(alloc, plane, rule)?;
-    let some = chosen(alloc, plane, rule, islands, bound)?;
+    let some = chosen_for_ash(alloc, plane, rule, islands, bound)?;
     if some.is_empty() {
         return Ok(false);
     }
     let mut later = plane.copy()?;
-    let strays = strays_of(alloc, &mut later, rule, some, bound, false)?;
-    if strays.is_empty() {
+    let trails = first_told(alloc, plane, &mut later, rule, some, bound)?;
+    if some_tell(trails.as_slice()) {
+        return Ok(true);
+    }
+    if AGE_LIMIT < plane.age() + 3 * bound {
+        return Ok(false);
+    }
+    let told = later_told(alloc, plane, &mut later, rule, trails, bound)?;
+    if !told {
         return Ok(false);
     }
     Ok(true)
@@ -121,7 +131,7 @@ pub fn never_grow<P: Plane>(
         return Ok(false);
     }
     let islands = hanging(alloc, islands_of(alloc, &later, rule)?, strays.as_slice())?;
-    let some = chosen(alloc, &later, rule, islands, bound)?;
+    let some = chosen(alloc, &later, rule, islands, bound.min(LOOK))?;
     if some.is_empty() {
         return Ok(false);
     }

@@ -12,6 +12,9 @@ use life_classes::Class;
 use life_plane::{AGE_LIMIT, Plane};
 use std::alloc::{AllocError, Global};
 
+/// Next to how many cells it is looked for what hangs on them. What hangs on the others is left out.
+const MANY: u32 = 64;
+
 /// The islands as strays, on which their own cells hang where that is asked for, and else none.
 fn first_strays(
     alloc: Global,
@@ -56,7 +59,7 @@ fn still_strays<P: Plane>(
     let mut left = Vec::new(alloc);
     for stray in strays {
         if !is_late || !plane.may_have_moved(&stray.set, number) {
-            let heirs = heirs_of(alloc, plane, &stray.heirs)?;
+            let heirs = heirs_of(alloc, plane, &stray.heirs, MANY)?;
             left.push(Stray {
                 set: stray.set,
                 heirs,

@@ -12,8 +12,24 @@ loop-island-preserved-in-Continue-1 g c =
     let rest = into_iter_items c.next.new.self in
     record {
       order = next_in_order _ c.loop-island.yielded _ rest island at.order steps;
-      kept = λ R G all. one_more (IsIslandNow R G) c.loop-island.left.items c.push.new.self.items island
-          c.in_ok-push.ensures.items (at.kept R G all)
+      kept = at.kept;
+      standing = λ R G all before. one_more (IsIslandNow R G) c.loop-island.standing.items c.push.new.self.items island
+          c.in_ok-push.ensures.items (at.standing R G all before)
           (met_in_order (IsIslandNow R G) c.args.islands.items c.loop-island.yielded _ rest island all
           (at.order ∙ c.into_iter-island-iterator.ensures.into_iter_gives.0) steps);
+    }
+
+pub loop-island-preserved : goal.loop-island-preserved
+loop-island-preserved g c =
+    let island = c.in-Some.island in
+    let at = c.loop-island.invariant in
+    let steps = c.in-Some.ensures.steps.0 in
+    let rest = into_iter_items c.next.new.self in
+    record {
+      order = next_in_order _ c.loop-island.yielded _ rest island at.order steps;
+      kept = λ R G all. one_more (IsIslandNow R G) c.loop-island.left.items c.push-else-stand.new.self.items island
+          c.in_ok-push-2.ensures.items (at.kept R G all)
+          (met_in_order (IsIslandNow R G) c.args.islands.items c.loop-island.yielded _ rest island all
+          (at.order ∙ c.into_iter-island-iterator.ensures.into_iter_gives.0) steps);
+      standing = at.standing;
     }

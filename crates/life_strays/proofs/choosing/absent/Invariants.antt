@@ -10,4 +10,6 @@ abbrev pub invariant-loop-island : goal.invariant-loop-island
 invariant-loop-island g l = record {
   order : l.yielded ++ into_iter_items l.island-iterator ≡ into_iter_items l.initial.island-iterator;
   kept : (R : Rule) (G : Generation) → All (IsIslandNow R G) l.fn.islands.items → All (IsIslandNow R G) l.left.items;
+  standing : (R : Rule) (G : Generation) → All (IsIslandNow R G) l.fn.islands.items →
+      All (IsIslandNow R G) l.fn.standing.items → All (IsIslandNow R G) l.standing.items;
 }

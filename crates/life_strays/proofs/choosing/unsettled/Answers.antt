@@ -6,5 +6,6 @@ loop-preserved g c =
     let at = c.loop.invariant in
     record {
       aged = c.in_ok-step.ensures.age ∙ ap (λ k. k + 1) at.aged ∙ add_assoc _ _ _;
-      kept = λ R G all. c.in_ok-left.ensures R G (at.kept R G all);
+      kept = λ R G all. c.in_ok-left.ensures.left R G (at.kept R G all);
+      standing = λ R G all before. c.in_ok-left.ensures.standing R G (at.kept R G all) (at.standing R G all before);
     }

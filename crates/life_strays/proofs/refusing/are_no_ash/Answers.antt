@@ -1,24 +1,35 @@
-use Rattle.std.proofs.Common.{◌<◌, get_or, length, false-eqb, sym, subst, ◌∙◌, arith}
-use Rattle.std.specs.List.{All}
-use Rattle.life_strays.specs.Strays.{IsIslandNow, IsStray}
-use Rattle.life_strays.proofs.Telling.{no_ash, no_stray}
+use Rattle.std.proofs.Common.{◌≡◌, ℕ, ◌*◌, ◌/◌, true, subst}
+use Rattle.std.specs.Bool.{OnTrue}
+use Rattle.std.proofs.lemmas.List.Elements.{All-contains}
+use Rattle.life_model.specs.Generation.{Generation}
+use Rattle.life_model.specs.Rule.{Rule}
+use Rattle.life_strays.specs.Strays.{IsTrail}
+use Rattle.life_strays.specs.declared.trail.Trail.{Trail}
+use Rattle.life_strays.proofs.Lacking.{lacks_no_ash}
+use Rattle.life_strays.proofs.Trails.{SomeTell}
+use Rattle.life_strays.proofs.Windows.{late_multiple, later_multiple}
 use Rattle.life_strays.proofs.refusing.are_no_ash.Goals as goal
 
-pub strays_of-requires-clause-islands : goal.strays_of-requires-clause-islands
-strays_of-requires-clause-islands g c =
+pub returns-then-some_tell : goal.returns-then-some_tell
+returns-then-some_tell g c = λ parts ash.
     let R = c.args.rule.now in
+    let b = c.args.bound in
     let G = g.P.Plane.members c.args.plane.now in
-    subst (λ H. All (IsIslandNow R H) c.in_ok-some.some.items) (sym c.in_ok-later.ensures.cells)
-    (c.in_ok-some.ensures R G c.in_ok-islands.ensures)
+    let trails = c.in_ok-trails.trails.items in
+    let seen : SomeTell trails = subst SomeTell c.as_slice.ensures.value c.if-some_tell.ensures in
+    let is = All-contains (IsTrail R (b / 2) b G) trails seen.0 c.in_ok-trails.ensures.trails seen.1 in
+    lacks_no_ash R b (b / 2) b G parts seen.0.set (late_multiple b) is.island (is.lacks seen.2) ash
+
+-- a trail tells by what it lacks past twice the bound
+abbrev LaterTells : Rule → ℕ → Generation → Type 0
+LaterTells R b G = (trail : Trail) × (trail.tells ≡ true) × IsTrail R (2 * b) (3 * b) G trail
 
 pub returns : goal.returns
 returns g c = λ parts ash.
     let R = c.args.rule.now in
     let b = c.args.bound in
     let G = g.P.Plane.members c.args.plane.now in
-    let strays = c.in_ok-strays.strays.items in
-    let some : 0 < length strays = omega (arith, false-eqb _ 0 (sym c.if-is_empty-2.false ∙ c.is_empty-2.ensures), c.in_ok-strays.strays.ok.0) in
-    let first = get_or strays 0 no_stray in
-    let one : IsStray R b b G first =
-    subst (λ H. IsStray R b b H first) c.in_ok-later.ensures.cells (c.in_ok-strays.ensures.strays 0 no_stray some) in
-    no_ash R b G parts first.set one.island one.gone ash
+    let seen : LaterTells R b G =
+    subst (λ t. OnTrue t (LaterTells R b G)) c.if-not-told.false c.in_ok-told.ensures in
+    let is = seen.2 in
+    lacks_no_ash R b (2 * b) (3 * b) G parts seen.0.set (later_multiple b) is.island (is.lacks seen.1) ash

@@ -1,0 +1,142 @@
+//! Whether a move leads an island to later cells, and what hangs on it back to the first.
+ghost use Rattle.std.specs.Prelude.{◌≡◌, ◌<◌, ◌≤◌, false, IfOk, IfSome, IsTrue, OnOk, true};
+ghost use Rattle.std.specs.Bool.{OnTrue};
+ghost use Rattle.life_model.specs.Cell.{opposite};
+ghost use Rattle.life_plane.specs.Offsets.{IsMovedInto, IsMoveWithin};
+ghost use Rattle.life_strays.specs.Strays.{IsNoReturn, LacksSome};
+
+use crate::heirs::is_place;
+use crate::trail::Trail;
+use life_cells::CellList;
+use life_plane::{AGE_LIMIT, Plane, move_between};
+use std::alloc::AllocError;
+
+/// Whether a move goes no further to any side than this.
+fn is_move_within(by: (i32, i32), reach: u32) -> bool
+    requires reach { reach ≤ AGE_LIMIT }
+    ensures within { IsTrue result → IsMoveWithin reach by }
+    ensures beyond { result ≡ false → IsMoveWithin reach by → ⊥ }
+{
+    let most = reach as i32;
+    -most <= by.0 && by.0 <= most && -most <= by.1 && by.1 <= most
+}
+
+/// The move back.
+fn back(by: (i32, i32)) -> (i32, i32)
+    requires { IsMoveWithin AGE_LIMIT by }
+    ensures way { result ≡ opposite by }
+    ensures within { IsMoveWithin AGE_LIMIT result }
+{
+    (-by.0, -by.1)
+}
+
+/// Whether a move may lead all the cells to live ones of a plane. That it may tells nothing.
+fn may_lead<P: Plane>(plane: &P, cells: &CellList, by: (i32, i32)) -> bool
+    requires by { IsMoveWithin AGE_LIMIT by }
+    ensures { result ≡ false → IsMovedInto cells.now (P.members plane.now) by → ⊥ }
+{
+    for cell in cells.as_slice() {
+        let place = (cell.0 + by.0, cell.1 + by.1);
+        if is_place(place) && plane.row(place) % 2 == 0 {
+            return false;
+        }
+    }
+    true
+}
+
+/// Whether a move may lead a set to live cells of a later plane, and back its heirs to those of the first. The later plane has
+/// the generation of this number, so that no move goes further than that.
+fn may_return<P: Plane>(
+    start: &P,
+    later: &P,
+    set: &CellList,
+    heirs: &CellList,
+    number: u32,
+    by: (i32, i32),
+) -> bool
+    requires number { number ≤ AGE_LIMIT }
+    ensures { result ≡ false →
+        IsNoReturn number (P.members start.now) (P.members later.now) set.now heirs.now by }
+{
+    if !is_move_within(by, number) {
+        return false;
+    }
+    if !may_lead(later, set, by) {
+        return false;
+    }
+    may_lead(start, heirs, back(by))
+}
+
+/// Whether some move may lead a set to live cells of a later plane, and back its heirs to those of the first. The cells are
+/// those of the later plane.
+fn some_may_return<P: Plane>(
+    start: &P,
+    later: &P,
+    cells: &CellList,
+    set: &CellList,
+    heirs: &CellList,
+    number: u32,
+) -> bool
+    requires number { number ≤ AGE_LIMIT }
+    requires cells { cells.now ≡ P.members later.now }
+    ensures { result ≡ false →
+        LacksSome number (P.members start.now) (P.members later.now) set.now heirs.now }
+{
+    let all = set.as_slice();
+    if all.is_empty() {
+        return true;
+    }
+    let first = all[0];
+    for cell in cells.as_slice() {
+        if may_return(start, later, set, heirs, number, move_between(first, *cell)) {
+            return true;
+        }
+    }
+    false
+}
+
+/// The cells of a plane. They are listed only where they have not been before.
+fn listed_once<P: Plane>(plane: &P, listed: Option<CellList>) -> Result<CellList, AllocError>
+    requires { IfSome listed (λ list. list ≡ P.members plane.now) }
+    ensures { IfOk result (λ list. list ≡ P.members plane.now) }
+{
+    match listed {
+        Some(list) => Ok(list),
+        None => plane.cells(),
+    }
+}
+
+/// Whether a trail still tells, where these are its heirs in a later generation: the one of this number. That is not tested
+/// up to another number. The later plane's cells are listed once they are needed.
+pub fn still_tells<P: Plane>(
+    start: &P,
+    later: &P,
+    trail: &Trail,
+    heirs: &CellList,
+    number: u32,
+    after: u32,
+    listed: &mut Option<CellList>,
+) -> Result<bool, AllocError>
+    requires number { number ≤ AGE_LIMIT }
+    requires listed { IfSome listed.old (λ list. list ≡ P.members later.now) }
+    ensures listed { OnOk result (IfSome listed.new (λ list. list ≡ P.members later.now)) }
+    ensures told { IfOk result (λ tells. OnTrue tells ((trail.now.tells ≡ true) × (after < number →
+        LacksSome number (P.members start.now) (P.members later.now) trail.now.set heirs.now))) }
+{
+    if !trail.tells {
+        return Ok(false);
+    }
+    if number <= after {
+        return Ok(true);
+    }
+    if !later.may_have_moved(&trail.set, number) {
+        return Ok(true);
+    }
+    let cells = listed_once(later, listed.take())?;
+    let returns = some_may_return(start, later, &cells, &trail.set, heirs, number);
+    *listed = Some(cells);
+    if returns {
+        return Ok(false);
+    }
+    Ok(true)
+}

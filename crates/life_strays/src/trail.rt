@@ -1,0 +1,10 @@
+//! Islands whose heirs are led back.
+use life_cells::CellList;
+
+/// The cells of an island, some that hang on it in a later generation, and whether it may still tell that there is no ash.
+#[derive(Drop)]
+pub struct Trail {
+    pub set: CellList,
+    pub heirs: CellList,
+    pub tells: bool,
+}
