@@ -9,7 +9,7 @@ use Rattle.life_model.specs.Evolution.{generation}
 use Rattle.life_model.proofs.Recurrences.{generation-add, generation-zero}
 use Rattle.life_objects.specs.Ash.{HasFallenApart, IsAsh}
 use Rattle.life_objects.specs.Limits.{objects_bound_limit}
-use Rattle.life_onset.specs.Moments.{IsMomentOf, Moment}
+use Rattle.life_apart.specs.Onsets.Moments.{IsMomentOf, Moment}
 use Rattle.life_orbit.specs.Course.{Course}
 use Rattle.life_ash.specs.Ahead.{IsAshThen, IsFound, IsFoundPast}
 use Rattle.life_ash.specs.Allowed.{AreAllowedBefore}

@@ -8,7 +8,7 @@ use Rattle.life_model.specs.Evolution.{generation}
 use Rattle.life_objects.specs.Ash.{HasFallenApart, IsAsh}
 use Rattle.life_answer.specs.Limited.{first_past}
 use Rattle.life_apart.specs.Sets.{IsCourseBy, sets_of}
-use Rattle.life_onset.specs.Moments.{IsMomentOf}
+use Rattle.life_apart.specs.Onsets.Moments.{IsMomentOf}
 use Rattle.life_ash.specs.declared.pattern_fate.Fate.{Fate}
 use Rattle.life_ash.specs.declared.pattern_fate.Fate.TheVariants.{Ash, Large, Unresolved}
 

@@ -13,24 +13,18 @@ use life_strays::are_no_ash;
 use life_tally::{Pace, is_uneven};
 use std::alloc::{AllocError, Global};
 
-/// How many times as old as the bound a pattern gets before it is looked for what is new.
-const SOON: u32 = 4;
-
 /// How many times as old as the bound a pattern gets at most.
-const LATE: u32 = 16;
+const LATE: u32 = 8;
 
 /// The greatest age of a plane whose cells are told as ash.
 const LAST: u32 = 400_000;
 
-/// Up to this bound it is looked for what comes back nowhere within it.
-const SHORT: u32 = 2_000;
-
-/// The age to which a walk goes that is so many times as long as the bound.
-fn last_age(bound: u32, times: u32) -> u32
+/// The age to which a walk goes.
+fn last_age(bound: u32) -> u32
     requires { 1 ≤ bound }
     ensures { result ≤ ash_age_limit }
 {
-    LAST.min(bound.saturating_mul(times))
+    LAST.min(bound.saturating_mul(LATE))
 }
 
 /// A total, and the cells of one more generation, where that is no larger than can be counted. The pace notes how many these are.
@@ -50,7 +44,6 @@ fn told_until<P: Plane>(
     plane: &P,
     met: &mut Known,
     pace: &mut Pace,
-    times: u32,
 ) -> Result<Told, AllocError>
     requires { P.steps_made plane.now ≡ met.old.bound }
     ensures same { met.new ≡ met.old }
@@ -62,7 +55,7 @@ fn told_until<P: Plane>(
     let mut totals = Vec::new(alloc);
     let mut total = 0;
     let mut left = 0;
-    for age in bound..last_age(bound, times) + 1 {
+    for age in bound..last_age(bound) + 1 {
         if left == 0 {
             totals.push(total)?;
             if is_uneven(totals.as_slice()) {
@@ -88,8 +81,8 @@ fn told_until<P: Plane>(
     Ok(Told::Nothing)
 }
 
-/// What later generations tell of a plane's cells, which are as old as the bound: by how many they are, by the ash that
-/// they become, by what comes back nowhere, and by what stands alone and is new.
+/// What later generations tell of a plane's cells, which are as old as the bound: by what hangs on an island of theirs, by how
+/// many they are, by the ash that they become, and by what stands alone and is new.
 pub fn told_later<P: Plane>(
     alloc: Global,
     plane: &P,
@@ -100,16 +93,15 @@ pub fn told_later<P: Plane>(
     ensures same { met.new ≡ met.old }
     ensures told { IfOk result (IsTold met.old.rule met.old.bound (P.members plane.now)) }
 {
-    match told_until(alloc, plane, met, pace, SOON)? {
+    if are_no_ash(alloc, plane, &met.rule(), met.bound())? {
+        return Ok(Told::Never);
+    }
+    match told_until(alloc, plane, met, pace)? {
         Told::Nothing => {}
         told => return Ok(told),
-    }
-    let bound = met.bound();
-    if bound <= SHORT && are_no_ash(alloc, plane, &met.rule(), bound)? {
-        return Ok(Told::Never);
     }
     if is_no_ash(alloc, plane, met)? {
         return Ok(Told::Never);
     }
-    told_until(alloc, plane, met, pace, LATE)
+    Ok(Told::Nothing)
 }

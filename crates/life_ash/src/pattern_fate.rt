@@ -1,6 +1,6 @@
 //! What may become of a pattern.
 use crate::ash_orbits::Ash;
-use life_onset::Trail;
+use life_apart::Trail;
 
 /// What becomes of a pattern within a bound, if no generation may have more cells than some number.
 #[derive(Drop)]

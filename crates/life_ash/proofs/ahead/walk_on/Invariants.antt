@@ -2,7 +2,7 @@ use Rattle.std.proofs.Common.{◌≡◌, ◌≤◌}
 use Rattle.std.specs.List.{All}
 use Rattle.life_model.specs.Evolution.{generation}
 use Rattle.life_model.specs.Generation.{Generation}
-use Rattle.life_onset.specs.Moments.{IsMomentOf}
+use Rattle.life_apart.specs.Onsets.Moments.{IsMomentOf}
 use Rattle.life_ash.specs.Allowed.{AreAllowedBefore}
 use Rattle.life_ash.proofs.ahead.walk_on.Given as goal
 

@@ -4,7 +4,7 @@ use Rattle.std.proofs.lemmas.List.Elements.{All-same}
 use Rattle.std.proofs.lemmas.Result.{IfOk-weaker}
 use Rattle.life_model.specs.Evolution.{generation}
 use Rattle.life_objects.specs.Ash.{IsAsh}
-use Rattle.life_onset.specs.Moments.{IsMomentOf}
+use Rattle.life_apart.specs.Onsets.Moments.{IsMomentOf}
 use Rattle.life_ash.specs.Ahead.{HasEnded, IsFound}
 use Rattle.life_ash.specs.Fates.{IsFate}
 use Rattle.life_ash.specs.Met.{Terms}
