@@ -15,7 +15,7 @@ use Rattle.life_model.specs.Rule.{Rule}
 use Rattle.life_model.proofs.Moves.{nothing_or_some}
 use Rattle.life_objects.specs.Ash.{IsAsh, IsObject}
 use Rattle.life_objects.proofs.Ashes.{object_of}
-use Rattle.life_decided.proofs.Kept.{Contains-map}
+use Rattle.life_objects.proofs.DecidedLemmas.Kept.{Contains-map}
 use Rattle.life_orbit.specs.Course.{Course, IsCourse}
 use Rattle.life_apart.specs.Sets.{IsCourseBy, sets_of}
 use Rattle.life_steps.specs.Short.{IsWithin, way_limit}

@@ -12,5 +12,4 @@ mod walk;
 
 pub use laws::{what_settles_falls_apart, what_settles_is_made_of_things};
 pub use outcome::Settled;
-pub use placing::DELAY_LIMIT;
 pub use walk::{falls_apart, settled};

@@ -10,6 +10,7 @@ use crate::outcome::Settled;
 use life_ash::ash_of;
 use life_cells::{CellList, Rule};
 use life_plane::Plane;
+use life_strays::are_no_ash;
 use life_things::WAY_LIMIT;
 use std::alloc::{AllocError, Global};
 
@@ -32,6 +33,9 @@ pub fn falls_apart<P: Plane>(
     let mut later = P::at_age(alloc, cells, age)?;
     for _ in 0..bound {
         later.step(rule)?;
+    }
+    if are_no_ash(alloc, &later, rule, bound)? {
+        return Ok(false);
     }
     match ash_of(alloc, &later, rule, bound)? {
         Some(_) => Ok(true),
