@@ -15,7 +15,7 @@ fn may_stand_in_row(square: &Square, cells: &[(i32, i32)], y: usize) -> bool
     requires placed { All IsPlace cells.now }
     requires y { y < 64 }
     ensures { result ≡ false →
-        HasNoneInRow (members_of square.now) cells.now (slice_index square.now.tile.rows y)
+        HasNoneInRow (members_of square.now) cells.now 0 (slice_index square.now.tile.rows y)
         (square.now.left, square.now.top +ℤ pos y) }
 {
     // (the bits at which those cells are live that were looked at so far)

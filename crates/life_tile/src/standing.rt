@@ -7,7 +7,7 @@ ghost use Rattle.life_plane.specs.Offsets.{IsMoveWithin};
 ghost use Rattle.life_bits.specs.Area.{tile_cell};
 ghost use Rattle.life_slots.specs.Cells.{state_at};
 ghost use Rattle.life_slots.specs.Ends.{IsMember};
-ghost use Rattle.life_tile.specs.Standing.{AreMembers, HasNoneInRow, HasNoneInTile, IsFirstLedTo};
+ghost use Rattle.life_tile.specs.Standing.{AreMembers, HasNoneInRow, HasNoneInTile, IsLedTo};
 ghost use Rattle.life_tile.specs.TileStores.{IsKept, members_of};
 
 use crate::covering::{corner_in, row_from};
@@ -31,66 +31,81 @@ fn is_near(z: i32, first: i32, reach: u32) -> bool
     offset <= far && -far - 63 <= offset
 }
 
-/// The bits at which a cell of the list may be live, moved as the first one is to a bit of a row of members. Bit 0 is at this
-/// cell. A cell behind the first in its row is looked up in the word, past whose end all may be live.
+/// The bits at which a cell of the list may be live, moved as the cell with the number `lead` is to a bit of a row of members.
+/// Bit 0 is at this cell. A cell to the right in the same row is looked up in the word, past whose end all may be live.
 fn live_beside(
     store: &TileStore,
     cells: &[(i32, i32)],
+    lead: usize,
     n: usize,
     word: u64,
     start: (i32, i32),
 ) -> u64
     requires kept { IsKept store.now }
+    requires lead { lead < length cells.now }
     requires n { n < length cells.now }
     requires placed { All IsPlace cells.now }
     requires start { IsPlace start }
     requires row { (j : ℕ) → j < 64 →
         bit_at word j ≡ state_at (members_of store.now) (start.0 +ℤ pos j) start.1 }
     ensures { (j : ℕ) (d : Cell) → j < 64 →
-        IsFirstLedTo cells.now d (start.0 +ℤ pos j, start.1) →
+        IsLedTo cells.now lead d (start.0 +ℤ pos j, start.1) →
         IsMember (members_of store.now) (plus (get_or cells.now n origin) d) → bit_at result j ≡ 1 }
 {
-    let dx = cells[n].0 - cells[0].0;
-    if cells[n].1 == cells[0].1 && 0 < dx && dx < 64 {
+    let dx = cells[n].0 - cells[lead].0;
+    if cells[n].1 == cells[lead].1 && 0 < dx && dx < 64 {
         (word >> dx as u32) | !(u64::MAX >> dx as u32)
     } else {
-        row_from(store, moved(cells[n], cells[0], start))
+        row_from(store, moved(cells[n], cells[lead], start))
     }
 }
 
-/// Whether the cells may all be live, moved so that the first of them is at some set bit of a row of members. Bit 0 is at this
-/// cell.
-fn may_stand_in_row(store: &TileStore, cells: &[(i32, i32)], word: u64, start: (i32, i32)) -> bool
+/// Whether the cells may all be live, moved so that the one with the number `lead` is at some set bit of a row of members. Bit 0
+/// is at this cell.
+fn may_stand_in_row(
+    store: &TileStore,
+    cells: &[(i32, i32)],
+    lead: usize,
+    word: u64,
+    start: (i32, i32),
+) -> bool
     requires kept { IsKept store.now }
-    requires some { 0 < length cells.now }
+    requires lead { lead < length cells.now }
     requires placed { All IsPlace cells.now }
     requires start { IsPlace start }
     requires row { (j : ℕ) → j < 64 →
         bit_at word j ≡ state_at (members_of store.now) (start.0 +ℤ pos j) start.1 }
-    ensures { result ≡ false → HasNoneInRow (members_of store.now) cells.now word start }
+    ensures { result ≡ false → HasNoneInRow (members_of store.now) cells.now lead word start }
 {
     // (the bits at which those cells may be live that were looked at so far)
     let mut left = word;
-    for n in 1..cells.len() {
+    for n in lead + 1..cells.len() {
         if left == 0 {
             return false;
         }
-        left &= live_beside(store, cells, n, word, start);
+        left &= live_beside(store, cells, lead, n, word, start);
+    }
+    for n in 0..lead {
+        if left == 0 {
+            return false;
+        }
+        left &= live_beside(store, cells, lead, n, word, start);
     }
     left != 0
 }
 
-/// Whether the cells may all be live, moved by at most `reach` places to each side so that the first of them is in a tile of the
-/// store whose first cell is here.
+/// Whether the cells may all be live, moved by at most `reach` places to each side so that the one with the number `lead` is in a
+/// tile of the store whose first cell is here.
 fn may_stand_in_tile(
     store: &TileStore,
     cells: &[(i32, i32)],
+    lead: usize,
     reach: u32,
     tile: &Tile,
     corner: (i32, i32),
 ) -> bool
     requires kept { IsKept store.now }
-    requires some { 0 < length cells.now }
+    requires lead { lead < length cells.now }
     requires placed { All IsPlace cells.now }
     requires reach { reach ≤ age_limit }
     requires corner { IsPlace corner }
@@ -98,12 +113,12 @@ fn may_stand_in_tile(
     requires shown { (x y : ℕ) → x < 64 → y < 64 →
         tile_cell tile.now x y ≡
         state_at (members_of store.now) (corner.0 +ℤ pos x) (corner.1 +ℤ pos y) }
-    ensures { result ≡ false → HasNoneInTile reach (members_of store.now) cells.now tile.now corner }
+    ensures { result ≡ false → HasNoneInTile reach (members_of store.now) cells.now lead tile.now corner }
 {
-    if !is_near(cells[0].0, corner.0, reach) {
+    if !is_near(cells[lead].0, corner.0, reach) {
         return false;
     }
-    if !is_near(cells[0].1, corner.1, reach) {
+    if !is_near(cells[lead].1, corner.1, reach) {
         return false;
     }
     if is_void(tile) {
@@ -111,11 +126,34 @@ fn may_stand_in_tile(
     }
     for y in 0..64 {
         let word = tile.rows[y];
-        if word != 0 && may_stand_in_row(store, cells, word, (corner.0, corner.1 + y as i32)) {
+        let start = (corner.0, corner.1 + y as i32);
+        if word != 0 && may_stand_in_row(store, cells, lead, word, start) {
             return true;
         }
     }
     false
+}
+
+/// The number of the cell after which the most cells follow in its own row. Such a row is the quickest to tell that nothing
+/// stands there; nothing rests on the choice.
+fn first_of_longest_row(cells: &[(i32, i32)]) -> usize
+    requires { 0 < length cells.now }
+    ensures { result < length cells.now }
+{
+    let mut best = 0;
+    let mut most = 0;
+    let mut first = 0;
+    for n in 0..cells.len() {
+        if cells[n].1 != cells[first].1 {
+            first = n;
+        }
+        let after = n.saturating_sub(first);
+        if most < after {
+            most = after;
+            best = first;
+        }
+    }
+    best
 }
 
 /// Whether the cells may all be live, moved by at most `reach` places to each side.
@@ -129,9 +167,10 @@ pub fn may_stand(store: &TileStore, cells: &[(i32, i32)], reach: u32) -> bool
     if cells.is_empty() {
         return true;
     }
+    let lead = first_of_longest_row(cells);
     for slot in 1..store.slots.len() {
         let tile = tile_in(&store.current, slot);
-        if may_stand_in_tile(store, cells, reach, tile, corner_in(store, slot)) {
+        if may_stand_in_tile(store, cells, lead, reach, tile, corner_in(store, slot)) {
             return true;
         }
     }

@@ -14,7 +14,7 @@ loop-y-init c = λ v before. record {
 
 pub loop-y-preserved : goal.loop-y-preserved
 loop-y-preserved c =
-    below_more (λ v. HasNoneInRow (members_of c.args.square.now) c.args.cells.now (slice_index c.args.square.now.tile.rows v) (c.args.square.now.left, c.args.square.now.top +ℤ pos v))
+    below_more (λ v. HasNoneInRow (members_of c.args.square.now) c.args.cells.now 0 (slice_index c.args.square.now.tile.rows v) (c.args.square.now.left, c.args.square.now.top +ℤ pos v))
     c.loop-y.y c.loop-y.invariant (c.may_stand_in_row.ensures c.if-may_stand_in_row.false)
 
 pub returns : goal.returns

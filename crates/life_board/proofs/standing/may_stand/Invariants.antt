@@ -5,4 +5,4 @@ use Rattle.life_board.proofs.standing.may_stand.Given as goal
 
 -- in the rows before this one they don't stand
 abbrev pub invariant-loop-y : goal.invariant-loop-y
-invariant-loop-y l = (v : ℕ) → v < l.y → HasNoneInRow (members_of l.square) l.cells (slice_index l.square.tile.rows v) (l.square.left, l.square.top +ℤ pos v)
+invariant-loop-y l = (v : ℕ) → v < l.y → HasNoneInRow (members_of l.square) l.cells 0 (slice_index l.square.tile.rows v) (l.square.left, l.square.top +ℤ pos v)

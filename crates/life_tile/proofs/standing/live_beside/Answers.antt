@@ -12,21 +12,21 @@ use Rattle.life_tile.proofs.standing.live_beside.Goals as goal
 pub overflow_sub-dx : goal.overflow_sub-dx
 overflow_sub-dx c =
     let cell = c.requires.placed c.args.n origin c.requires.n in
-    let first = c.requires.placed 0 origin (omega (arith, c.requires.n)) in
+    let first = c.requires.placed c.args.lead origin c.requires.lead in
     omega (arith, ints, cell.left, cell.right, first.left, first.right)
 
 pub moved-requires-clause-cell : goal.moved-requires-clause-cell
 moved-requires-clause-cell c = c.requires.placed c.args.n origin c.requires.n
 
 pub moved-requires-clause-from : goal.moved-requires-clause-from
-moved-requires-clause-from c = c.requires.placed 0 origin (omega (arith, c.requires.n))
+moved-requires-clause-from c = c.requires.placed c.args.lead origin c.requires.lead
 
 pub returns-then-dx-lt64 : goal.returns-then-dx-lt64
 returns-then-dx-lt64 c = λ j d inside led member.
     let cell : Cell = get_or c.args.cells.now c.args.n origin in
-    let first : Cell = get_or c.args.cells.now 0 origin in
+    let first : Cell = get_or c.args.cells.now c.args.lead origin in
     let cell_placed = c.requires.placed c.args.n origin c.requires.n in
-    let first_placed = c.requires.placed 0 origin (omega (arith, c.requires.n)) in
+    let first_placed = c.requires.placed c.args.lead origin c.requires.lead in
     let across = ap (λ (e : Cell). e.0) led in
     let down = ap (λ (e : Cell). e.1) led in
     let dx : ℕ = nat_abs (to_z w32 (of_z w32 (to_z w32 (of_z w32 cell.0) -ℤ to_z w32 (of_z w32 first.0)))) in

@@ -23,17 +23,16 @@ may_stand_in_tile-requires-clause-shown c = λ x y wide high.
 pub loop-slot-preserved : goal.loop-slot-preserved
 loop-slot-preserved c =
     below_more
-    (λ k. 0 < k → HasNoneInTile c.args.reach (members_of c.args.store.now) c.args.cells.now (tile_of c.args.store.now.current.items k) (corner_at (place_of c.args.store.now.slots.items k)))
+    (λ k. 0 < k → HasNoneInTile c.args.reach (members_of c.args.store.now) c.args.cells.now c.first_of_longest_row-lead.result (tile_of c.args.store.now.current.items k) (corner_at (place_of c.args.store.now.slots.items k)))
     c.loop-slot.slot c.loop-slot.invariant
     (λ later.
-    subst₂ (HasNoneInTile c.args.reach (members_of c.args.store.now) c.args.cells.now)
+    subst₂ (HasNoneInTile c.args.reach (members_of c.args.store.now) c.args.cells.now c.first_of_longest_row-lead.result)
     (c.tile_in-tile.ensures ∙ ap (λ tiles. tile_of tiles c.loop-slot.slot) c.deref.ensures.value) c.corner_in.ensures.is
     (c.may_stand_in_tile.ensures c.if-may_stand_in_tile.false))
 
 pub returns : goal.returns
 returns c = λ told d within all.
-    let some : 0 < length c.args.cells.now = omega (arith, false-eqb _ 0 c.if-is_empty.ensures) in
-    let live = member_live c.args.store.now c.requires.kept (plus (get_or c.args.cells.now 0 origin) d) (all 0 origin some) in
+    let live = member_live c.args.store.now c.requires.kept (plus (get_or c.args.cells.now c.first_of_longest_row-lead.result origin) d) (all c.first_of_longest_row-lead.result origin c.first_of_longest_row-lead.ensures) in
     let here = live.here in
     let last = live.before in
     (c.loop-slot.invariant live.k (omega arith) live.later).none here.x here.y d here.wide here.high here.live within here.is all

@@ -8,4 +8,4 @@ use Rattle.life_tile.proofs.standing.may_stand.Given as goal
 -- in the tiles before this one they don't stand
 abbrev pub invariant-loop-slot : goal.invariant-loop-slot
 invariant-loop-slot l = (k : ℕ) → k < l.slot → 0 < k →
-    HasNoneInTile l.reach (members_of l.store) l.cells (tile_of l.store.current.items k) (corner_at (place_of l.store.slots.items k))
+    HasNoneInTile l.reach (members_of l.store) l.cells l.lead (tile_of l.store.current.items k) (corner_at (place_of l.store.slots.items k))

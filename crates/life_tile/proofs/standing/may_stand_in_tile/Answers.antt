@@ -12,7 +12,7 @@ use Rattle.life_tile.proofs.standing.may_stand_in_tile.Goals as goal
 pub returns-then-not-is_near : goal.returns-then-not-is_near
 returns-then-not-is_near c = λ told. record {
   none = λ x y d wide high live within led all.
-      let first = c.requires.placed 0 origin c.requires.some in
+      let first = c.requires.placed c.args.lead origin c.requires.lead in
       let across = ap (λ (e : Cell). e.0) led in
       c.is_near.ensures c.if-not-is_near.true x d.0 wide within.left within.right (omega (arith, ints, first.left, first.right, across));
 }
@@ -20,7 +20,7 @@ returns-then-not-is_near c = λ told. record {
 pub returns-then-not-is_near-2 : goal.returns-then-not-is_near-2
 returns-then-not-is_near-2 c = λ told. record {
   none = λ x y d wide high live within led all.
-      let first = c.requires.placed 0 origin c.requires.some in
+      let first = c.requires.placed c.args.lead origin c.requires.lead in
       let down = ap (λ (e : Cell). e.1) led in
       c.is_near-2.ensures c.if-not-is_near-2.true y d.1 high within.above within.below (omega (arith, ints, first.above, first.below, down));
 }
@@ -40,11 +40,11 @@ may_stand_in_row-requires-clause-row c = λ j inside.
 
 pub loop-y-preserved : goal.loop-y-preserved
 loop-y-preserved c =
-    below_more (λ v. HasNoneInRow (members_of c.args.store.now) c.args.cells.now (slice_index c.args.tile.now.rows v) (c.args.corner.0, c.args.corner.1 +ℤ pos v))
+    below_more (λ v. HasNoneInRow (members_of c.args.store.now) c.args.cells.now c.args.lead (slice_index c.args.tile.now.rows v) (c.args.corner.0, c.args.corner.1 +ℤ pos v))
     c.loop-y.y c.loop-y.invariant
     (elim c.else-word-ne0.branch [
       | else-word-ne0-via-then-word-ne0+else-may_stand_in_row w ↦
-          subst (HasNoneInRow (members_of c.args.store.now) c.args.cells.now (slice_index c.args.tile.now.rows c.loop-y.y))
+          subst (HasNoneInRow (members_of c.args.store.now) c.args.cells.now c.args.lead (slice_index c.args.tile.now.rows c.loop-y.y))
           (pair (omega (arith, ints)) (omega (arith, ints))) (w.may_stand_in_row.ensures w.if-may_stand_in_row.false)
       | else-word-ne0-via-else-word-ne0 w ↦ record { none = λ j d inside one led all. no_bit _ j w.if-word-ne0.false one }
     ])
