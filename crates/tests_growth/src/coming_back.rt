@@ -1,9 +1,8 @@
 //! Patterns of Life: guns, switch engines and what is none. The cells are from outside, and so are periods and displacements.
 use life_board::Board;
 use life_cells::{CellList, Rule};
-use life_frames::Film;
 use life_plane::{AGE_LIMIT, Plane};
-use life_tracks::{Track, tracks};
+use life_tracks::{Film, Track, tracks};
 use std::alloc::Global;
 use std::process::Abort;
 use std::test::Fail;

@@ -2,8 +2,8 @@
 //! where that generation is followed forward by itself, and who bears them with what becomes of each class alone.
 use life_cells::{CellList, Rule};
 use life_classes::classes;
-use life_frames::Film;
 use life_plane::{AGE_LIMIT, ListPlane, Plane};
+use life_tracks::Film;
 use std::test::Fail;
 
 // Two gliders that fly apart, the second upside down and reversed.

@@ -2,7 +2,7 @@
 use crate::patterns::{ACORN, BLOCK, BLOCKED, GUN, GUNS, PUFFER, R_PENTOMINO, RAKE, ROW, SMALL};
 use life_answer::{Answer, Engines, Outcome, Part};
 use life_census::answer;
-use life_observer::Unobserved;
+use life_plane::Unobserved;
 use std::alloc::Global;
 use std::process::Abort;
 use std::test::Fail;

@@ -57,6 +57,15 @@ fn ash_is_not_refused(rt: HostRuntime) -> Result<(), Fail> {
 }
 
 #[test]
+fn a_gun_is_no_ash(rt: HostRuntime) -> Result<(), Fail> {
+    // (its islands come back, and what it has shot since then was not there)
+    for (first, bound) in [(0, 50), (30, 30), (60, 60), (100, 100)] {
+        assert!(rt; seen::<Board>(&rt, rt.alloc(), GUN, first, bound)?.0);
+    }
+    Ok(())
+}
+
+#[test]
 fn a_gun_is_not_refused(rt: HostRuntime) -> Result<(), Fail> {
     assert!(rt; !seen::<Board>(&rt, rt.alloc(), GUN, 0, 50)?.1);
     assert!(rt; !seen::<Board>(&rt, rt.alloc(), GUN, 100, 100)?.1);
