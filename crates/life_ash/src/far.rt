@@ -19,6 +19,10 @@ const LATE: u32 = 8;
 /// The greatest age of a plane whose cells are told as ash.
 const LAST: u32 = 400_000;
 
+/// How many cells stand in all generations up to the bound, about, at most where islands are asked before the walk. With more
+/// it takes long to refuse growth too, which ash that a pattern becomes does at once.
+const FEW: u64 = 20_000_000;
+
 /// The age to which a walk goes.
 fn last_age(bound: u32) -> u32
     requires { 1 ≤ bound }
@@ -81,6 +85,11 @@ fn told_until<P: Plane>(
     Ok(Told::Nothing)
 }
 
+/// Whether few cells stand in the generations up to the bound, if they are about as many as now.
+fn are_few<P: Plane>(plane: &P, bound: u32) -> bool {
+    plane.population().saturating_mul(u64::from(bound)) <= FEW
+}
+
 /// What later generations tell of a plane's cells, which are as old as the bound: by what hangs on an island of theirs, by how
 /// many they are, by the ash that they become, and by what stands alone and is new.
 pub fn told_later<P: Plane>(
@@ -93,12 +102,18 @@ pub fn told_later<P: Plane>(
     ensures same { met.new ≡ met.old }
     ensures told { IfOk result (IsTold met.old.rule met.old.bound (P.members plane.now)) }
 {
-    if are_no_ash(alloc, plane, &met.rule(), met.bound())? {
+    let rule = met.rule();
+    let bound = met.bound();
+    let few = are_few(plane, bound);
+    if few && are_no_ash(alloc, plane, &rule, bound)? {
         return Ok(Told::Never);
     }
     match told_until(alloc, plane, met, pace)? {
         Told::Nothing => {}
         told => return Ok(told),
+    }
+    if !few && are_no_ash(alloc, plane, &rule, bound)? {
+        return Ok(Told::Never);
     }
     if is_no_ash(alloc, plane, met)? {
         return Ok(Told::Never);
