@@ -121,7 +121,7 @@ def _header(text):
         try:
             return parse_rule(m.group(1).strip(LINE_BLANK)), after
         except Fault as f:
-            raise Fault('rle', 2 + f.number) from None  # 3 RuleNotLifeLike, 4 RuleHasB0
+            raise Fault('rle', 2 + f.number) from None  # 3 NotLifeLike, 4 HasB0
 
 
 def read_rle(text):

@@ -9,7 +9,6 @@ mod shown;
 
 use announced::Announced;
 use census_command::{Streams, program};
-use census_errors::ErrorStream;
 use screen::{Progress, Screen};
 use shown::Shown;
 use std::io::IsTerminal;
@@ -28,8 +27,8 @@ fn main(rt: HostRuntime) -> ExitCode {
         rt.alloc(),
         env::args(&rt),
         &mut Progress::new(&screen),
-        &mut Streams::new(input, output),
-        &mut ErrorStream::new(errors, is_terminal),
+        is_terminal,
+        &mut Streams::new(input, output, errors),
     );
     screen.wipe();
     status

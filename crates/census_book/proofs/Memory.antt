@@ -3,10 +3,10 @@ use Rattle.std.proofs.Common.{◌≡◌, ℕ, Bool, true, false, List, Option, S
 use Rattle.census_bundle.specs.declared.bundle.Entry.{Entry}
 use Rattle.life_answer.specs.declared.finding.Answer.TheVariants.{Refused}
 use Rattle.life_answer.specs.declared.question.Question.{Question}
-use Rattle.life_answer.specs.Answers.{fault_number}
 use Rattle.life_answer.specs.Questions.{answer_to_question}
 use Rattle.life_answer.proofs.Texts.{answer-refused, header_lawful}
 use Rattle.life_text.specs.declared.rle.RleFault.{RleFault}
+use Rattle.life_text.specs.Faults.{fault_number}
 use Rattle.life_text.specs.Rle.{header_rule, refusal}
 use Rattle.census_format.specs.Lines.{answer_to_entry}
 use Rattle.census_book.specs.Work.{TakesMemory}

@@ -1,6 +1,7 @@
 -- How the parts of `advance` join.
 use Rattle.std.proofs.Common.{◌≡◌, ◌++◌, ℕ, ◌≤◌, List, [], length, Result, Ok, Err, Bool, true, false, refl, sym, ap, subst, ◌∙◌}
 use Rattle.std.specs.Io.KnownBytes.{Appends}
+use Rattle.watched.specs.Streams.{Streams}
 use Rattle.watched.specs.declared.reading.ReadFault.{ReadFault}
 use Rattle.watched.specs.declared.reading.ReadFault.TheVariants.{Read}
 use Rattle.watched.specs.Watching.{AppendsFront}
@@ -14,7 +15,6 @@ use Rattle.life_text.specs.RleText.{rle_text}
 use Rattle.census_crew.specs.Bytes.{ReadsText}
 use Rattle.census_folders.specs.Told.{GivesTold}
 use Rattle.census_folders.specs.Tellings.{Tellings}
-use Rattle.census_command.specs.Streams.{State}
 use Rattle.census_command.specs.Advances.{Advances, AdvancesFile, AdvancesFileInPart, AdvancesInPart, IsAdvanced}
 
 pub is_advanced : (text : List ℕ) (n : ℕ) (old new : List ℕ) (pattern : Picture) (R : Rule) (G : Generation) → picture_of (reading text) ≡ Ok pattern
@@ -29,48 +29,48 @@ module _ (text bytes : List ℕ) (n : ℕ) (written : List ℕ) (same : bytes �
   means : picture_of (reading text) ≡ Ok a.pattern
   means = subst (λ xs. picture_of (reading xs) ≡ Ok a.pattern) same a.means
 
-  pub advances : (out : List ℕ) (before after : State) → out ≡ written → ReadsText before.unread after.unread text
-      → Appends before.written after.written out → Advances n before after
+  pub advances : (out : List ℕ) (before after : Streams) → out ≡ written → ReadsText before.input.unread after.input.unread text
+      → Appends before.output.written after.output.written out → Advances n before after
   advances out before after e read appended = record {
     text = text;
     pattern = a.pattern;
     read = read;
     means = means;
-    written = subst (λ xs. Appends before.written after.written xs) (e ∙ a.is) appended;
+    written = subst (λ xs. Appends before.output.written after.output.written xs) (e ∙ a.is) appended;
   }
 
-  pub advances_in_part : (out : List ℕ) (before after : State) → out ≡ written → ReadsText before.unread after.unread text
-      → AppendsFront before.written after.written out → AdvancesInPart n before after
+  pub advances_in_part : (out : List ℕ) (before after : Streams) → out ≡ written → ReadsText before.input.unread after.input.unread text
+      → AppendsFront before.output.written after.output.written out → AdvancesInPart n before after
   advances_in_part out before after e read appended = record {
     text = text;
     pattern = a.pattern;
     read = read;
     means = means;
-    written = subst (λ xs. AppendsFront before.written after.written xs) (e ∙ a.is) appended;
+    written = subst (λ xs. AppendsFront before.output.written after.output.written xs) (e ∙ a.is) appended;
   }
 
 module _ (text bytes : List ℕ) (n : ℕ) (written : List ℕ) (same : bytes ≡ text) (a : IsAdvanced (record { text = bytes; generations = n }) written) (shelf : Tellings) (path : List ℕ) where
-  pub advances_file : (out : List ℕ) (before after : State) → out ≡ written → GivesTold (shelf.held [] path) text → length text ≤ input_limit
-      → after.unread ≡ before.unread → Appends before.written after.written out → AdvancesFile shelf path n before after
+  pub advances_file : (out : List ℕ) (before after : Streams) → out ≡ written → GivesTold (shelf.held [] path) text → length text ≤ input_limit
+      → after.input.unread ≡ before.input.unread → Appends before.output.written after.output.written out → AdvancesFile shelf path n before after
   advances_file out before after e told within unread appended = record {
     text = text;
     pattern = a.pattern;
     told = told;
     within = within;
     means = subst (λ xs. picture_of (reading xs) ≡ Ok a.pattern) same a.means;
-    written = subst (λ xs. Appends before.written after.written xs) (e ∙ a.is) appended;
+    written = subst (λ xs. Appends before.output.written after.output.written xs) (e ∙ a.is) appended;
     unread = unread;
   }
 
-  pub advances_file_in_part : (out : List ℕ) (before after : State) → out ≡ written → GivesTold (shelf.held [] path) text → length text ≤ input_limit
-      → after.unread ≡ before.unread → AppendsFront before.written after.written out → AdvancesFileInPart shelf path n before after
+  pub advances_file_in_part : (out : List ℕ) (before after : Streams) → out ≡ written → GivesTold (shelf.held [] path) text → length text ≤ input_limit
+      → after.input.unread ≡ before.input.unread → AppendsFront before.output.written after.output.written out → AdvancesFileInPart shelf path n before after
   advances_file_in_part out before after e told within unread appended = record {
     text = text;
     pattern = a.pattern;
     told = told;
     within = within;
     means = subst (λ xs. picture_of (reading xs) ≡ Ok a.pattern) same a.means;
-    written = subst (λ xs. AppendsFront before.written after.written xs) (e ∙ a.is) appended;
+    written = subst (λ xs. AppendsFront before.output.written after.output.written xs) (e ∙ a.is) appended;
     unread = unread;
   }
 

@@ -1,5 +1,6 @@
 -- What the gate was told, by what was asked for and by what came of it.
 use Rattle.std.proofs.Common.{◌≡◌, ◌⊎◌, ℕ, Bool, List, inl, inr, ⊎_elim, sym, subst, ◌∙◌, arith, string_bytes}
+use Rattle.watched.specs.Streams.{Reader, Streams}
 use Rattle.census_cli.specs.Asking.{Asks, AsksForQuiet}
 use Rattle.census_cli.specs.Refusing.{AsksHelp, AsksText, RefusesWords}
 use Rattle.census_cli.specs.declared.fault.WordsFault.{WordsFault}
@@ -11,9 +12,7 @@ use Rattle.census_command.specs.Gates.{AskForNoCensus, Heard, HearsFolders, Hear
 use Rattle.census_command.specs.Keeps.{KeptCensus}
 use Rattle.census_command.specs.Outcomes.{Answers, IsBeside, IsKeeping, IsRemaking}
 use Rattle.census_command.specs.Requests.{Fails}
-use Rattle.census_command.specs.Streams.{State}
 use Rattle.census_command.proofs.Outcomes.{never_done}
-use Rattle.census_errors.specs.ErrorStreams.{Errors}
 use Rattle.census_errors.specs.Errors.{run_status, status_of}
 use Rattle.census_errors.specs.declared.error.CommandError.{CommandError}
 use Rattle.census_errors.specs.declared.run_error.RunError.{RunError}
@@ -67,16 +66,16 @@ asks_help words text (inr (version, same)) = inr version
 
 -- # What was told
 
-module _ (shelf : Tellings) (words : List (List ℕ)) (before after : State) (old new : Heard) where
+module _ (shelf : Tellings) (words : List (List ℕ)) (before after : Reader) (old new : Heard) where
   -- what is no census was asked for
   pub hears_none : (status : ℕ) (request : Request) → Asks words request → AsksForNone request → new ≡ old → HearsOutcome shelf words status before after old new
   hears_none status request asked none same = inr (λ h. inl (request, asked, none), same)
 
   -- nothing that can be done was asked for
-  pub hears_answered : (status : ℕ) (fault : WordsFault) (told more : Errors) → RefusesWords words fault → Answers fault status before after told more → new ≡ old → HearsOutcome shelf words status before after old new
-  hears_answered status (words_fault.Help text) told more help answer same = inr (λ h. inr (asks_help words (string_bytes text) help), same)
-  hears_answered status (words_fault.Refused text) told more refused answer same = inr (λ h. absurd (omega (arith, answer.0)), same)
-  hears_answered status words_fault.Memory told more refused answer same = inr (λ h. absurd (omega (arith, answer.0)), same)
+  pub hears_answered : (status : ℕ) (fault : WordsFault) (all left : Streams) → RefusesWords words fault → Answers fault status all left → new ≡ old → HearsOutcome shelf words status before after old new
+  hears_answered status (words_fault.Help text) all left help answer same = inr (λ h. inr (asks_help words (string_bytes text) help), same)
+  hears_answered status (words_fault.Refused text) all left refused answer same = inr (λ h. absurd (omega (arith, answer.0)), same)
+  hears_answered status words_fault.Memory all left refused answer same = inr (λ h. absurd (omega (arith, answer.0)), same)
 
   -- memory was refused before
   pub hears_unread : (status : ℕ) → status ≡ 3 → new ≡ old → HearsOutcome shelf words status before after old new
@@ -88,10 +87,10 @@ module _ (shelf : Tellings) (words : List (List ℕ)) (before after : State) (ol
     hears_done status heard = inl (record { request = request; asked = asked; quiet = quiet; is_quiet = is_quiet; heard = heard })
 
     -- it failed
-    pub hears_failed : (error : CommandError) → Fails error shelf request before after → (new ≡ old) ⊎ HearsRequest shelf request quiet before after old new
+    pub hears_failed : (error : CommandError) (all left : Streams) → Fails error shelf request all left → (new ≡ old) ⊎ HearsRequest shelf request quiet before after old new
         → HearsOutcome shelf words (status_of error) before after old new
-    hears_failed error fails (inl same) = inr (λ done. absurd (never_done shelf before after error request fails done), same)
-    hears_failed error fails (inr heard) = hears_done (status_of error) heard
+    hears_failed error all left fails (inl same) = inr (λ done. absurd (never_done shelf all left error request fails done), same)
+    hears_failed error all left fails (inr heard) = hears_done (status_of error) heard
 
     -- it went on past what can't be read
     kept_heard : (r : Request) (keeping : KeptCensus) → IsKeeping r keeping → HearsFolders shelf keeping.asked quiet old new → HearsRequest shelf r quiet before after old new

@@ -1,5 +1,6 @@
 -- What each exit status says.
-use Rattle.std.proofs.Common.{◌≡◌, ◌⊎◌, ℕ, Bool, List, ◌++◌, Option, None, Some, map, option_map, true, false, inl, inr, ⊎_elim, refl, sym, ◌∙◌, arith, true≢false, string_bytes, ◌||◌}
+use Rattle.std.proofs.Common.{◌≡◌, ◌⊎◌, ℕ, Bool, List, ◌++◌, Option, None, Some, map, option_map, true, false, inl, inr, ⊎_elim, refl, sym, ap, ◌∙◌, arith, true≢false, string_bytes, ◌||◌}
+use Rattle.watched.specs.Streams.{PutsBytes, Reader, Sink, Streams}
 use Rattle.census_folders.specs.Sources.{Asked}
 use Rattle.census_cli.specs.Asking.{Asks, AsksToExplain}
 use Rattle.census_cli.specs.Refusing.{AreRefusedWords, AsksHelp, AsksText, RefusesWords}
@@ -23,8 +24,7 @@ use Rattle.census_command.specs.Runs.{FailsInFolders, FoldersFail, ReportsFolder
 use Rattle.census_errors.specs.Sayings.{line_said, said_if}
 use Rattle.census_folders.specs.Tellings.{Tellings}
 use Rattle.census_errors.specs.Sources.{Source, Input, Folders, source_of}
-use Rattle.census_errors.specs.ErrorStreams.{Errors, TellsIf, TellsText}
-use Rattle.census_command.specs.Streams.{HasFailed, HasSoundStreams, IsUntouched, State, WritesNothing}
+use Rattle.census_command.specs.Streams.{HasFailed, HasSoundStreams, IsUntouched, TellsIf, WritesNothing, untold}
 use Rattle.census_errors.specs.declared.advance_error.AdvanceError.{AdvanceError}
 use Rattle.census_errors.specs.declared.advance_error.AdvanceError.TheVariants as advance
 use Rattle.census_errors.specs.declared.draw_error.DrawError.TheVariants as draw
@@ -36,22 +36,22 @@ use Rattle.census_errors.specs.declared.error.CommandError.TheVariants as comman
 
 -- ---- streams that have not failed
 
-neither : {A : Type 0} (s : State) → HasSoundStreams s → HasFailed s → A
+neither : {A : Type 0} (s : Streams) → HasSoundStreams s → HasFailed s → A
 neither s sound failed =
-    absurd (⊎_elim (λ (t : s.read_failed ≡ true). true≢false (sym t ∙ sound.read)) (λ (t : s.write_failed ≡ true). true≢false (sym t ∙ sound.write)) failed)
+    absurd (⊎_elim (λ (t : s.input.failed ≡ true). true≢false (sym t ∙ sound.read)) (λ (t : s.output.failed ≡ true). true≢false (sym t ∙ sound.write)) failed)
 
 -- ---- why it stops
 
 -- What an error's status says, where `Refused` says what is refused, `Report` that a prefix of a report was written,
 -- `Part` that a prefix of what was asked for was, and `Missed` that a folder was missed.
-abbrev Says : State → State → ℕ → Type 0 → Type 0 → Type 0 → Type 0 → Type 0
+abbrev Says : Streams → Streams → ℕ → Type 0 → Type 0 → Type 0 → Type 0 → Type 0
 Says before after status Refused Report Part Missed =
     ((status ≡ 1) × Refused × WritesNothing before after)
-    ⊎ (((status ≡ 3) × ((after.written ≡ before.written) ⊎ Report) × HasSoundStreams after)
-    ⊎ ((status ≡ 4) × (HasFailed after ⊎ Missed) × ((after.written ≡ before.written) ⊎ Part) × (after.read_failed ≡ true → after.written ≡ before.written)))
+    ⊎ (((status ≡ 3) × ((after.output.written ≡ before.output.written) ⊎ Report) × HasSoundStreams after)
+    ⊎ ((status ≡ 4) × (HasFailed after ⊎ Missed) × ((after.output.written ≡ before.output.written) ⊎ Part) × (after.input.failed ≡ true → after.output.written ≡ before.output.written)))
 
-module _ (shelf : Tellings) (before after : State) where
-  unread_flag : {A : Type 0} → after.read_failed ≡ false → after.read_failed ≡ true → A
+module _ (shelf : Tellings) (before after : Streams) where
+  unread_flag : {A : Type 0} → after.input.failed ≡ false → after.input.failed ≡ true → A
   unread_flag down up = absurd (true≢false (sym up ∙ down))
 
   advance_says : (e : AdvanceError) (file : Option (List ℕ)) (n : ℕ) → AdvanceFromFails e shelf file n before after
@@ -89,7 +89,7 @@ module _ (shelf : Tellings) (before after : State) where
   run_says run.Write Input question h = inr (inr (refl, inl (inr h.1.write), inr h.0, unread_flag h.1.read))
   run_says e (Folders asked) question h = folders_say e asked question h
 
-module _ (shelf : Tellings) (before after : State) where
+module _ (shelf : Tellings) (before after : Streams) where
   says : (error : CommandError) (request : Request) → Fails error shelf request before after
       → Says before after (status_of error) (RefusesInput shelf request before after) (ReportsInPart shelf request before after) (DoesInPart shelf request before after)
       (StopsAtFolder shelf request)
@@ -178,14 +178,31 @@ module _ (shelf : Tellings) (before after : State) where
       case (inr (inr (is, why, part, kept))) = omega arith
 
 -- faults are explained where the words ask for that, or at a terminal
-pub are_explained : (words : List (List ℕ)) (errors : Errors) (asked explain : Bool) → AsksToExplain words asked
-    → explain ≡ asked || errors.is_terminal → AreExplained words errors explain
-are_explained words errors asked explain h e = record { asked = asked; is_asked = h; is = e }
+pub are_explained : (words : List (List ℕ)) (at_terminal asked explain : Bool) → AsksToExplain words asked
+    → explain ≡ asked || at_terminal → AreExplained words at_terminal explain
+are_explained words at_terminal asked explain h e = record { asked = asked; is_asked = h; is = e }
 
-module _ (shelf : Tellings) (words : List (List ℕ)) (before after : State) (old new : Errors) where
+-- the same of the streams before anything was told
+pub sound_told : (before after : Streams) → HasSoundStreams (untold before after) → HasSoundStreams after
+sound_told before after sound = record { read = sound.read; write = sound.write }
+
+-- where neither standard input nor standard output has changed, nothing was read or written
+pub untouched : (before after : Streams) → after.input ≡ before.input → after.output ≡ before.output → HasSoundStreams before → IsUntouched before after
+untouched before after input output sound = record {
+  unread = ap (λ (r : Reader). r.unread) input;
+  written = ap (λ (w : Sink). w.written) output;
+  sound = record { read = ap (λ (r : Reader). r.failed) input ∙ sound.read; write = ap (λ (w : Sink). w.failed) output ∙ sound.write };
+}
+
+-- nothing but standard error has changed since
+pub untold_is : (before reached : Streams) (told : Sink) → reached.errors ≡ before.errors
+    → reached ≡ untold before (record { input = reached.input; output = reached.output; errors = told })
+untold_is before reached told quiet = λ i. record { input = reached.input; output = reached.output; errors = quiet i }
+
+module _ (shelf : Tellings) (words : List (List ℕ)) (at_terminal : Bool) (before after : Streams) where
   -- what was asked for was done
-  pub ends_done : (request : Request) (explain : Bool) (lines : List ℕ) → Asks words request → AreExplained words old explain
-      → Does shelf request explain lines before after → HasSoundStreams after → TellsIf explain lines old new → Ends shelf words 0 before after old new
+  pub ends_done : (request : Request) (explain : Bool) (lines : List ℕ) → Asks words request → AreExplained words at_terminal explain
+      → Does shelf request explain lines before (untold before after) → HasSoundStreams after → TellsIf explain lines before.errors after.errors → Ends shelf words at_terminal 0 before after
   ends_done request explain lines asked explained done sound told = record {
     known = omega arith;
     done = λ h. inl (record { request = request; explain = explain; asked = asked; explained = explained; lines = lines; done = done; told = told });
@@ -201,14 +218,14 @@ module _ (shelf : Tellings) (words : List (List ℕ)) (before after : State) (ol
     told = λ h. absurd (omega arith);
   }
     where
-      unasked : (explain : Bool) → AreExplained words old explain → TellsIf explain lines old new → (AreExplained words old true → ⊥) → new ≡ old
+      unasked : (explain : Bool) → AreExplained words at_terminal explain → TellsIf explain lines before.errors after.errors → (AreExplained words at_terminal true → ⊥) → after.errors ≡ before.errors
       unasked true asked told unwanted = absurd (unwanted asked)
       unasked false asked told unwanted = told
 
-  module _ (request : Request) (explain : Bool) (asked : Asks words request) (explained : AreExplained words old explain) (error : CommandError)
-      (fails : Fails error shelf request before after) (place : Place) (at : IsPlaceOf shelf request error place)
-      (lines : TellsText (error_line error ++ said_if explain (line_said request error place)) old new) where
-    tells : TellsError shelf words (status_of error) before after old new
+  module _ (request : Request) (explain : Bool) (asked : Asks words request) (explained : AreExplained words at_terminal explain) (error : CommandError)
+      (fails : Fails error shelf request before (untold before after)) (place : Place) (at : IsPlaceOf shelf request error place)
+      (lines : PutsBytes (error_line error ++ said_if explain (line_said request error place)) before.errors after.errors) where
+    tells : TellsError shelf words at_terminal (status_of error) before after
     tells = record {
       error = error;
       status_is = refl;
@@ -216,23 +233,23 @@ module _ (shelf : Tellings) (words : List (List ℕ)) (before after : State) (ol
     }
 
     -- what was asked for failed, and the error was told
-    pub ends_failed : Ends shelf words (status_of error) before after old new
-    ends_failed = case (says shelf before after error request fails)
+    pub ends_failed : Ends shelf words at_terminal (status_of error) before after
+    ends_failed = case (says shelf before (untold before after) error request fails)
       where
-        case : Says before after (status_of error) (RefusesInput shelf request before after) (ReportsInPart shelf request before after)
-            (DoesInPart shelf request before after) (StopsAtFolder shelf request) → Ends shelf words (status_of error) before after old new
+        case : Says before (untold before after) (status_of error) (RefusesInput shelf request before (untold before after)) (ReportsInPart shelf request before (untold before after))
+            (DoesInPart shelf request before (untold before after)) (StopsAtFolder shelf request) → Ends shelf words at_terminal (status_of error) before after
         case (inl (is, refused, nothing)) = record {
           known = omega arith;
           done = λ h. absurd (omega arith);
           quiet = λ h unwanted. absurd (omega arith);
-          faulty = λ h. (record { request = request; asked = asked; refused = refused }, nothing);
+          faulty = λ h. (record { request = request; asked = asked; refused = refused }, record { written = nothing.written; sound = sound_told before after nothing.sound });
           refused = λ h. absurd (omega arith);
           unmatched = λ h. absurd (h asked.0);
           memory = λ h. absurd (omega arith);
           failed = λ h. absurd (omega arith);
           cut = λ h. absurd (omega arith);
           unwritten = λ h. nothing.written;
-          noticed = neither after nothing.sound;
+          noticed = neither after (sound_told before after nothing.sound);
           told = λ h. inl tells;
         }
         case (inr (inl (is, part, sound))) = record {
@@ -242,11 +259,11 @@ module _ (shelf : Tellings) (words : List (List ℕ)) (before after : State) (ol
           faulty = λ h. absurd (omega arith);
           refused = λ h. absurd (omega arith);
           unmatched = λ h. absurd (h asked.0);
-          memory = λ h. (⊎_elim (λ same. inl same) (λ report. inr (record { request = request; asked = asked; part = report })) part, sound);
+          memory = λ h. (⊎_elim (λ same. inl same) (λ report. inr (record { request = request; asked = asked; part = report })) part, sound_told before after sound);
           failed = λ h. absurd (omega arith);
           cut = λ h. absurd (omega arith);
-          unwritten = λ h. neither after sound (inl h);
-          noticed = neither after sound;
+          unwritten = λ h. neither after (sound_told before after sound) (inl h);
+          noticed = neither after (sound_told before after sound);
           told = λ h. inl tells;
         }
         case (inr (inr (is, why, part, kept))) = record {
@@ -271,7 +288,7 @@ module _ (shelf : Tellings) (words : List (List ℕ)) (before after : State) (ol
     asks_help text (inr (version, same)) = inr version
 
     -- help was written
-    ends_helped : (text : List ℕ) → AsksText words text → status ≡ 0 → Shows text before after old new → Ends shelf words status before after old new
+    ends_helped : (text : List ℕ) → AsksText words text → status ≡ 0 → Shows text before after → Ends shelf words at_terminal status before after
     ends_helped text help is shows = record {
       known = omega arith;
       done = λ h. inr (record { text = text; asked = help; written = shows.written; unread = shows.unread }, shows.quiet);
@@ -288,7 +305,7 @@ module _ (shelf : Tellings) (words : List (List ℕ)) (before after : State) (ol
     }
 
     -- a prefix of it was
-    ends_cut : (text : List ℕ) → AsksText words text → status ≡ 4 → ShowsInPart text before after old new → Ends shelf words status before after old new
+    ends_cut : (text : List ℕ) → AsksText words text → status ≡ 4 → ShowsInPart text before after → Ends shelf words at_terminal status before after
     ends_cut text help is shows =
         let part : HelpsInPart words before after = record { text = text; asked = help; written = shows.written; unread = shows.unread } in
         record {
@@ -307,9 +324,9 @@ module _ (shelf : Tellings) (words : List (List ℕ)) (before after : State) (ol
         }
 
     -- the words are refused
-    ends_refused : (text : List ℕ) → AreRefusedWords words → status ≡ 2 → IsUntouched before after → TellsText text old new → Ends shelf words status before after old new
+    ends_refused : (text : List ℕ) → AreRefusedWords words → status ≡ 2 → IsUntouched before after → PutsBytes text before.errors after.errors → Ends shelf words at_terminal status before after
     ends_refused text refused is untouched told =
-        let tells : TellsRefusal words before after old new = record { refused = refused; untouched = untouched; text = text; told = told } in
+        let tells : TellsRefusal words before after = record { refused = refused; untouched = untouched; text = text; told = told } in
         record {
           known = omega arith;
           done = λ h. absurd (omega arith);
@@ -326,7 +343,7 @@ module _ (shelf : Tellings) (words : List (List ℕ)) (before after : State) (ol
         }
 
     -- memory was refused while the words were read
-    pub ends_unread : status ≡ 3 → IsUntouched before after → TellsText (error_line command.Memory) old new → Ends shelf words status before after old new
+    pub ends_unread : status ≡ 3 → IsUntouched before after → PutsBytes (error_line command.Memory) before.errors after.errors → Ends shelf words at_terminal status before after
     ends_unread is untouched told = record {
       known = omega arith;
       done = λ h. absurd (omega arith);
@@ -343,7 +360,7 @@ module _ (shelf : Tellings) (words : List (List ℕ)) (before after : State) (ol
     }
 
     -- the words ask for nothing that can be done
-    pub ends_answered : (fault : WordsFault) → RefusesWords words fault → Answers fault status before after old new → Ends shelf words status before after old new
+    pub ends_answered : (fault : WordsFault) → RefusesWords words fault → Answers fault status before after → Ends shelf words at_terminal status before after
     ends_answered (words_fault.Help text) help (inl h) = ends_helped (string_bytes text) help h.0 h.1
     ends_answered (words_fault.Help text) help (inr h) = ends_cut (string_bytes text) help h.0 h.1
     ends_answered (words_fault.Refused text) refused h = ends_refused (string_bytes text) refused h.0 h.1 h.2

@@ -1,6 +1,7 @@
 -- Why no whole report was written, from what the run answers.
 use Rattle.std.proofs.Common.{◌≡◌, ◌↔◌, ℕ, List, [], Option, Result, Ok, Err, Bool, true, false, inl, inr, refl}
 use Rattle.std.proofs.lemmas.List.{append-nil}
+use Rattle.watched.specs.Streams.{Streams}
 use Rattle.census_bundle.specs.declared.bundle.Folder.{Folder}
 use Rattle.census_crew.specs.Bytes.{ReadsBundle, ReadsFolders}
 use Rattle.census_crew.specs.Writing.{WritesPrefix, WritesReport}
@@ -22,7 +23,7 @@ use Rattle.census_errors.specs.declared.run_error.RunError.{RunError}
 use Rattle.census_errors.specs.declared.run_error.RunError.TheVariants as run
 use Rattle.census_command.specs.Keeps.{IsCut}
 use Rattle.census_folders.specs.Tellings.{Tellings}
-use Rattle.census_command.specs.Streams.{IsUntouched, State}
+use Rattle.census_command.specs.Streams.{IsUntouched}
 
 is_down : (failed : Bool) → (failed ≡ true → ⊥) → failed ≡ false
 is_down true raised = absurd (raised refl)
@@ -32,22 +33,22 @@ is_down false raised = refl
 pub read_whole : (bundle : List Folder) (failed : Bool) → (◌≡◌ {A = Result (List Folder) BytesFault} (Ok bundle) (Err Read)) ↔ (failed ≡ true) → failed ≡ false
 read_whole bundle failed reads = is_down failed (λ e. let h = reads.1 e in cc)
 
-module _ (question : Question) (before after : State) where
+module _ (question : Question) (before after : Streams) where
   -- why there is no bundle
-  pub input_stops : (fault : BytesFault) → (◌≡◌ {A = Result (List Folder) BytesFault} (Err fault) (Err Read)) ↔ (after.read_failed ≡ true)
-      → ReadsBundle before.unread after.unread (Err fault) → after.written ≡ before.written → after.write_failed ≡ false
+  pub input_stops : (fault : BytesFault) → (◌≡◌ {A = Result (List Folder) BytesFault} (Err fault) (Err Read)) ↔ (after.input.failed ≡ true)
+      → ReadsBundle before.input.unread after.input.unread (Err fault) → after.output.written ≡ before.output.written → after.output.failed ≡ false
       → InputFails (run_error_of_bytes fault) question before after
   input_stops Read reads read same down = record { written = same; read = reads.0 refl; write = down }
   input_stops TooLong reads read same down =
-      (read, record { written = same; sound = record { read = is_down after.read_failed (λ e. let h = reads.1 e in cc); write = down } })
+      (read, record { written = same; sound = record { read = is_down after.input.failed (λ e. let h = reads.1 e in cc); write = down } })
   input_stops (Bundle fault) reads read same down =
-      (read, record { written = same; sound = record { read = is_down after.read_failed (λ e. let h = reads.1 e in cc); write = down } })
-  input_stops Memory reads read same down = (inl same, record { read = is_down after.read_failed (λ e. let h = reads.1 e in cc); write = down })
+      (read, record { written = same; sound = record { read = is_down after.input.failed (λ e. let h = reads.1 e in cc); write = down } })
+  input_stops Memory reads read same down = (inl same, record { read = is_down after.input.failed (λ e. let h = reads.1 e in cc); write = down })
   input_stops Write reads read same down = absurd read
 
   -- why there is no whole report of it
-  pub input_fails : (bundle : List Folder) (fault : RunFault) → FitsFault {A = Tally} (Err fault) after.write_failed
-      → ReadsFolders before.unread after.unread bundle → WritesPrefix before.written after.written bundle question → after.read_failed ≡ false
+  pub input_fails : (bundle : List Folder) (fault : RunFault) → FitsFault {A = Tally} (Err fault) after.output.failed
+      → ReadsFolders before.input.unread after.input.unread bundle → WritesPrefix before.output.written after.output.written bundle question → after.input.failed ≡ false
       → InputFails (run_error_of_run fault) question before after
   input_fails bundle (runs.Memory ticket) fits read front down = (inr (record { bundle = bundle; read = read; front = front }), record { read = down; write = fits })
   input_fails bundle runs.Write fits read front down = (record { bundle = bundle; read = read; front = front }, record { read = down; write = fits })
@@ -65,7 +66,7 @@ no_write source.TooMany is = absurd cc
 no_write source.Memory is = absurd cc
 
 module _ (shelf : Tellings) (asked : Asked) (question : Question) where
-  pub folders_stop : (error : RunError) (before after : State) → FailsInFolders shelf asked error → IsUntouched before after → FoldersFail error shelf asked question before after
+  pub folders_stop : (error : RunError) (before after : Streams) → FailsInFolders shelf asked error → IsUntouched before after → FoldersFail error shelf asked question before after
   folders_stop (run.Bundle fault) before after fails untouched = (fails, untouched)
   folders_stop (run.Folder fault) before after fails untouched = (fails, untouched)
   folders_stop run.TooLong before after fails untouched = (fails, untouched)
@@ -73,13 +74,13 @@ module _ (shelf : Tellings) (asked : Asked) (question : Question) where
   folders_stop run.Read before after fails untouched = (fails, untouched)
   folders_stop run.Write before after fails untouched = no_write fails.fault fails.is
 
-  pub folders_fail : (before after : State) (fault : RunFault) → ReportsFoldersInPart shelf asked question before after → after.read_failed ≡ false
-      → FitsFault {A = Tally} (Err fault) after.write_failed → FoldersFail (run_error_of_run fault) shelf asked question before after
+  pub folders_fail : (before after : Streams) (fault : RunFault) → ReportsFoldersInPart shelf asked question before after → after.input.failed ≡ false
+      → FitsFault {A = Tally} (Err fault) after.output.failed → FoldersFail (run_error_of_run fault) shelf asked question before after
   folders_fail before after (runs.Memory ticket) part down fits = inr (part, record { read = down; write = fits })
   folders_fail before after runs.Write part down fits = (part, record { read = down; write = fits })
 
 -- out of memory, or standard output has failed
-pub is_cut : (fault : RunFault) (after : State) → after.read_failed ≡ false → FitsFault {A = Tally} (Err fault) after.write_failed → IsCut (run_error_of_run fault) after
+pub is_cut : (fault : RunFault) (after : Streams) → after.input.failed ≡ false → FitsFault {A = Tally} (Err fault) after.output.failed → IsCut (run_error_of_run fault) after
 is_cut (runs.Memory ticket) after down fits = record { read = down; write = fits }
 is_cut runs.Write after down fits = record { read = down; write = fits }
 

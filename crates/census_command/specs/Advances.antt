@@ -1,6 +1,7 @@
 -- What `advance` reads and writes, and what each of its errors says.
 use Rattle.std.specs.Prelude.{◌≡◌, ℕ, ◌≤◌, List, length, Ok, Option, None, Some, []}
 use Rattle.std.specs.Io.KnownBytes.{Appends}
+use Rattle.watched.specs.Streams.{Streams}
 use Rattle.watched.specs.Watching.{AppendsFront, ConsumesMoreThan}
 use Rattle.census_bundle.specs.Sizes.{input_limit}
 use Rattle.census_crew.specs.Bytes.{ReadsText}
@@ -15,7 +16,7 @@ use Rattle.census_faults.specs.Spots.{spot_of_text}
 use Rattle.census_faults.specs.declared.fault.Fault.{Fault}
 use Rattle.census_faults.specs.declared.spot.Spot.{Spot}
 use Rattle.census_folders.specs.Tellings.{Tellings}
-use Rattle.census_command.specs.Streams.{IsUntouched, ReadFails, State, WriteFails, WritesNothing}
+use Rattle.census_command.specs.Streams.{IsUntouched, ReadFails, WriteFails, WritesNothing}
 use Rattle.census_errors.specs.declared.advance_error.AdvanceError.{AdvanceError}
 use Rattle.census_errors.specs.declared.advance_error.AdvanceError.TheVariants.{Text, TooLong, Memory, Read, Write}
 
@@ -49,33 +50,33 @@ RefusesText error text = ⊥
 -- # Standard input
 
 -- Standard input is a text that means a pattern, and the text of generation n of that pattern was written.
-pub record Advances (n : ℕ) (before after : State) : Type 0 where
+pub record Advances (n : ℕ) (before after : Streams) : Type 0 where
   pub text : List ℕ
   pub pattern : Picture
-  pub read : ReadsText before.unread after.unread text
+  pub read : ReadsText before.input.unread after.input.unread text
   pub means : picture_of (reading text) ≡ Ok pattern
-  pub written : Appends before.written after.written (advanced_text pattern n)
+  pub written : Appends before.output.written after.output.written (advanced_text pattern n)
 
 -- as far as the writer took it
-pub record AdvancesInPart (n : ℕ) (before after : State) : Type 0 where
+pub record AdvancesInPart (n : ℕ) (before after : Streams) : Type 0 where
   pub text : List ℕ
   pub pattern : Picture
-  pub read : ReadsText before.unread after.unread text
+  pub read : ReadsText before.input.unread after.input.unread text
   pub means : picture_of (reading text) ≡ Ok pattern
-  pub written : AppendsFront before.written after.written (advanced_text pattern n)
+  pub written : AppendsFront before.output.written after.output.written (advanced_text pattern n)
 
 -- standard input, read to its end, has this fault, and this is said of it
-pub record HasRleFault (fault : RleFault) (told : Fault) (spot : Spot) (before after : State) : Type 0 where
+pub record HasRleFault (fault : RleFault) (told : Fault) (spot : Spot) (before after : Streams) : Type 0 where
   pub text : List ℕ
-  pub read : ReadsText before.unread after.unread text
+  pub read : ReadsText before.input.unread after.input.unread text
   pub refused : IsRefusedText text fault told spot
 
 -- more was read than one text may have
-abbrev pub ReadsTooMuch : State → State → Type 0
-ReadsTooMuch before after = ConsumesMoreThan input_limit before.unread after.unread
+abbrev pub ReadsTooMuch : Streams → Streams → Type 0
+ReadsTooMuch before after = ConsumesMoreThan input_limit before.input.unread after.input.unread
 
 -- Why generation n was not written. Where the writer didn't fail, nothing was.
-abbrev pub AdvanceFails : AdvanceError → ℕ → State → State → Type 0
+abbrev pub AdvanceFails : AdvanceError → ℕ → Streams → Streams → Type 0
 AdvanceFails (Text fault told spot) n before after = HasRleFault fault told spot before after × WritesNothing before after
 AdvanceFails TooLong n before after = ReadsTooMuch before after × WritesNothing before after
 AdvanceFails Memory n before after = WritesNothing before after
@@ -86,24 +87,24 @@ AdvanceFails Write n before after = AdvancesInPart n before after × WriteFails 
 
 -- The file is a text that means a pattern, as the shelf tells, and the text of generation n of that pattern was written.
 -- Nothing was read from standard input.
-pub record AdvancesFile (shelf : Tellings) (path : List ℕ) (n : ℕ) (before after : State) : Type 0 where
+pub record AdvancesFile (shelf : Tellings) (path : List ℕ) (n : ℕ) (before after : Streams) : Type 0 where
   pub text : List ℕ
   pub pattern : Picture
   pub told : GivesTold (shelf.held [] path) text
   pub within : length text ≤ input_limit
   pub means : picture_of (reading text) ≡ Ok pattern
-  pub written : Appends before.written after.written (advanced_text pattern n)
-  pub unread : after.unread ≡ before.unread
+  pub written : Appends before.output.written after.output.written (advanced_text pattern n)
+  pub unread : after.input.unread ≡ before.input.unread
 
 -- as far as the writer took it
-pub record AdvancesFileInPart (shelf : Tellings) (path : List ℕ) (n : ℕ) (before after : State) : Type 0 where
+pub record AdvancesFileInPart (shelf : Tellings) (path : List ℕ) (n : ℕ) (before after : Streams) : Type 0 where
   pub text : List ℕ
   pub pattern : Picture
   pub told : GivesTold (shelf.held [] path) text
   pub within : length text ≤ input_limit
   pub means : picture_of (reading text) ≡ Ok pattern
-  pub written : AppendsFront before.written after.written (advanced_text pattern n)
-  pub unread : after.unread ≡ before.unread
+  pub written : AppendsFront before.output.written after.output.written (advanced_text pattern n)
+  pub unread : after.input.unread ≡ before.input.unread
 
 -- the file has this fault, as the shelf tells, and this is said of it
 pub record HasFileFault (fault : RleFault) (told : Fault) (spot : Spot) (shelf : Tellings) (path : List ℕ) : Type 0 where
@@ -112,7 +113,7 @@ pub record HasFileFault (fault : RleFault) (told : Fault) (spot : Spot) (shelf :
   pub refused : IsRefusedText text fault told spot
 
 -- Why generation n was not written. Where the writer didn't fail, nothing was.
-abbrev pub AdvanceFileFails : AdvanceError → Tellings → List ℕ → ℕ → State → State → Type 0
+abbrev pub AdvanceFileFails : AdvanceError → Tellings → List ℕ → ℕ → Streams → Streams → Type 0
 AdvanceFileFails (Text fault told spot) shelf path n before after = HasFileFault fault told spot shelf path × IsUntouched before after
 AdvanceFileFails TooLong shelf path n before after = MayExceed input_limit (shelf.held [] path) × IsUntouched before after
 AdvanceFileFails Memory shelf path n before after = IsUntouched before after
@@ -121,14 +122,14 @@ AdvanceFileFails Write shelf path n before after = AdvancesFileInPart shelf path
 
 -- # Either
 
-abbrev pub AdvancesFrom : Tellings → Option (List ℕ) → ℕ → State → State → Type 0
+abbrev pub AdvancesFrom : Tellings → Option (List ℕ) → ℕ → Streams → Streams → Type 0
 AdvancesFrom shelf None n before after = Advances n before after
 AdvancesFrom shelf (Some path) n before after = AdvancesFile shelf path n before after
 
-abbrev pub AdvancesFromInPart : Tellings → Option (List ℕ) → ℕ → State → State → Type 0
+abbrev pub AdvancesFromInPart : Tellings → Option (List ℕ) → ℕ → Streams → Streams → Type 0
 AdvancesFromInPart shelf None n before after = AdvancesInPart n before after
 AdvancesFromInPart shelf (Some path) n before after = AdvancesFileInPart shelf path n before after
 
-abbrev pub AdvanceFromFails : AdvanceError → Tellings → Option (List ℕ) → ℕ → State → State → Type 0
+abbrev pub AdvanceFromFails : AdvanceError → Tellings → Option (List ℕ) → ℕ → Streams → Streams → Type 0
 AdvanceFromFails error shelf None n before after = AdvanceFails error n before after
 AdvanceFromFails error shelf (Some path) n before after = AdvanceFileFails error shelf path n before after

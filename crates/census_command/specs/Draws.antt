@@ -1,6 +1,7 @@
 -- What `draw` writes, and what each of its errors says.
 use Rattle.std.specs.Prelude.{◌≡◌, ℕ, List, Ok, Err, Some, None}
 use Rattle.std.specs.Io.KnownBytes.{Appends}
+use Rattle.watched.specs.Streams.{Streams}
 use Rattle.watched.specs.Watching.{AppendsFront}
 use Rattle.life_model.specs.Rule.{Rule}
 use Rattle.life_model.specs.Symmetry.{normal}
@@ -8,7 +9,7 @@ use Rattle.life_cells.specs.Rules.{rule_of}
 use Rattle.life_shape.specs.Reading as wechsler
 use Rattle.life_shape.specs.TextOrder.{body_of}
 use Rattle.life_text.specs.RleText.{rle_text}
-use Rattle.census_command.specs.Streams.{IsUntouched, State, WriteFails}
+use Rattle.census_command.specs.Streams.{IsUntouched, WriteFails}
 use Rattle.census_errors.specs.declared.draw_error.DrawError.{DrawError}
 use Rattle.census_errors.specs.declared.draw_error.DrawError.TheVariants.{Rule as RuleText, Code, Memory, Write}
 
@@ -37,20 +38,20 @@ RefusesCode Memory drawing = Unit {0}
 RefusesCode Write drawing = ⊥
 
 -- The code's RLE text is what was written, and nothing was read.
-pub record Draws (drawing : Drawing) (before after : State) : Type 0 where
+pub record Draws (drawing : Drawing) (before after : Streams) : Type 0 where
   pub text : List ℕ
   pub drawn : IsDrawn drawing text
-  pub written : Appends before.written after.written text
-  pub unread : after.unread ≡ before.unread
+  pub written : Appends before.output.written after.output.written text
+  pub unread : after.input.unread ≡ before.input.unread
 
 -- as far as the writer took it
-pub record DrawsInPart (drawing : Drawing) (before after : State) : Type 0 where
+pub record DrawsInPart (drawing : Drawing) (before after : Streams) : Type 0 where
   pub text : List ℕ
   pub drawn : IsDrawn drawing text
-  pub written : AppendsFront before.written after.written text
-  pub unread : after.unread ≡ before.unread
+  pub written : AppendsFront before.output.written after.output.written text
+  pub unread : after.input.unread ≡ before.input.unread
 
 -- Why the code's RLE text was not written. Where the writer didn't fail, nothing was.
-abbrev pub DrawFails : DrawError → Drawing → State → State → Type 0
+abbrev pub DrawFails : DrawError → Drawing → Streams → Streams → Type 0
 DrawFails Write drawing before after = DrawsInPart drawing before after × WriteFails after
 DrawFails error drawing before after = RefusesCode error drawing × IsUntouched before after

@@ -1,5 +1,6 @@
 -- What the gate is told.
 use Rattle.std.specs.Prelude.{◌≡◌, ◌⊎◌, ℕ, Bool, true, false, List, Option, map}
+use Rattle.watched.specs.Streams.{Reader}
 use Rattle.census_bundle.specs.declared.bundle.Folder.{Folder}
 use Rattle.census_cli.specs.Asking.{Asks, AsksForQuiet}
 use Rattle.census_cli.specs.Refusing.{AsksHelp}
@@ -15,7 +16,6 @@ use Rattle.census_folders.specs.Tellings.{Tellings}
 use Rattle.census_folders.specs.declared.reading.Kept.{Kept}
 use Rattle.census_command.specs.Asking.{AsksForNone}
 use Rattle.census_command.specs.Keeps.{StopsKeeping}
-use Rattle.census_command.specs.Streams.{State}
 
 -- what a gate was told, as far as it tells that
 abbrev pub Heard : Type 0
@@ -29,7 +29,7 @@ HearsBundle true bundle old new = new ≡ old
 HearsBundle false bundle old new = Hears old new (news_of bundle)
 
 -- standard input, read to its end, is the text of a bundle, and the gate was told of its run
-pub record HearsInput (quiet : Bool) (before after : State) (old new : Heard) : Type 0 where
+pub record HearsInput (quiet : Bool) (before after : Reader) (old new : Heard) : Type 0 where
   pub bundle : List Folder
   pub read : ReadsFolders before.unread after.unread bundle
   pub heard : HearsBundle quiet bundle old new
@@ -41,7 +41,7 @@ pub record HearsFolders (shelf : Tellings) (asked : Asked) (quiet : Bool) (old n
   pub heard : HearsBundle quiet kept.bundle old new
 
 -- the gate was told of the run of what comes from there
-abbrev pub HearsRun : Tellings → Source → Bool → State → State → Heard → Heard → Type 0
+abbrev pub HearsRun : Tellings → Source → Bool → Reader → Reader → Heard → Heard → Type 0
 HearsRun shelf Input quiet before after old new = HearsInput quiet before after old new
 HearsRun shelf (Folders asked) quiet before after old new = HearsFolders shelf asked quiet old new
 
@@ -54,7 +54,7 @@ HearsKept shelf asked quiet status old new =
 -- # Of what is asked for
 
 -- of the run, where a census is asked for, and else nothing
-abbrev pub HearsRequest : Tellings → Request → Bool → State → State → Heard → Heard → Type 0
+abbrev pub HearsRequest : Tellings → Request → Bool → Reader → Reader → Heard → Heard → Type 0
 HearsRequest shelf (Run bound workers cells input recursive keep_going folders) quiet before after old new =
     HearsRun shelf (source_of (record { limit = input; recursive = recursive; keep_going = keep_going; words = map (λ s. s.now) folders.items })) quiet before after old new
 HearsRequest shelf (Objects bound workers cells near horizon input recursive keep_going folders) quiet before after old new =
@@ -62,7 +62,7 @@ HearsRequest shelf (Objects bound workers cells near horizon input recursive kee
 HearsRequest shelf request quiet before after old new = new ≡ old
 
 -- The words ask for this, and the gate was told of it; with `--no-progress`, nothing.
-pub record HearsAsked (shelf : Tellings) (words : List (List ℕ)) (before after : State) (old new : Heard) : Type 0 where
+pub record HearsAsked (shelf : Tellings) (words : List (List ℕ)) (before after : Reader) (old new : Heard) : Type 0 where
   pub request : Request
   pub asked : Asks words request
   pub quiet : Bool
@@ -74,6 +74,6 @@ abbrev pub AskForNoCensus : List (List ℕ) → Type 0
 AskForNoCensus words = ((request : Request) × Asks words request × AsksForNone request) ⊎ AsksHelp words
 
 -- What the gate was told, by the exit status: where a census was done, of its run; and else of it, or nothing.
-abbrev pub HearsOutcome : Tellings → List (List ℕ) → ℕ → State → State → Heard → Heard → Type 0
+abbrev pub HearsOutcome : Tellings → List (List ℕ) → ℕ → Reader → Reader → Heard → Heard → Type 0
 HearsOutcome shelf words status before after old new =
     HearsAsked shelf words before after old new ⊎ ((status ≡ 0 → AskForNoCensus words) × (new ≡ old))

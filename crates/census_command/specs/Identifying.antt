@@ -1,7 +1,7 @@
 -- What patterns are, told with the names of codes.
 use Rattle.std.specs.Prelude.{◌≡◌, ◌⊎◌, ℕ, Bool, true, false, List, [], ◌∷◌, Option, None, Some, Ok, Err}
+use Rattle.watched.specs.Streams.{Streams}
 use Rattle.census_identify.specs.declared.blocks.inquiry.Inquiry.{Inquiry}
-use Rattle.census_errors.specs.ErrorStreams.{Errors}
 use Rattle.census_facts.specs.declared.form.Form.{Form}
 use Rattle.census_facts.specs.declared.form.Form.TheVariants as facts
 use Rattle.census_folders.specs.Told.{Told}
@@ -14,19 +14,19 @@ use Rattle.census_reports.specs.Errors as reports
 use Rattle.census_reports.specs.Texts.{RefusesWord}
 use Rattle.census_reports.specs.declared.error.ReportsError.{ReportsError}
 use Rattle.census_reports.specs.declared.error.ReportsError.TheVariants.{Memory, Names}
-use Rattle.census_command.specs.Remakes.{TellsOfReports, both_streams}
-use Rattle.census_command.specs.Streams.{State, all_streams}
+use Rattle.census_command.specs.Remakes.{TellsOfReports}
+use Rattle.census_command.specs.Streams.{untold}
 
 -- how an answer is told
 abbrev pub form_told : Bool → Form
 form_told true = facts.Json
 form_told false = facts.Lines
 
--- a word has this text, which was read, and nothing was written
-abbrev pub ReadsText : (List ℕ → Told) → List ℕ → List ℕ → State → State → Type 0
+-- a word has this text, which was read, and nothing was written or told
+abbrev pub ReadsText : (List ℕ → Told) → List ℕ → List ℕ → Streams → Streams → Type 0
 ReadsText held word text before after =
-    Hears held word (heard.Text text) (both_streams before).input (both_streams after).input
-    × ((both_streams after).output ≡ (both_streams before).output)
+    Hears held word (heard.Text text) before.input after.input
+    × (after.output ≡ before.output) × (after.errors ≡ before.errors)
 
 -- the text has no names, for this error
 abbrev pub HasNoNames : ReportsError → List ℕ → Type 0
@@ -34,43 +34,43 @@ HasNoNames (Names line) text = names_in text ≡ Err line
 HasNoNames Memory text = Unit {0}
 HasNoNames error text = ⊥
 
--- these are the names of the text of a word, which was read, and nothing was written
-abbrev pub ReadsNames : (List ℕ → Told) → List ℕ → List Entry → State → State → Type 0
+-- these are the names of the text of a word, which was read, and nothing was written or told
+abbrev pub ReadsNames : (List ℕ → Told) → List ℕ → List Entry → Streams → Streams → Type 0
 ReadsNames held word names before after =
     (text : List ℕ) × ReadsText held word text before after × (names_in text ≡ Ok names)
 
--- the text of a word was not read, for this error, and nothing was written
-abbrev pub LacksText : ReportsError → (List ℕ → Told) → List ℕ → State → State → Type 0
+-- the text of a word was not read, for this error, and nothing was written or told
+abbrev pub LacksText : ReportsError → (List ℕ → Told) → List ℕ → Streams → Streams → Type 0
 LacksText error held word before after =
-    RefusesWord error held word (both_streams before).input (both_streams after).input
-    × ((both_streams after).output ≡ (both_streams before).output)
+    RefusesWord error held word before.input after.input
+    × (after.output ≡ before.output) × (after.errors ≡ before.errors)
 
 -- it was not read, or it was and has no names
-abbrev pub LacksNames : ReportsError → (List ℕ → Told) → List ℕ → State → State → Type 0
+abbrev pub LacksNames : ReportsError → (List ℕ → Told) → List ℕ → Streams → Streams → Type 0
 LacksNames error held word before after =
     LacksText error held word before after
     ⊎ ((text : List ℕ) × ReadsText held word text before after × HasNoNames error text)
 
 -- The names of the text of a word were read, and then it was told what the patterns of these files are.
 pub record IdentifiesWith (held : List ℕ → Told) (inquiry : Inquiry) (word : List ℕ) (files : List (List ℕ))
-    (status : ℕ) (before after : State) (old new : Errors) : Type 0 where
+    (status : ℕ) (before after : Streams) : Type 0 where
   pub names : List Entry
   -- the streams once the names were read
-  pub reached : State
+  pub reached : Streams
   pub read : ReadsNames held word names before reached
-  pub identifies : Identifies held inquiry names files status (all_streams reached old) (all_streams after new)
+  pub identifies : Identifies held inquiry names files status reached after
 
 -- There are no names, for an error that was told.
 pub record MissesNames (held : List ℕ → Told) (word : List ℕ) (explain : Bool) (status : ℕ)
-    (before after : State) (old new : Errors) : Type 0 where
+    (before after : Streams) : Type 0 where
   pub error : ReportsError
   pub status_is : status ≡ reports.status_of error
-  pub why : LacksNames error held word before after
-  pub told : TellsOfReports held (word ∷ []) error explain old new
+  pub why : LacksNames error held word before (untold before after)
+  pub told : TellsOfReports held (word ∷ []) error explain before.errors after.errors
 
 -- it was told what patterns are, with the names of the text of a word, or with none where there is no word
-abbrev pub TellsPatterns : (List ℕ → Told) → Inquiry → Option (List ℕ) → List (List ℕ) → Bool → ℕ → State → State → Errors → Errors → Type 0
-TellsPatterns held inquiry None files explain status before after old new =
-    Identifies held inquiry [] files status (all_streams before old) (all_streams after new)
-TellsPatterns held inquiry (Some word) files explain status before after old new =
-    IdentifiesWith held inquiry word files status before after old new ⊎ MissesNames held word explain status before after old new
+abbrev pub TellsPatterns : (List ℕ → Told) → Inquiry → Option (List ℕ) → List (List ℕ) → Bool → ℕ → Streams → Streams → Type 0
+TellsPatterns held inquiry None files explain status before after =
+    Identifies held inquiry [] files status before after
+TellsPatterns held inquiry (Some word) files explain status before after =
+    IdentifiesWith held inquiry word files status before after ⊎ MissesNames held word explain status before after

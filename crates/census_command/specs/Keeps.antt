@@ -1,6 +1,7 @@
 -- A census that goes on past what can't be read: what was lost, and what it says.
 use Rattle.std.specs.Prelude.{◌≡◌, ◌⊎◌, ℕ, Bool, List, [], ◌∷◌, ◌++◌, None, Some, codes}
 use Rattle.std.specs.List.{flat_map}
+use Rattle.watched.specs.Streams.{PutsBytes, Streams}
 use Rattle.life_answer.specs.declared.question.Question.{Question}
 use Rattle.census_crew.specs.Writing.{WritesPrefix, WritesReport}
 use Rattle.census_faults.specs.Printed.{printable_text}
@@ -14,8 +15,7 @@ use Rattle.census_errors.specs.Places.{kept_place}
 use Rattle.census_errors.specs.Sayings.{explained_at, run_fault, run_line, run_spot, said_if}
 use Rattle.census_command.specs.BesideReports.{IfExplained, SaysBesideReport}
 use Rattle.census_folders.specs.Tellings.{Tellings}
-use Rattle.census_errors.specs.ErrorStreams.{Errors, TellsText}
-use Rattle.census_command.specs.Streams.{HasSoundStreams, IsUntouched, State, WriteFails}
+use Rattle.census_command.specs.Streams.{HasSoundStreams, IsUntouched, WriteFails}
 use Rattle.census_errors.specs.declared.error.CommandError.TheVariants as command
 use Rattle.census_errors.specs.declared.run_error.RunError.{RunError}
 use Rattle.census_errors.specs.declared.run_error.RunError.TheVariants.{Memory, Write}
@@ -59,45 +59,45 @@ pub record KeptCensus : Type 0 where
 -- A report of what could be read was written, and a line was told for each loss, and then the lines that are said beside the
 -- report, where faults are explained. Nothing was read from standard input.
 pub record KeepsWhole (shelf : Tellings) (keeping : KeptCensus) (explain : Bool) (status : ℕ)
-    (before after : State) (old new : Errors) : Type 0 where
+    (before after : Streams) : Type 0 where
   pub kept : Kept
   pub read : Reads shelf keeping.asked kept
-  pub report : WritesReport before.written after.written kept.bundle keeping.question
-  pub unread : after.unread ≡ before.unread
+  pub report : WritesReport before.output.written after.output.written kept.bundle keeping.question
+  pub unread : after.input.unread ≡ before.input.unread
   pub sound : HasSoundStreams after
   pub lines : List ℕ
   pub said : IfExplained explain (SaysBesideReport shelf (Some keeping.asked) kept.bundle lines) lines
-  pub told : TellsText (lost_lines kept.lost ++ lines) old new
+  pub told : PutsBytes (lost_lines kept.lost ++ lines) before.errors after.errors
   pub status_is : status ≡ kept_status kept.lost
 
 -- out of memory, or standard output has failed
-abbrev pub IsCut : RunError → State → Type 0
+abbrev pub IsCut : RunError → Streams → Type 0
 IsCut (Memory ticket) after = HasSoundStreams after
 IsCut Write after = WriteFails after
 IsCut error after = ⊥
 
 -- A prefix of that report was written. A line was told for each loss, and then the error.
 pub record KeepsPart (shelf : Tellings) (keeping : KeptCensus) (explain : Bool) (status : ℕ)
-    (before after : State) (old new : Errors) : Type 0 where
+    (before after : Streams) : Type 0 where
   pub kept : Kept
   pub read : Reads shelf keeping.asked kept
-  pub part : WritesPrefix before.written after.written kept.bundle keeping.question
-  pub unread : after.unread ≡ before.unread
+  pub part : WritesPrefix before.output.written after.output.written kept.bundle keeping.question
+  pub unread : after.input.unread ≡ before.input.unread
   pub error : RunError
   pub cut : IsCut error after
-  pub told : TellsText (lost_lines kept.lost ++ cut_lines explain error) old new
+  pub told : PutsBytes (lost_lines kept.lost ++ cut_lines explain error) before.errors after.errors
   pub status_is : status ≡ run_status error
 
 -- Nothing was read or written, and the error was told.
 pub record KeepsNothing (shelf : Tellings) (keeping : KeptCensus) (explain : Bool) (status : ℕ)
-    (before after : State) (old new : Errors) : Type 0 where
+    (before after : Streams) : Type 0 where
   pub error : RunError
   pub why : StopsKeeping shelf keeping.asked error
   pub untouched : IsUntouched before after
-  pub told : TellsText (error_lines explain error) old new
+  pub told : PutsBytes (error_lines explain error) before.errors after.errors
   pub status_is : status ≡ run_status error
 
-abbrev pub Keeps : Tellings → KeptCensus → Bool → ℕ → State → State → Errors → Errors → Type 0
-Keeps shelf keeping explain status before after old new =
-    KeepsWhole shelf keeping explain status before after old new
-    ⊎ (KeepsPart shelf keeping explain status before after old new ⊎ KeepsNothing shelf keeping explain status before after old new)
+abbrev pub Keeps : Tellings → KeptCensus → Bool → ℕ → Streams → Streams → Type 0
+Keeps shelf keeping explain status before after =
+    KeepsWhole shelf keeping explain status before after
+    ⊎ (KeepsPart shelf keeping explain status before after ⊎ KeepsNothing shelf keeping explain status before after)

@@ -2,6 +2,7 @@
 use Rattle.std.specs.Prelude.{◌≡◌, ℕ, ◌≤◌, ◌<◌, ◌⊎◌, Bool, true, ◌||◌, List, [], ◌++◌, map, option_map, Option, None, Some, Err, string_bytes}
 use Rattle.std.specs.Io.KnownBytes.{Appends}
 use Rattle.std.specs.declared.io.ErrorKind.{ErrorKind}
+use Rattle.watched.specs.Streams.{PutsBytes, Streams}
 use Rattle.watched.specs.Watching.{AppendsFront}
 use Rattle.life_cells.specs.Rules.{rule_of}
 use Rattle.life_cells.specs.declared.rule.RuleFault.{RuleFault}
@@ -47,8 +48,7 @@ use Rattle.census_command.specs.Runs.{FailsInFolders, RunsInPart}
 use Rattle.census_errors.specs.Sayings.{line_said, said_if}
 use Rattle.census_folders.specs.Tellings.{Tellings}
 use Rattle.census_errors.specs.Sources.{Source, Input, Folders, source_of}
-use Rattle.census_errors.specs.ErrorStreams.{Errors, TellsIf, TellsText}
-use Rattle.census_command.specs.Streams.{all_streams, HasFailed, HasSoundStreams, IsUntouched, State, WriteFails, WritesNothing}
+use Rattle.census_command.specs.Streams.{HasFailed, HasSoundStreams, IsUntouched, TellsIf, WriteFails, WritesNothing, untold}
 use Rattle.census_errors.specs.declared.error.CommandError.{CommandError}
 use Rattle.census_errors.specs.declared.place.Place.{Place}
 use Rattle.census_errors.specs.declared.run_error.RunError.{RunError}
@@ -58,48 +58,48 @@ use Rattle.census_errors.specs.declared.error.CommandError.TheVariants as comman
 -- # What is explained
 
 -- Whether faults are explained: where the words ask for that, or where standard error is a terminal.
-pub record AreExplained (words : List (List ℕ)) (errors : Errors) (explain : Bool) : Type 0 where
+pub record AreExplained (words : List (List ℕ)) (at_terminal explain : Bool) : Type 0 where
   pub asked : Bool
   pub is_asked : AsksToExplain words asked
-  pub is : explain ≡ asked || errors.is_terminal
+  pub is : explain ≡ asked || at_terminal
 
 -- # What is done
 
 -- The words ask for something, and it was done. Where faults are explained, what is said beside it was told, and else
 -- nothing.
-pub record DoesAsked (shelf : Tellings) (words : List (List ℕ)) (before after : State) (old new : Errors) : Type 0 where
+pub record DoesAsked (shelf : Tellings) (words : List (List ℕ)) (at_terminal : Bool) (before after : Streams) : Type 0 where
   pub request : Request
   pub explain : Bool
   pub asked : Asks words request
-  pub explained : AreExplained words old explain
+  pub explained : AreExplained words at_terminal explain
   pub lines : List ℕ
-  pub done : Does shelf request explain lines before after
-  pub told : TellsIf explain lines old new
+  pub done : Does shelf request explain lines before (untold before after)
+  pub told : TellsIf explain lines before.errors after.errors
 
 -- The words ask for help or for the version, and a text that answers them was written; nothing was read.
-pub record Helps (words : List (List ℕ)) (before after : State) : Type 0 where
+pub record Helps (words : List (List ℕ)) (before after : Streams) : Type 0 where
   pub text : List ℕ
   pub asked : AsksText words text
-  pub written : Appends before.written after.written text
-  pub unread : after.unread ≡ before.unread
+  pub written : Appends before.output.written after.output.written text
+  pub unread : after.input.unread ≡ before.input.unread
 
 -- # What is refused
 
 -- The bundle on standard input has a fault or is too long, or one of the folders.
-abbrev pub RefusesCollections : Tellings → Source → State → State → Type 0
+abbrev pub RefusesCollections : Tellings → Source → Streams → Streams → Type 0
 RefusesCollections shelf Input before after =
-    ((fault : BundleFault) × ReadsFault before.unread after.unread fault) ⊎ ReadsTooMuch before after
+    ((fault : BundleFault) × ReadsFault before.input.unread after.input.unread fault) ⊎ ReadsTooMuch before after
 RefusesCollections shelf (Folders asked) before after = (error : RunError) × FailsInFolders shelf asked error × (run_status error ≡ 1)
 
 -- a file, or without one standard input, has a fault or is too long
-abbrev pub RefusesText : Tellings → Option (List ℕ) → State → State → Type 0
+abbrev pub RefusesText : Tellings → Option (List ℕ) → Streams → Streams → Type 0
 RefusesText shelf None before after =
     ((fault : RleFault) × (told : Fault) × (spot : Spot) × HasRleFault fault told spot before after) ⊎ ReadsTooMuch before after
 RefusesText shelf (Some path) before after =
     ((fault : RleFault) × (told : Fault) × (spot : Spot) × HasFileFault fault told spot shelf path) ⊎ MayExceed input_limit (shelf.held [] path)
 
 -- what a request is to be done with is refused
-abbrev pub RefusesInput : Tellings → Request → State → State → Type 0
+abbrev pub RefusesInput : Tellings → Request → Streams → Streams → Type 0
 RefusesInput shelf (Run bound workers cells input recursive keep_going folders) before after = RefusesCollections shelf (source_of (record { limit = input; recursive = recursive; keep_going = keep_going; words = map (λ s. s.now) folders.items })) before after
 RefusesInput shelf (Objects bound workers cells near horizon input recursive keep_going folders) before after = RefusesCollections shelf (source_of (record { limit = input; recursive = recursive; keep_going = keep_going; words = map (λ s. s.now) folders.items })) before after
 RefusesInput shelf (Advance generations file) before after = RefusesText shelf (file_of (option_map (λ s. s.now) file)) before after
@@ -109,36 +109,36 @@ RefusesInput shelf (Draw code rule) before after =
 RefusesInput shelf _ before after = ⊥
 
 -- The words ask for something whose input is refused.
-pub record IsFaulty (shelf : Tellings) (words : List (List ℕ)) (before after : State) : Type 0 where
+pub record IsFaulty (shelf : Tellings) (words : List (List ℕ)) (before after : Streams) : Type 0 where
   pub request : Request
   pub asked : Asks words request
-  pub refused : RefusesInput shelf request before after
+  pub refused : RefusesInput shelf request before (untold before after)
 
 -- # What is cut short
 
 -- The words ask for something, and it was done as far as the writer took it.
-pub record DoesAskedInPart (shelf : Tellings) (words : List (List ℕ)) (before after : State) : Type 0 where
+pub record DoesAskedInPart (shelf : Tellings) (words : List (List ℕ)) (before after : Streams) : Type 0 where
   pub request : Request
   pub asked : Asks words request
-  pub part : DoesInPart shelf request before after
+  pub part : DoesInPart shelf request before (untold before after)
 
 -- The words ask for help or for the version, and a prefix of a text that answers them was written; nothing was read.
-pub record HelpsInPart (words : List (List ℕ)) (before after : State) : Type 0 where
+pub record HelpsInPart (words : List (List ℕ)) (before after : Streams) : Type 0 where
   pub text : List ℕ
   pub asked : AsksText words text
-  pub written : AppendsFront before.written after.written text
-  pub unread : after.unread ≡ before.unread
+  pub written : AppendsFront before.output.written after.output.written text
+  pub unread : after.input.unread ≡ before.input.unread
 
-abbrev pub ReportsInPart : Tellings → Request → State → State → Type 0
+abbrev pub ReportsInPart : Tellings → Request → Streams → Streams → Type 0
 ReportsInPart shelf (Run bound workers cells input recursive keep_going folders) before after = RunsInPart shelf (source_of (record { limit = input; recursive = recursive; keep_going = keep_going; words = map (λ s. s.now) folders.items })) (question.Settles bound cells) before after
 ReportsInPart shelf (Objects bound workers cells near horizon input recursive keep_going folders) before after = RunsInPart shelf (source_of (record { limit = input; recursive = recursive; keep_going = keep_going; words = map (λ s. s.now) folders.items })) (question.Objects bound (Some cells) near horizon) before after
 ReportsInPart shelf request before after = ⊥
 
 -- The words ask for a census, and a prefix of its report was written.
-pub record ReportsAskedInPart (shelf : Tellings) (words : List (List ℕ)) (before after : State) : Type 0 where
+pub record ReportsAskedInPart (shelf : Tellings) (words : List (List ℕ)) (before after : Streams) : Type 0 where
   pub request : Request
   pub asked : Asks words request
-  pub part : ReportsInPart shelf request before after
+  pub part : ReportsInPart shelf request before (untold before after)
 
 -- a file may not be readable, as the shelf tells
 abbrev pub MissesFile : Tellings → Option (List ℕ) → Type 0
@@ -167,35 +167,35 @@ pub record MissesFolder (shelf : Tellings) (words : List (List ℕ)) : Type 0 wh
 
 -- The words ask for something that failed with this error. Its line was told, and where faults are explained one more, with
 -- its place as far as that is known.
-pub record FailsAsked (error : CommandError) (shelf : Tellings) (words : List (List ℕ)) (before after : State) (old new : Errors) : Type 0 where
+pub record FailsAsked (error : CommandError) (shelf : Tellings) (words : List (List ℕ)) (at_terminal : Bool) (before after : Streams) : Type 0 where
   pub request : Request
   pub explain : Bool
   pub asked : Asks words request
-  pub explained : AreExplained words old explain
-  pub fails : Fails error shelf request before after
+  pub explained : AreExplained words at_terminal explain
+  pub fails : Fails error shelf request before (untold before after)
   pub place : Place
   pub at : IsPlaceOf shelf request error place
-  pub lines : TellsText (error_line error ++ said_if explain (line_said request error place)) old new
+  pub lines : PutsBytes (error_line error ++ said_if explain (line_said request error place)) before.errors after.errors
 
 -- The words ask for nothing that can be done: memory was refused while they were read, or help could not be written.
-abbrev pub FailsReading : CommandError → List (List ℕ) → State → State → Type 0
+abbrev pub FailsReading : CommandError → List (List ℕ) → Streams → Streams → Type 0
 FailsReading command.Memory words before after = IsUntouched before after
 FailsReading command.Write words before after = HelpsInPart words before after × WriteFails after
 FailsReading error words before after = ⊥
 
 -- There was an error of this status, and it was told.
-pub record TellsError (shelf : Tellings) (words : List (List ℕ)) (status : ℕ) (before after : State) (old new : Errors) : Type 0 where
+pub record TellsError (shelf : Tellings) (words : List (List ℕ)) (at_terminal : Bool) (status : ℕ) (before after : Streams) : Type 0 where
   pub error : CommandError
   pub status_is : status ≡ status_of error
-  pub fails : FailsAsked error shelf words before after old new
-      ⊎ (FailsReading error words before after × TellsText (error_line error) old new)
+  pub fails : FailsAsked error shelf words at_terminal before after
+      ⊎ (FailsReading error words before after × PutsBytes (error_line error) before.errors after.errors)
 
 -- Clap refuses the words, and some text was told; nothing was read or written.
-pub record TellsRefusal (words : List (List ℕ)) (before after : State) (old new : Errors) : Type 0 where
+pub record TellsRefusal (words : List (List ℕ)) (before after : Streams) : Type 0 where
   pub refused : AreRefusedWords words
   pub untouched : IsUntouched before after
   pub text : List ℕ
-  pub told : TellsText text old new
+  pub told : PutsBytes text before.errors after.errors
 
 -- # What patterns are
 
@@ -229,7 +229,7 @@ IsRemaking (Same json reports) f reading files = (f ≡ form.Same json) × IsRea
 IsRemaking request f reading files = ⊥
 
 -- The words ask for what is made of reports. It was written, or an error ended it.
-pub record RemakesAsked (shelf : Tellings) (words : List (List ℕ)) (status : ℕ) (before after : State) (old new : Errors) : Type 0 where
+pub record RemakesAsked (shelf : Tellings) (words : List (List ℕ)) (at_terminal : Bool) (status : ℕ) (before after : Streams) : Type 0 where
   pub request : Request
   pub asked : Asks words request
   pub form : Form
@@ -237,8 +237,8 @@ pub record RemakesAsked (shelf : Tellings) (words : List (List ℕ)) (status : �
   pub files : List (List ℕ)
   pub is : IsRemaking request form reading files
   pub explain : Bool
-  pub explained : AreExplained words old explain
-  pub remakes : Remakes (shelf.held []) form reading files explain status before after old new
+  pub explained : AreExplained words at_terminal explain
+  pub remakes : Remakes (shelf.held []) form reading files explain status before after
 
 -- the request asks for this, made of these reports with the text of a word: a table with names, or what does not agree with claims
 abbrev pub IsBeside : Request → Beside → List ℕ → Reading → List (List ℕ) → Type 0
@@ -248,7 +248,7 @@ IsBeside (Verify claims reports) beside word reading files = (beside ≡ Claims)
 IsBeside request beside word reading files = ⊥
 
 -- The words ask for what is made of reports with a text that is read before them. It was written, or an error ended it.
-pub record BesideAsked (shelf : Tellings) (words : List (List ℕ)) (status : ℕ) (before after : State) (old new : Errors) : Type 0 where
+pub record BesideAsked (shelf : Tellings) (words : List (List ℕ)) (at_terminal : Bool) (status : ℕ) (before after : Streams) : Type 0 where
   pub request : Request
   pub asked : Asks words request
   pub beside : Beside
@@ -257,8 +257,8 @@ pub record BesideAsked (shelf : Tellings) (words : List (List ℕ)) (status : �
   pub files : List (List ℕ)
   pub is : IsBeside request beside word reading files
   pub explain : Bool
-  pub explained : AreExplained words old explain
-  pub remakes : RemakesWith (shelf.held []) beside word reading files explain status before after old new
+  pub explained : AreExplained words at_terminal explain
+  pub remakes : RemakesWith (shelf.held []) beside word reading files explain status before after
 
 -- # To go on past what can't be read
 
@@ -271,82 +271,81 @@ IsKeeping (Objects bound workers cells near horizon input recursive keep_going f
 IsKeeping request keeping = ⊥
 
 -- The words ask for such a census. What could be read was reported, or an error ended it.
-pub record KeepsAsked (shelf : Tellings) (words : List (List ℕ)) (status : ℕ) (before after : State) (old new : Errors) : Type 0 where
+pub record KeepsAsked (shelf : Tellings) (words : List (List ℕ)) (at_terminal : Bool) (status : ℕ) (before after : Streams) : Type 0 where
   pub request : Request
   pub asked : Asks words request
   pub keeping : KeptCensus
   pub is : IsKeeping request keeping
   pub explain : Bool
-  pub explained : AreExplained words old explain
-  pub keeps : Keeps shelf keeping explain status before after old new
+  pub explained : AreExplained words at_terminal explain
+  pub keeps : Keeps shelf keeping explain status before after
 
 -- # The exit status
 
--- What the exit status says of the words after the program's name, of standard input and output before and after, and
--- of standard error before and after.
-pub record Ends (shelf : Tellings) (words : List (List ℕ)) (status : ℕ) (before after : State) (old new : Errors) : Type 0 where
+-- What the exit status says of the words after the program's name, and of the standard streams before and after.
+pub record Ends (shelf : Tellings) (words : List (List ℕ)) (at_terminal : Bool) (status : ℕ) (before after : Streams) : Type 0 where
   pub known : status ≤ 4
-  pub done : status ≡ 0 → DoesAsked shelf words before after old new ⊎ (Helps words before after × (new ≡ old))
-  pub quiet : status ≡ 0 → (AreExplained words old true → ⊥) → new ≡ old
+  pub done : status ≡ 0 → DoesAsked shelf words at_terminal before after ⊎ (Helps words before after × (after.errors ≡ before.errors))
+  pub quiet : status ≡ 0 → (AreExplained words at_terminal true → ⊥) → after.errors ≡ before.errors
   pub faulty : status ≡ 1 → IsFaulty shelf words before after × WritesNothing before after
-  pub refused : status ≡ 2 → TellsRefusal words before after old new
+  pub refused : status ≡ 2 → TellsRefusal words before after
   pub unmatched : (IsMatched words → ⊥) → (status ≡ 2) ⊎ ((status ≡ 3) ⊎ AsksHelp words)
-  pub memory : status ≡ 3 → ((after.written ≡ before.written) ⊎ ReportsAskedInPart shelf words before after) × HasSoundStreams after
+  pub memory : status ≡ 3 → ((after.output.written ≡ before.output.written) ⊎ ReportsAskedInPart shelf words before after) × HasSoundStreams after
   pub failed : status ≡ 4 → HasFailed after ⊎ MissesFolder shelf words
-  pub cut : status ≡ 4 → (after.written ≡ before.written)
+  pub cut : status ≡ 4 → (after.output.written ≡ before.output.written)
       ⊎ (DoesAskedInPart shelf words before after ⊎ HelpsInPart words before after)
-  pub unwritten : after.read_failed ≡ true → after.written ≡ before.written
+  pub unwritten : after.input.failed ≡ true → after.output.written ≡ before.output.written
   pub noticed : HasFailed after → status ≡ 4
-  pub told : 0 < status → TellsError shelf words status before after old new ⊎ TellsRefusal words before after old new
+  pub told : 0 < status → TellsError shelf words at_terminal status before after ⊎ TellsRefusal words before after
 
 -- The words ask what patterns are. Each was told, or an error ended it.
-pub record IdentifiesAsked (shelf : Tellings) (words : List (List ℕ)) (status : ℕ) (before after : State) (old new : Errors) : Type 0 where
+pub record IdentifiesAsked (shelf : Tellings) (words : List (List ℕ)) (at_terminal : Bool) (status : ℕ) (before after : Streams) : Type 0 where
   pub inquiry : Inquiry
   pub word : Option (List ℕ)
   pub files : List (List ℕ)
   pub asked : AsksWhat words inquiry word files
   pub explain : Bool
-  pub explained : AreExplained words old explain
-  pub identifies : TellsPatterns (shelf.held []) inquiry word files explain status before after old new
+  pub explained : AreExplained words at_terminal explain
+  pub identifies : TellsPatterns (shelf.held []) inquiry word files explain status before after
 
 -- Words that ask what patterns are, or to go on past what can't be read, have outcomes of their own, since there one error
 -- doesn't end all; and so have those that ask for what is made of reports.
-abbrev pub Outcome : Tellings → List (List ℕ) → ℕ → State → State → Errors → Errors → Type 0
-Outcome shelf words status before after old new =
-    IdentifiesAsked shelf words status before after old new
-    ⊎ ((RemakesAsked shelf words status before after old new ⊎ BesideAsked shelf words status before after old new)
-    ⊎ (KeepsAsked shelf words status before after old new ⊎ Ends shelf words status before after old new))
+abbrev pub Outcome : Tellings → List (List ℕ) → Bool → ℕ → Streams → Streams → Type 0
+Outcome shelf words at_terminal status before after =
+    IdentifiesAsked shelf words at_terminal status before after
+    ⊎ ((RemakesAsked shelf words at_terminal status before after ⊎ BesideAsked shelf words at_terminal status before after)
+    ⊎ (KeepsAsked shelf words at_terminal status before after ⊎ Ends shelf words at_terminal status before after))
 
 -- The system gives no arguments, for an error of this kind. Nothing is read or written, and its line is told.
-pub record StopsUnread (kind : ErrorKind) (status : ℕ) (before after : State) (old new : Errors) : Type 0 where
+pub record StopsUnread (kind : ErrorKind) (status : ℕ) (before after : Streams) : Type 0 where
   pub error : CommandError
   pub is : IsArgumentsError kind error
   pub status_is : status ≡ status_of error
   pub untouched : IsUntouched before after
-  pub line : TellsText (error_line error) old new
+  pub line : PutsBytes (error_line error) before.errors after.errors
 
 -- # Words that ask for nothing that can be done
 
 -- the text was written, nothing was read, and nothing told
-pub record Shows (text : List ℕ) (before after : State) (old new : Errors) : Type 0 where
-  pub written : Appends before.written after.written text
-  pub unread : after.unread ≡ before.unread
+pub record Shows (text : List ℕ) (before after : Streams) : Type 0 where
+  pub written : Appends before.output.written after.output.written text
+  pub unread : after.input.unread ≡ before.input.unread
   pub sound : HasSoundStreams after
-  pub quiet : new ≡ old
+  pub quiet : after.errors ≡ before.errors
 
 -- as far as the writer took it, and this was told
-pub record ShowsInPart (text : List ℕ) (before after : State) (old new : Errors) : Type 0 where
-  pub written : AppendsFront before.written after.written text
-  pub unread : after.unread ≡ before.unread
+pub record ShowsInPart (text : List ℕ) (before after : Streams) : Type 0 where
+  pub written : AppendsFront before.output.written after.output.written text
+  pub unread : after.input.unread ≡ before.input.unread
   pub fails : WriteFails after
-  pub line : TellsText (error_line command.Write) old new
+  pub line : PutsBytes (error_line command.Write) before.errors after.errors
 
 -- Help goes to standard output, and a refusal to standard error, each by its own text.
-abbrev pub Answers : WordsFault → ℕ → State → State → Errors → Errors → Type 0
-Answers (Help text) status before after old new =
-    ((status ≡ 0) × Shows (string_bytes text) before after old new)
-    ⊎ ((status ≡ 4) × ShowsInPart (string_bytes text) before after old new)
-Answers (Refused text) status before after old new =
-    (status ≡ 2) × IsUntouched before after × TellsText (string_bytes text) old new
-Answers Memory status before after old new =
-    (status ≡ 3) × IsUntouched before after × TellsText (error_line command.Memory) old new
+abbrev pub Answers : WordsFault → ℕ → Streams → Streams → Type 0
+Answers (Help text) status before after =
+    ((status ≡ 0) × Shows (string_bytes text) before after)
+    ⊎ ((status ≡ 4) × ShowsInPart (string_bytes text) before after)
+Answers (Refused text) status before after =
+    (status ≡ 2) × IsUntouched before after × PutsBytes (string_bytes text) before.errors after.errors
+Answers Memory status before after =
+    (status ≡ 3) × IsUntouched before after × PutsBytes (error_line command.Memory) before.errors after.errors

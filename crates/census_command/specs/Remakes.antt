@@ -1,12 +1,12 @@
 -- What is made of reports that are read back, and what the exit status says of it.
 use Rattle.std.specs.Prelude.{◌≡◌, ◌⊎◌, ℕ, Bool, false, if◌then◌else◌, List, [], ◌∷◌, ◌++◌}
 use Rattle.std.specs.Borrow.{Bor}
+use Rattle.watched.specs.Streams.{PutsBytes, PutsMoreBytes, Sink, Streams}
 use Rattle.census_folders.specs.Told.{Told}
 use Rattle.census_identify.specs.Hearing.{Hears}
 use Rattle.census_identify.specs.declared.heard.Heard.TheVariants as heard
 use Rattle.census_reports.specs.Errors as reports
 use Rattle.census_reports.specs.Outcomes.{ReportsFail, WritesReports}
-use Rattle.census_reports.specs.Streams as two
 use Rattle.census_reports.specs.Texts.{RefusesWord}
 use Rattle.census_reports.specs.declared.error.ReportsError.{ReportsError}
 use Rattle.census_reports.specs.declared.form.Form.{Form}
@@ -19,30 +19,22 @@ use Rattle.census_errors.specs.Cuts.{cut_line}
 use Rattle.census_errors.specs.Messages.{error_line}
 use Rattle.census_errors.specs.Places.{IsReportsPlace}
 use Rattle.census_errors.specs.Sayings.{reports_line, said_if}
-use Rattle.census_errors.specs.ErrorStreams.{Errors, TellsMoreText, TellsText}
 use Rattle.census_command.specs.Forms.{form_beside}
-use Rattle.census_command.specs.Streams.{State}
+use Rattle.census_command.specs.Streams.{untold}
 use Rattle.census_command.specs.declared.forms.Beside.{Beside}
 use Rattle.census_errors.specs.declared.error.CommandError.TheVariants as command
 use Rattle.census_errors.specs.declared.place.Place.{Place}
 
--- standard input and standard output
-abbrev pub both_streams : State → two.Streams
-both_streams s = record {
-  input = record { unread = s.unread; failed = s.read_failed };
-  output = record { written = s.written; failed = s.write_failed };
-}
-
 -- One report of lawful reports of bundles, none of which was cut, is a lawful report of the bundles, one after another.
-abbrev pub KeepsLaw : Form → Reading → (List ℕ → Told) → List (List ℕ) → State → State → Type 0
+abbrev pub KeepsLaw : Form → Reading → (List ℕ → Told) → List (List ℕ) → Streams → Streams → Type 0
 KeepsLaw form.Merged reading held files before after =
-    reading.cut ≡ false → MergesLawfully reading.limit held files (both_streams before) (both_streams after)
+    reading.cut ≡ false → MergesLawfully reading.limit held files before after
 KeepsLaw _ reading held files before after = Unit {0}
 
 -- a line was told for each text that was cut, in their order; once standard error has failed the lines are lost
-abbrev pub TellsCuts : List Cut → Errors → Errors → Type 0
+abbrev pub TellsCuts : List Cut → Sink → Sink → Type 0
 TellsCuts [] old new = new ≡ old
-TellsCuts (cut ∷ cuts) old new = (next : Errors) × TellsMoreText (cut_line cut) old next × TellsCuts cuts next new
+TellsCuts (cut ∷ cuts) old new = (next : Sink) × PutsMoreBytes (cut_line cut) old next × TellsCuts cuts next new
 
 -- all was written; what was looked for was found or not
 abbrev pub found_status : Bool → ℕ
@@ -50,54 +42,55 @@ found_status found = if found then 5 else 0
 
 -- What is made of the reports of these files was written, and nothing was told but where texts were cut.
 pub record RemakesWhole (held : List ℕ → Told) (form : Form) (reading : Reading) (files : List (List ℕ)) (status : ℕ)
-    (before after : State) (old new : Errors) : Type 0 where
+    (before after : Streams) : Type 0 where
   pub written : Written
   pub status_is : status ≡ found_status written.found
-  pub done : WritesReports form reading written held files (both_streams before) (both_streams after)
-  pub lawful : KeepsLaw form reading held files before after
-  pub told : TellsCuts written.cuts.items old new
+  pub done : WritesReports form reading written held files before (untold before after)
+  pub lawful : KeepsLaw form reading held files before (untold before after)
+  pub told : TellsCuts written.cuts.items before.errors after.errors
 
 -- The line of an error of these files was told, and where faults are explained one more, with its place as far as that is known.
-pub record TellsOfReports (held : List ℕ → Told) (files : List (List ℕ)) (error : ReportsError) (explain : Bool) (old new : Errors) : Type 0 where
+pub record TellsOfReports (held : List ℕ → Told) (files : List (List ℕ)) (error : ReportsError) (explain : Bool) (old new : Sink) : Type 0 where
   pub place : Place
   pub at : IsReportsPlace held error place
-  pub lines : TellsText (error_line (command.Reports error) ++ said_if explain (reports_line files error place)) old new
+  pub lines : PutsBytes (error_line (command.Reports error) ++ said_if explain (reports_line files error place)) old new
 
 -- An error ended it, and was told.
 pub record RemakesNot (held : List ℕ → Told) (form : Form) (reading : Reading) (files : List (List ℕ)) (explain : Bool) (status : ℕ)
-    (before after : State) (old new : Errors) : Type 0 where
+    (before after : Streams) : Type 0 where
   pub error : ReportsError
   pub status_is : status ≡ reports.status_of error
-  pub fails : ReportsFail error form reading held files (both_streams before) (both_streams after)
-  pub told : TellsOfReports held files error explain old new
+  pub fails : ReportsFail error form reading held files before (untold before after)
+  pub told : TellsOfReports held files error explain before.errors after.errors
 
-abbrev pub Remakes : (List ℕ → Told) → Form → Reading → List (List ℕ) → Bool → ℕ → State → State → Errors → Errors → Type 0
-Remakes held form reading files explain status before after old new =
-    RemakesWhole held form reading files status before after old new
-    ⊎ RemakesNot held form reading files explain status before after old new
+abbrev pub Remakes : (List ℕ → Told) → Form → Reading → List (List ℕ) → Bool → ℕ → Streams → Streams → Type 0
+Remakes held form reading files explain status before after =
+    RemakesWhole held form reading files status before after
+    ⊎ RemakesNot held form reading files explain status before after
 
 -- # With a text that is read before the reports
 
 -- The text was read, and then what is made of the reports with it was written, or an error ended it.
 pub record RemakesBeside (held : List ℕ → Told) (beside : Beside) (word : List ℕ) (reading : Reading) (files : List (List ℕ))
-    (explain : Bool) (status : ℕ) (before after : State) (old new : Errors) : Type 0 where
+    (explain : Bool) (status : ℕ) (before after : Streams) : Type 0 where
   pub text : Bor (List ℕ)
   -- the streams once the text was read
-  pub reached : State
-  pub read : Hears held word (heard.Text text.now) (both_streams before).input (both_streams reached).input
-  pub unwritten : (both_streams reached).output ≡ (both_streams before).output
-  pub remakes : Remakes held (form_beside beside text) reading files explain status reached after old new
+  pub reached : Streams
+  pub read : Hears held word (heard.Text text.now) before.input reached.input
+  pub unwritten : reached.output ≡ before.output
+  pub quiet : reached.errors ≡ before.errors
+  pub remakes : Remakes held (form_beside beside text) reading files explain status reached after
 
 -- The text was not read, for an error that was told.
 pub record MissesBeside (held : List ℕ → Told) (word : List ℕ) (explain : Bool) (status : ℕ)
-    (before after : State) (old new : Errors) : Type 0 where
+    (before after : Streams) : Type 0 where
   pub error : ReportsError
   pub status_is : status ≡ reports.status_of error
-  pub why : RefusesWord error held word (both_streams before).input (both_streams after).input
-  pub unwritten : (both_streams after).output ≡ (both_streams before).output
-  pub told : TellsOfReports held (word ∷ []) error explain old new
+  pub why : RefusesWord error held word before.input after.input
+  pub unwritten : after.output ≡ before.output
+  pub told : TellsOfReports held (word ∷ []) error explain before.errors after.errors
 
-abbrev pub RemakesWith : (List ℕ → Told) → Beside → List ℕ → Reading → List (List ℕ) → Bool → ℕ → State → State → Errors → Errors → Type 0
-RemakesWith held beside word reading files explain status before after old new =
-    RemakesBeside held beside word reading files explain status before after old new
-    ⊎ MissesBeside held word explain status before after old new
+abbrev pub RemakesWith : (List ℕ → Told) → Beside → List ℕ → Reading → List (List ℕ) → Bool → ℕ → Streams → Streams → Type 0
+RemakesWith held beside word reading files explain status before after =
+    RemakesBeside held beside word reading files explain status before after
+    ⊎ MissesBeside held word explain status before after

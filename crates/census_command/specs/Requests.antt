@@ -1,5 +1,6 @@
 -- What is done where something is asked for, and what each error says.
 use Rattle.std.specs.Prelude.{◌≡◌, ℕ, ◌≤◌, Bool, List, [], None, Some, map, option_map}
+use Rattle.watched.specs.Streams.{Streams}
 use Rattle.census_cli.specs.declared.request.Request.{Request}
 use Rattle.census_cli.specs.declared.request.Request.TheVariants.{Run, Objects, Identify, Advance, Draw, Merge, Table, Page, Same, Verify}
 use Rattle.census_cli.specs.Limits.{generation_limit, horizon_limit, objects_bound_limit, settles_bound_limit, worker_limit}
@@ -10,7 +11,6 @@ use Rattle.census_command.specs.Draws.{DrawFails, Draws, DrawsInPart}
 use Rattle.census_command.specs.Runs.{RunFails, Runs, RunsInPart}
 use Rattle.census_folders.specs.Tellings.{Tellings}
 use Rattle.census_errors.specs.Sources.{StopsAtFirstLoss, source_of}
-use Rattle.census_command.specs.Streams.{State}
 use Rattle.census_errors.specs.declared.error.CommandError.{CommandError}
 use Rattle.census_errors.specs.declared.error.CommandError.TheVariants as error
 
@@ -55,7 +55,7 @@ IsDone (Verify claims reports) = ⊥
 IsDone request = EndsAtFirst request
 
 -- What is asked for was done, and these lines are said beside it, where faults are explained.
-abbrev pub Does : Tellings → Request → Bool → List ℕ → State → State → Type 0
+abbrev pub Does : Tellings → Request → Bool → List ℕ → Streams → Streams → Type 0
 Does shelf (Run bound workers cells input recursive keep_going folders) explain lines before after =
     Runs shelf (source_of (record { limit = input; recursive = recursive; keep_going = keep_going; words = map (λ s. s.now) folders.items })) (question.Settles bound cells) explain lines before after
 Does shelf (Objects bound workers cells near horizon input recursive keep_going folders) explain lines before after =
@@ -66,7 +66,7 @@ Does shelf (Draw code rule) explain lines before after = (lines ≡ []) × Draws
 Does shelf _ explain lines before after = ⊥
 
 -- it was done as far as the writer took it
-abbrev pub DoesInPart : Tellings → Request → State → State → Type 0
+abbrev pub DoesInPart : Tellings → Request → Streams → Streams → Type 0
 DoesInPart shelf (Run bound workers cells input recursive keep_going folders) before after = RunsInPart shelf (source_of (record { limit = input; recursive = recursive; keep_going = keep_going; words = map (λ s. s.now) folders.items })) (question.Settles bound cells) before after
 DoesInPart shelf (Objects bound workers cells near horizon input recursive keep_going folders) before after = RunsInPart shelf (source_of (record { limit = input; recursive = recursive; keep_going = keep_going; words = map (λ s. s.now) folders.items })) (question.Objects bound (Some cells) near horizon) before after
 DoesInPart shelf (Advance generations file) before after = AdvancesFromInPart shelf (file_of (option_map (λ s. s.now) file)) generations before after
@@ -74,7 +74,7 @@ DoesInPart shelf (Draw code rule) before after = DrawsInPart (record { code = co
 DoesInPart shelf _ before after = ⊥
 
 -- it was not done whole, for this error
-abbrev pub Fails : CommandError → Tellings → Request → State → State → Type 0
+abbrev pub Fails : CommandError → Tellings → Request → Streams → Streams → Type 0
 Fails (error.Run e) shelf (Run bound workers cells input recursive keep_going folders) before after = RunFails e shelf (source_of (record { limit = input; recursive = recursive; keep_going = keep_going; words = map (λ s. s.now) folders.items })) (question.Settles bound cells) before after
 Fails (error.Run e) shelf (Objects bound workers cells near horizon input recursive keep_going folders) before after = RunFails e shelf (source_of (record { limit = input; recursive = recursive; keep_going = keep_going; words = map (λ s. s.now) folders.items })) (question.Objects bound (Some cells) near horizon) before after
 Fails (error.Advance e) shelf (Advance generations file) before after =

@@ -1,5 +1,6 @@
 -- What `run` reads and writes, and what each of its errors says.
 use Rattle.std.specs.Prelude.{◌≡◌, ◌⊎◌, ℕ, Bool, List, None, Some}
+use Rattle.watched.specs.Streams.{Streams}
 use Rattle.census_bundle.specs.declared.bundle.Folder.{Folder}
 use Rattle.census_crew.specs.Bytes.{ReadsFault, ReadsFolders}
 use Rattle.census_crew.specs.Writing.{WritesPrefix, WritesReport}
@@ -13,7 +14,7 @@ use Rattle.census_errors.specs.Errors.{run_error_of_source}
 use Rattle.census_command.specs.BesideReports.{IfExplained, SaysBesideReport}
 use Rattle.census_folders.specs.Tellings.{Tellings}
 use Rattle.census_errors.specs.Sources.{Source, Input, Folders}
-use Rattle.census_command.specs.Streams.{HasSoundStreams, IsUntouched, ReadFails, State, WriteFails, WritesNothing}
+use Rattle.census_command.specs.Streams.{HasSoundStreams, IsUntouched, ReadFails, WriteFails, WritesNothing}
 use Rattle.census_errors.specs.declared.run_error.RunError.{RunError}
 use Rattle.census_errors.specs.declared.run_error.RunError.TheVariants.{Bundle, Folder as FolderFault, TooLong, Memory, Read, Write}
 
@@ -21,25 +22,25 @@ use Rattle.census_errors.specs.declared.run_error.RunError.TheVariants.{Bundle, 
 
 -- Standard input, read to its end, is the text of a bundle, and a report of that bundle was written. These lines are said
 -- beside it, where faults are explained.
-pub record ReportsInput (shelf : Tellings) (question : Question) (explain : Bool) (lines : List ℕ) (before after : State) : Type 0 where
+pub record ReportsInput (shelf : Tellings) (question : Question) (explain : Bool) (lines : List ℕ) (before after : Streams) : Type 0 where
   pub bundle : List Folder
-  pub read : ReadsFolders before.unread after.unread bundle
-  pub report : WritesReport before.written after.written bundle question
+  pub read : ReadsFolders before.input.unread after.input.unread bundle
+  pub report : WritesReport before.output.written after.output.written bundle question
   pub said : IfExplained explain (SaysBesideReport shelf None bundle lines) lines
 
 -- as far as the writer took it
-pub record ReportsInputInPart (question : Question) (before after : State) : Type 0 where
+pub record ReportsInputInPart (question : Question) (before after : Streams) : Type 0 where
   pub bundle : List Folder
-  pub read : ReadsFolders before.unread after.unread bundle
-  pub front : WritesPrefix before.written after.written bundle question
+  pub read : ReadsFolders before.input.unread after.input.unread bundle
+  pub front : WritesPrefix before.output.written after.output.written bundle question
 
 -- why no whole report of standard input was written
-abbrev pub InputFails : RunError → Question → State → State → Type 0
-InputFails (Bundle fault) question before after = ReadsFault before.unread after.unread fault × WritesNothing before after
+abbrev pub InputFails : RunError → Question → Streams → Streams → Type 0
+InputFails (Bundle fault) question before after = ReadsFault before.input.unread after.input.unread fault × WritesNothing before after
 InputFails (FolderFault fault) question before after = ⊥
 InputFails TooLong question before after = ReadsTooMuch before after × WritesNothing before after
 InputFails (Memory ticket) question before after =
-    ((after.written ≡ before.written) ⊎ ReportsInputInPart question before after) × HasSoundStreams after
+    ((after.output.written ≡ before.output.written) ⊎ ReportsInputInPart question before after) × HasSoundStreams after
 InputFails Read question before after = ReadFails before after
 InputFails Write question before after = ReportsInputInPart question before after × WriteFails after
 
@@ -47,21 +48,21 @@ InputFails Write question before after = ReportsInputInPart question before afte
 
 -- The folders were read, as the shelf tells, where reading ends at the first loss; so nothing was lost. A report of them was
 -- written. Nothing was read from standard input. These lines are said beside the report, where faults are explained.
-pub record ReportsFolders (shelf : Tellings) (asked : Asked) (question : Question) (explain : Bool) (lines : List ℕ) (before after : State) : Type 0 where
+pub record ReportsFolders (shelf : Tellings) (asked : Asked) (question : Question) (explain : Bool) (lines : List ℕ) (before after : Streams) : Type 0 where
   pub stops : asked.on_loss ≡ Stop
   pub kept : Kept
   pub read : Reads shelf asked kept
-  pub report : WritesReport before.written after.written kept.bundle question
+  pub report : WritesReport before.output.written after.output.written kept.bundle question
   pub said : IfExplained explain (SaysBesideReport shelf (Some asked) kept.bundle lines) lines
-  pub unread : after.unread ≡ before.unread
+  pub unread : after.input.unread ≡ before.input.unread
 
 -- as far as the writer took it
-pub record ReportsFoldersInPart (shelf : Tellings) (asked : Asked) (question : Question) (before after : State) : Type 0 where
+pub record ReportsFoldersInPart (shelf : Tellings) (asked : Asked) (question : Question) (before after : Streams) : Type 0 where
   pub stops : asked.on_loss ≡ Stop
   pub kept : Kept
   pub read : Reads shelf asked kept
-  pub front : WritesPrefix before.written after.written kept.bundle question
-  pub unread : after.unread ≡ before.unread
+  pub front : WritesPrefix before.output.written after.output.written kept.bundle question
+  pub unread : after.input.unread ≡ before.input.unread
 
 -- the folders were not all read, for this error
 pub record FailsInFolders (shelf : Tellings) (asked : Asked) (error : RunError) : Type 0 where
@@ -71,7 +72,7 @@ pub record FailsInFolders (shelf : Tellings) (asked : Asked) (error : RunError) 
   pub why : Stops shelf asked fault
 
 -- why no whole report of the folders was written
-abbrev pub FoldersFail : RunError → Tellings → Asked → Question → State → State → Type 0
+abbrev pub FoldersFail : RunError → Tellings → Asked → Question → Streams → Streams → Type 0
 FoldersFail (Memory ticket) shelf asked question before after =
     (FailsInFolders shelf asked (Memory ticket) × IsUntouched before after) ⊎ (ReportsFoldersInPart shelf asked question before after × HasSoundStreams after)
 FoldersFail Write shelf asked question before after = ReportsFoldersInPart shelf asked question before after × WriteFails after
@@ -80,16 +81,16 @@ FoldersFail error shelf asked question before after = FailsInFolders shelf asked
 -- # Each
 
 -- A report of what comes from there was written, and these lines are said beside it, where faults are explained.
-abbrev pub Runs : Tellings → Source → Question → Bool → List ℕ → State → State → Type 0
+abbrev pub Runs : Tellings → Source → Question → Bool → List ℕ → Streams → Streams → Type 0
 Runs shelf Input question explain lines before after = ReportsInput shelf question explain lines before after
 Runs shelf (Folders asked) question explain lines before after = ReportsFolders shelf asked question explain lines before after
 
 -- as far as the writer took it
-abbrev pub RunsInPart : Tellings → Source → Question → State → State → Type 0
+abbrev pub RunsInPart : Tellings → Source → Question → Streams → Streams → Type 0
 RunsInPart shelf Input question before after = ReportsInputInPart question before after
 RunsInPart shelf (Folders asked) question before after = ReportsFoldersInPart shelf asked question before after
 
 -- why no whole report was written
-abbrev pub RunFails : RunError → Tellings → Source → Question → State → State → Type 0
+abbrev pub RunFails : RunError → Tellings → Source → Question → Streams → Streams → Type 0
 RunFails error shelf Input question before after = InputFails error question before after
 RunFails error shelf (Folders asked) question before after = FoldersFail error shelf asked question before after

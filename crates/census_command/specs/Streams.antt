@@ -1,52 +1,42 @@
 -- What stands in the streams of a command: one value before and one after.
-use Rattle.std.specs.Prelude.{◌≡◌, ◌⊎◌, ℕ, Bool, true, false, List, Option}
-use Rattle.census_identify.specs.Streams as three
-use Rattle.census_errors.specs.ErrorStreams.{Errors}
+use Rattle.std.specs.Prelude.{◌≡◌, ◌⊎◌, ℕ, Bool, true, false, List, MatchBool}
+use Rattle.watched.specs.Streams.{PutsBytes, Sink, Streams}
 
--- Standard input and standard output. The bytes are those that the reader and the writer tell, if they tell any.
-pub record State : Type 0 where
-  -- what is left to read
-  pub unread : Option (List ℕ)
-  -- what was written
-  pub written : Option (List ℕ)
-  pub read_failed : Bool
-  pub write_failed : Bool
-
--- neither stream has failed
-pub record HasSoundStreams (s : State) : Type 0 where
-  pub read : s.read_failed ≡ false
-  pub write : s.write_failed ≡ false
+-- neither standard input nor standard output has failed
+pub record HasSoundStreams (s : Streams) : Type 0 where
+  pub read : s.input.failed ≡ false
+  pub write : s.output.failed ≡ false
 
 -- nothing was read or written, and neither stream has failed
-pub record IsUntouched (before after : State) : Type 0 where
-  pub unread : after.unread ≡ before.unread
-  pub written : after.written ≡ before.written
+pub record IsUntouched (before after : Streams) : Type 0 where
+  pub unread : after.input.unread ≡ before.input.unread
+  pub written : after.output.written ≡ before.output.written
   pub sound : HasSoundStreams after
 
 -- nothing was written, and neither stream has failed
-pub record WritesNothing (before after : State) : Type 0 where
-  pub written : after.written ≡ before.written
+pub record WritesNothing (before after : Streams) : Type 0 where
+  pub written : after.output.written ≡ before.output.written
   pub sound : HasSoundStreams after
 
 -- standard input has failed, and nothing was written
-pub record ReadFails (before after : State) : Type 0 where
-  pub written : after.written ≡ before.written
-  pub read : after.read_failed ≡ true
-  pub write : after.write_failed ≡ false
+pub record ReadFails (before after : Streams) : Type 0 where
+  pub written : after.output.written ≡ before.output.written
+  pub read : after.input.failed ≡ true
+  pub write : after.output.failed ≡ false
 
 -- standard output has failed, and standard input has not
-pub record WriteFails (after : State) : Type 0 where
-  pub read : after.read_failed ≡ false
-  pub write : after.write_failed ≡ true
+pub record WriteFails (after : Streams) : Type 0 where
+  pub read : after.input.failed ≡ false
+  pub write : after.output.failed ≡ true
 
--- one of the streams has failed
-abbrev pub HasFailed : State → Type 0
-HasFailed s = (s.read_failed ≡ true) ⊎ (s.write_failed ≡ true)
+-- standard input or standard output has failed
+abbrev pub HasFailed : Streams → Type 0
+HasFailed s = (s.input.failed ≡ true) ⊎ (s.output.failed ≡ true)
 
--- all three streams
-abbrev pub all_streams : State → Errors → three.Streams
-all_streams s e = record {
-  input = record { unread = s.unread; failed = s.read_failed };
-  output = record { written = s.written; failed = s.write_failed };
-  errors = record { written = e.told; failed = e.failed };
-}
+-- the streams after, as they are before anything is told on standard error
+abbrev pub untold : Streams → Streams → Streams
+untold before after = record after { errors = before.errors }
+
+-- this text was told, where it is asked for, and else nothing
+abbrev pub TellsIf : Bool → List ℕ → Sink → Sink → Type 0
+TellsIf asked text before after = MatchBool asked (PutsBytes text before after) (after ≡ before)

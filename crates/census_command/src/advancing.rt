@@ -6,7 +6,6 @@ ghost use Rattle.census_errors.specs.Errors.{advance_error_of_text};
 ghost use Rattle.census_errors.specs.Files.{file_of};
 ghost use Rattle.census_command.specs.Streams.{HasSoundStreams};
 
-use crate::streams::Streams;
 use census_bundle::INPUT_LIMIT;
 use census_errors::{AdvanceError, file_of};
 use census_faults::{spot_of_text, text_fault};
@@ -17,7 +16,7 @@ use life_plane::AGE_LIMIT;
 use life_text::{RleFault, read_rle, write_rle};
 use std::alloc::Global;
 use std::io::{Read, Write};
-use watched::{put_all, read_all};
+use watched::{Streams, put_all, read_all};
 
 // The error that the fault of a text is, with what is said of it.
 fn refused(text: &[u8], fault: RleFault) -> AdvanceError
@@ -53,16 +52,17 @@ fn advanced_text(alloc: Global, text: &[u8], generations: u32) -> Result<Vec<u8>
 }
 
 // Reads standard input to its end and writes the RLE text of generation N of its pattern.
-fn advance_input<I: Read, O: Write>(
+fn advance_input<I: Read, O: Write, E: Write>(
     alloc: Global,
     generations: u32,
-    streams: &mut Streams<I, O>,
+    streams: &mut Streams<I, O, E>,
 ) -> Result<(), AdvanceError>
     requires generations { generations ≤ AGE_LIMIT }
     requires sound { HasSoundStreams streams.old }
     ensures done { OnOk result (Advances generations streams.old streams.new) }
     ensures sound { OnOk result (HasSoundStreams streams.new) }
     ensures fails { IfErr result (λ e. AdvanceFails e generations streams.old streams.new) }
+    ensures quiet { streams.new.errors ≡ streams.old.errors }
 {
     let text = read_all(alloc, &mut streams.input, INPUT_LIMIT)?;
     let written = advanced_text(alloc, text.as_slice(), generations)?;
@@ -71,12 +71,12 @@ fn advance_input<I: Read, O: Write>(
 }
 
 // Reads a file and writes the RLE text of generation N of its pattern.
-fn advance_file<S: Shelf, I: Read, O: Write>(
+fn advance_file<S: Shelf, I: Read, O: Write, E: Write>(
     shelf: &S,
     alloc: Global,
     generations: u32,
     path: &str,
-    streams: &mut Streams<I, O>,
+    streams: &mut Streams<I, O, E>,
 ) -> Result<(), AdvanceError>
     requires generations { generations ≤ AGE_LIMIT }
     requires sound { HasSoundStreams streams.old }
@@ -87,6 +87,7 @@ fn advance_file<S: Shelf, I: Read, O: Write>(
     ensures fails { IfErr result (λ e. AdvanceFileFails e
         (S.tellings shelf.now)
         path.now generations streams.old streams.new) }
+    ensures quiet { streams.new.errors ≡ streams.old.errors }
 {
     let text = read_file(shelf, alloc, path.as_bytes())?;
     let later = advanced_text(alloc, text.as_slice(), generations)?;
@@ -99,12 +100,12 @@ fn advance_file<S: Shelf, I: Read, O: Write>(
 ///
 /// The whole text stands before its first byte is written, so nothing is written where the input is refused or memory is.
 /// A file that is no regular file is not opened, and can't be read.
-pub fn advance<S: Shelf, I: Read, O: Write>(
+pub fn advance<S: Shelf, I: Read, O: Write, E: Write>(
     shelf: &S,
     alloc: Global,
     generations: u32,
     file: Option<&str>,
-    streams: &mut Streams<I, O>,
+    streams: &mut Streams<I, O, E>,
 ) -> Result<(), AdvanceError>
     requires generations { generations ≤ AGE_LIMIT }
     requires sound { HasSoundStreams streams.old }
@@ -115,6 +116,7 @@ pub fn advance<S: Shelf, I: Read, O: Write>(
     ensures fails { IfErr result (λ e. AdvanceFromFails e
         (S.tellings shelf.now)
         (file_of (option_map (λ s. s.now) file.entry)) generations streams.old streams.new) }
+    ensures quiet { streams.new.errors ≡ streams.old.errors }
 {
     match file_of(file) {
         Some(path) => advance_file(shelf, alloc, generations, path, streams),

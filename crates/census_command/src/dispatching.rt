@@ -1,14 +1,15 @@
 //! What the program does with its words.
-ghost use Rattle.std.specs.Prelude.{◌≡◌, ◌⊎◌, ◌||◌, false, map, IfErr, IfNone, IfOk, IfSome, MatchResult, OnOk};
+ghost use Rattle.std.specs.Prelude.{◌≡◌, ◌⊎◌, ◌||◌, ◌++◌, false, map, IfErr, IfNone, IfOk, IfSome, MatchResult, OnOk};
 ghost use Rattle.census_errors.specs.Errors.{status_of};
 ghost use Rattle.census_errors.specs.Messages.{error_line};
 ghost use Rattle.census_errors.specs.Places.{IsPlaceOf};
+ghost use Rattle.census_errors.specs.Sayings.{line_said, said_if};
 ghost use Rattle.census_command.specs.Forms.{reading_of};
 ghost use Rattle.census_command.specs.Gates.{HearsOutcome, HearsRequest};
 ghost use Rattle.census_command.specs.Outcomes.{Answers, IsBeside, IsRemaking, Outcome};
 ghost use Rattle.census_command.specs.Requests.{Does, Fails, HasNoText, IsDone, IsLawful, MakesNothing};
-ghost use Rattle.census_errors.specs.ErrorStreams.{TellsIf, TellsText};
-ghost use Rattle.census_command.specs.Streams.{HasSoundStreams};
+ghost use Rattle.watched.specs.Streams.{PutsBytes};
+ghost use Rattle.census_command.specs.Streams.{HasSoundStreams, TellsIf};
 
 use crate::advancing::advance;
 use crate::census::{census_of, kept_of};
@@ -18,12 +19,9 @@ use crate::identifying::{form_told, tell_patterns};
 use crate::keeping::keep_going;
 use crate::remaking::{remake, remake_with};
 use crate::running::run_command;
-use crate::streams::Streams;
 use census_cli::{Reports, Request, WordsFault, read_words};
 use census_crew::Gate;
-use census_errors::{
-    CommandError, ErrorStream, Place, Stopped, file_place, saying_of, stop_saying,
-};
+use census_errors::{CommandError, Place, Stopped, file_place, saying_of, stop_saying};
 use census_folders::Shelf;
 use census_identify::Inquiry;
 use census_reports::Form;
@@ -31,7 +29,7 @@ use std::alloc::Global;
 use std::io::{Read, Write};
 use std::sync::Wait;
 use std::thread::Threads;
-use watched::put_all;
+use watched::{Output, Streams, put_all};
 
 // What is made of reports alone, and of which, where that is asked for.
 fn remaking_of<'r, 'a>(request: &'r Request<'a>) -> Option<(Form<'a>, &'r Reports<'a>)>
@@ -93,7 +91,7 @@ fn beside_of<'r, 'a>(request: &'r Request<'a>) -> Option<(Beside, &'a str, &'r R
 
 // Does what is asked for, which is neither to tell what patterns are nor to make something of reports, and ends at the
 // first thing that can't be read. It gives the lines that are said beside what was written, where faults are explained.
-fn execute<S: Shelf, I: Read, O: Write, G: Gate, R: Threads + Wait + Sync>(
+fn execute<S: Shelf, I: Read, O: Write, E: Write, G: Gate, R: Threads + Wait + Sync>(
     rt: &R,
     shelf: &S,
     alloc: Global,
@@ -101,7 +99,7 @@ fn execute<S: Shelf, I: Read, O: Write, G: Gate, R: Threads + Wait + Sync>(
     explain: bool,
     quiet: bool,
     gate: &mut G,
-    streams: &mut Streams<I, O>,
+    streams: &mut Streams<I, O, E>,
 ) -> Result<Vec<u8>, Stopped>
     requires lawful { IsLawful request.now }
     requires more { IsDone request.now }
@@ -118,10 +116,11 @@ fn execute<S: Shelf, I: Read, O: Write, G: Gate, R: Threads + Wait + Sync>(
         request.now stopped.error stopped.place) }
     ensures gate { MatchResult result
         (λ _. HearsRequest (S.tellings shelf.now) request.now quiet
-        streams.old streams.new (G.heard gate.old) (G.heard gate.new))
+        streams.old.input streams.new.input (G.heard gate.old) (G.heard gate.new))
         (λ _. (G.heard gate.new ≡ G.heard gate.old)
         ⊎ HearsRequest (S.tellings shelf.now) request.now quiet
-        streams.old streams.new (G.heard gate.old) (G.heard gate.new)) }
+        streams.old.input streams.new.input (G.heard gate.old) (G.heard gate.new)) }
+    ensures quiet { streams.new.errors ≡ streams.old.errors }
 {
     if let Some(census) = census_of(request) {
         return match run_command(rt, shelf, alloc, census, explain, quiet, gate, streams) {
@@ -159,16 +158,16 @@ fn execute<S: Shelf, I: Read, O: Write, G: Gate, R: Threads + Wait + Sync>(
 }
 
 // Whether faults are explained: where that is asked for, or at a terminal.
-fn explains<E: Write>(asked: bool, errors: &ErrorStream<E>) -> bool
-    ensures { result ≡ asked || errors.now.is_terminal }
+fn explains(asked: bool, at_terminal: bool) -> bool
+    ensures { result ≡ asked || at_terminal }
 {
-    asked || errors.is_terminal()
+    asked || at_terminal
 }
 
 // Tells lines, where they are asked for.
-fn tell_if<E: Write>(asked: bool, lines: &[u8], errors: &mut ErrorStream<E>)
-    requires { errors.old.failed ≡ false }
-    ensures { TellsIf asked lines.now errors.old errors.new }
+fn tell_if<E: Write>(asked: bool, lines: &[u8], errors: &mut Output<E>)
+    requires { errors.old.stream.failed ≡ false }
+    ensures { TellsIf asked lines.now errors.old.stream errors.new.stream }
 {
     if asked {
         errors.tell(lines);
@@ -176,36 +175,49 @@ fn tell_if<E: Write>(asked: bool, lines: &[u8], errors: &mut ErrorStream<E>)
 }
 
 /// Tells an error by its line, and gives its exit status. That it can't be told changes nothing.
-pub fn stop<E: Write>(error: CommandError, errors: &mut ErrorStream<E>) -> u8
-    requires { errors.old.failed ≡ false }
+pub fn stop<E: Write>(error: CommandError, errors: &mut Output<E>) -> u8
+    requires { errors.old.stream.failed ≡ false }
     ensures status { result ≡ status_of error }
-    ensures line { TellsText (error_line error) errors.old errors.new }
+    ensures line { PutsBytes (error_line error) errors.old.stream errors.new.stream }
 {
     errors.tell(error.line().as_str().as_bytes());
     error.status()
 }
 
+// The same of what was asked for, with one more line where faults are explained, which has its place as far as that is known.
+fn stop_at<E: Write>(
+    request: &Request<'_>,
+    stopped: Stopped,
+    explain: bool,
+    errors: &mut Output<E>,
+) -> u8
+    requires { errors.old.stream.failed ≡ false }
+    ensures status { result ≡ status_of stopped.error }
+    ensures lines { PutsBytes (error_line stopped.error
+        ++ said_if explain (line_said request.now stopped.error stopped.place))
+        errors.old.stream errors.new.stream }
+{
+    let saying = saying_of(request, stopped.error).at(&stopped.place);
+    stop_saying(stopped.error, saying, explain, errors)
+}
+
 /// Writes why words ask for nothing that can be done, and gives the exit status: help by its own text on standard output,
 /// and a refusal by its own text on standard error.
-pub fn answer<I: Read, O: Write, E: Write>(
-    fault: &WordsFault,
-    streams: &mut Streams<I, O>,
-    errors: &mut ErrorStream<E>,
-) -> u8
+pub fn answer<I: Read, O: Write, E: Write>(fault: &WordsFault, streams: &mut Streams<I, O, E>) -> u8
     requires streams { HasSoundStreams streams.old }
-    requires errors { errors.old.failed ≡ false }
-    ensures { Answers fault.now result streams.old streams.new errors.old errors.new }
+    requires errors { streams.old.errors.failed ≡ false }
+    ensures { Answers fault.now result streams.old streams.new }
 {
     match fault {
         WordsFault::Help(text) => match put_all(&mut streams.output, text.as_bytes()) {
             Ok(()) => 0,
-            Err(_) => stop(CommandError::Write, errors),
+            Err(_) => stop(CommandError::Write, &mut streams.errors),
         },
         WordsFault::Refused(text) => {
-            errors.tell(text.as_bytes());
+            streams.errors.tell(text.as_bytes());
             2
         }
-        WordsFault::Memory => stop(CommandError::Memory, errors),
+        WordsFault::Memory => stop(CommandError::Memory, &mut streams.errors),
     }
 }
 
@@ -229,11 +241,12 @@ pub fn answer<I: Read, O: Write, E: Write>(
 ///   `verify` what does not agree.
 /// - 4: standard input or standard output has failed, or a folder could not be listed or a file of it be read. What was
 ///   written is a prefix of what was asked for, or nothing; after a failed read it is nothing. With `--keep-going` it is
-///   the whole report of what could be read, after a line on `errors` for each folder, file or name that was lost.
+///   the whole report of what could be read, after a line on standard error for each folder, file or name that was lost.
 ///
-/// Where the status is 0 or 5, nothing is written to `errors` but a line for each report that was cut, with `--cut`. Else the
+/// Where the status is 0 or 5, nothing is written to standard error but a line for each report that was cut, with `--cut`. Else the
 /// error's one line is, or for status 2 clap's own text:
-/// whole where `errors` does not fail, else a prefix of it. With `--explain`, and where `errors` is a terminal, one more line
+/// whole where standard error does not fail, else a prefix of it. With `--explain`, and at a terminal, which standard error is
+/// where `at_terminal` is set, one more line
 /// follows the error's, which says where the fault is, what is wrong and what would be right; and after a report there is
 /// such a line for each pattern that it tells as `bad`, and then one for each whose text may hold the next pattern, and one
 /// with how many collections are empty and how many names were passed over that look like those of patterns.
@@ -246,40 +259,36 @@ pub fn dispatch<S: Shelf, I: Read, O: Write, E: Write, G: Gate, R: Threads + Wai
     alloc: Global,
     words: &[&str],
     gate: &mut G,
-    streams: &mut Streams<I, O>,
-    errors: &mut ErrorStream<E>,
+    at_terminal: bool,
+    streams: &mut Streams<I, O, E>,
 ) -> u8
     requires streams { HasSoundStreams streams.old }
-    requires errors { errors.old.failed ≡ false }
+    requires errors { streams.old.errors.failed ≡ false }
     ensures outcome { Outcome (S.tellings shelf.now)
-        (map (λ s. s.now) words.now) result streams.old streams.new errors.old errors.new }
+        (map (λ s. s.now) words.now) at_terminal result streams.old streams.new }
     ensures gate { HearsOutcome (S.tellings shelf.now)
         (map (λ s. s.now) words.now) result
-        streams.old streams.new (G.heard gate.old) (G.heard gate.new) }
+        streams.old.input streams.new.input (G.heard gate.old) (G.heard gate.new) }
 {
     let asked = match read_words(alloc, &*words) {
         Ok(asked) => asked,
-        Err(fault) => return answer(&fault, streams, errors),
+        Err(fault) => return answer(&fault, streams),
     };
-    let explain = explains(asked.explain, &*errors);
+    let explain = explains(asked.explain, at_terminal);
     let quiet = asked.quiet;
     let request = &asked.request;
     if let Some(census) = kept_of(request) {
-        return keep_going(
-            rt, shelf, alloc, census, explain, quiet, gate, streams, errors,
-        );
+        return keep_going(rt, shelf, alloc, census, explain, quiet, gate, streams);
     }
     if let Some((form, reports)) = remaking_of(request) {
         let files = reports.words.as_slice();
         let reading = reading_of(reports);
-        return remake(shelf, alloc, form, reading, files, explain, streams, errors);
+        return remake(shelf, alloc, form, reading, files, explain, streams);
     }
     if let Some((beside, word, reports)) = beside_of(request) {
         let files = reports.words.as_slice();
         let reading = reading_of(reports);
-        return remake_with(
-            shelf, alloc, beside, word, reading, files, explain, streams, errors,
-        );
+        return remake_with(shelf, alloc, beside, word, reading, files, explain, streams);
     }
     if let Request::Identify {
         bound,
@@ -300,17 +309,14 @@ pub fn dispatch<S: Shelf, I: Read, O: Write, E: Write, G: Gate, R: Threads + Wai
         };
         let files = files.as_slice();
         return tell_patterns(
-            shelf, alloc, &*gate, inquiry, *names, files, explain, streams, errors,
+            shelf, alloc, &*gate, inquiry, *names, files, explain, streams,
         );
     }
     match execute(rt, shelf, alloc, request, explain, quiet, gate, streams) {
         Ok(lines) => {
-            tell_if(explain, lines.as_slice(), errors);
+            tell_if(explain, lines.as_slice(), &mut streams.errors);
             0
         }
-        Err(stopped) => {
-            let saying = saying_of(request, stopped.error).at(&stopped.place);
-            stop_saying(stopped.error, saying, explain, errors)
-        }
+        Err(stopped) => stop_at(request, stopped, explain, &mut streams.errors),
     }
 }

@@ -3,14 +3,13 @@ ghost use Rattle.std.specs.Prelude.{◌≡◌, IfErr, MatchResult, OnOk};
 ghost use Rattle.census_command.specs.Draws.{DrawFails, Draws, IsDrawn, RefusesCode};
 ghost use Rattle.census_command.specs.Streams.{HasSoundStreams};
 
-use crate::streams::Streams;
 use census_errors::DrawError;
 use life_cells::Rule;
 use life_shape::{body_of, read_wechsler};
 use life_text::write_rle;
 use std::alloc::Global;
 use std::io::{Read, Write};
-use watched::put_all;
+use watched::{Streams, put_all};
 
 // The RLE text of what a code draws under a rule.
 fn drawn_text(alloc: Global, code: &[u8], rule: &[u8]) -> Result<Vec<u8>, DrawError>
@@ -29,11 +28,11 @@ fn drawn_text(alloc: Global, code: &[u8], rule: &[u8]) -> Result<Vec<u8>, DrawEr
 /// what follows the code's first `_`, or the whole code where there is none.
 ///
 /// The rule is judged before the code, and the whole text stands before its first byte is written.
-pub fn draw<I: Read, O: Write>(
+pub fn draw<I: Read, O: Write, E: Write>(
     alloc: Global,
     code: &[u8],
     rule: &[u8],
-    streams: &mut Streams<I, O>,
+    streams: &mut Streams<I, O, E>,
 ) -> Result<(), DrawError>
     requires { HasSoundStreams streams.old }
     ensures done { OnOk result
@@ -41,6 +40,7 @@ pub fn draw<I: Read, O: Write>(
     ensures sound { OnOk result (HasSoundStreams streams.new) }
     ensures fails { IfErr result
         (λ e. DrawFails e (record { code = code.now; rule = rule.now }) streams.old streams.new) }
+    ensures quiet { streams.new.errors ≡ streams.old.errors }
 {
     let written = drawn_text(alloc, code, rule)?;
     put_all(&mut streams.output, written.as_slice())?;

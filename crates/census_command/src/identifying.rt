@@ -3,12 +3,10 @@ ghost use Rattle.std.specs.Prelude.{◌≡◌, ◌≤◌, [], false, map, option
 ghost use Rattle.census_identify.specs.Identifies.{Identifies};
 ghost use Rattle.census_names.specs.Lines.{names_in};
 ghost use Rattle.census_command.specs.Identifying.{HasNoNames, LacksNames, ReadsNames, TellsPatterns, form_told};
-ghost use Rattle.census_command.specs.Streams.{HasSoundStreams, all_streams};
+ghost use Rattle.census_command.specs.Streams.{HasSoundStreams};
 
 use crate::remaking::stop_of;
-use crate::streams::Streams;
 use census_crew::Gate;
-use census_errors::ErrorStream;
 use census_facts::Form;
 use census_folders::Shelf;
 use census_identify::{HORIZON_LIMIT, Inquiry, Onlooker, identify};
@@ -17,6 +15,7 @@ use census_reports::{ReportsError, read_text};
 use life_orbit::BOUND_LIMIT;
 use std::alloc::Global;
 use std::io::{Read, Write};
+use watched::Streams;
 
 /// How an answer is told.
 pub fn form_told(json: bool) -> Form
@@ -38,17 +37,18 @@ fn names_in(alloc: Global, text: &[u8]) -> Result<Names, ReportsError>
 }
 
 // The names of the text of a word.
-fn names_of<S: Shelf, I: Read, O: Write>(
+fn names_of<S: Shelf, I: Read, O: Write, E: Write>(
     shelf: &S,
     alloc: Global,
     word: &str,
-    streams: &mut Streams<I, O>,
+    streams: &mut Streams<I, O, E>,
 ) -> Result<Names, ReportsError>
     requires { HasSoundStreams streams.old }
     ensures names { MatchResult result
         (λ names. ReadsNames ((S.tellings shelf.now).held []) word.now names streams.old streams.new)
         (λ error. LacksNames error ((S.tellings shelf.now).held []) word.now streams.old streams.new) }
     ensures sound { OnOk result (HasSoundStreams streams.new) }
+    ensures quiet { streams.new.errors ≡ streams.old.errors }
 {
     match read_text(shelf, alloc, word, &mut streams.input) {
         Ok(text) => names_in(alloc, text.as_slice()),
@@ -78,25 +78,20 @@ fn tell_named<S: Shelf, I: Read, O: Write, E: Write, G: Gate>(
     inquiry: Inquiry,
     names: &Names,
     files: &[&str],
-    streams: &mut Streams<I, O>,
-    errors: &mut ErrorStream<E>,
+    streams: &mut Streams<I, O, E>,
 ) -> u8
     requires bound { 1 ≤ inquiry.bound × inquiry.bound ≤ BOUND_LIMIT }
     requires horizon { 1 ≤ inquiry.horizon × inquiry.horizon ≤ HORIZON_LIMIT }
     requires sound { HasSoundStreams streams.old }
-    requires errors { errors.old.failed ≡ false }
+    requires errors { streams.old.errors.failed ≡ false }
     ensures { Identifies ((S.tellings shelf.now).held []) inquiry names.now (map (λ s. s.now) files.now) result
-        (all_streams streams.old errors.old) (all_streams streams.new errors.new) }
+        streams.old streams.new }
 {
-    let Streams { input, output } = streams;
-    let told = &mut errors.inner;
     let reaching = Reaching {
         gate,
         last: 3 * inquiry.bound,
     };
-    identify(
-        shelf, alloc, &reaching, inquiry, names, files, input, output, told,
-    )
+    identify(shelf, alloc, &reaching, inquiry, names, files, streams)
 }
 
 /// Tells what the patterns of these files are, as `identify` does, with the names of the text of a word, which is read
@@ -111,22 +106,21 @@ pub fn tell_patterns<S: Shelf, I: Read, O: Write, E: Write, G: Gate>(
     word: Option<&str>,
     files: &[&str],
     explain: bool,
-    streams: &mut Streams<I, O>,
-    errors: &mut ErrorStream<E>,
+    streams: &mut Streams<I, O, E>,
 ) -> u8
     requires bound { 1 ≤ inquiry.bound × inquiry.bound ≤ BOUND_LIMIT }
     requires horizon { 1 ≤ inquiry.horizon × inquiry.horizon ≤ HORIZON_LIMIT }
     requires sound { HasSoundStreams streams.old }
-    requires errors { errors.old.failed ≡ false }
+    requires errors { streams.old.errors.failed ≡ false }
     ensures { TellsPatterns ((S.tellings shelf.now).held []) inquiry (option_map (λ s. s.now) word.entry)
-        (map (λ s. s.now) files.now) explain result streams.old streams.new errors.old errors.new }
+        (map (λ s. s.now) files.now) explain result streams.old streams.new }
 {
     let Some(word) = word else {
         let names = Names::none(alloc);
-        return tell_named(shelf, alloc, gate, inquiry, &names, files, streams, errors);
+        return tell_named(shelf, alloc, gate, inquiry, &names, files, streams);
     };
     match names_of(shelf, alloc, word, streams) {
-        Ok(names) => tell_named(shelf, alloc, gate, inquiry, &names, files, streams, errors),
-        Err(error) => stop_of(shelf, alloc, &[word], error, explain, errors),
+        Ok(names) => tell_named(shelf, alloc, gate, inquiry, &names, files, streams),
+        Err(error) => stop_of(shelf, alloc, &[word], error, explain, &mut streams.errors),
     }
 }

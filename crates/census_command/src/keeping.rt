@@ -6,16 +6,15 @@ ghost use Rattle.census_errors.specs.Errors.{run_status};
 ghost use Rattle.census_command.specs.Asking.{folders_of};
 ghost use Rattle.census_command.specs.Gates.{HearsKept};
 ghost use Rattle.census_command.specs.Keeps.{Keeps, StopsKeeping, cut_lines, lost_line, lost_lines};
-ghost use Rattle.census_errors.specs.ErrorStreams.{TellsMoreText};
+ghost use Rattle.watched.specs.Streams.{PutsMoreBytes};
 ghost use Rattle.census_command.specs.Streams.{HasSoundStreams};
 ghost use Rattle.census_bundle.specs.Sizes.{worker_limit};
 
 use crate::census::Census;
 use crate::reporting::report;
-use crate::streams::Streams;
 use census_crew::Gate;
 use census_errors::{
-    CommandError, ErrorStream, RunError, RunStopped, kept_place, run_saying, say_if, stop_saying,
+    CommandError, RunError, RunStopped, kept_place, run_saying, say_if, stop_saying,
 };
 use census_faults::printable_text;
 use census_folders::{Kept, Loss, OnLoss, Shelf, Source, read_source};
@@ -23,6 +22,7 @@ use std::alloc::{AllocError, Global};
 use std::io::{Read, Write};
 use std::sync::Wait;
 use std::thread::Threads;
+use watched::{Output, Streams};
 
 // Appends the line that tells a loss.
 fn push_line(alloc: Global, lines: &mut Vec<u8>, loss: &Loss) -> Result<(), AllocError>
@@ -84,19 +84,14 @@ fn status_of_kept(lines: &[u8]) -> u8
 }
 
 // Tells the error of a report that was not written whole, after what was told before, and gives its exit status.
-fn tell_cut<E: Write>(
-    alloc: Global,
-    error: RunError,
-    explain: bool,
-    errors: &mut ErrorStream<E>,
-) -> u8
+fn tell_cut<E: Write>(alloc: Global, error: RunError, explain: bool, errors: &mut Output<E>) -> u8
     ensures status { result ≡ run_status error }
-    ensures told { TellsMoreText (cut_lines explain error) errors.old errors.new }
+    ensures told { PutsMoreBytes (cut_lines explain error) errors.old.stream errors.new.stream }
 {
     let place = kept_place(alloc, error);
     let saying = run_saying(error).at(&place);
     let error = CommandError::Run(error);
-    errors.tell_more(error.line().as_str().as_bytes());
+    errors.tell(error.line().as_str().as_bytes());
     say_if(explain, saying, errors);
     error.status()
 }
@@ -128,17 +123,16 @@ pub fn keep_going<S: Shelf, I: Read, O: Write, E: Write, G: Gate, R: Threads + W
     explain: bool,
     quiet: bool,
     gate: &mut G,
-    streams: &mut Streams<I, O>,
-    errors: &mut ErrorStream<E>,
+    streams: &mut Streams<I, O, E>,
 ) -> u8
     requires question { IsAnswered census.question }
     requires workers { (1 ≤ census.workers) × (census.workers ≤ worker_limit) }
     requires sound { HasSoundStreams streams.old }
-    requires errors { errors.old.failed ≡ false }
+    requires errors { streams.old.errors.failed ≡ false }
     ensures kept { Keeps (S.tellings shelf.now) (record {
       asked = folders_of census.entry OnLoss.Keep;
       question = census.entry.question;
-    }) explain result streams.old streams.new errors.old errors.new }
+    }) explain result streams.old streams.new }
     ensures gate { HearsKept (S.tellings shelf.now) (folders_of census.entry OnLoss.Keep) quiet result
         (G.heard gate.old) (G.heard gate.new) }
 {
@@ -147,10 +141,15 @@ pub fn keep_going<S: Shelf, I: Read, O: Write, E: Write, G: Gate, R: Threads + W
         Ok(gathered) => gathered,
         Err(error) => {
             let saying = run_saying(error);
-            return stop_saying(CommandError::Run(error), saying, explain, errors);
+            return stop_saying(
+                CommandError::Run(error),
+                saying,
+                explain,
+                &mut streams.errors,
+            );
         }
     };
-    errors.tell(lost.as_slice());
+    streams.errors.tell(lost.as_slice());
     match report(
         rt,
         shelf,
@@ -165,9 +164,9 @@ pub fn keep_going<S: Shelf, I: Read, O: Write, E: Write, G: Gate, R: Threads + W
         &mut streams.output,
     ) {
         Ok(lines) => {
-            errors.tell_more(lines.as_slice());
+            streams.errors.tell(lines.as_slice());
             status_of_kept(lost.as_slice())
         }
-        Err(fault) => tell_cut(alloc, RunError::from(fault), explain, errors),
+        Err(fault) => tell_cut(alloc, RunError::from(fault), explain, &mut streams.errors),
     }
 }

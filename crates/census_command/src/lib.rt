@@ -14,7 +14,6 @@ mod keeping;
 mod remaking;
 mod reporting;
 mod running;
-mod streams;
 
 pub use advancing::advance;
 pub use census::Census;
@@ -23,4 +22,4 @@ pub use drawing::draw;
 pub use entry_point::program;
 pub use forms::{Beside, reading_of};
 pub use keeping::keep_going;
-pub use streams::Streams;
+pub use watched::Streams;

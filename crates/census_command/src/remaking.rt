@@ -3,49 +3,47 @@
 ghost use Rattle.std.specs.Prelude.{◌≡◌, [], false, map, IfErr, IfOk, OnOk};
 ghost use Rattle.census_reports.specs.Errors as reports;
 ghost use Rattle.census_reports.specs.Outcomes.{ReportsFail, WritesReports};
-ghost use Rattle.census_command.specs.Remakes.{KeepsLaw, Remakes, RemakesWith, TellsCuts, TellsOfReports, both_streams, found_status};
+ghost use Rattle.census_command.specs.Remakes.{KeepsLaw, Remakes, RemakesWith, TellsCuts, TellsOfReports, found_status};
 ghost use Rattle.census_command.specs.Streams.{HasSoundStreams};
 
 use crate::forms::{Beside, form_beside};
-use crate::streams::Streams;
 use census_cut::Cut;
-use census_errors::{
-    CommandError, ErrorStream, cut_line, reports_place_if, reports_saying, stop_saying,
-};
+use census_errors::{CommandError, cut_line, reports_place_if, reports_saying, stop_saying};
 use census_folders::Shelf;
 use census_reports::{
     Form, Reading, ReportsError, Written, merge_reports, read_text, write_reports,
 };
 use std::alloc::Global;
 use std::io::{Read, Write};
+use watched::{Output, Streams};
 
 // Writes what this form makes of the reports of these files: one report as `merge_reports` does, which keeps the law, and
 // anything else as `write_reports` does.
-fn write<S: Shelf, I: Read, O: Write>(
+fn write<S: Shelf, I: Read, O: Write, E: Write>(
     shelf: &S,
     alloc: Global,
     form: Form<'_>,
     reading: Reading,
     files: &[&str],
-    streams: &mut Streams<I, O>,
+    streams: &mut Streams<I, O, E>,
 ) -> Result<Written, ReportsError>
     requires sound { HasSoundStreams streams.old }
     ensures done { IfOk result
         (λ written. WritesReports form.entry reading written ((S.tellings shelf.now).held []) (map (λ s. s.now) files.now)
-        (both_streams streams.old) (both_streams streams.new)) }
+        streams.old streams.new) }
     ensures fails { IfErr result
         (λ error. ReportsFail error form.entry reading ((S.tellings shelf.now).held [])
         (map (λ s. s.now) files.now)
-        (both_streams streams.old) (both_streams streams.new)) }
+        streams.old streams.new) }
     ensures lawful { OnOk result
         (KeepsLaw form.entry reading ((S.tellings shelf.now).held []) (map (λ s. s.now) files.now) streams.old
         streams.new) }
+    ensures quiet { streams.new.errors ≡ streams.old.errors }
 {
-    let Streams { input, output } = streams;
     match form {
-        Form::Merged => merge_reports(shelf, alloc, reading, files, input, output),
+        Form::Merged => merge_reports(shelf, alloc, reading, files, streams),
         Form::Table { .. } | Form::Page { .. } | Form::Same { .. } | Form::Verdict { .. } => {
-            write_reports(shelf, alloc, form, reading, files, input, output)
+            write_reports(shelf, alloc, form, reading, files, streams)
         }
     }
 }
@@ -57,12 +55,12 @@ pub(crate) fn stop_of<S: Shelf, E: Write>(
     files: &[&str],
     error: ReportsError,
     explain: bool,
-    errors: &mut ErrorStream<E>,
+    errors: &mut Output<E>,
 ) -> u8
-    requires { errors.old.failed ≡ false }
+    requires { errors.old.stream.failed ≡ false }
     ensures status { result ≡ reports.status_of error }
     ensures told { TellsOfReports ((S.tellings shelf.now).held []) (map (λ s. s.now) files.now) error
-        explain errors.old errors.new }
+        explain errors.old.stream errors.new.stream }
 {
     let place = reports_place_if(explain, shelf, alloc, files, error);
     let saying = reports_saying(files, error).at(&place);
@@ -77,11 +75,11 @@ fn found_status(found: bool) -> u8
 }
 
 // Tells a line for each text that was cut. It asks for no memory, and that a line can't be told changes nothing.
-fn tell_cuts<E: Write>(cuts: &[Cut], errors: &mut ErrorStream<E>)
-    ensures { TellsCuts cuts.now errors.old errors.new }
+fn tell_cuts<E: Write>(cuts: &[Cut], errors: &mut Output<E>)
+    ensures { TellsCuts cuts.now errors.old.stream errors.new.stream }
 {
     for cut in cuts {
-        errors.tell_more(cut_line(*cut).as_str().as_bytes());
+        errors.tell(cut_line(*cut).as_str().as_bytes());
     }
 }
 
@@ -105,20 +103,19 @@ pub fn remake<S: Shelf, I: Read, O: Write, E: Write>(
     reading: Reading,
     files: &[&str],
     explain: bool,
-    streams: &mut Streams<I, O>,
-    errors: &mut ErrorStream<E>,
+    streams: &mut Streams<I, O, E>,
 ) -> u8
     requires sound { HasSoundStreams streams.old }
-    requires errors { errors.old.failed ≡ false }
+    requires errors { streams.old.errors.failed ≡ false }
     ensures { Remakes ((S.tellings shelf.now).held []) form.entry reading (map (λ s. s.now) files.now) explain
-        result streams.old streams.new errors.old errors.new }
+        result streams.old streams.new }
 {
     match write(shelf, alloc, form, reading, files, streams) {
         Ok(written) => {
-            tell_cuts(written.cuts.as_slice(), errors);
+            tell_cuts(written.cuts.as_slice(), &mut streams.errors);
             found_status(written.found)
         }
-        Err(error) => stop_of(shelf, alloc, files, error, explain, errors),
+        Err(error) => stop_of(shelf, alloc, files, error, explain, &mut streams.errors),
     }
 }
 
@@ -133,19 +130,18 @@ pub fn remake_with<S: Shelf, I: Read, O: Write, E: Write>(
     reading: Reading,
     files: &[&str],
     explain: bool,
-    streams: &mut Streams<I, O>,
-    errors: &mut ErrorStream<E>,
+    streams: &mut Streams<I, O, E>,
 ) -> u8
     requires sound { HasSoundStreams streams.old }
-    requires errors { errors.old.failed ≡ false }
+    requires errors { streams.old.errors.failed ≡ false }
     ensures { RemakesWith ((S.tellings shelf.now).held []) beside word.now reading
-        (map (λ s. s.now) files.now) explain result streams.old streams.new errors.old errors.new }
+        (map (λ s. s.now) files.now) explain result streams.old streams.new }
 {
     match read_text(shelf, alloc, word, &mut streams.input) {
         Ok(text) => {
             let form = form_beside(beside, text.as_slice());
-            remake(shelf, alloc, form, reading, files, explain, streams, errors)
+            remake(shelf, alloc, form, reading, files, explain, streams)
         }
-        Err(error) => stop_of(shelf, alloc, &[word], error, explain, errors),
+        Err(error) => stop_of(shelf, alloc, &[word], error, explain, &mut streams.errors),
     }
 }

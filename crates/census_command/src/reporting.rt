@@ -1,7 +1,6 @@
 //! The report of a bundle, and the lines that are said beside it.
 ghost use Rattle.std.specs.Prelude.{◌≡◌, ◌≤◌, false, option_map, IfOk, MatchResult};
 ghost use Rattle.life_answer.specs.Questions.{IsAnswered};
-ghost use Rattle.watched.specs.Watching.{has_failed, inner_of};
 ghost use Rattle.census_crew.specs.Faults.{FitsFault};
 ghost use Rattle.census_crew.specs.Writing.{WritesPrefix, WritesReport};
 ghost use Rattle.census_folders.specs.Sources.{asked_by};
@@ -19,7 +18,7 @@ use std::alloc::{AllocError, Global};
 use std::io::Write;
 use std::sync::Wait;
 use std::thread::Threads;
-use watched::Watched;
+use watched::Output;
 
 // The lines that are said beside a report of a bundle: those that explain what it tells as `bad`, and then the hints at what
 // may have been overlooked in the bundle.
@@ -68,16 +67,16 @@ fn run_as_asked<G: Gate, W: Write, R: Threads + Wait + Sync>(
     workers: u32,
     quiet: bool,
     gate: &mut G,
-    out: &mut Watched<W>,
+    out: &mut Output<W>,
 ) -> Result<Tally, RunFault>
     requires question { IsAnswered question }
     requires workers { (1 ≤ workers) × (workers ≤ worker_limit) }
-    requires sound { has_failed out.old ≡ false }
-    ensures failed { FitsFault result (has_failed out.new) }
+    requires sound { out.old.stream.failed ≡ false }
+    ensures failed { FitsFault result out.new.stream.failed }
     ensures report { MatchResult result
-        (λ _. WritesReport (W.contents (inner_of out.old)) (W.contents (inner_of out.new))
+        (λ _. WritesReport out.old.stream.written out.new.stream.written
         bundle.now question)
-        (λ _. WritesPrefix (W.contents (inner_of out.old)) (W.contents (inner_of out.new))
+        (λ _. WritesPrefix out.old.stream.written out.new.stream.written
         bundle.now question) }
     ensures gate { HearsBundle quiet bundle.now (G.heard gate.old) (G.heard gate.new) }
 {
@@ -103,16 +102,16 @@ pub fn report<S: Shelf, G: Gate, W: Write, R: Threads + Wait + Sync>(
     explain: bool,
     quiet: bool,
     gate: &mut G,
-    out: &mut Watched<W>,
+    out: &mut Output<W>,
 ) -> Result<Vec<u8>, RunFault>
     requires question { IsAnswered question }
     requires workers { (1 ≤ workers) × (workers ≤ worker_limit) }
-    requires sound { has_failed out.old ≡ false }
-    ensures failed { FitsFault result (has_failed out.new) }
+    requires sound { out.old.stream.failed ≡ false }
+    ensures failed { FitsFault result out.new.stream.failed }
     ensures report { MatchResult result
-        (λ _. WritesReport (W.contents (inner_of out.old)) (W.contents (inner_of out.new))
+        (λ _. WritesReport out.old.stream.written out.new.stream.written
         bundle.now question)
-        (λ _. WritesPrefix (W.contents (inner_of out.old)) (W.contents (inner_of out.new))
+        (λ _. WritesPrefix out.old.stream.written out.new.stream.written
         bundle.now question) }
     ensures lines { IfOk result
         (λ lines. IfExplained explain

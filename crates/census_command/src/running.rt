@@ -1,6 +1,5 @@
 //! `census run` and `census objects`: the report of collections.
 ghost use Rattle.std.specs.Prelude.{◌≡◌, ◌⊎◌, ◌↔◌, ◌≤◌, true, false, map, Err, IfErr, IfOk, MatchResult, OnOk};
-ghost use Rattle.watched.specs.Watching.{has_failed, inner_of};
 ghost use Rattle.census_crew.specs.Bytes.{ReadsBundle};
 ghost use Rattle.census_crew.specs.declared.bytes.BytesFault.{BytesFault};
 ghost use Rattle.life_answer.specs.Questions.{IsAnswered};
@@ -14,7 +13,6 @@ ghost use Rattle.census_bundle.specs.Sizes.{worker_limit};
 
 use crate::census::Census;
 use crate::reporting::report;
-use crate::streams::Streams;
 use census_bundle::{Bundle, BundleFault, INPUT_LIMIT, read_bundle};
 use census_crew::{BytesFault, Gate};
 use census_errors::{RunError, RunStopped};
@@ -23,12 +21,12 @@ use std::alloc::Global;
 use std::io::{Read, Write};
 use std::sync::Wait;
 use std::thread::Threads;
-use watched::{ReadFault, Watched, read_all};
+use watched::{Input, ReadFault, Streams, read_all};
 
 // Reads a bundle up to the reader's end.
-fn read_input<I: Read>(alloc: Global, input: &mut Watched<I>) -> Result<Bundle, BytesFault>
-    ensures failed { (result ≡ Err BytesFault.Read) ↔ (has_failed input.new ≡ true) }
-    ensures read { ReadsBundle (I.remaining (inner_of input.old)) (I.remaining (inner_of input.new))
+fn read_input<I: Read>(alloc: Global, input: &mut Input<I>) -> Result<Bundle, BytesFault>
+    ensures failed { (result ≡ Err BytesFault.Read) ↔ (input.new.stream.failed ≡ true) }
+    ensures read { ReadsBundle input.old.stream.unread input.new.stream.unread
         result }
 {
     let text = match read_all(alloc, input, INPUT_LIMIT) {
@@ -45,7 +43,7 @@ fn read_input<I: Read>(alloc: Global, input: &mut Watched<I>) -> Result<Bundle, 
 }
 
 // Reads a bundle to the reader's end and writes its report.
-fn run_input<S: Shelf, I: Read, O: Write, G: Gate, R: Threads + Wait + Sync>(
+fn run_input<S: Shelf, I: Read, O: Write, E: Write, G: Gate, R: Threads + Wait + Sync>(
     rt: &R,
     shelf: &S,
     alloc: Global,
@@ -53,7 +51,7 @@ fn run_input<S: Shelf, I: Read, O: Write, G: Gate, R: Threads + Wait + Sync>(
     explain: bool,
     quiet: bool,
     gate: &mut G,
-    streams: &mut Streams<I, O>,
+    streams: &mut Streams<I, O, E>,
 ) -> Result<Vec<u8>, RunError>
     requires question { IsAnswered census.question }
     requires workers { (1 ≤ census.workers) × (census.workers ≤ worker_limit) }
@@ -65,12 +63,12 @@ fn run_input<S: Shelf, I: Read, O: Write, G: Gate, R: Threads + Wait + Sync>(
     ensures sound { OnOk result (HasSoundStreams streams.new) }
     ensures fails { IfErr result (λ e. InputFails e census.entry.question streams.old streams.new) }
     ensures gate { MatchResult result
-        (λ _. HearsInput quiet streams.old streams.new (G.heard gate.old) (G.heard gate.new))
+        (λ _. HearsInput quiet streams.old.input streams.new.input (G.heard gate.old) (G.heard gate.new))
         (λ _. (G.heard gate.new ≡ G.heard gate.old)
-        ⊎ HearsInput quiet streams.old streams.new (G.heard gate.old) (G.heard gate.new)) }
+        ⊎ HearsInput quiet streams.old.input streams.new.input (G.heard gate.old) (G.heard gate.new)) }
+    ensures quiet { streams.new.errors ≡ streams.old.errors }
 {
-    let Streams { input, output } = streams;
-    let bundle = read_input(alloc, input)?;
+    let bundle = read_input(alloc, &mut streams.input)?;
     let lines = report(
         rt,
         shelf,
@@ -82,13 +80,13 @@ fn run_input<S: Shelf, I: Read, O: Write, G: Gate, R: Threads + Wait + Sync>(
         explain,
         quiet,
         gate,
-        output,
+        &mut streams.output,
     )?;
     Ok(lines)
 }
 
 // Reads the folders of a census up to the first thing that can't be read, and writes their report.
-fn run_folders<S: Shelf, I: Read, O: Write, G: Gate, R: Threads + Wait + Sync>(
+fn run_folders<S: Shelf, I: Read, O: Write, E: Write, G: Gate, R: Threads + Wait + Sync>(
     rt: &R,
     shelf: &S,
     alloc: Global,
@@ -96,7 +94,7 @@ fn run_folders<S: Shelf, I: Read, O: Write, G: Gate, R: Threads + Wait + Sync>(
     explain: bool,
     quiet: bool,
     gate: &mut G,
-    streams: &mut Streams<I, O>,
+    streams: &mut Streams<I, O, E>,
 ) -> Result<Vec<u8>, RunStopped>
     requires question { IsAnswered census.question }
     requires workers { (1 ≤ census.workers) × (census.workers ≤ worker_limit) }
@@ -117,6 +115,7 @@ fn run_folders<S: Shelf, I: Read, O: Write, G: Gate, R: Threads + Wait + Sync>(
         (λ _. (G.heard gate.new ≡ G.heard gate.old)
         ⊎ HearsFolders (S.tellings shelf.now) (plain_folders census.entry) quiet
         (G.heard gate.old) (G.heard gate.new)) }
+    ensures quiet { streams.new.errors ≡ streams.old.errors }
 {
     let source = census.source(OnLoss::Stop);
     let kept = match read_source(shelf, alloc, source) {
@@ -155,7 +154,7 @@ fn run_folders<S: Shelf, I: Read, O: Write, G: Gate, R: Threads + Wait + Sync>(
 ///
 /// The gate is told how many patterns the run has, and that it has ended, unless it is to be quiet; and nothing where nothing
 /// is run.
-pub fn run_command<S: Shelf, I: Read, O: Write, G: Gate, R: Threads + Wait + Sync>(
+pub fn run_command<S: Shelf, I: Read, O: Write, E: Write, G: Gate, R: Threads + Wait + Sync>(
     rt: &R,
     shelf: &S,
     alloc: Global,
@@ -163,7 +162,7 @@ pub fn run_command<S: Shelf, I: Read, O: Write, G: Gate, R: Threads + Wait + Syn
     explain: bool,
     quiet: bool,
     gate: &mut G,
-    streams: &mut Streams<I, O>,
+    streams: &mut Streams<I, O, E>,
 ) -> Result<Vec<u8>, RunStopped>
     requires question { IsAnswered census.question }
     requires workers { (1 ≤ census.workers) × (census.workers ≤ worker_limit) }
@@ -187,12 +186,13 @@ pub fn run_command<S: Shelf, I: Read, O: Write, G: Gate, R: Threads + Wait + Syn
         (λ _. HearsRun (S.tellings shelf.now)
         (plain_source census.entry.limit census.entry.recursive
         (map (λ s. s.now) census.entry.folders.now)) quiet
-        streams.old streams.new (G.heard gate.old) (G.heard gate.new))
+        streams.old.input streams.new.input (G.heard gate.old) (G.heard gate.new))
         (λ _. (G.heard gate.new ≡ G.heard gate.old)
         ⊎ HearsRun (S.tellings shelf.now)
         (plain_source census.entry.limit census.entry.recursive
         (map (λ s. s.now) census.entry.folders.now)) quiet
-        streams.old streams.new (G.heard gate.old) (G.heard gate.new)) }
+        streams.old.input streams.new.input (G.heard gate.old) (G.heard gate.new)) }
+    ensures quiet { streams.new.errors ≡ streams.old.errors }
 {
     if !census.folders.is_empty() {
         return run_folders(rt, shelf, alloc, census, explain, quiet, gate, streams);

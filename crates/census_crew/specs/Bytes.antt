@@ -1,6 +1,7 @@
 -- What is read and written where a bundle text is run.
 use Rattle.std.specs.Prelude.{◌≡◌, ◌≢◌, ◌≤◌, ◌⊎◌, ℕ, Bool, true, false, List, length, Option, None, Some, Result, Ok, Err, IfSome}
 use Rattle.std.specs.Io.KnownBytes.{Consumes, IsAtEnd}
+use Rattle.watched.specs.Streams.{Streams}
 use Rattle.watched.specs.Watching.{ConsumesMoreThan}
 use Rattle.census_bundle.specs.declared.bundle.Folder.{Folder}
 use Rattle.census_bundle.specs.declared.fault.BundleFault.{BundleFault}
@@ -45,31 +46,26 @@ ReadsBundle old new (Err (Bundle f)) = ReadsFault old new f
 ReadsBundle old new (Err Memory) = Unit {0}
 ReadsBundle old new (Err Write) = ⊥
 
--- what is left of a reader, and what stands in a writer
-pub record StreamPair : Type 0 where
-  pub unread : Option (List ℕ)
-  pub written : Option (List ℕ)
-
 -- a report of the bundle that was read was written, and its patterns were counted
-pub record RunsAll (question : Question) (before after : StreamPair) (t : Tally) : Type 0 where
+pub record RunsAll (question : Question) (before after : Streams) (t : Tally) : Type 0 where
   pub bundle : List Folder
-  pub read : ReadsFolders before.unread after.unread bundle
-  pub report : WritesReport before.written after.written bundle question
+  pub read : ReadsFolders before.input.unread after.input.unread bundle
+  pub report : WritesReport before.output.written after.output.written bundle question
   pub tally : TalliesPatterns bundle question t
 
 -- a prefix of a report of the bundle that was read was written
-pub record RunsFront (question : Question) (before after : StreamPair) : Type 0 where
+pub record RunsFront (question : Question) (before after : Streams) : Type 0 where
   pub bundle : List Folder
-  pub read : ReadsFolders before.unread after.unread bundle
-  pub front : WritesPrefix before.written after.written bundle question
+  pub read : ReadsFolders before.input.unread after.input.unread bundle
+  pub front : WritesPrefix before.output.written after.output.written bundle question
 
 -- what was read and written, by what is answered
-abbrev pub RunsBytes : Question → StreamPair → StreamPair → Result Tally BytesFault → Type 0
+abbrev pub RunsBytes : Question → Streams → Streams → Result Tally BytesFault → Type 0
 RunsBytes question before after (Ok t) = RunsAll question before after t
-RunsBytes question before after (Err Read) = after.written ≡ before.written
-RunsBytes question before after (Err TooLong) = ConsumesMoreThan input_limit before.unread after.unread × (after.written ≡ before.written)
-RunsBytes question before after (Err (Bundle f)) = ReadsFault before.unread after.unread f × (after.written ≡ before.written)
-RunsBytes question before after (Err Memory) = (after.written ≡ before.written) ⊎ RunsFront question before after
+RunsBytes question before after (Err Read) = after.output.written ≡ before.output.written
+RunsBytes question before after (Err TooLong) = ConsumesMoreThan input_limit before.input.unread after.input.unread × (after.output.written ≡ before.output.written)
+RunsBytes question before after (Err (Bundle f)) = ReadsFault before.input.unread after.input.unread f × (after.output.written ≡ before.output.written)
+RunsBytes question before after (Err Memory) = (after.output.written ≡ before.output.written) ⊎ RunsFront question before after
 RunsBytes question before after (Err Write) = RunsFront question before after
 
 -- `Write` is answered where the writer has failed, and nothing else where it has
@@ -82,13 +78,13 @@ FitsBytesFault (Err Memory) failed = failed ≡ false
 FitsBytesFault (Err Write) failed = failed ≡ true
 
 -- the gate was told of a run of the bundle that was read
-pub record HearsRun (before after : StreamPair) (old new : Option (List News)) : Type 0 where
+pub record HearsRun (before after : Streams) (old new : Option (List News)) : Type 0 where
   pub bundle : List Folder
-  pub read : ReadsFolders before.unread after.unread bundle
+  pub read : ReadsFolders before.input.unread after.input.unread bundle
   pub heard : Hears old new (news_of bundle)
 
 -- what the gate was told, by what is answered: nothing, where no bundle was read
-abbrev pub HearsBytes : Result Tally BytesFault → StreamPair → StreamPair → Option (List News) → Option (List News) → Type 0
+abbrev pub HearsBytes : Result Tally BytesFault → Streams → Streams → Option (List News) → Option (List News) → Type 0
 HearsBytes (Ok t) before after old new = HearsRun before after old new
 HearsBytes (Err Read) before after old new = new ≡ old
 HearsBytes (Err TooLong) before after old new = new ≡ old

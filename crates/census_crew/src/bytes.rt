@@ -1,7 +1,6 @@
 //! The run over a bundle text.
 ghost use Rattle.std.specs.Prelude.{◌≡◌, ◌↔◌, ◌≤◌, true, false, Err};
 ghost use Rattle.life_answer.specs.Questions.{IsAnswered};
-ghost use Rattle.watched.specs.Watching.{inner_of, has_failed};
 ghost use Rattle.census_crew.specs.Bytes.{FitsBytesFault, HearsBytes, ReadsBundle, RunsBytes};
 ghost use Rattle.census_crew.specs.declared.bytes.BytesFault.{BytesFault};
 ghost use Rattle.census_bundle.specs.Sizes.{worker_limit};
@@ -17,7 +16,7 @@ use std::io::{Read, Write};
 use std::sync::Wait;
 use std::thread::Threads;
 use thiserror::Error;
-use watched::{ReadFault, Watched, read_all};
+use watched::{Input, ReadFault, Streams, read_all};
 
 /// Why a bundle text was not run to its end.
 #[derive(Clone, Copy, Debug, PartialEq, Eq, Drop, Error)]
@@ -40,10 +39,9 @@ pub enum BytesFault {
 }
 
 // Reads a bundle up to the reader's end.
-fn read_input<R: Read>(alloc: Global, reader: &mut Watched<R>) -> Result<Bundle, BytesFault>
-    ensures failed { (result ≡ Err BytesFault.Read) ↔ (has_failed reader.new ≡ true) }
-    ensures read { ReadsBundle (R.remaining (inner_of reader.old))
-        (R.remaining (inner_of reader.new)) result }
+fn read_input<R: Read>(alloc: Global, reader: &mut Input<R>) -> Result<Bundle, BytesFault>
+    ensures failed { (result ≡ Err BytesFault.Read) ↔ (reader.new.stream.failed ≡ true) }
+    ensures read { ReadsBundle reader.old.stream.unread reader.new.stream.unread result }
 {
     let text = match read_all(alloc, reader, INPUT_LIMIT) {
         Ok(text) => text,
@@ -58,48 +56,40 @@ fn read_input<R: Read>(alloc: Global, reader: &mut Watched<R>) -> Result<Bundle,
     }
 }
 
-/// Reads a bundle up to the reader's end and writes the report of what is asked of its patterns, by 1 to 16 workers, as
-/// `run` does, which tells the gate of the run; where no bundle was read it is told nothing. A bound is 1 to 1,000,000
-/// generations. Neither reader nor writer has failed before. `Ok` says that all was written. The reader is read to its
-/// end before the first byte is written. After `Read`, `TooLong` and `Bundle` nothing was written; after `Memory` and
-/// `Write` nothing or a prefix of a report of the bundle. `Read` is answered where the reader has failed, and only
-/// there; `Write` where the writer has, and only there.
-pub fn run_bytes<R: Read, G: Gate, W: Write, T: Threads + Wait + Sync>(
-    rt: &T,
+/// Reads a bundle up to the end of standard input and writes the report of what is asked of its patterns, by 1 to 16
+/// workers, as `run` does, which tells the gate of the run; where no bundle was read it is told nothing. A bound is 1 to
+/// 1,000,000 generations. Neither standard input nor standard output has failed before, and nothing is told on standard
+/// error. `Ok` says that all was written. The input is read to its end before the first byte is written. After `Read`,
+/// `TooLong` and `Bundle` nothing was written; after `Memory` and `Write` nothing or a prefix of a report of the bundle.
+/// `Read` is answered where standard input has failed, and only there; `Write` where standard output has, and only there.
+pub fn run_bytes<I: Read, O: Write, E: Write, G: Gate, R: Threads + Wait + Sync>(
+    rt: &R,
     alloc: Global,
-    reader: &mut Watched<R>,
     question: Question,
     workers: u32,
     gate: &mut G,
-    out: &mut Watched<W>,
+    streams: &mut Streams<I, O, E>,
 ) -> Result<Tally, BytesFault>
     requires question { IsAnswered question }
     requires workers { (1 ≤ workers) × (workers ≤ worker_limit) }
-    requires reader { has_failed reader.old ≡ false }
-    requires sound { has_failed out.old ≡ false }
-    ensures read { (result ≡ Err BytesFault.Read) ↔ (has_failed reader.new ≡ true) }
-    ensures failed { FitsBytesFault result (has_failed out.new) }
-    ensures report { RunsBytes question
-        (record {
-          unread = R.remaining (inner_of reader.old);
-          written = W.contents (inner_of out.old);
-        })
-        (record {
-          unread = R.remaining (inner_of reader.new);
-          written = W.contents (inner_of out.new);
-        }) result }
-    ensures gate { HearsBytes result
-        (record {
-          unread = R.remaining (inner_of reader.old);
-          written = W.contents (inner_of out.old);
-        })
-        (record {
-          unread = R.remaining (inner_of reader.new);
-          written = W.contents (inner_of out.new);
-        }) (G.heard gate.old) (G.heard gate.new) }
+    requires input { streams.old.input.failed ≡ false }
+    requires output { streams.old.output.failed ≡ false }
+    ensures read { (result ≡ Err BytesFault.Read) ↔ (streams.new.input.failed ≡ true) }
+    ensures failed { FitsBytesFault result streams.new.output.failed }
+    ensures report { RunsBytes question streams.old streams.new result }
+    ensures gate { HearsBytes result streams.old streams.new (G.heard gate.old) (G.heard gate.new) }
+    ensures quiet { streams.new.errors ≡ streams.old.errors }
 {
-    let bundle = read_input(alloc, reader)?;
-    match run(rt, alloc, &bundle, question, workers, gate, out) {
+    let bundle = read_input(alloc, &mut streams.input)?;
+    match run(
+        rt,
+        alloc,
+        &bundle,
+        question,
+        workers,
+        gate,
+        &mut streams.output,
+    ) {
         Ok(tally) => Ok(tally),
         Err(RunFault::Memory { .. }) => Err(BytesFault::Memory),
         Err(RunFault::Write) => Err(BytesFault::Write),

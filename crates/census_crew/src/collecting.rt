@@ -1,6 +1,5 @@
 //! Sharing a run among workers, and collecting what they send.
 ghost use Rattle.std.specs.Prelude.{◌≡◌, ℕ, List, [], Option, true, false, MatchResult, IfErr, IfNone, IfOk, OnOk};
-ghost use Rattle.watched.specs.Watching.{inner_of, has_failed};
 ghost use Rattle.census_crew.specs.Faults.{FitsFault, TellsNoTicket};
 ghost use Rattle.census_crew.specs.Writing.{StaysInStep, StopsInStep};
 
@@ -14,16 +13,16 @@ use std::alloc::Global;
 use std::io::Write;
 use std::sync::Wait;
 use std::thread::Threads;
-use watched::{Failed, Watched};
+use watched::{Failed, Output};
 
 /// What the caller does while its workers work: it takes what they send, and writes what that releases.
-struct CollectTask<'c, 'a, W> {
+struct CollectTask<'c, 'a, W: Write> {
     state: RunState<'a>,
     results: Receiver<Batch<'a>, Global>,
-    out: &'c mut Watched<W>,
+    out: &'c mut Output<W>,
 }
 
-impl<'c, 'a, W> Drop for CollectTask<'c, 'a, W> {
+impl<'c, 'a, W: Write> Drop for CollectTask<'c, 'a, W> {
     fn drop(self) {
         let CollectTask {
             state,
@@ -36,27 +35,27 @@ impl<'c, 'a, W> Drop for CollectTask<'c, 'a, W> {
 }
 
 /// The state of the run when no more results came, or the writer failed.
-struct TaskEnd<'c, 'a, W> {
+struct TaskEnd<'c, 'a, W: Write> {
     state: RunState<'a>,
     written: Result<(), Failed>,
-    out: &'c mut Watched<W>,
+    out: &'c mut Output<W>,
 }
 
 impl<'c, 'a, W: Write> Task for CollectTask<'c, 'a, W> {
     type Output = TaskEnd<'c, 'a, W>;
 
-    ghost can_run = { λ s. has_failed s.out.now ≡ false };
+    ghost can_run = { λ s. s.out.now.stream.failed ≡ false };
 
     ghost run_gives = { λ s r.
         (r.out.ghost_name ≡ s.out.ghost_name)
         × MatchResult r.written
-        (λ _. has_failed r.out.now ≡ false)
-        (λ _. has_failed r.out.now ≡ true)
+        (λ _. r.out.now.stream.failed ≡ false)
+        (λ _. r.out.now.stream.failed ≡ true)
         × MatchResult r.written
-        (λ _. StaysInStep (W.contents (inner_of s.out.now)) s.state.collector
-        (W.contents (inner_of r.out.now)) r.state.collector)
-        (λ _. StopsInStep (W.contents (inner_of s.out.now)) s.state.collector
-        (W.contents (inner_of r.out.now)))
+        (λ _. StaysInStep s.out.now.stream.written s.state.collector
+        r.out.now.stream.written r.state.collector)
+        (λ _. StopsInStep s.out.now.stream.written s.state.collector
+        r.out.now.stream.written)
         × OnOk r.written (r.state.collector.unsent ≡ []) };
 
     fn run<R: Wait>(self, rt: &R) -> TaskEnd<'c, 'a, W> {
@@ -95,16 +94,16 @@ impl<'a> RunState<'a> {
         alloc: Global,
         hands: Vec<Hand>,
         gate: &G,
-        out: &mut Watched<W>,
+        out: &mut Output<W>,
     ) -> Result<RunState<'a>, RunFault>
-        requires sound { has_failed out.old ≡ false }
+        requires sound { out.old.stream.failed ≡ false }
         requires sent { self.collector.unsent ≡ [] }
-        ensures failed { FitsFault result (has_failed out.new) }
+        ensures failed { FitsFault result out.new.stream.failed }
         ensures step { MatchResult result
-            (λ s. StaysInStep (W.contents (inner_of out.old)) self.entry.collector
-            (W.contents (inner_of out.new)) s.collector)
-            (λ _. StopsInStep (W.contents (inner_of out.old)) self.entry.collector
-            (W.contents (inner_of out.new))) }
+            (λ s. StaysInStep out.old.stream.written self.entry.collector
+            out.new.stream.written s.collector)
+            (λ _. StopsInStep out.old.stream.written self.entry.collector
+            out.new.stream.written) }
         ensures sent { IfOk result (λ s. s.collector.unsent ≡ []) }
         ensures told { IfErr result TellsNoTicket }
     {
@@ -131,16 +130,16 @@ impl<'a> RunState<'a> {
         &mut self,
         rt: &R,
         results: &Receiver<Batch<'a>, Global>,
-        out: &mut Watched<W>,
+        out: &mut Output<W>,
     ) -> Result<Option<Batch<'a>>, Failed>
-        requires sound { has_failed out.old ≡ false }
-        ensures failed { MatchResult result (λ _. has_failed out.new ≡ false)
-            (λ _. has_failed out.new ≡ true) }
+        requires sound { out.old.stream.failed ≡ false }
+        ensures failed { MatchResult result (λ _. out.new.stream.failed ≡ false)
+            (λ _. out.new.stream.failed ≡ true) }
         ensures step { MatchResult result
-            (λ _. StaysInStep (W.contents (inner_of out.old)) self.old.collector
-            (W.contents (inner_of out.new)) self.new.collector)
-            (λ _. StopsInStep (W.contents (inner_of out.old)) self.old.collector
-            (W.contents (inner_of out.new))) }
+            (λ _. StaysInStep out.old.stream.written self.old.collector
+            out.new.stream.written self.new.collector)
+            (λ _. StopsInStep out.old.stream.written self.old.collector
+            out.new.stream.written) }
         ensures sent { IfOk result (λ next. IfNone next (self.new.collector.unsent ≡ [])) }
     {
         if let Ok(batch) = results.try_recv(rt) {
@@ -166,16 +165,16 @@ impl<'a> RunState<'a> {
         &mut self,
         rt: &R,
         results: Receiver<Batch<'a>, Global>,
-        out: &mut Watched<W>,
+        out: &mut Output<W>,
     ) -> Result<(), Failed>
-        requires sound { has_failed out.old ≡ false }
-        ensures failed { MatchResult result (λ _. has_failed out.new ≡ false)
-            (λ _. has_failed out.new ≡ true) }
+        requires sound { out.old.stream.failed ≡ false }
+        ensures failed { MatchResult result (λ _. out.new.stream.failed ≡ false)
+            (λ _. out.new.stream.failed ≡ true) }
         ensures step { MatchResult result
-            (λ _. StaysInStep (W.contents (inner_of out.old)) self.old.collector
-            (W.contents (inner_of out.new)) self.new.collector)
-            (λ _. StopsInStep (W.contents (inner_of out.old)) self.old.collector
-            (W.contents (inner_of out.new))) }
+            (λ _. StaysInStep out.old.stream.written self.old.collector
+            out.new.stream.written self.new.collector)
+            (λ _. StopsInStep out.old.stream.written self.old.collector
+            out.new.stream.written) }
         ensures sent { OnOk result (self.new.collector.unsent ≡ []) }
     {
         for _ in rt.forever() {

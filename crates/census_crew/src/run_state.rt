@@ -1,6 +1,5 @@
 //! The state of a run.
 ghost use Rattle.std.specs.Prelude.{◌≡◌, ◌≢◌, ◌<◌, ◌≤◌, ◌^◌, ℕ, List, [], Option, true, false, MatchBool, MatchResult, OnOk, IfErr, IfOk, IfSome, IfNone};
-ghost use Rattle.watched.specs.Watching.{inner_of, has_failed};
 ghost use Rattle.life_answer.specs.Questions.{IsAnswered};
 ghost use Rattle.census_bundle.specs.Sizes.{IsWithinCounts};
 ghost use Rattle.census_bundle.specs.Tickets.{has_ticket, with_ticket, HasAllTickets, IsTicketOf};
@@ -20,7 +19,7 @@ use census_bundle::{Bundle, Ticket};
 use life_answer::Question;
 use std::alloc::{AllocError, Global};
 use std::io::Write;
-use watched::{Failed, Watched};
+use watched::{Failed, Output};
 
 /// The state of a run: which of its results were taken, the text that they release, and what was counted.
 #[derive(Drop)]
@@ -86,16 +85,16 @@ impl<'a> RunState<'a> {
     }
 
     /// Writes what is unsent.
-    pub(crate) fn send<W: Write>(&mut self, out: &mut Watched<W>) -> Result<(), Failed>
-        ensures failed { MatchResult result (λ _. has_failed out.new ≡ false)
-            (λ _. has_failed out.new ≡ true) }
+    pub(crate) fn send<W: Write>(&mut self, out: &mut Output<W>) -> Result<(), Failed>
+        ensures failed { MatchResult result (λ _. out.new.stream.failed ≡ false)
+            (λ _. out.new.stream.failed ≡ true) }
         ensures tally { self.new.tally ≡ self.old.tally }
         ensures taken { self.new.collector.taken ≡ self.old.collector.taken }
         ensures step { MatchResult result
-            (λ _. StaysInStep (W.contents (inner_of out.old)) self.old.collector
-            (W.contents (inner_of out.new)) self.new.collector)
-            (λ _. StopsInStep (W.contents (inner_of out.old)) self.old.collector
-            (W.contents (inner_of out.new))) }
+            (λ _. StaysInStep out.old.stream.written self.old.collector
+            out.new.stream.written self.new.collector)
+            (λ _. StopsInStep out.old.stream.written self.old.collector
+            out.new.stream.written) }
         ensures sent { OnOk result (self.new.collector.unsent ≡ []) }
     {
         flush(&mut self.collector, out)
@@ -105,16 +104,16 @@ impl<'a> RunState<'a> {
     fn arrive<W: Write>(
         &mut self,
         done: Done<'a>,
-        out: &mut Watched<W>,
+        out: &mut Output<W>,
     ) -> Result<Option<Offer>, Failed>
-        requires sound { has_failed out.old ≡ false }
-        ensures failed { MatchResult result (λ _. has_failed out.new ≡ false)
-            (λ _. has_failed out.new ≡ true) }
+        requires sound { out.old.stream.failed ≡ false }
+        ensures failed { MatchResult result (λ _. out.new.stream.failed ≡ false)
+            (λ _. out.new.stream.failed ≡ true) }
         ensures step { MatchResult result
-            (λ _. StaysInStep (W.contents (inner_of out.old)) self.old.collector
-            (W.contents (inner_of out.new)) self.new.collector)
-            (λ _. StopsInStep (W.contents (inner_of out.old)) self.old.collector
-            (W.contents (inner_of out.new))) }
+            (λ _. StaysInStep out.old.stream.written self.old.collector
+            out.new.stream.written self.new.collector)
+            (λ _. StopsInStep out.old.stream.written self.old.collector
+            out.new.stream.written) }
         ensures sent { OnOk result
             (self.old.collector.unsent ≡ [] → self.new.collector.unsent ≡ []) }
         ensures offered { IfOk result (λ o. IfSome o (λ offer.
@@ -136,18 +135,18 @@ impl<'a> RunState<'a> {
     pub(crate) fn take_all<W: Write>(
         &mut self,
         arrivals: Vec<Done<'a>>,
-        out: &mut Watched<W>,
+        out: &mut Output<W>,
     ) -> Result<(), Failed>
-        requires sound { has_failed out.old ≡ false }
+        requires sound { out.old.stream.failed ≡ false }
         requires sent { self.old.collector.unsent ≡ [] }
         requires none { self.old.tally.strangers ≡ 0 }
-        ensures failed { MatchResult result (λ _. has_failed out.new ≡ false)
-            (λ _. has_failed out.new ≡ true) }
+        ensures failed { MatchResult result (λ _. out.new.stream.failed ≡ false)
+            (λ _. out.new.stream.failed ≡ true) }
         ensures step { MatchResult result
-            (λ _. StaysInStep (W.contents (inner_of out.old)) self.old.collector
-            (W.contents (inner_of out.new)) self.new.collector)
-            (λ _. StopsInStep (W.contents (inner_of out.old)) self.old.collector
-            (W.contents (inner_of out.new))) }
+            (λ _. StaysInStep out.old.stream.written self.old.collector
+            out.new.stream.written self.new.collector)
+            (λ _. StopsInStep out.old.stream.written self.old.collector
+            out.new.stream.written) }
         ensures sent { OnOk result (self.new.collector.unsent ≡ []) }
         ensures strangers { OnOk result
             (HasStrangers self.old.collector.bundle self.old.collector.question arrivals.entry.items
@@ -164,18 +163,18 @@ impl<'a> RunState<'a> {
         &mut self,
         alloc: Global,
         ticket: Ticket,
-        out: &mut Watched<W>,
+        out: &mut Output<W>,
     ) -> Result<(), RunFault>
         requires of_bundle { IsTicketOf self.old.collector.bundle ticket }
         requires not_taken { has_ticket self.old.collector.taken ticket ≡ false }
-        requires sound { has_failed out.old ≡ false }
+        requires sound { out.old.stream.failed ≡ false }
         requires sent { self.old.collector.unsent ≡ [] }
-        ensures failed { FitsFault result (has_failed out.new) }
+        ensures failed { FitsFault result out.new.stream.failed }
         ensures step { MatchResult result
-            (λ _. StaysInStep (W.contents (inner_of out.old)) self.old.collector
-            (W.contents (inner_of out.new)) self.new.collector)
-            (λ _. StopsInStep (W.contents (inner_of out.old)) self.old.collector
-            (W.contents (inner_of out.new))) }
+            (λ _. StaysInStep out.old.stream.written self.old.collector
+            out.new.stream.written self.new.collector)
+            (λ _. StopsInStep out.old.stream.written self.old.collector
+            out.new.stream.written) }
         ensures sent { OnOk result (self.new.collector.unsent ≡ []) }
         ensures told { IfErr result (TellsTicket ticket) }
         ensures taken { OnOk result
@@ -199,15 +198,15 @@ impl<'a> RunState<'a> {
     }
 
     // Works each ticket that is missing, the least one first, and writes what they release.
-    fn catch_up<W: Write>(&mut self, alloc: Global, out: &mut Watched<W>) -> Result<(), RunFault>
-        requires sound { has_failed out.old ≡ false }
+    fn catch_up<W: Write>(&mut self, alloc: Global, out: &mut Output<W>) -> Result<(), RunFault>
+        requires sound { out.old.stream.failed ≡ false }
         requires sent { self.old.collector.unsent ≡ [] }
-        ensures failed { FitsFault result (has_failed out.new) }
+        ensures failed { FitsFault result out.new.stream.failed }
         ensures step { MatchResult result
-            (λ _. StaysInStep (W.contents (inner_of out.old)) self.old.collector
-            (W.contents (inner_of out.new)) self.new.collector)
-            (λ _. StopsInStep (W.contents (inner_of out.old)) self.old.collector
-            (W.contents (inner_of out.new))) }
+            (λ _. StaysInStep out.old.stream.written self.old.collector
+            out.new.stream.written self.new.collector)
+            (λ _. StopsInStep out.old.stream.written self.old.collector
+            out.new.stream.written) }
         ensures told { IfErr result (TellsTicketOf self.old.collector.bundle) }
         ensures whole { OnOk result
             ((self.new.collector.unsent ≡ []) ×
@@ -224,16 +223,16 @@ impl<'a> RunState<'a> {
     pub(crate) fn finish<W: Write>(
         mut self,
         alloc: Global,
-        out: &mut Watched<W>,
+        out: &mut Output<W>,
     ) -> Result<Tally, RunFault>
-        requires sound { has_failed out.old ≡ false }
+        requires sound { out.old.stream.failed ≡ false }
         requires sent { self.collector.unsent ≡ [] }
-        ensures failed { FitsFault result (has_failed out.new) }
+        ensures failed { FitsFault result out.new.stream.failed }
         ensures ends { MatchResult result
-            (λ _. EndsInStep (W.contents (inner_of out.old)) self.entry.collector
-            (W.contents (inner_of out.new)))
-            (λ _. StopsInStep (W.contents (inner_of out.old)) self.entry.collector
-            (W.contents (inner_of out.new))) }
+            (λ _. EndsInStep out.old.stream.written self.entry.collector
+            out.new.stream.written)
+            (λ _. StopsInStep out.old.stream.written self.entry.collector
+            out.new.stream.written) }
         ensures told { IfErr result (TellsTicketOf self.entry.collector.bundle) }
         ensures tally { IfOk result
             (TalliesPatterns self.entry.collector.bundle self.entry.collector.question) }

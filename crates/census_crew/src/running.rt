@@ -1,7 +1,6 @@
 //! Runs: by workers that are started here, or without any.
 ghost use Rattle.std.specs.Prelude.{◌≡◌, ◌≤◌, false, MatchResult, IfErr, IfOk};
 ghost use Rattle.life_answer.specs.Questions.{IsAnswered};
-ghost use Rattle.watched.specs.Watching.{inner_of, has_failed};
 ghost use Rattle.census_crew.specs.Faults.{FitsFault, MayTellTicket};
 ghost use Rattle.census_crew.specs.Gates.{Hears, news_of, told_count};
 ghost use Rattle.census_crew.specs.Strangers.{HasStrangers};
@@ -21,7 +20,7 @@ use std::alloc::Global;
 use std::io::Write;
 use std::sync::Wait;
 use std::thread::Threads;
-use watched::Watched;
+use watched::Output;
 
 // How many patterns a bundle has, as far as 64 bits go.
 fn patterns_of(bundle: &Bundle) -> u64
@@ -47,16 +46,16 @@ pub fn run<G: Gate, W: Write, R: Threads + Wait + Sync>(
     question: Question,
     workers: u32,
     gate: &mut G,
-    out: &mut Watched<W>,
+    out: &mut Output<W>,
 ) -> Result<Tally, RunFault>
     requires question { IsAnswered question }
     requires workers { (1 ≤ workers) × (workers ≤ worker_limit) }
-    requires sound { has_failed out.old ≡ false }
-    ensures failed { FitsFault result (has_failed out.new) }
+    requires sound { out.old.stream.failed ≡ false }
+    ensures failed { FitsFault result out.new.stream.failed }
     ensures report { MatchResult result
-        (λ _. WritesReport (W.contents (inner_of out.old)) (W.contents (inner_of out.new))
+        (λ _. WritesReport out.old.stream.written out.new.stream.written
         bundle.now question)
-        (λ _. WritesPrefix (W.contents (inner_of out.old)) (W.contents (inner_of out.new))
+        (λ _. WritesPrefix out.old.stream.written out.new.stream.written
         bundle.now question) }
     ensures tally { IfOk result (TalliesPatterns bundle.now question) }
     ensures told { IfErr result (MayTellTicket bundle.now) }
@@ -76,16 +75,16 @@ pub fn run_untold<G: Gate, W: Write, R: Threads + Wait + Sync>(
     question: Question,
     workers: u32,
     gate: &G,
-    out: &mut Watched<W>,
+    out: &mut Output<W>,
 ) -> Result<Tally, RunFault>
     requires question { IsAnswered question }
     requires workers { (1 ≤ workers) × (workers ≤ worker_limit) }
-    requires sound { has_failed out.old ≡ false }
-    ensures failed { FitsFault result (has_failed out.new) }
+    requires sound { out.old.stream.failed ≡ false }
+    ensures failed { FitsFault result out.new.stream.failed }
     ensures report { MatchResult result
-        (λ _. WritesReport (W.contents (inner_of out.old)) (W.contents (inner_of out.new))
+        (λ _. WritesReport out.old.stream.written out.new.stream.written
         bundle.now question)
-        (λ _. WritesPrefix (W.contents (inner_of out.old)) (W.contents (inner_of out.new))
+        (λ _. WritesPrefix out.old.stream.written out.new.stream.written
         bundle.now question) }
     ensures tally { IfOk result (TalliesPatterns bundle.now question) }
     ensures told { IfErr result (MayTellTicket bundle.now) }
@@ -104,15 +103,15 @@ pub fn run_on<G: Gate, W: Write, R: Threads + Wait + Sync>(
     feed: Feed,
     hands: Vec<Hand>,
     gate: &G,
-    out: &mut Watched<W>,
+    out: &mut Output<W>,
 ) -> Result<Tally, RunFault>
     requires question { IsAnswered question }
-    requires sound { has_failed out.old ≡ false }
-    ensures failed { FitsFault result (has_failed out.new) }
+    requires sound { out.old.stream.failed ≡ false }
+    ensures failed { FitsFault result out.new.stream.failed }
     ensures report { MatchResult result
-        (λ _. WritesReport (W.contents (inner_of out.old)) (W.contents (inner_of out.new))
+        (λ _. WritesReport out.old.stream.written out.new.stream.written
         bundle.now question)
-        (λ _. WritesPrefix (W.contents (inner_of out.old)) (W.contents (inner_of out.new))
+        (λ _. WritesPrefix out.old.stream.written out.new.stream.written
         bundle.now question) }
     ensures tally { IfOk result (TalliesPatterns bundle.now question) }
     ensures told { IfErr result (MayTellTicket bundle.now) }
@@ -134,15 +133,15 @@ pub fn settle<'a, W: Write>(
     bundle: &'a Bundle,
     question: Question,
     arrivals: Vec<Done<'a>>,
-    out: &mut Watched<W>,
+    out: &mut Output<W>,
 ) -> Result<Tally, RunFault>
     requires question { IsAnswered question }
-    requires sound { has_failed out.old ≡ false }
-    ensures failed { FitsFault result (has_failed out.new) }
+    requires sound { out.old.stream.failed ≡ false }
+    ensures failed { FitsFault result out.new.stream.failed }
     ensures report { MatchResult result
-        (λ _. WritesReport (W.contents (inner_of out.old)) (W.contents (inner_of out.new))
+        (λ _. WritesReport out.old.stream.written out.new.stream.written
         bundle.now question)
-        (λ _. WritesPrefix (W.contents (inner_of out.old)) (W.contents (inner_of out.new))
+        (λ _. WritesPrefix out.old.stream.written out.new.stream.written
         bundle.now question) }
     ensures tally { IfOk result (TalliesPatterns bundle.now question) }
     ensures told { IfErr result (MayTellTicket bundle.now) }

@@ -1,14 +1,11 @@
 -- What is told piece by piece.
 use Rattle.std.proofs.Common.{◌≡◌, ℕ, ◌+◌, ◌<◌, Bool, true, false, if◌then◌else◌, List, [], ◌∷◌, ◌++◌, codes, length, take, slice_index, Option, None, Result, Ok, Err, IsOk, OnOk, MatchBool, refl, ap, subst, sym, true≢false, ◌∙◌}
-use Rattle.std.proofs.KnownBytes.{Appends-nil}
 use Rattle.std.proofs.lemmas.Grind.{flat_map-append}
 use Rattle.std.proofs.lemmas.List.{append-nil, take_more}
 use Rattle.std.specs.Option.{option_or}
-use Rattle.std.specs.Io.KnownBytes.{Appends}
-use Rattle.watched.specs.Watching.{AppendsFront}
+use Rattle.watched.specs.Streams.{PutsBytes, PutsMoreBytes, Sink}
 use Rattle.hex.specs.Hex.{encode_lower}
 use Rattle.census_identify.proofs.Written.{tells_more}
-use Rattle.census_identify.specs.Streams.{Sink}
 use Rattle.census_bundle.specs.Names.{is_name_byte}
 use Rattle.census_faults.specs.Explained.{explanation, place_heading, spot_text}
 use Rattle.census_faults.specs.Printed.{printable_text, printed_byte}
@@ -17,39 +14,19 @@ use Rattle.census_faults.specs.declared.spot.Spot.{Spot}
 use Rattle.census_faults.specs.declared.spot.Spot.TheVariants.{Nowhere, Line, At}
 use Rattle.census_errors.specs.Places.{IsSaidAt, fault_at_place}
 use Rattle.census_errors.specs.Sayings.{Says, explained_at, said}
-use Rattle.census_errors.specs.ErrorStreams.{Errors, TellsMoreText, TellsText}
 use Rattle.census_errors.specs.declared.place.Place.{Place}
 use Rattle.census_errors.specs.declared.saying.Saying.{Saying}
 
-abbrev sink_of : Errors → Sink
-sink_of e = record { written = e.told; failed = e.failed }
-
--- one text was told after another
-pub told_after : (xs ys : List ℕ) (a b c : Errors) → TellsText xs a b → TellsMoreText ys b c → TellsText (xs ++ ys) a c
-told_after xs ys a b c first more = tells_more xs ys (sink_of a) (sink_of b) (sink_of c) first (as_sinks b.failed more)
-  where
-    as_sinks : (f : Bool) → MatchBool f (c ≡ b) (TellsText ys b c) → MatchBool f (sink_of c ≡ sink_of b) (TellsText ys b c)
-    as_sinks true same = ap sink_of same
-    as_sinks false told = told
-
--- nothing was told
-pub no_more : (s : Errors) → TellsMoreText [] s s
-no_more s = at s.failed
-  where
-    at : (f : Bool) → MatchBool f (s ≡ s) (MatchBool f (AppendsFront s.told s.told []) (Appends s.told s.told []))
-    at true = refl
-    at false = Appends-nil s.told
-
 -- one text was told after another, where either may be lost
-pub more_after : (xs ys : List ℕ) (a b c : Errors) → TellsMoreText xs a b → TellsMoreText ys b c → TellsMoreText (xs ++ ys) a c
+pub more_after : (xs ys : List ℕ) (a b c : Sink) → PutsMoreBytes xs a b → PutsMoreBytes ys b c → PutsMoreBytes (xs ++ ys) a c
 more_after xs ys a b c first more = at a.failed refl first
   where
-    at : (f : Bool) → a.failed ≡ f → MatchBool f (b ≡ a) (TellsText xs a b) → MatchBool f (c ≡ a) (TellsText (xs ++ ys) a c)
+    at : (f : Bool) → a.failed ≡ f → MatchBool f (b ≡ a) (PutsBytes xs a b) → MatchBool f (c ≡ a) (PutsBytes (xs ++ ys) a c)
     at true failed same =
-        let still : b.failed ≡ true = ap (λ (e : Errors). e.failed) same ∙ failed in
-        let lost : c ≡ b = subst (λ (f : Bool). MatchBool f (c ≡ b) (TellsText ys b c)) still more in
+        let still : b.failed ≡ true = ap (λ (e : Sink). e.failed) same ∙ failed in
+        let lost : c ≡ b = subst (λ (f : Bool). MatchBool f (c ≡ b) (PutsBytes ys b c)) still more in
         lost ∙ same
-    at false sound told = told_after xs ys a b c told more
+    at false sound told = tells_more xs ys a b c told more
 
 -- one more byte of a name
 pub printed_more : (name : List ℕ) (i : ℕ) → i < length name → printable_text (take (i + 1) name) ≡ printable_text (take i name) ++ printed_byte (slice_index name i)
@@ -83,3 +60,7 @@ pub says_at : (f : Fault) (name : Option (List ℕ)) (spot : Spot) (saying : Say
 says_at f name spot saying place at h s =
     (λ i. explanation (s.fault_is i) (s.name_is i) (s.spot_is i) (s.word_is i))
     ∙ (λ i. explanation (fault_at_place (h.fault_is i) place) (option_or place.path (h.name_is i)) (h.spot_is i) (option_or place.word (h.word_is i)))
+
+-- a writer that has not failed before is told all, or fails
+pub at_sound : (bytes : List ℕ) (a b : Sink) → a.failed ≡ false → PutsMoreBytes bytes a b → PutsBytes bytes a b
+at_sound bytes a b sound told = subst (λ (f : Bool). MatchBool f (b ≡ a) (PutsBytes bytes a b)) sound told

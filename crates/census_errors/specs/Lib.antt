@@ -1,4 +1,3 @@
-pub mod ErrorStreams
 pub mod Sources
 pub mod Errors
 pub mod Files

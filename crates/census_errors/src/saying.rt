@@ -7,15 +7,15 @@ ghost use Rattle.census_errors.specs.Errors.{status_of};
 ghost use Rattle.census_errors.specs.Messages.{error_line};
 ghost use Rattle.census_errors.specs.Sayings.{said, said_if};
 ghost use Rattle.census_errors.specs.Places.{IsSaidAt};
-ghost use Rattle.census_errors.specs.ErrorStreams.{TellsMoreText, TellsText};
+ghost use Rattle.watched.specs.Streams.{PutsBytes, PutsMoreBytes};
 
 use crate::error::CommandError;
-use crate::error_stream::ErrorStream;
 use crate::place::Place;
 use census_faults::{Fault, Spot, is_name_byte, sentence};
 use hex::encode_to_slice;
 use itoa::Buffer;
 use std::io::Write;
+use watched::Output;
 
 /// What is said of an error: its fault, where that stands, as far as it is known, and the system's word.
 #[derive(Clone, Copy)]
@@ -57,22 +57,22 @@ impl<'a> Saying<'a> {
 }
 
 // Tells a byte of a name as it is shown.
-fn tell_byte<E: Write>(byte: u8, errors: &mut ErrorStream<E>)
-    ensures { TellsMoreText (printed_byte byte) errors.old errors.new }
+fn tell_byte<E: Write>(byte: u8, errors: &mut Output<E>)
+    ensures { PutsMoreBytes (printed_byte byte) errors.old.stream errors.new.stream }
 {
     if is_name_byte(byte) {
-        errors.tell_more(&[byte]);
+        errors.tell(&[byte]);
     } else {
         let mut digits = [0; 2];
         let _ = encode_to_slice([byte], &mut digits);
-        errors.tell_more(b"\\x");
-        errors.tell_more(&digits);
+        errors.tell(b"\\x");
+        errors.tell(&digits);
     }
 }
 
 // Tells a name as it is shown.
-fn tell_bytes<E: Write>(name: &[u8], errors: &mut ErrorStream<E>)
-    ensures { TellsMoreText (printable_text name.now) errors.old errors.new }
+fn tell_bytes<E: Write>(name: &[u8], errors: &mut Output<E>)
+    ensures { PutsMoreBytes (printable_text name.now) errors.old.stream errors.new.stream }
 {
     for byte in name {
         tell_byte(*byte, errors);
@@ -80,20 +80,20 @@ fn tell_bytes<E: Write>(name: &[u8], errors: &mut ErrorStream<E>)
 }
 
 // Tells a number and `:`.
-fn tell_number<E: Write>(number: u64, errors: &mut ErrorStream<E>)
-    ensures { TellsMoreText (decimal number ++ codes ":") errors.old errors.new }
+fn tell_number<E: Write>(number: u64, errors: &mut Output<E>)
+    ensures { PutsMoreBytes (decimal number ++ codes ":") errors.old.stream errors.new.stream }
 {
     let mut buffer = Buffer::new();
-    errors.tell_more(buffer.format(number).as_bytes());
-    errors.tell_more(b":");
+    errors.tell(buffer.format(number).as_bytes());
+    errors.tell(b":");
 }
 
 // Tells `LINE:` or `LINE:COLUMN:`, as far as they are known.
-fn tell_spot<E: Write>(spot: Spot, errors: &mut ErrorStream<E>)
-    ensures { TellsMoreText (spot_text spot) errors.old errors.new }
+fn tell_spot<E: Write>(spot: Spot, errors: &mut Output<E>)
+    ensures { PutsMoreBytes (spot_text spot) errors.old.stream errors.new.stream }
 {
     match spot {
-        Spot::Nowhere => errors.tell_more(b""),
+        Spot::Nowhere => errors.tell(b""),
         Spot::Line(number) => tell_number(number, errors),
         Spot::At(place) => {
             tell_number(place.line, errors);
@@ -103,31 +103,31 @@ fn tell_spot<E: Write>(spot: Spot, errors: &mut ErrorStream<E>)
 }
 
 // Tells the place of a fault that no file is known of, and a blank where anything is known.
-fn tell_place<E: Write>(spot: Spot, errors: &mut ErrorStream<E>)
-    ensures { TellsMoreText (place_heading None spot) errors.old errors.new }
+fn tell_place<E: Write>(spot: Spot, errors: &mut Output<E>)
+    ensures { PutsMoreBytes (place_heading None spot) errors.old.stream errors.new.stream }
 {
     match spot {
-        Spot::Nowhere => errors.tell_more(b""),
+        Spot::Nowhere => errors.tell(b""),
         _ => {
             tell_spot(spot, errors);
-            errors.tell_more(b" ");
+            errors.tell(b" ");
         }
     }
 }
 
 // Tells the file of a fault, its place there as far as it is known, and a blank.
-fn tell_named<E: Write>(name: &[u8], spot: Spot, errors: &mut ErrorStream<E>)
-    ensures { TellsMoreText (place_heading (Some name.now) spot) errors.old errors.new }
+fn tell_named<E: Write>(name: &[u8], spot: Spot, errors: &mut Output<E>)
+    ensures { PutsMoreBytes (place_heading (Some name.now) spot) errors.old.stream errors.new.stream }
 {
     tell_bytes(name, errors);
-    errors.tell_more(b":");
+    errors.tell(b":");
     tell_spot(spot, errors);
-    errors.tell_more(b" ");
+    errors.tell(b" ");
 }
 
 // Tells what is known of where a fault stands, and a blank where anything is.
-fn tell_heading<E: Write>(name: Option<&[u8]>, spot: Spot, errors: &mut ErrorStream<E>)
-    ensures { TellsMoreText (place_heading (option_copied name.entry) spot) errors.old errors.new }
+fn tell_heading<E: Write>(name: Option<&[u8]>, spot: Spot, errors: &mut Output<E>)
+    ensures { PutsMoreBytes (place_heading (option_copied name.entry) spot) errors.old.stream errors.new.stream }
 {
     match name {
         Some(name) => tell_named(name, spot, errors),
@@ -136,44 +136,44 @@ fn tell_heading<E: Write>(name: Option<&[u8]>, spot: Spot, errors: &mut ErrorStr
 }
 
 // Tells ` (WORD)`.
-fn tell_in_brackets<E: Write>(word: &[u8], errors: &mut ErrorStream<E>)
-    ensures { TellsMoreText (word_text (Some word.now)) errors.old errors.new }
+fn tell_in_brackets<E: Write>(word: &[u8], errors: &mut Output<E>)
+    ensures { PutsMoreBytes (word_text (Some word.now)) errors.old.stream errors.new.stream }
 {
-    errors.tell_more(b" (");
+    errors.tell(b" (");
     tell_bytes(word, errors);
-    errors.tell_more(b")");
+    errors.tell(b")");
 }
 
 // Tells ` (WORD)`, where there is a word.
-fn tell_word<E: Write>(word: Option<&[u8]>, errors: &mut ErrorStream<E>)
-    ensures { TellsMoreText (word_text (option_copied word.entry)) errors.old errors.new }
+fn tell_word<E: Write>(word: Option<&[u8]>, errors: &mut Output<E>)
+    ensures { PutsMoreBytes (word_text (option_copied word.entry)) errors.old.stream errors.new.stream }
 {
     match word {
         Some(word) => tell_in_brackets(word, errors),
-        None => errors.tell_more(b""),
+        None => errors.tell(b""),
     }
 }
 
 /// Tells what is said of an error, in a line that begins with two blanks, and asks for no memory. Where the stream has
 /// failed before, the line is lost.
-pub fn say<E: Write>(saying: Saying<'_>, errors: &mut ErrorStream<E>)
-    ensures { TellsMoreText (said saying.entry) errors.old errors.new }
+pub fn say<E: Write>(saying: Saying<'_>, errors: &mut Output<E>)
+    ensures { PutsMoreBytes (said saying.entry) errors.old.stream errors.new.stream }
 {
-    errors.tell_more(b"  ");
+    errors.tell(b"  ");
     tell_heading(saying.name, saying.spot, errors);
-    errors.tell_more(sentence(saying.fault).as_bytes());
+    errors.tell(sentence(saying.fault).as_bytes());
     tell_word(saying.word, errors);
-    errors.tell_more(b"\n");
+    errors.tell(b"\n");
 }
 
 /// The same where faults are explained, and else nothing.
-pub fn say_if<E: Write>(explain: bool, saying: Saying<'_>, errors: &mut ErrorStream<E>)
-    ensures { TellsMoreText (said_if explain (said saying.entry)) errors.old errors.new }
+pub fn say_if<E: Write>(explain: bool, saying: Saying<'_>, errors: &mut Output<E>)
+    ensures { PutsMoreBytes (said_if explain (said saying.entry)) errors.old.stream errors.new.stream }
 {
     if explain {
         say(saying, errors);
     } else {
-        errors.tell_more(b"");
+        errors.tell(b"");
     }
 }
 
@@ -183,12 +183,12 @@ pub fn stop_saying<E: Write>(
     error: CommandError,
     saying: Saying<'_>,
     explain: bool,
-    errors: &mut ErrorStream<E>,
+    errors: &mut Output<E>,
 ) -> u8
-    requires { errors.old.failed ≡ false }
+    requires { errors.old.stream.failed ≡ false }
     ensures status { result ≡ status_of error }
-    ensures lines { TellsText (error_line error ++ said_if explain (said saying.entry)) errors.old
-        errors.new }
+    ensures lines { PutsBytes (error_line error ++ said_if explain (said saying.entry)) errors.old.stream
+        errors.new.stream }
 {
     errors.tell(error.line().as_str().as_bytes());
     say_if(explain, saying, errors);

@@ -1,8 +1,10 @@
 -- What is told of a fault tells which it is.
-use Rattle.std.proofs.Common.{◌≡◌, ℕ, List, [], ◌∷◌, if◌then◌else◌, sym, ap, ◌∙◌, refl}
+use Rattle.std.proofs.Common.{◌≡◌, ℕ, List, [], ◌∷◌, Option, Some, None, if◌then◌else◌, sym, ap, ◌∙◌, refl}
 use Rattle.std.specs.Str.{bytes_eq}
+use Rattle.life_cells.specs.declared.rule.RuleFault.TheVariants as rules
 use Rattle.life_text.specs.declared.rle.RleFault.{RleFault}
 use Rattle.life_text.specs.declared.rle.RleFault.TheVariants as rle
+use Rattle.life_text.specs.Faults.{without_place}
 use Rattle.life_shape.specs.declared.reader.CodeFault.{CodeFault}
 use Rattle.life_shape.specs.declared.reader.CodeFault.TheVariants as code
 use Rattle.census_bundle.specs.declared.fault.BundleFault.{BundleFault}
@@ -15,6 +17,9 @@ use Rattle.census_faults.specs.declared.rle.kinds.RuleKind.{RuleKind}
 use Rattle.census_faults.specs.declared.rle.kinds.RuleKind.TheVariants as kinds
 use Rattle.census_faults.specs.declared.fault.Fault.{Fault}
 use Rattle.census_faults.specs.declared.fault.Fault.TheVariants.{Text, File, Rule, Bundle, Folder, Code, Generation, Report, Claims, Names, TooLong, Read, FileForFolder, Write, Arguments, Words, Memory}
+use Rattle.census_faults.specs.Rle.Files.{file_kind}
+use Rattle.census_faults.specs.Rle.Rules.{rule_in_header, rule_kind}
+use Rattle.census_faults.specs.Rle.Sentences.{WordsDiffer, sentence_of_rule, words_of}
 use Rattle.census_faults.specs.Faults.{canonical_fault}
 use Rattle.census_faults.specs.Sentences.{FaultsDiffer, sentence_of}
 
@@ -33,7 +38,7 @@ all_faults =
     File files.ByteOrderMark ∷
     File files.Other ∷
     Text rle.BadHeader ∷
-    Text rle.RuleHasB0 ∷
+    Text (rle.Rule rules.HasB0) ∷
     Text (rle.ManyStates 0) ∷
     Text (rle.BadChar 0) ∷
     Text (rle.BadRun 0) ∷
@@ -78,8 +83,8 @@ told_by words = told_among all_faults words
 text_tells : (fault : RleFault) → told_by (sentence_of (Text fault)) ≡ canonical_fault (Text fault)
 text_tells rle.NoHeader = refl
 text_tells rle.BadHeader = refl
-text_tells rle.RuleNotLifeLike = refl
-text_tells rle.RuleHasB0 = refl
+text_tells (rle.Rule rules.NotLifeLike) = refl
+text_tells (rle.Rule rules.HasB0) = refl
 text_tells (rle.ManyStates at) = refl
 text_tells (rle.BadChar at) = refl
 text_tells (rle.BadRun at) = refl
@@ -148,3 +153,33 @@ fault_tells Memory = refl
 
 pub faults_differ : FaultsDiffer
 faults_differ f g is = sym (fault_tells f) ∙ ap told_by is ∙ fault_tells g
+
+-- # Of texts
+
+-- the fault of a text that is told as this one: a kind of file is told where there is no header line, and a kind of rule where
+-- the rule is not Life-like
+abbrev text_of : Fault → RleFault
+text_of (Text fault) = fault
+text_of (File kind) = rle.NoHeader
+text_of (Rule kind) = rle.Rule rules.NotLifeLike
+text_of fault = rle.Memory
+
+words_of_rule_tell : (rule : Option (List ℕ)) → text_of (told_by (sentence_of_rule rule)) ≡ rle.Rule rules.NotLifeLike
+words_of_rule_tell None = refl
+words_of_rule_tell (Some rule) = ap text_of (rule_tells (rule_kind rule))
+
+words_tell : (text : List ℕ) (fault : RleFault) → text_of (told_by (words_of text fault)) ≡ without_place fault
+words_tell text rle.NoHeader = ap text_of (file_tells (file_kind text))
+words_tell text rle.BadHeader = refl
+words_tell text (rle.Rule rules.NotLifeLike) = words_of_rule_tell (rule_in_header text)
+words_tell text (rle.Rule rules.HasB0) = refl
+words_tell text (rle.ManyStates at) = refl
+words_tell text (rle.BadChar at) = refl
+words_tell text (rle.BadRun at) = refl
+words_tell text (rle.TooFar at) = refl
+words_tell text (rle.TooMany at) = refl
+words_tell text rle.NoEnd = refl
+words_tell text rle.Memory = refl
+
+pub words_differ : WordsDiffer
+words_differ text other f g same = sym (words_tell text f) ∙ ap (λ words. text_of (told_by words)) same ∙ words_tell other g

@@ -1,2 +1,1 @@
-pub mod SentenceLemmas
 pub mod RefusedLemmas

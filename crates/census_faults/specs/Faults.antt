@@ -21,17 +21,17 @@ use Rattle.census_faults.specs.declared.fault.Fault.TheVariants.{Text, File, Rul
 
 -- of the rule that a header names, its kind
 abbrev pub header_fault : Option (List ℕ) → Fault
-header_fault None = Text rle.RuleNotLifeLike
+header_fault None = Text (rle.Rule rules.NotLifeLike)
 header_fault (Some rule) = Rule (rule_kind rule)
 
 abbrev pub text_fault : List ℕ → RleFault → Fault
 text_fault text rle.NoHeader = File (file_kind text)
-text_fault text rle.RuleNotLifeLike = header_fault (rule_in_header text)
+text_fault text (rle.Rule rules.NotLifeLike) = header_fault (rule_in_header text)
 text_fault text fault = Text fault
 
 abbrev pub rule_fault : List ℕ → RuleFault → Fault
 rule_fault rule rules.NotLifeLike = Rule (rule_kind rule)
-rule_fault rule rules.HasB0 = Text rle.RuleHasB0
+rule_fault rule fault = Text (rle.Rule fault)
 
 -- # One fault under several names
 
@@ -39,8 +39,8 @@ rule_fault rule rules.HasB0 = Text rle.RuleHasB0
 abbrev pub same_of_text : RleFault → Fault
 same_of_text rle.NoHeader = File files.Other
 same_of_text rle.BadHeader = Text rle.BadHeader
-same_of_text rle.RuleNotLifeLike = Rule kinds.Other
-same_of_text rle.RuleHasB0 = Text rle.RuleHasB0
+same_of_text (rle.Rule rules.NotLifeLike) = Rule kinds.Other
+same_of_text (rle.Rule fault) = Text (rle.Rule fault)
 same_of_text (rle.ManyStates at) = Text (rle.ManyStates 0)
 same_of_text (rle.BadChar at) = Text (rle.BadChar 0)
 same_of_text (rle.BadRun at) = Text (rle.BadRun 0)

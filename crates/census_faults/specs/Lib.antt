@@ -1,4 +1,5 @@
 pub mod Printed
+pub mod Numbers
 pub mod Faults
 pub mod Sentences
 pub mod Spots

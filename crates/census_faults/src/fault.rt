@@ -58,7 +58,7 @@ pub fn text_fault(text: &[u8], fault: RleFault) -> Fault
 {
     match fault {
         RleFault::NoHeader => Fault::File(file_kind(text)),
-        RleFault::RuleNotLifeLike => match rule_in_header(text) {
+        RleFault::Rule(RuleFault::NotLifeLike) => match rule_in_header(text) {
             Some(rule) => Fault::Rule(rule_kind(rule)),
             None => Fault::Text(fault),
         },
@@ -66,13 +66,13 @@ pub fn text_fault(text: &[u8], fault: RleFault) -> Fault
     }
 }
 
-/// The fault of a rule text: the kind of rule that it names, or that cells come alive with no live neighbour, as for
-/// the rule of an RLE text.
+/// The fault of a rule text: the kind of rule that it names where it is not Life-like, and any other fault as for the rule of
+/// an RLE text.
 pub fn rule_fault(rule: &[u8], fault: RuleFault) -> Fault
     ensures { result ≡ rule_fault rule.now fault }
 {
     match fault {
         RuleFault::NotLifeLike => Fault::Rule(rule_kind(rule)),
-        RuleFault::HasB0 => Fault::Text(RleFault::RuleHasB0),
+        _ => Fault::Text(RleFault::Rule(fault)),
     }
 }

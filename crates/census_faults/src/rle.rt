@@ -22,4 +22,4 @@ pub use reported::fault_words;
 pub use sentences::{
     file_sentence, refused_rules_are_told, rule_sentence, sentence, sentences_differ,
 };
-pub use told::{fault_line, sentence_line};
+pub use told::{fault_line, fault_name, sentence_line};

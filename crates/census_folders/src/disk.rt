@@ -15,7 +15,7 @@ use std::io::{BufReader, ErrorKind, Read};
 use std::path::{Path, PathBuf};
 use std::rt::Files;
 use std::{fs, io};
-use watched::{Watched, read_all};
+use watched::{Input, read_all};
 
 /// So many times the system is asked again where a signal interrupts it.
 const TRIES: u32 = 1_000;
@@ -61,7 +61,7 @@ fn read_opened<F: Read + Drop>(
     ensures unopened { OnErr opened (IfErr result (RefusesList Untold) × IsErr result) }
 {
     match opened {
-        Ok(file) => Ok(read_all(alloc, &mut Watched::new(file), limit)?),
+        Ok(file) => Ok(read_all(alloc, &mut Input::new(file), limit)?),
         Err(error) => Err(fault_of(error)),
     }
 }

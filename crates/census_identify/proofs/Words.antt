@@ -10,7 +10,7 @@ use Rattle.census_identify.specs.Courses.{with_told}
 use Rattle.census_identify.specs.Errors.{error_line}
 use Rattle.census_identify.specs.Hearing.{Hearing, Hears, HearsEach, heard_words}
 use Rattle.census_identify.specs.Identifies.{LacksMemory, LosesOutput, Stops, TellsAll}
-use Rattle.census_identify.specs.Streams.{PutsBytes, PutsMoreBytes, PutsPrefix, Sink, Reader, Streams, Writes, WritesBetween}
+use Rattle.watched.specs.Streams.{PutsBytes, PutsMoreBytes, PutsPrefix, Sink, Reader, Streams, Writes, WritesBetween}
 use Rattle.census_identify.specs.Telling.{blocks_in, blocks_text, line_told, lines_text, output_of, status_of, told_of, told_words}
 use Rattle.census_identify.specs.declared.course.Course.{Course}
 use Rattle.census_identify.specs.declared.error.IdentifyError.{IdentifyError}

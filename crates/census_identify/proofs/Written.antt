@@ -5,7 +5,7 @@ use Rattle.std.proofs.Math.Seq.{take-append-add}
 use Rattle.std.proofs.lemmas.List.{take-append-le}
 use Rattle.std.specs.Io.KnownBytes.{Appends}
 use Rattle.watched.specs.Watching.{AppendsFront}
-use Rattle.census_identify.specs.Streams.{PutsBytes, PutsMoreBytes, PutsPrefix, Sink, Writes, WritesBetween}
+use Rattle.watched.specs.Streams.{PutsBytes, PutsMoreBytes, PutsPrefix, Sink, Writes, WritesBetween}
 
 -- a prefix of the second text stands after the whole first one
 behind_whole : (a b c : Option (List ℕ)) (xs ys : List ℕ) (n : ℕ) → Appends a b xs → Appends b c (take n ys) → Appends a c (take (length xs + n) (xs ++ ys))

@@ -10,7 +10,7 @@ use Rattle.watched.specs.declared.reading.ReadFault.TheVariants as reads
 use Rattle.census_bundle.specs.Sizes.{input_limit}
 use Rattle.census_folders.specs.Told.{Told, GivesTold, IsSystemWord, MayExceed, MayFail}
 use Rattle.census_folders.specs.declared.unread.Unread as unread
-use Rattle.census_identify.specs.Streams.{Reader}
+use Rattle.watched.specs.Streams.{Reader}
 use Rattle.census_identify.specs.declared.heard.Heard.{Heard}
 use Rattle.census_identify.specs.declared.heard.Heard.TheVariants.{Text, TooLong, Unread}
 

@@ -7,7 +7,7 @@ use Rattle.census_bundle.specs.Sizes.{input_limit}
 use Rattle.census_folders.specs.Told.{Told}
 use Rattle.census_identify.specs.Errors.{error_line, error_status}
 use Rattle.census_identify.specs.Hearing.{Hearing, HearsEach, heard_words}
-use Rattle.census_identify.specs.Streams.{PutsBytes, Reader, Streams, Writes, WritesBetween}
+use Rattle.watched.specs.Streams.{PutsBytes, Reader, Streams, Writes, WritesBetween}
 use Rattle.census_identify.specs.Telling.{blocks_text, lines_text, status_of, told_words}
 use Rattle.census_identify.specs.declared.error.IdentifyError.{IdentifyError}
 use Rattle.census_identify.specs.declared.error.IdentifyError.TheVariants.{Memory, Write}

@@ -1,4 +1,3 @@
-pub mod Streams
 pub mod Hearing
 pub mod Telling
 pub mod Courses

@@ -1,16 +1,15 @@
 //! What is got of a file, or of standard input.
 ghost use Rattle.std.specs.Prelude.{◌≡◌, ◌+◌, ◌≤◌, codes, IfErr, IfOk, IsTrue, ◌↔◌, [], vec_len};
-ghost use Rattle.watched.specs.Watching.{ConsumesAtMost, inner_of};
+ghost use Rattle.watched.specs.Watching.{ConsumesAtMost};
 ghost use Rattle.census_folders.specs.Told.{GivesTold, RefusesFile};
 ghost use Rattle.census_identify.specs.Hearing.{Hears, HearsFile, HearsInput, heard_of, is_input};
-ghost use Rattle.census_identify.specs.Streams.{source};
 
 use crate::bytes::Bytes;
 use census_bundle::{INPUT_LIMIT, Text};
 use census_folders::{Shelf, ShelfFault, Unread};
 use std::alloc::{AllocError, Global};
 use std::io::Read;
-use watched::{ReadFault, Watched, read_all};
+use watched::{Input, ReadFault, read_all};
 
 /// What is got of a file, or of standard input.
 #[derive(Drop)]
@@ -66,11 +65,11 @@ fn hear_file<S: Shelf>(shelf: &S, alloc: Global, path: &[u8]) -> Result<Heard, A
     }
 }
 
-fn hear_input<I: Read>(alloc: Global, input: &mut Watched<I>) -> Result<Heard, AllocError>
+fn hear_input<I: Read>(alloc: Global, input: &mut Input<I>) -> Result<Heard, AllocError>
     ensures heard { IfOk result
-        (λ heard. HearsInput heard (source I.remaining input.old) (source I.remaining input.new)) }
+        (λ heard. HearsInput heard input.old.stream input.new.stream) }
     ensures taken { ConsumesAtMost (INPUT_LIMIT + 1)
-        (I.remaining (inner_of input.old)) (I.remaining (inner_of input.new)) }
+        input.old.stream.unread input.new.stream.unread }
 {
     heard_of(read_all(alloc, input, INPUT_LIMIT))
 }
@@ -91,12 +90,12 @@ pub fn hear<S: Shelf, I: Read>(
     shelf: &S,
     alloc: Global,
     word: &str,
-    input: &mut Watched<I>,
+    input: &mut Input<I>,
 ) -> Result<Heard, AllocError>
     ensures heard { IfOk result (λ heard. Hears ((S.tellings shelf.now).held []) word.now heard
-        (source I.remaining input.old) (source I.remaining input.new)) }
+        input.old.stream input.new.stream) }
     ensures taken { ConsumesAtMost (INPUT_LIMIT + 1)
-        (I.remaining (inner_of input.old)) (I.remaining (inner_of input.new)) }
+        input.old.stream.unread input.new.stream.unread }
 {
     if is_input(word) {
         hear_input(alloc, input)

@@ -1,11 +1,9 @@
 //! `census identify`: what each of several patterns is.
 ghost use Rattle.std.specs.Prelude.{◌≡◌, ◌≤◌, false, [], map, MatchResult};
-ghost use Rattle.watched.specs.Watching.{has_failed};
 ghost use Rattle.census_identify.specs.Identifies.{Identifies, Stops, TellsAll, words_or_input};
-ghost use Rattle.census_identify.specs.Streams.{streams};
 
 use crate::blocks::{HORIZON_LIMIT, Inquiry};
-use crate::course::{Course, tell, tell_line};
+use crate::course::{Course, tell};
 use crate::error::IdentifyError;
 use crate::heard::hear;
 use crate::onlooker::{Onlooker, WordObserver};
@@ -15,7 +13,7 @@ use census_names::Names;
 use life_orbit::BOUND_LIMIT;
 use std::alloc::Global;
 use std::io::{Read, Write};
-use watched::Watched;
+use watched::Streams;
 
 // Standard input alone, where there is no word.
 fn words_or_input<'a, 'b>(words: &'a [&'b str]) -> &'a [&'b str]
@@ -32,22 +30,23 @@ fn identify_each<S: Shelf, I: Read, O: Write, E: Write, L: Onlooker>(
     inquiry: Inquiry,
     names: &Names,
     words: &[&str],
-    input: &mut Watched<I>,
-    output: &mut Watched<O>,
-    errors: &mut Watched<E>,
+    streams: &mut Streams<I, O, E>,
 ) -> Result<u8, IdentifyError>
     requires bound { 1 ≤ inquiry.bound × inquiry.bound ≤ BOUND_LIMIT }
     requires horizon { 1 ≤ inquiry.horizon × inquiry.horizon ≤ HORIZON_LIMIT }
-    requires output { has_failed output.old ≡ false }
-    requires errors { has_failed errors.old ≡ false }
+    requires output { streams.old.output.failed ≡ false }
+    requires errors { streams.old.errors.failed ≡ false }
     ensures { MatchResult result
         (λ status. TellsAll ((S.tellings shelf.now).held []) inquiry names.now (map (λ s. s.now) words.now)
-        status (streams I.remaining O.contents E.contents input.old output.old errors.old)
-        (streams I.remaining O.contents E.contents input.new output.new errors.new))
+        status streams.old streams.new)
         (λ error. Stops error [] ((S.tellings shelf.now).held []) inquiry names.now (map (λ s. s.now) words.now)
-        (streams I.remaining O.contents E.contents input.old output.old errors.old)
-        (streams I.remaining O.contents E.contents input.new output.new errors.new)) }
+        streams.old streams.new) }
 {
+    let Streams {
+        input,
+        output,
+        errors,
+    } = streams;
     let mut course = Course {
         has_block: false,
         status: 0,
@@ -83,17 +82,14 @@ pub fn identify<S: Shelf, I: Read, O: Write, E: Write, L: Onlooker>(
     inquiry: Inquiry,
     names: &Names,
     words: &[&str],
-    input: &mut Watched<I>,
-    output: &mut Watched<O>,
-    errors: &mut Watched<E>,
+    streams: &mut Streams<I, O, E>,
 ) -> u8
     requires bound { 1 ≤ inquiry.bound × inquiry.bound ≤ BOUND_LIMIT }
     requires horizon { 1 ≤ inquiry.horizon × inquiry.horizon ≤ HORIZON_LIMIT }
-    requires output { has_failed output.old ≡ false }
-    requires errors { has_failed errors.old ≡ false }
+    requires output { streams.old.output.failed ≡ false }
+    requires errors { streams.old.errors.failed ≡ false }
     ensures { Identifies ((S.tellings shelf.now).held []) inquiry names.now (map (λ s. s.now) words.now) result
-        (streams I.remaining O.contents E.contents input.old output.old errors.old)
-        (streams I.remaining O.contents E.contents input.new output.new errors.new) }
+        streams.old streams.new }
 {
     match identify_each(
         shelf,
@@ -102,13 +98,11 @@ pub fn identify<S: Shelf, I: Read, O: Write, E: Write, L: Onlooker>(
         inquiry,
         names,
         words_or_input(words),
-        input,
-        output,
-        errors,
+        streams,
     ) {
         Ok(status) => status,
         Err(error) => {
-            tell_line(error.line().as_bytes(), errors);
+            streams.errors.tell(error.line().as_bytes());
             error.status()
         }
     }

@@ -23,7 +23,7 @@ use census_readback::{behind_line, first_row};
 use census_rows::{Row, put_row};
 use gathered::{Block, put};
 use std::io::Write;
-use watched::Watched;
+use watched::Output;
 
 /// How many collections and patterns the reports have that are counted, and the number, from 1, of
 /// the next.
@@ -106,9 +106,9 @@ pub fn count(counted: Counted, text: &[u8]) -> Result<Counted, TooMany>
 }
 
 // Tells a row's line.
-fn put_line<W: Write>(row: &Row, block: &mut Block, writer: &mut Watched<W>)
-    ensures { TellsAfter (line_of row.now) (sheet W.contents block.old writer.old)
-        (sheet W.contents block.new writer.new) }
+fn put_line<W: Write>(row: &Row, block: &mut Block, writer: &mut Output<W>)
+    ensures { TellsAfter (line_of row.now) (sheet block.old writer.old)
+        (sheet block.new writer.new) }
 {
     put_row(row, block, writer);
     put(b"\n", block, writer);
@@ -119,11 +119,11 @@ fn put_next<W: Write>(
     sums: Sums,
     row: Row,
     block: &mut Block,
-    writer: &mut Watched<W>,
+    writer: &mut Output<W>,
 ) -> Option<Sums>
     requires { sums.collections ≤ count_limit }
-    ensures { PutsRow sums row.entry result (sheet W.contents block.old writer.old)
-        (sheet W.contents block.new writer.new) }
+    ensures { PutsRow sums row.entry result (sheet block.old writer.old)
+        (sheet block.new writer.new) }
 {
     let Some(more) = sums_at_end(&row) else {
         put_line(&renumbered_row(sums.collections, row), block, writer);
@@ -139,14 +139,14 @@ pub fn put_rows<W: Write>(
     sums: Sums,
     text: &[u8],
     block: &mut Block,
-    writer: &mut Watched<W>,
+    writer: &mut Output<W>,
 ) -> Option<Sums>
     requires { sums.collections ≤ count_limit }
     ensures few { IfSome result (λ all. all.collections ≤ count_limit) }
     ensures told { (rows : List Row) (report : ℕ) → AllLines rows → text.now ≡ text_of rows
         → AreFew rows → first_excess report sums rows ≡ None
-        → PutsRows sums rows result (sheet W.contents block.old writer.old)
-        (sheet W.contents block.new writer.new) }
+        → PutsRows sums rows result (sheet block.old writer.old)
+        (sheet block.new writer.new) }
 {
     let mut all = sums;
     let mut rest = text;
@@ -164,9 +164,9 @@ pub fn put_rows<W: Write>(
 }
 
 /// Tells the `end` row of all reports.
-pub fn put_end<W: Write>(sums: Sums, block: &mut Block, writer: &mut Watched<W>)
+pub fn put_end<W: Write>(sums: Sums, block: &mut Block, writer: &mut Output<W>)
     ensures { TellsAfter (line_of (End sums.collections sums.patterns))
-        (sheet W.contents block.old writer.old) (sheet W.contents block.new writer.new) }
+        (sheet block.old writer.old) (sheet block.new writer.new) }
 {
     let end = Row::End {
         collections: sums.collections,

@@ -19,7 +19,7 @@ use gathered::{Block, put};
 use life_shape::Shape;
 use std::alloc::{AllocError, Global};
 use std::io::Write;
-use watched::Watched;
+use watched::Output;
 
 // Adds the picture of a code.
 fn push_picture_cell(
@@ -132,13 +132,13 @@ fn put_code<W: Write>(
     code: &[u8],
     count: u64,
     block: &mut Block,
-    writer: &mut Watched<W>,
+    writer: &mut Output<W>,
 ) -> Result<(), AllocError>
     ensures { MatchResult result
         (λ _. TellsAfter (code_cells (linking_of links.now) rule.now code.now count holders.now)
-        (sheet W.contents block.old writer.old) (sheet W.contents block.new writer.new))
+        (sheet block.old writer.old) (sheet block.new writer.new))
         (λ _. TellsFront (code_cells (linking_of links.now) rule.now code.now count holders.now)
-        (sheet W.contents block.old writer.old) (sheet W.contents block.new writer.new)) }
+        (sheet block.old writer.old) (sheet block.new writer.new)) }
 {
     if writer.failed() {
         return Ok(());
@@ -160,14 +160,14 @@ fn put_having<W: Write>(
     code: &[u8],
     count: u64,
     block: &mut Block,
-    writer: &mut Watched<W>,
+    writer: &mut Output<W>,
 ) -> Result<(), AllocError>
     requires { AreInOrder holders.now }
     ensures { MatchResult result
         (λ _. TellsAfter (code_cells (linking_of links.now) rule.now code.now count (having rule.now code.now holders.now))
-        (sheet W.contents block.old writer.old) (sheet W.contents block.new writer.new))
+        (sheet block.old writer.old) (sheet block.new writer.new))
         (λ _. TellsFront (code_cells (linking_of links.now) rule.now code.now count (having rule.now code.now holders.now))
-        (sheet W.contents block.old writer.old) (sheet W.contents block.new writer.new)) }
+        (sheet block.old writer.old) (sheet block.new writer.new)) }
 {
     let here = having(holders, rule, code);
     put_code(alloc, links, here, rule, code, count, block, writer)
@@ -180,14 +180,14 @@ fn put_code_row<W: Write>(
     holders: &[Holder],
     row: &Row,
     block: &mut Block,
-    writer: &mut Watched<W>,
+    writer: &mut Output<W>,
 ) -> Result<(), AllocError>
     requires { AreInOrder holders.now }
     ensures { MatchResult result
         (λ _. TellsAfter (code_row (linking_of links.now) holders.now row.now)
-        (sheet W.contents block.old writer.old) (sheet W.contents block.new writer.new))
+        (sheet block.old writer.old) (sheet block.new writer.new))
         (λ _. TellsFront (code_row (linking_of links.now) holders.now row.now)
-        (sheet W.contents block.old writer.old) (sheet W.contents block.new writer.new)) }
+        (sheet block.old writer.old) (sheet block.new writer.new)) }
 {
     match row {
         Row::Code {
@@ -209,14 +209,14 @@ pub fn put_code_rows<W: Write>(
     holders: &[Holder],
     rows: &[&Row],
     block: &mut Block,
-    writer: &mut Watched<W>,
+    writer: &mut Output<W>,
 ) -> Result<(), AllocError>
     requires { AreInOrder holders.now }
     ensures { MatchResult result
         (λ _. TellsAfter (code_rows (linking_of links.now) holders.now (rows_lent rows.now))
-        (sheet W.contents block.old writer.old) (sheet W.contents block.new writer.new))
+        (sheet block.old writer.old) (sheet block.new writer.new))
         (λ _. TellsFront (code_rows (linking_of links.now) holders.now (rows_lent rows.now))
-        (sheet W.contents block.old writer.old) (sheet W.contents block.new writer.new)) }
+        (sheet block.old writer.old) (sheet block.new writer.new)) }
 {
     for row in rows {
         put_code_row(alloc, links, holders, *row, block, writer)?;

@@ -9,7 +9,7 @@ use census_rows::Row;
 use gathered::{Block, put};
 use std::alloc::{AllocError, Global};
 use std::io::Write;
-use watched::Watched;
+use watched::Output;
 
 // Adds the name of a collection.
 fn push_name(alloc: Global, text: &mut Vec<u8>, name: &[u8]) -> Result<(), AllocError>
@@ -67,13 +67,13 @@ fn put_heading<W: Write>(
     alloc: Global,
     row: &Row,
     block: &mut Block,
-    writer: &mut Watched<W>,
+    writer: &mut Output<W>,
 ) -> Result<(), AllocError>
     ensures { MatchResult result
         (λ _. TellsAfter (heading row.now)
-        (sheet W.contents block.old writer.old) (sheet W.contents block.new writer.new))
+        (sheet block.old writer.old) (sheet block.new writer.new))
         (λ _. TellsFront (heading row.now)
-        (sheet W.contents block.old writer.old) (sheet W.contents block.new writer.new)) }
+        (sheet block.old writer.old) (sheet block.new writer.new)) }
 {
     let mut text = Vec::new(alloc);
     push_heading(alloc, &mut text, row)?;
@@ -86,13 +86,13 @@ pub fn put_headings<W: Write>(
     alloc: Global,
     rows: &[&Row],
     block: &mut Block,
-    writer: &mut Watched<W>,
+    writer: &mut Output<W>,
 ) -> Result<(), AllocError>
     ensures { MatchResult result
         (λ _. TellsAfter (headings (rows_lent rows.now))
-        (sheet W.contents block.old writer.old) (sheet W.contents block.new writer.new))
+        (sheet block.old writer.old) (sheet block.new writer.new))
         (λ _. TellsFront (headings (rows_lent rows.now))
-        (sheet W.contents block.old writer.old) (sheet W.contents block.new writer.new)) }
+        (sheet block.old writer.old) (sheet block.new writer.new)) }
 {
     for row in rows {
         put_heading(alloc, *row, block, writer)?;

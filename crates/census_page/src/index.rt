@@ -10,7 +10,7 @@ use census_rows::Row;
 use gathered::{Block, put};
 use std::alloc::{AllocError, Global};
 use std::io::Write;
-use watched::Watched;
+use watched::Output;
 
 // Adds a cell with a number.
 #[tactic(auto, unfolding(crate::specs::Pages::number_cell))]
@@ -95,13 +95,13 @@ pub fn put_rows<W: Write>(
     alloc: Global,
     sections: &[Vec<&Row>],
     block: &mut Block,
-    writer: &mut Watched<W>,
+    writer: &mut Output<W>,
 ) -> Result<(), AllocError>
     ensures { MatchResult result
         (λ _. TellsAfter (index_rows 1 (sections_lent sections.now))
-        (sheet W.contents block.old writer.old) (sheet W.contents block.new writer.new))
+        (sheet block.old writer.old) (sheet block.new writer.new))
         (λ _. TellsFront (index_rows 1 (sections_lent sections.now))
-        (sheet W.contents block.old writer.old) (sheet W.contents block.new writer.new)) }
+        (sheet block.old writer.old) (sheet block.new writer.new)) }
 {
     for index in 0..sections.len() {
         let text = row_of(alloc, index as u64 + 1, sections[index].as_slice())?;

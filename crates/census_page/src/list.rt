@@ -10,7 +10,7 @@ use census_page_pieces::{Links, push_grouped, push_labelled, push_name};
 use gathered::{Block, put};
 use std::alloc::{AllocError, Global};
 use std::io::Write;
-use watched::Watched;
+use watched::Output;
 
 // So many patterns of a list are shown at first.
 const SHOWN: usize = 10;
@@ -58,13 +58,13 @@ fn put_items<W: Write>(
     links: &Links,
     holders: &[Holder],
     block: &mut Block,
-    writer: &mut Watched<W>,
+    writer: &mut Output<W>,
 ) -> Result<(), AllocError>
     ensures { MatchResult result
         (λ _. TellsAfter (items (linking_of links.now) holders.now)
-        (sheet W.contents block.old writer.old) (sheet W.contents block.new writer.new))
+        (sheet block.old writer.old) (sheet block.new writer.new))
         (λ _. TellsFront (items (linking_of links.now) holders.now)
-        (sheet W.contents block.old writer.old) (sheet W.contents block.new writer.new)) }
+        (sheet block.old writer.old) (sheet block.new writer.new)) }
 {
     for holder in holders {
         let text = item(alloc, links, holder)?;
@@ -91,13 +91,13 @@ fn put_more<W: Write>(
     links: &Links,
     holders: &[Holder],
     block: &mut Block,
-    writer: &mut Watched<W>,
+    writer: &mut Output<W>,
 ) -> Result<(), AllocError>
     ensures { MatchResult result
         (λ _. TellsAfter (more_items (linking_of links.now) holders.now)
-        (sheet W.contents block.old writer.old) (sheet W.contents block.new writer.new))
+        (sheet block.old writer.old) (sheet block.new writer.new))
         (λ _. TellsFront (more_items (linking_of links.now) holders.now)
-        (sheet W.contents block.old writer.old) (sheet W.contents block.new writer.new)) }
+        (sheet block.old writer.old) (sheet block.new writer.new)) }
 {
     if holders.is_empty() {
         return Ok(());
@@ -116,13 +116,13 @@ pub fn put_list<W: Write>(
     links: &Links,
     holders: &[Holder],
     block: &mut Block,
-    writer: &mut Watched<W>,
+    writer: &mut Output<W>,
 ) -> Result<(), AllocError>
     ensures { MatchResult result
         (λ _. TellsAfter (holder_list (linking_of links.now) holders.now)
-        (sheet W.contents block.old writer.old) (sheet W.contents block.new writer.new))
+        (sheet block.old writer.old) (sheet block.new writer.new))
         (λ _. TellsFront (holder_list (linking_of links.now) holders.now)
-        (sheet W.contents block.old writer.old) (sheet W.contents block.new writer.new)) }
+        (sheet block.old writer.old) (sheet block.new writer.new)) }
 {
     let (shown, others) = holders.split_at(holders.len().min(SHOWN));
     put(b"<ul>", block, writer);

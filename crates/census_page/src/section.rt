@@ -20,7 +20,7 @@ use census_rows::Row;
 use gathered::{Block, put};
 use std::alloc::{AllocError, Global};
 use std::io::Write;
-use watched::Watched;
+use watched::Output;
 
 // Whether a row tells of a pattern that does not recur.
 fn is_stray(row: &Row) -> bool
@@ -54,14 +54,14 @@ fn put_chosen<W: Write>(
     holders: &[Holder],
     rows: &[&Row],
     block: &mut Block,
-    writer: &mut Watched<W>,
+    writer: &mut Output<W>,
 ) -> Result<(), AllocError>
     requires { AreInOrder holders.now }
     ensures { MatchResult result
         (λ _. TellsAfter (table_of (linking_of links.now) holders.now (chosen (options_of options.now) holders.now (rows_lent rows.now)))
-        (sheet W.contents block.old writer.old) (sheet W.contents block.new writer.new))
+        (sheet block.old writer.old) (sheet block.new writer.new))
         (λ _. TellsFront (table_of (linking_of links.now) holders.now (chosen (options_of options.now) holders.now (rows_lent rows.now)))
-        (sheet W.contents block.old writer.old) (sheet W.contents block.new writer.new)) }
+        (sheet block.old writer.old) (sheet block.new writer.new)) }
 {
     let chosen = chosen(alloc, options, holders, rows)?;
     let lent = chosen.as_slice();
@@ -81,13 +81,13 @@ fn put_code_table<W: Write>(
     options: &PageOptions,
     rows: &[&Row],
     block: &mut Block,
-    writer: &mut Watched<W>,
+    writer: &mut Output<W>,
 ) -> Result<(), AllocError>
     ensures { MatchResult result
         (λ _. TellsAfter (code_table (linking_of links.now) (options_of options.now) (rows_lent rows.now))
-        (sheet W.contents block.old writer.old) (sheet W.contents block.new writer.new))
+        (sheet block.old writer.old) (sheet block.new writer.new))
         (λ _. TellsFront (code_table (linking_of links.now) (options_of options.now) (rows_lent rows.now))
-        (sheet W.contents block.old writer.old) (sheet W.contents block.new writer.new)) }
+        (sheet block.old writer.old) (sheet block.new writer.new)) }
 {
     let mut holders = holders(alloc, rows)?;
     put_in_order(&mut holders)?;
@@ -108,13 +108,13 @@ fn put_stray_list<W: Write>(
     links: &Links,
     rows: &[&Row],
     block: &mut Block,
-    writer: &mut Watched<W>,
+    writer: &mut Output<W>,
 ) -> Result<(), AllocError>
     ensures { MatchResult result
         (λ _. TellsAfter (stray_list (linking_of links.now) (rows_lent rows.now))
-        (sheet W.contents block.old writer.old) (sheet W.contents block.new writer.new))
+        (sheet block.old writer.old) (sheet block.new writer.new))
         (λ _. TellsFront (stray_list (linking_of links.now) (rows_lent rows.now))
-        (sheet W.contents block.old writer.old) (sheet W.contents block.new writer.new)) }
+        (sheet block.old writer.old) (sheet block.new writer.new)) }
 {
     if !have_strays(rows) {
         return Ok(());
@@ -132,13 +132,13 @@ fn put_pattern_table<W: Write>(
     shown: bool,
     rows: &[&Row],
     block: &mut Block,
-    writer: &mut Watched<W>,
+    writer: &mut Output<W>,
 ) -> Result<(), AllocError>
     ensures { MatchResult result
         (λ _. TellsAfter (pattern_table (linking_of links.now) shown (rows_lent rows.now))
-        (sheet W.contents block.old writer.old) (sheet W.contents block.new writer.new))
+        (sheet block.old writer.old) (sheet block.new writer.new))
         (λ _. TellsFront (pattern_table (linking_of links.now) shown (rows_lent rows.now))
-        (sheet W.contents block.old writer.old) (sheet W.contents block.new writer.new)) }
+        (sheet block.old writer.old) (sheet block.new writer.new)) }
 {
     if !shown {
         return Ok(());
@@ -153,13 +153,13 @@ fn put_linked_tables<W: Write>(
     options: &PageOptions,
     rows: &[&Row],
     block: &mut Block,
-    writer: &mut Watched<W>,
+    writer: &mut Output<W>,
 ) -> Result<(), AllocError>
     ensures { MatchResult result
         (λ _. TellsAfter (linked_tables (linking_of links.now) (options_of options.now) (rows_lent rows.now))
-        (sheet W.contents block.old writer.old) (sheet W.contents block.new writer.new))
+        (sheet block.old writer.old) (sheet block.new writer.new))
         (λ _. TellsFront (linked_tables (linking_of links.now) (options_of options.now) (rows_lent rows.now))
-        (sheet W.contents block.old writer.old) (sheet W.contents block.new writer.new)) }
+        (sheet block.old writer.old) (sheet block.new writer.new)) }
 {
     put_code_table(alloc, links, options, rows, block, writer)?;
     put_pattern_table(alloc, links, options.patterns, rows, block, writer)
@@ -171,13 +171,13 @@ fn put_tables<W: Write>(
     options: &PageOptions,
     rows: &[&Row],
     block: &mut Block,
-    writer: &mut Watched<W>,
+    writer: &mut Output<W>,
 ) -> Result<(), AllocError>
     ensures { MatchResult result
         (λ _. TellsAfter (tables (options_of options.now) (rows_lent rows.now))
-        (sheet W.contents block.old writer.old) (sheet W.contents block.new writer.new))
+        (sheet block.old writer.old) (sheet block.new writer.new))
         (λ _. TellsFront (tables (options_of options.now) (rows_lent rows.now))
-        (sheet W.contents block.old writer.old) (sheet W.contents block.new writer.new)) }
+        (sheet block.old writer.old) (sheet block.new writer.new)) }
 {
     let address = address_in(alloc, options.base, rows)?;
     let links = links_in(options, &address);
@@ -204,13 +204,13 @@ pub fn put_section<W: Write>(
     number: u64,
     rows: &[&Row],
     block: &mut Block,
-    writer: &mut Watched<W>,
+    writer: &mut Output<W>,
 ) -> Result<(), AllocError>
     ensures { MatchResult result
         (λ _. TellsAfter (section_text (options_of options.now) number (rows_lent rows.now))
-        (sheet W.contents block.old writer.old) (sheet W.contents block.new writer.new))
+        (sheet block.old writer.old) (sheet block.new writer.new))
         (λ _. TellsFront (section_text (options_of options.now) number (rows_lent rows.now))
-        (sheet W.contents block.old writer.old) (sheet W.contents block.new writer.new)) }
+        (sheet block.old writer.old) (sheet block.new writer.new)) }
 {
     if writer.failed() {
         return Ok(());

@@ -11,7 +11,7 @@ use census_rows::{Behind, Row};
 use gathered::{Block, put};
 use std::alloc::{AllocError, Global};
 use std::io::Write;
-use watched::Watched;
+use watched::Output;
 
 // Adds the table row for a row that tells of a pattern that does not recur, and stands before these.
 fn push_stray_row(
@@ -41,13 +41,13 @@ fn put_stray_row<W: Write>(
     row: &Row,
     rows: &[&Row],
     block: &mut Block,
-    writer: &mut Watched<W>,
+    writer: &mut Output<W>,
 ) -> Result<(), AllocError>
     ensures { MatchResult result
         (λ _. TellsAfter (stray_row (linking_of links.now) row.now (rows_lent rows.now))
-        (sheet W.contents block.old writer.old) (sheet W.contents block.new writer.new))
+        (sheet block.old writer.old) (sheet block.new writer.new))
         (λ _. TellsFront (stray_row (linking_of links.now) row.now (rows_lent rows.now))
-        (sheet W.contents block.old writer.old) (sheet W.contents block.new writer.new)) }
+        (sheet block.old writer.old) (sheet block.new writer.new)) }
 {
     let mut text = Vec::new(alloc);
     push_stray_row(alloc, &mut text, links, row, rows)?;
@@ -62,13 +62,13 @@ pub fn put_stray_rows<W: Write>(
     links: &Links,
     rows: &[&Row],
     block: &mut Block,
-    writer: &mut Watched<W>,
+    writer: &mut Output<W>,
 ) -> Result<(), AllocError>
     ensures { MatchResult result
         (λ _. TellsAfter (stray_rows (linking_of links.now) (rows_lent rows.now))
-        (sheet W.contents block.old writer.old) (sheet W.contents block.new writer.new))
+        (sheet block.old writer.old) (sheet block.new writer.new))
         (λ _. TellsFront (stray_rows (linking_of links.now) (rows_lent rows.now))
-        (sheet W.contents block.old writer.old) (sheet W.contents block.new writer.new)) }
+        (sheet block.old writer.old) (sheet block.new writer.new)) }
 {
     for index in 0..rows.len() {
         put_stray_row(alloc, links, rows[index], &rows[index + 1..], block, writer)?;

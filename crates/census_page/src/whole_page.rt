@@ -17,7 +17,7 @@ use census_rows::Row;
 use gathered::{Block, put};
 use std::alloc::{AllocError, Global};
 use std::io::Write;
-use watched::Watched;
+use watched::Output;
 
 // Tells each collection.
 fn put_sections<W: Write>(
@@ -25,13 +25,13 @@ fn put_sections<W: Write>(
     options: &PageOptions,
     sections: &[Vec<&Row>],
     block: &mut Block,
-    writer: &mut Watched<W>,
+    writer: &mut Output<W>,
 ) -> Result<(), AllocError>
     ensures { MatchResult result
         (λ _. TellsAfter (sections_text (options_of options.now) 1 (sections_lent sections.now))
-        (sheet W.contents block.old writer.old) (sheet W.contents block.new writer.new))
+        (sheet block.old writer.old) (sheet block.new writer.new))
         (λ _. TellsFront (sections_text (options_of options.now) 1 (sections_lent sections.now))
-        (sheet W.contents block.old writer.old) (sheet W.contents block.new writer.new)) }
+        (sheet block.old writer.old) (sheet block.new writer.new)) }
 {
     for index in 0..sections.len() {
         put_section(
@@ -53,13 +53,13 @@ fn put_body<W: Write>(
     rows: &[Row],
     sections: &[Vec<&Row>],
     block: &mut Block,
-    writer: &mut Watched<W>,
+    writer: &mut Output<W>,
 ) -> Result<(), AllocError>
     ensures { MatchResult result
         (λ _. TellsAfter (body_text (options_of options.now) rows.now (sections_lent sections.now))
-        (sheet W.contents block.old writer.old) (sheet W.contents block.new writer.new))
+        (sheet block.old writer.old) (sheet block.new writer.new))
         (λ _. TellsFront (body_text (options_of options.now) rows.now (sections_lent sections.now))
-        (sheet W.contents block.old writer.old) (sheet W.contents block.new writer.new)) }
+        (sheet block.old writer.old) (sheet block.new writer.new)) }
 {
     put(index_begin(), block, writer);
     put_rows(alloc, sections, block, writer)?;
@@ -87,14 +87,14 @@ pub fn put_page<W: Write>(
     options: &PageOptions,
     rows: &[Row],
     block: &mut Block,
-    writer: &mut Watched<W>,
+    writer: &mut Output<W>,
 ) -> Result<(), AllocError>
     requires { AreReports rows.now }
     ensures { MatchResult result
         (λ _. TellsAfter (page_of (options_of options.now) rows.now)
-        (sheet W.contents block.old writer.old) (sheet W.contents block.new writer.new))
+        (sheet block.old writer.old) (sheet block.new writer.new))
         (λ _. TellsFront (page_of (options_of options.now) rows.now)
-        (sheet W.contents block.old writer.old) (sheet W.contents block.new writer.new)) }
+        (sheet block.old writer.old) (sheet block.new writer.new)) }
 {
     let sections = collections(alloc, rows)?;
     let lent = sections.as_slice();

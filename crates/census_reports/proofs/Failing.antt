@@ -3,14 +3,14 @@ use Rattle.std.proofs.Common.{◌≡◌, ℕ, Bool, true, false, List, [], Resul
 use Rattle.census_cut.specs.declared.mending.Cut.{Cut}
 use Rattle.census_folders.specs.Told.{Told}
 use Rattle.census_identify.specs.Identifies.{words_or_input}
-use Rattle.census_identify.specs.Streams.{Sink}
+use Rattle.watched.specs.Streams.{Sink}
 use Rattle.census_rows.specs.declared.row.Row.{Row}
 use Rattle.census_reports.specs.Forms.{RefusesRows, RefusesTexts}
 use Rattle.census_reports.specs.Looking.{FailsRead, RefusesRead, WritesRead}
 use Rattle.census_reports.specs.Mending.{AreLookedAt, AreMended, LackMending}
 use Rattle.census_reports.specs.Outcomes.{ReadsTexts, ReportsFail, WritesReports}
 use Rattle.census_reports.specs.Rows.{AreRowsOf, LackRows}
-use Rattle.census_reports.specs.Streams.{Streams}
+use Rattle.watched.specs.Streams.{Streams}
 use Rattle.census_reports.specs.Texts.{StopsReadingTexts}
 use Rattle.census_reports.specs.Written.{FailsRows, FailsTexts, WritesRows, WritesTexts}
 use Rattle.census_reports.specs.declared.error.ReportsError.{ReportsError}

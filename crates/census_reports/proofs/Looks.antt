@@ -1,6 +1,6 @@
 -- What is written of texts that are looked at.
 use Rattle.std.proofs.Common.{ℕ, Bool, List}
-use Rattle.census_identify.specs.Streams.{Sink}
+use Rattle.watched.specs.Streams.{Sink}
 use Rattle.census_reports.specs.Looking.{WritesRead}
 use Rattle.census_reports.specs.Mending.{AreLookedAt}
 use Rattle.census_reports.specs.Written.{WritesTexts}

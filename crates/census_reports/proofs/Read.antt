@@ -8,7 +8,7 @@ use Rattle.census_folders.specs.Sums.{limit_after}
 use Rattle.census_folders.specs.Told.{Told}
 use Rattle.census_identify.specs.Hearing.{Hears}
 use Rattle.census_identify.specs.Identifies.{words_or_input}
-use Rattle.census_identify.specs.Streams.{Reader}
+use Rattle.watched.specs.Streams.{Reader}
 use Rattle.census_identify.specs.declared.heard.Heard.TheVariants.{Text}
 use Rattle.census_reports.specs.Texts.{FitTogether, ReadsEach, RefusesNext, RefusesWord, StopsReadingTexts, bytes_in, left_behind}
 use Rattle.census_reports.specs.declared.error.ReportsError.{ReportsError}

@@ -4,7 +4,7 @@ use Rattle.std.specs.Io.KnownBytes.{Appends}
 use Rattle.watched.specs.Watching.{AppendsFront}
 use Rattle.gathered.specs.Telling.{Sheet, TellsAfter}
 use Rattle.gathered.proofs.Telling.{all_told, tells_more}
-use Rattle.census_identify.specs.Streams.{PutsPrefix, Sink, Writes}
+use Rattle.watched.specs.Streams.{PutsPrefix, Sink, Writes}
 
 -- a writer without its block
 abbrev pub sink_of : Sheet → Sink

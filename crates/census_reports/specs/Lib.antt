@@ -1,4 +1,3 @@
-pub mod Streams
 pub mod Errors
 pub mod Texts
 pub mod Rows

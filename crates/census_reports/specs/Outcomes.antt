@@ -3,11 +3,11 @@ use Rattle.std.specs.Prelude.{◌≡◌, ◌⊎◌, ℕ, false, Option, List}
 use Rattle.census_cut.specs.declared.mending.Cut.{Cut}
 use Rattle.census_folders.specs.Told.{Told}
 use Rattle.census_identify.specs.Identifies.{words_or_input}
-use Rattle.census_identify.specs.Streams.{PutsPrefix, Writes}
+use Rattle.watched.specs.Streams.{PutsPrefix, Writes}
 use Rattle.census_reports.specs.Forms.{IsMadeOf, IsInPieces, is_found}
 use Rattle.census_reports.specs.Looking.{RefusesRead}
 use Rattle.census_reports.specs.Mending.{AreLookedAt}
-use Rattle.census_reports.specs.Streams.{Streams}
+use Rattle.watched.specs.Streams.{Streams}
 use Rattle.census_reports.specs.Texts.{FitTogether, ReadsEach, StopsReadingTexts}
 use Rattle.census_reports.specs.Written.{WritesSome}
 use Rattle.census_reports.specs.declared.error.ReportsError.{ReportsError}

@@ -1,7 +1,7 @@
 -- What is made of reports, written.
 use Rattle.std.specs.Prelude.{◌≡◌, ◌⊎◌, ℕ, Bool, false, List}
 use Rattle.watched.specs.Watching.{AppendsFront}
-use Rattle.census_identify.specs.Streams.{PutsPrefix, Sink, Writes}
+use Rattle.watched.specs.Streams.{PutsPrefix, Sink, Writes}
 use Rattle.census_rows.specs.declared.row.Row.{Row}
 use Rattle.census_reports.specs.Forms.{IsMade, IsMadeOf, IsInPieces, RefusesRows, RefusesTexts, is_found}
 use Rattle.census_reports.specs.declared.error.ReportsError.{ReportsError}

@@ -2,7 +2,6 @@
 ghost use Rattle.std.specs.Prelude.{◌≡◌, List, MatchResult, Ok};
 ghost use Rattle.std.specs.Option.{option_copied};
 ghost use Rattle.census_rows.specs.declared.row.Row.{Row};
-ghost use Rattle.census_identify.specs.Streams.{sink};
 ghost use Rattle.census_readback.specs.Shapes.{AreReports};
 ghost use Rattle.census_merge.specs.Merged.{merged_rows};
 ghost use Rattle.census_table.specs.Entries.{entries_of};
@@ -21,7 +20,7 @@ use census_verify::{Claims, put_verdict, read_claims};
 use gathered::{Block, send};
 use std::alloc::Global;
 use std::io::Write;
-use watched::Watched;
+use watched::Output;
 
 /// What is written of reports.
 #[derive(Clone, Copy, Debug, PartialEq, Eq)]
@@ -57,15 +56,15 @@ fn write_named<O: Write>(
     text: Option<&[u8]>,
     names: Option<&Names>,
     rows: &[Row],
-    output: &mut Watched<O>,
+    output: &mut Output<O>,
 ) -> Result<bool, ReportsError>
     requires names { names_given text ≡ Ok (option_copied names) }
     requires reports { AreReports rows.now }
     ensures { MatchResult result
-        (λ found. WritesRows (Form.Table subject format text.entry) found rows.now (sink O.contents output.old)
-        (sink O.contents output.new))
+        (λ found. WritesRows (Form.Table subject format text.entry) found rows.now output.old.stream
+        output.new.stream)
         (λ error. FailsRows error (Form.Table subject format text.entry) rows.now
-        (sink O.contents output.old) (sink O.contents output.new)) }
+        output.old.stream output.new.stream) }
 {
     let table = table_of(alloc, subject, rows)?;
     let mut block = Block::new(alloc);
@@ -86,14 +85,14 @@ pub fn write_table<O: Write>(
     format: Format,
     text: Option<&[u8]>,
     rows: &[Row],
-    output: &mut Watched<O>,
+    output: &mut Output<O>,
 ) -> Result<bool, ReportsError>
     requires { AreReports rows.now }
     ensures { MatchResult result
-        (λ found. WritesRows (Form.Table subject format text.entry) found rows.now (sink O.contents output.old)
-        (sink O.contents output.new))
+        (λ found. WritesRows (Form.Table subject format text.entry) found rows.now output.old.stream
+        output.new.stream)
         (λ error. FailsRows error (Form.Table subject format text.entry) rows.now
-        (sink O.contents output.old) (sink O.contents output.new)) }
+        output.old.stream output.new.stream) }
 {
     let Some(given) = text else {
         return write_named(alloc, subject, format, text, None, rows, output);
@@ -109,14 +108,14 @@ pub fn write_page<O: Write>(
     alloc: Global,
     options: PageOptions,
     rows: &[Row],
-    output: &mut Watched<O>,
+    output: &mut Output<O>,
 ) -> Result<bool, ReportsError>
     requires { AreReports rows.now }
     ensures { MatchResult result
-        (λ found. WritesRows (Form.Page options.entry) found rows.now (sink O.contents output.old)
-        (sink O.contents output.new))
-        (λ error. FailsRows error (Form.Page options.entry) rows.now (sink O.contents output.old)
-        (sink O.contents output.new)) }
+        (λ found. WritesRows (Form.Page options.entry) found rows.now output.old.stream
+        output.new.stream)
+        (λ error. FailsRows error (Form.Page options.entry) rows.now output.old.stream
+        output.new.stream) }
 {
     let mut block = Block::new(alloc);
     let told = put_page(alloc, &options, rows, &mut block, output);
@@ -134,14 +133,13 @@ pub fn write_same<O: Write>(
     alloc: Global,
     json: bool,
     rows: &[Row],
-    output: &mut Watched<O>,
+    output: &mut Output<O>,
 ) -> Result<bool, ReportsError>
     requires { AreReports rows.now }
     ensures { MatchResult result
-        (λ found. WritesRows (Form.Same json) found rows.now (sink O.contents output.old)
-        (sink O.contents output.new))
+        (λ found. WritesRows (Form.Same json) found rows.now output.old.stream output.new.stream)
         (λ error. FailsRows error (Form.Same json) rows.now
-        (sink O.contents output.old) (sink O.contents output.new)) }
+        output.old.stream output.new.stream) }
 {
     let mut block = Block::new(alloc);
     let told = put_same(alloc, json, rows, &mut block, output);
@@ -158,15 +156,15 @@ fn write_disagreement<O: Write>(
     text: &[u8],
     claims: &Claims,
     rows: &[Row],
-    output: &mut Watched<O>,
+    output: &mut Output<O>,
 ) -> Result<bool, ReportsError>
     requires claims { claims_in text.now ≡ Ok (claims_read claims.now.items.items) }
     requires reports { AreReports rows.now }
     ensures { MatchResult result
-        (λ found. WritesRows (Form.Verdict text.entry) found rows.now (sink O.contents output.old)
-        (sink O.contents output.new))
+        (λ found. WritesRows (Form.Verdict text.entry) found rows.now output.old.stream
+        output.new.stream)
         (λ error. FailsRows error (Form.Verdict text.entry) rows.now
-        (sink O.contents output.old) (sink O.contents output.new)) }
+        output.old.stream output.new.stream) }
 {
     let mut block = Block::new(alloc);
     let told = put_verdict(alloc, claims, rows, &mut block, output);
@@ -181,14 +179,14 @@ pub fn write_verdict<O: Write>(
     alloc: Global,
     text: &[u8],
     rows: &[Row],
-    output: &mut Watched<O>,
+    output: &mut Output<O>,
 ) -> Result<bool, ReportsError>
     requires { AreReports rows.now }
     ensures { MatchResult result
-        (λ found. WritesRows (Form.Verdict text.entry) found rows.now (sink O.contents output.old)
-        (sink O.contents output.new))
+        (λ found. WritesRows (Form.Verdict text.entry) found rows.now output.old.stream
+        output.new.stream)
         (λ error. FailsRows error (Form.Verdict text.entry) rows.now
-        (sink O.contents output.old) (sink O.contents output.new)) }
+        output.old.stream output.new.stream) }
 {
     match read_claims(alloc, text)? {
         Ok(claims) => write_disagreement(alloc, text, &claims, rows, output),

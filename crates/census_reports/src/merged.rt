@@ -3,7 +3,7 @@ ghost use Rattle.std.specs.Prelude.{◌≡◌, ◌<◌, List, None, length, Matc
 ghost use Rattle.gathered.specs.Telling.{TellsAfter, sheet};
 ghost use Rattle.census_rows.specs.declared.row.Row.{Row};
 ghost use Rattle.census_rows.specs.Lines.{text_of};
-ghost use Rattle.census_identify.specs.Streams.{PutsPrefix, Writes, sink};
+ghost use Rattle.watched.specs.Streams.{PutsPrefix, Writes};
 ghost use Rattle.census_merge.specs.Merged.{AreFew, merged_rows};
 ghost use Rattle.census_merge.specs.Sums.{first_excess, no_sums};
 ghost use Rattle.census_reports.specs.Forms.{RefusesRows};
@@ -18,7 +18,7 @@ use census_readback::fault_of;
 use gathered::{Block, send};
 use std::alloc::Global;
 use std::io::Write;
-use watched::{Failed, Watched};
+use watched::{Failed, Output};
 
 // Looks whether each of these texts is a report, or several.
 fn look_at(alloc: Global, texts: &[Bytes]) -> Result<(), ReportsError>
@@ -62,11 +62,11 @@ fn count_all(texts: &[Bytes]) -> Result<(), ReportsError>
 }
 
 // Tells one report of them, which aren't too many.
-fn put_all<O: Write>(texts: &[Bytes], block: &mut Block, output: &mut Watched<O>)
+fn put_all<O: Write>(texts: &[Bytes], block: &mut Block, output: &mut Output<O>)
     ensures { (rows : List Row) → AreRowsOf rows texts.now → AreFew rows
         → first_excess 1 no_sums rows ≡ None
-        → TellsAfter (text_of (merged_rows rows)) (sheet O.contents block.old output.old)
-        (sheet O.contents block.new output.new) }
+        → TellsAfter (text_of (merged_rows rows)) (sheet block.old output.old)
+        (sheet block.new output.new) }
 {
     let mut sums = Sums::none();
     for index in 0..texts.len() {
@@ -82,15 +82,13 @@ fn put_all<O: Write>(texts: &[Bytes], block: &mut Block, output: &mut Watched<O>
 fn write_report<O: Write>(
     alloc: Global,
     texts: &[Bytes],
-    output: &mut Watched<O>,
+    output: &mut Output<O>,
 ) -> Result<(), Failed>
     ensures { (rows : List Row) → AreRowsOf rows texts.now → AreFew rows
         → first_excess 1 no_sums rows ≡ None
         → MatchResult result
-        (λ _. Writes (text_of (merged_rows rows)) (sink O.contents output.old)
-        (sink O.contents output.new))
-        (λ _. PutsPrefix (text_of (merged_rows rows)) (sink O.contents output.old)
-        (sink O.contents output.new)) }
+        (λ _. Writes (text_of (merged_rows rows)) output.old.stream output.new.stream)
+        (λ _. PutsPrefix (text_of (merged_rows rows)) output.old.stream output.new.stream) }
 {
     let mut block = Block::new(alloc);
     put_all(texts, &mut block, output);
@@ -102,13 +100,11 @@ fn write_report<O: Write>(
 pub fn write_merged<O: Write>(
     alloc: Global,
     texts: &[Bytes],
-    output: &mut Watched<O>,
+    output: &mut Output<O>,
 ) -> Result<bool, ReportsError>
     ensures { MatchResult result
-        (λ found. WritesTexts Form.Merged found texts.now (sink O.contents output.old)
-        (sink O.contents output.new))
-        (λ error. FailsTexts error Form.Merged texts.now (sink O.contents output.old)
-        (sink O.contents output.new)) }
+        (λ found. WritesTexts Form.Merged found texts.now output.old.stream output.new.stream)
+        (λ error. FailsTexts error Form.Merged texts.now output.old.stream output.new.stream) }
 {
     look_at(alloc, texts)?;
     if let Err(error) = count_all(texts) {

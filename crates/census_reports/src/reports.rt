@@ -1,11 +1,8 @@
 //! `census merge`, `table`, `page`, `same` and `verify`: what is written of reports.
 ghost use Rattle.std.specs.Prelude.{◌≡◌, ◌<◌, [], false, length, map, IfErr, IfOk, MatchResult};
-ghost use Rattle.watched.specs.Watching.{has_failed};
-ghost use Rattle.census_identify.specs.Streams.{sink};
 ghost use Rattle.census_reports.specs.Written.{FailsTexts, WritesTexts};
 ghost use Rattle.census_reports.specs.Looking.{FailsRead, WritesRead};
 ghost use Rattle.census_reports.specs.Outcomes.{ReportsFail, WritesReports};
-ghost use Rattle.census_reports.specs.Streams.{streams};
 
 use crate::error::ReportsError;
 use crate::form::{Form, write_page, write_same, write_table, write_verdict};
@@ -18,20 +15,19 @@ use census_folders::Shelf;
 use census_identify::Bytes;
 use std::alloc::Global;
 use std::io::{Read, Write};
-use watched::Watched;
+use watched::{Output, Streams};
 
 // Writes what is made of the reports in these texts.
 fn write_of<O: Write>(
     alloc: Global,
     form: Form<'_>,
     texts: &[Bytes],
-    output: &mut Watched<O>,
+    output: &mut Output<O>,
 ) -> Result<bool, ReportsError>
     requires { 0 < length texts.now }
     ensures { MatchResult result
-        (λ found. WritesTexts form.entry found texts.now (sink O.contents output.old) (sink O.contents output.new))
-        (λ error. FailsTexts error form.entry texts.now (sink O.contents output.old)
-        (sink O.contents output.new)) }
+        (λ found. WritesTexts form.entry found texts.now output.old.stream output.new.stream)
+        (λ error. FailsTexts error form.entry texts.now output.old.stream output.new.stream) }
 {
     match form {
         Form::Merged => write_merged(alloc, texts, output),
@@ -64,13 +60,12 @@ fn write_read<O: Write>(
     form: Form<'_>,
     cut: bool,
     texts: &[Bytes],
-    output: &mut Watched<O>,
+    output: &mut Output<O>,
 ) -> Result<Written, ReportsError>
     requires { 0 < length texts.now }
     ensures { MatchResult result
-        (λ written. WritesRead form.entry cut written texts.now (sink O.contents output.old) (sink O.contents output.new))
-        (λ error. FailsRead error cut form.entry texts.now (sink O.contents output.old)
-        (sink O.contents output.new)) }
+        (λ written. WritesRead form.entry cut written texts.now output.old.stream output.new.stream)
+        (λ error. FailsRead error cut form.entry texts.now output.old.stream output.new.stream) }
 {
     if cut {
         let looked = mend_each(alloc, texts)?;
@@ -93,7 +88,8 @@ fn write_read<O: Write>(
 /// file is not opened, and can't be read. Where the reading has `cut`, each text is mended first, as `mend` does, and it may
 /// be a report that was cut, or several of which the last was; the lines of faults are those of the text as it was read, and
 /// the result tells where texts were cut. Where it has a limit, all texts together may have so many bytes. Returns whether what was looked for was found: with `Same`, patterns that are one
-/// object, with `Verdict`, what does not agree with the claims, and else nothing is looked for.
+/// object, with `Verdict`, what does not agree with the claims, and else nothing is looked for. Nothing is told on standard
+/// error.
 ///
 /// All texts are read before the first is looked at, and all reports before the first byte is written. From then on no
 /// memory is asked for but the block that is written, for a table the text of some rows at a time and its
@@ -110,26 +106,36 @@ fn write_read<O: Write>(
 /// - `Names`: the names of a table are none, and each text is a report.
 /// - `TooMany`: the reports have more than 65,535 collections, and `Merged` is asked for.
 /// - `Memory`: memory was refused. Of `Merged` nothing was written.
-pub fn write_reports<S: Shelf, I: Read, O: Write>(
+pub fn write_reports<S: Shelf, I: Read, O: Write, E: Write>(
     shelf: &S,
     alloc: Global,
     form: Form<'_>,
     reading: Reading,
     words: &[&str],
-    input: &mut Watched<I>,
-    output: &mut Watched<O>,
+    streams: &mut Streams<I, O, E>,
 ) -> Result<Written, ReportsError>
-    requires { has_failed input.old ≡ false }
+    requires { streams.old.input.failed ≡ false }
     ensures done { IfOk result
         (λ written. WritesReports form.entry reading written ((S.tellings shelf.now).held []) (map (λ s. s.now) words.now)
-        (streams I.remaining O.contents input.old output.old)
-        (streams I.remaining O.contents input.new output.new)) }
+        streams.old streams.new) }
     ensures fails { IfErr result
         (λ error. ReportsFail error form.entry reading ((S.tellings shelf.now).held [])
         (map (λ s. s.now) words.now)
-        (streams I.remaining O.contents input.old output.old)
-        (streams I.remaining O.contents input.new output.new)) }
+        streams.old streams.new) }
+    ensures quiet { streams.new.errors ≡ streams.old.errors }
 {
-    let texts = read_texts(shelf, alloc, reading.limit, words_or_input(words), input)?;
-    write_read(alloc, form, reading.cut, texts.as_slice(), output)
+    let texts = read_texts(
+        shelf,
+        alloc,
+        reading.limit,
+        words_or_input(words),
+        &mut streams.input,
+    )?;
+    write_read(
+        alloc,
+        form,
+        reading.cut,
+        texts.as_slice(),
+        &mut streams.output,
+    )
 }

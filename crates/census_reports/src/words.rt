@@ -1,9 +1,8 @@
 //! The texts of files, and of standard input.
 ghost use Rattle.std.specs.Prelude.{◌≡◌, ◌+◌, [], false, map, IfErr, IfOk, OnOk};
-ghost use Rattle.watched.specs.Watching.{ConsumesAtMost, has_failed, inner_of};
+ghost use Rattle.watched.specs.Watching.{ConsumesAtMost};
 ghost use Rattle.census_identify.specs.Hearing.{Hears};
 ghost use Rattle.census_identify.specs.Identifies.{words_or_input};
-ghost use Rattle.census_identify.specs.Streams.{source};
 ghost use Rattle.census_identify.specs.declared.heard.Heard.TheVariants.{Text};
 ghost use Rattle.census_reports.specs.Texts.{FitTogether, ReadsEach, RefusesWord, StopsReadingTexts};
 
@@ -14,7 +13,7 @@ use census_folders::Shelf;
 use census_identify::{Bytes, is_input, read_file};
 use std::alloc::Global;
 use std::io::Read;
-use watched::{Watched, read_all};
+use watched::{Input, read_all};
 
 // Standard input alone, where there is no word.
 pub fn words_or_input<'a, 'b>(words: &'a [&'b str]) -> &'a [&'b str]
@@ -29,18 +28,18 @@ pub fn read_text<S: Shelf, I: Read>(
     shelf: &S,
     alloc: Global,
     word: &str,
-    input: &mut Watched<I>,
+    input: &mut Input<I>,
 ) -> Result<Vec<u8>, ReportsError>
-    requires { has_failed input.old ≡ false }
+    requires { input.old.stream.failed ≡ false }
     ensures read { IfOk result
         (λ bytes. Hears ((S.tellings shelf.now).held []) word.now (Text bytes.items)
-        (source I.remaining input.old) (source I.remaining input.new)) }
-    ensures sound { OnOk result (has_failed input.new ≡ false) }
+        input.old.stream input.new.stream) }
+    ensures sound { OnOk result (input.new.stream.failed ≡ false) }
     ensures taken { ConsumesAtMost (INPUT_LIMIT + 1)
-        (I.remaining (inner_of input.old)) (I.remaining (inner_of input.new)) }
+        input.old.stream.unread input.new.stream.unread }
     ensures fault { IfErr result
         (λ error. RefusesWord error ((S.tellings shelf.now).held []) word.now
-        (source I.remaining input.old) (source I.remaining input.new)) }
+        input.old.stream input.new.stream) }
 {
     if is_input(word) {
         Ok(read_all(alloc, input, INPUT_LIMIT)?)
@@ -55,18 +54,18 @@ pub fn read_texts<S: Shelf, I: Read>(
     alloc: Global,
     limit: Option<u64>,
     words: &[&str],
-    input: &mut Watched<I>,
+    input: &mut Input<I>,
 ) -> Result<Vec<Bytes>, ReportsError>
-    requires { has_failed input.old ≡ false }
+    requires { input.old.stream.failed ≡ false }
     ensures read { IfOk result
         (λ texts. ReadsEach ((S.tellings shelf.now).held []) (map (λ s. s.now) words.now)
-        texts.items (source I.remaining input.old) (source I.remaining input.new)) }
+        texts.items input.old.stream input.new.stream) }
     ensures fits { IfOk result (λ texts. FitTogether limit texts.items) }
-    ensures sound { OnOk result (has_failed input.new ≡ false) }
+    ensures sound { OnOk result (input.new.stream.failed ≡ false) }
     ensures fault { IfErr result
         (λ error. StopsReadingTexts error limit ((S.tellings shelf.now).held [])
         (map (λ s. s.now) words.now)
-        (source I.remaining input.old) (source I.remaining input.new)) }
+        input.old.stream input.new.stream) }
 {
     let mut texts = Vec::new(alloc);
     let mut left = limit;

@@ -5,21 +5,21 @@ ghost use Rattle.gathered.specs.Telling.{TellsAfter, sheet};
 use gathered::{Block, put, put_number as put_digits};
 use itoa::Integer;
 use std::io::Write;
-use watched::Watched;
+use watched::Output;
 
 /// Tells a blank and these bytes.
-pub fn put_field<W: Write>(field: &[u8], block: &mut Block, writer: &mut Watched<W>)
-    ensures { TellsAfter (32 ∷ field.now) (sheet W.contents block.old writer.old)
-        (sheet W.contents block.new writer.new) }
+pub fn put_field<W: Write>(field: &[u8], block: &mut Block, writer: &mut Output<W>)
+    ensures { TellsAfter (32 ∷ field.now) (sheet block.old writer.old)
+        (sheet block.new writer.new) }
 {
     put(b" ", block, writer);
     put(field, block, writer);
 }
 
 /// Tells a blank and a number.
-pub fn put_number<I: Integer, W: Write>(number: I, block: &mut Block, writer: &mut Watched<W>)
-    ensures { TellsAfter (32 ∷ I.text number) (sheet W.contents block.old writer.old)
-        (sheet W.contents block.new writer.new) }
+pub fn put_number<I: Integer, W: Write>(number: I, block: &mut Block, writer: &mut Output<W>)
+    ensures { TellsAfter (32 ∷ I.text number) (sheet block.old writer.old)
+        (sheet block.new writer.new) }
 {
     put(b" ", block, writer);
     put_digits(number, block, writer);

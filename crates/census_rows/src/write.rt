@@ -10,20 +10,20 @@ use crate::kinds::{Field, Value};
 use crate::row::{Finding, Outcome, Row};
 use gathered::{Block, put};
 use std::io::Write;
-use watched::Watched;
+use watched::Output;
 
 // A signed number.
-fn put_signed<W: Write>(number: &i64, block: &mut Block, writer: &mut Watched<W>)
+fn put_signed<W: Write>(number: &i64, block: &mut Block, writer: &mut Output<W>)
     ensures { TellsAfter (32 ∷ signed_decimal number.now)
-        (sheet W.contents block.old writer.old) (sheet W.contents block.new writer.new) }
+        (sheet block.old writer.old) (sheet block.new writer.new) }
 {
     put_number(*number, block, writer);
 }
 
 // What a field has.
-fn put_value<W: Write>(value: &Value, block: &mut Block, writer: &mut Watched<W>)
+fn put_value<W: Write>(value: &Value, block: &mut Block, writer: &mut Output<W>)
     ensures { TellsAfter (32 ∷ value_text value.now)
-        (sheet W.contents block.old writer.old) (sheet W.contents block.new writer.new) }
+        (sheet block.old writer.old) (sheet block.new writer.new) }
 {
     match value {
         Value::Number(number) => put_number(*number, block, writer),
@@ -33,9 +33,9 @@ fn put_value<W: Write>(value: &Value, block: &mut Block, writer: &mut Watched<W>
 }
 
 // A field, where there is one.
-fn put_optional<W: Write>(field: &Option<Field>, block: &mut Block, writer: &mut Watched<W>)
+fn put_optional<W: Write>(field: &Option<Field>, block: &mut Block, writer: &mut Output<W>)
     ensures { TellsAfter (fields_text (texts_of (present (field.now ∷ []))))
-        (sheet W.contents block.old writer.old) (sheet W.contents block.new writer.new) }
+        (sheet block.old writer.old) (sheet block.new writer.new) }
 {
     match field {
         Some(field) => put_value(&field.value, block, writer),
@@ -44,9 +44,9 @@ fn put_optional<W: Write>(field: &Option<Field>, block: &mut Block, writer: &mut
 }
 
 // The fields that there are.
-fn put_fields<W: Write>(fields: &[Option<Field>], block: &mut Block, writer: &mut Watched<W>)
+fn put_fields<W: Write>(fields: &[Option<Field>], block: &mut Block, writer: &mut Output<W>)
     ensures { TellsAfter (fields_text (texts_of (present fields.now)))
-        (sheet W.contents block.old writer.old) (sheet W.contents block.new writer.new) }
+        (sheet block.old writer.old) (sheet block.new writer.new) }
 {
     for field in fields {
         put_optional(field, block, writer);
@@ -54,9 +54,9 @@ fn put_fields<W: Write>(fields: &[Option<Field>], block: &mut Block, writer: &mu
 }
 
 // The fields of a finding: those of most lines at once.
-fn put_finding<W: Write>(finding: &Finding, block: &mut Block, writer: &mut Watched<W>)
+fn put_finding<W: Write>(finding: &Finding, block: &mut Block, writer: &mut Output<W>)
     ensures { TellsAfter (fields_text (texts_of (said_of finding.now).fields))
-        (sheet W.contents block.old writer.old) (sheet W.contents block.new writer.new) }
+        (sheet block.old writer.old) (sheet block.new writer.new) }
 {
     match finding {
         Finding::Ok {
@@ -77,9 +77,9 @@ fn put_finding<W: Write>(finding: &Finding, block: &mut Block, writer: &mut Watc
 }
 
 // What was found of a pattern.
-fn put_outcome<W: Write>(outcome: &Outcome, block: &mut Block, writer: &mut Watched<W>)
+fn put_outcome<W: Write>(outcome: &Outcome, block: &mut Block, writer: &mut Output<W>)
     ensures { TellsAfter (fields_text (outcome_fields outcome.now))
-        (sheet W.contents block.old writer.old) (sheet W.contents block.new writer.new) }
+        (sheet block.old writer.old) (sheet block.new writer.new) }
 {
     put_field(outcome.word(), block, writer);
     match outcome {
@@ -102,10 +102,10 @@ fn put_start<W: Write>(
     first: u64,
     second: u64,
     block: &mut Block,
-    writer: &mut Watched<W>,
+    writer: &mut Output<W>,
 )
     ensures { TellsAfter (kind.now ++ fields_text (decimal first ∷ decimal second ∷ []))
-        (sheet W.contents block.old writer.old) (sheet W.contents block.new writer.new) }
+        (sheet block.old writer.old) (sheet block.new writer.new) }
 {
     put(kind, block, writer);
     put_number(first, block, writer);
@@ -113,9 +113,9 @@ fn put_start<W: Write>(
 }
 
 // A line that tells of growth; of another row nothing.
-fn put_of_growth<W: Write>(row: &Row, block: &mut Block, writer: &mut Watched<W>)
+fn put_of_growth<W: Write>(row: &Row, block: &mut Block, writer: &mut Output<W>)
     ensures { TellsAfter (if describes_growth row.now then row_text row.now else [])
-        (sheet W.contents block.old writer.old) (sheet W.contents block.new writer.new) }
+        (sheet block.old writer.old) (sheet block.new writer.new) }
 {
     match row {
         Row::Engine {
@@ -151,9 +151,9 @@ fn put_of_growth<W: Write>(row: &Row, block: &mut Block, writer: &mut Watched<W>
 }
 
 // A line that describes a collection; of another row nothing.
-fn put_of_collection<W: Write>(row: &Row, block: &mut Block, writer: &mut Watched<W>)
+fn put_of_collection<W: Write>(row: &Row, block: &mut Block, writer: &mut Output<W>)
     ensures { TellsAfter (if describes_collection row.now then row_text row.now else [])
-        (sheet W.contents block.old writer.old) (sheet W.contents block.new writer.new) }
+        (sheet block.old writer.old) (sheet block.new writer.new) }
 {
     match row {
         Row::Open {
@@ -193,9 +193,9 @@ fn put_of_collection<W: Write>(row: &Row, block: &mut Block, writer: &mut Watche
 }
 
 /// Tells a line, without its LF, and asks for no memory but the block's.
-pub fn put_row<W: Write>(row: &Row, block: &mut Block, writer: &mut Watched<W>)
+pub fn put_row<W: Write>(row: &Row, block: &mut Block, writer: &mut Output<W>)
     ensures { TellsAfter (row_text row.now)
-        (sheet W.contents block.old writer.old) (sheet W.contents block.new writer.new) }
+        (sheet block.old writer.old) (sheet block.new writer.new) }
 {
     match row {
         Row::Line {

@@ -12,7 +12,7 @@ use census_table::{Cell, Field, push_object};
 use gathered::{Block, put};
 use std::alloc::{AllocError, Global};
 use std::io::Write;
-use watched::Watched;
+use watched::Output;
 
 // Whether a pattern has the code of another under its rule.
 fn is_same(told: &Told, first: &Told) -> bool
@@ -42,9 +42,9 @@ pub fn group_len(tolds: &[Told]) -> usize
 }
 
 // Tells the rule and the code of a pattern.
-fn put_heading<W: Write>(told: &Told, block: &mut Block, writer: &mut Watched<W>)
+fn put_heading<W: Write>(told: &Told, block: &mut Block, writer: &mut Output<W>)
     ensures { TellsAfter (heading_text told.now)
-        (sheet W.contents block.old writer.old) (sheet W.contents block.new writer.new) }
+        (sheet block.old writer.old) (sheet block.new writer.new) }
 {
     put(told.rule, block, writer);
     put(b" ", block, writer);
@@ -53,9 +53,9 @@ fn put_heading<W: Write>(told: &Told, block: &mut Block, writer: &mut Watched<W>
 }
 
 // Tells the name of a pattern in its collection.
-fn put_line<W: Write>(told: &Told, block: &mut Block, writer: &mut Watched<W>)
+fn put_line<W: Write>(told: &Told, block: &mut Block, writer: &mut Output<W>)
     ensures { TellsAfter (line_text told.now)
-        (sheet W.contents block.old writer.old) (sheet W.contents block.new writer.new) }
+        (sheet block.old writer.old) (sheet block.new writer.new) }
 {
     put(b"  ", block, writer);
     put(told.collection, block, writer);
@@ -65,9 +65,9 @@ fn put_line<W: Write>(told: &Told, block: &mut Block, writer: &mut Watched<W>)
 }
 
 // Tells a line for each pattern.
-fn put_lines<W: Write>(tolds: &[Told], block: &mut Block, writer: &mut Watched<W>)
+fn put_lines<W: Write>(tolds: &[Told], block: &mut Block, writer: &mut Output<W>)
     ensures { TellsAfter (lines_text tolds.now)
-        (sheet W.contents block.old writer.old) (sheet W.contents block.new writer.new) }
+        (sheet block.old writer.old) (sheet block.new writer.new) }
 {
     for told in tolds {
         put_line(told, block, writer);
@@ -75,9 +75,9 @@ fn put_lines<W: Write>(tolds: &[Told], block: &mut Block, writer: &mut Watched<W
 }
 
 // Tells the rule and the code of these patterns, and a line for each.
-fn put_named<W: Write>(first: &Told, group: &[Told], block: &mut Block, writer: &mut Watched<W>)
+fn put_named<W: Write>(first: &Told, group: &[Told], block: &mut Block, writer: &mut Output<W>)
     ensures { TellsAfter (named_text first.now group.now)
-        (sheet W.contents block.old writer.old) (sheet W.contents block.new writer.new) }
+        (sheet block.old writer.old) (sheet block.new writer.new) }
 {
     put_heading(first, block, writer);
     put_lines(group, block, writer);
@@ -129,13 +129,13 @@ fn put_object<W: Write>(
     alloc: Global,
     told: &Told,
     block: &mut Block,
-    writer: &mut Watched<W>,
+    writer: &mut Output<W>,
 ) -> Result<(), AllocError>
     ensures { MatchResult result
         (λ _. TellsAfter (json_line (members_of told.now))
-        (sheet W.contents block.old writer.old) (sheet W.contents block.new writer.new))
+        (sheet block.old writer.old) (sheet block.new writer.new))
         (λ _. TellsFront (json_line (members_of told.now))
-        (sheet W.contents block.old writer.old) (sheet W.contents block.new writer.new)) }
+        (sheet block.old writer.old) (sheet block.new writer.new)) }
 {
     let text = object_line(alloc, told)?;
     put(text.as_slice(), block, writer);
@@ -147,13 +147,13 @@ fn put_objects<W: Write>(
     alloc: Global,
     tolds: &[Told],
     block: &mut Block,
-    writer: &mut Watched<W>,
+    writer: &mut Output<W>,
 ) -> Result<(), AllocError>
     ensures { MatchResult result
         (λ _. TellsAfter (objects_text tolds.now)
-        (sheet W.contents block.old writer.old) (sheet W.contents block.new writer.new))
+        (sheet block.old writer.old) (sheet block.new writer.new))
         (λ _. TellsFront (objects_text tolds.now)
-        (sheet W.contents block.old writer.old) (sheet W.contents block.new writer.new)) }
+        (sheet block.old writer.old) (sheet block.new writer.new)) }
 {
     for told in tolds {
         put_object(alloc, told, block, writer)?;
@@ -168,13 +168,13 @@ fn put_several<W: Write>(
     first: &Told,
     group: &[Told],
     block: &mut Block,
-    writer: &mut Watched<W>,
+    writer: &mut Output<W>,
 ) -> Result<(), AllocError>
     ensures { MatchResult result
         (λ _. TellsAfter (several_text json first.now group.now)
-        (sheet W.contents block.old writer.old) (sheet W.contents block.new writer.new))
+        (sheet block.old writer.old) (sheet block.new writer.new))
         (λ _. TellsFront (several_text json first.now group.now)
-        (sheet W.contents block.old writer.old) (sheet W.contents block.new writer.new)) }
+        (sheet block.old writer.old) (sheet block.new writer.new)) }
 {
     if json {
         return put_objects(alloc, group, block, writer);
@@ -189,13 +189,13 @@ pub fn put_group<W: Write>(
     json: bool,
     group: &[Told],
     block: &mut Block,
-    writer: &mut Watched<W>,
+    writer: &mut Output<W>,
 ) -> Result<bool, AllocError>
     ensures tells { MatchResult result
         (λ _. TellsAfter (group_text json group.now)
-        (sheet W.contents block.old writer.old) (sheet W.contents block.new writer.new))
+        (sheet block.old writer.old) (sheet block.new writer.new))
         (λ _. TellsFront (group_text json group.now)
-        (sheet W.contents block.old writer.old) (sheet W.contents block.new writer.new)) }
+        (sheet block.old writer.old) (sheet block.new writer.new)) }
     ensures several { IfOk result (λ several. several ≡ has_bytes (group_text json group.now)) }
 {
     match group {

@@ -14,7 +14,7 @@ use census_rows::Row;
 use gathered::Block;
 use std::alloc::{AllocError, Global};
 use std::io::Write;
-use watched::Watched;
+use watched::Output;
 
 // Puts patterns in the order of their codes, and of their rules under one code. Those of one code
 // and rule keep their order. The only error is out of memory.
@@ -32,14 +32,14 @@ fn put_groups<W: Write>(
     json: bool,
     tolds: &[Told],
     block: &mut Block,
-    writer: &mut Watched<W>,
+    writer: &mut Output<W>,
 ) -> Result<bool, AllocError>
     requires { AreInOrder tolds.now }
     ensures tells { MatchResult result
         (λ _. TellsAfter (same_text json tolds.now)
-        (sheet W.contents block.old writer.old) (sheet W.contents block.new writer.new))
+        (sheet block.old writer.old) (sheet block.new writer.new))
         (λ _. TellsFront (same_text json tolds.now)
-        (sheet W.contents block.old writer.old) (sheet W.contents block.new writer.new)) }
+        (sheet block.old writer.old) (sheet block.new writer.new)) }
     ensures any { IfOk result (λ any. any ≡ has_bytes (same_text json tolds.now)) }
 {
     let mut any = false;
@@ -71,14 +71,14 @@ pub fn put_same<W: Write>(
     json: bool,
     rows: &[Row],
     block: &mut Block,
-    writer: &mut Watched<W>,
+    writer: &mut Output<W>,
 ) -> Result<bool, AllocError>
     requires { AreReports rows.now }
     ensures tells { MatchResult result
         (λ _. TellsAfter (same_text json (tolds_of rows.now))
-        (sheet W.contents block.old writer.old) (sheet W.contents block.new writer.new))
+        (sheet block.old writer.old) (sheet block.new writer.new))
         (λ _. TellsFront (same_text json (tolds_of rows.now))
-        (sheet W.contents block.old writer.old) (sheet W.contents block.new writer.new)) }
+        (sheet block.old writer.old) (sheet block.new writer.new)) }
     ensures any { IfOk result (λ any. any ≡ has_bytes (same_text json (tolds_of rows.now))) }
 {
     let sections = collections(alloc, rows)?;

@@ -26,7 +26,7 @@ use census_rows::Row;
 use gathered::{Block, put};
 use std::alloc::{AllocError, Global};
 use std::io::Write;
-use watched::Watched;
+use watched::Output;
 
 /// How a table is written.
 #[derive(Clone, Copy, Debug, PartialEq, Eq)]
@@ -132,13 +132,13 @@ fn put_head<W: Write>(
     format: Format,
     names: &[&str],
     block: &mut Block,
-    writer: &mut Watched<W>,
+    writer: &mut Output<W>,
 ) -> Result<(), AllocError>
     ensures { MatchResult result
         (λ _. TellsAfter (head_text format (map (λ s. s.now) names.now))
-        (sheet W.contents block.old writer.old) (sheet W.contents block.new writer.new))
+        (sheet block.old writer.old) (sheet block.new writer.new))
         (λ _. TellsFront (head_text format (map (λ s. s.now) names.now))
-        (sheet W.contents block.old writer.old) (sheet W.contents block.new writer.new)) }
+        (sheet block.old writer.old) (sheet block.new writer.new)) }
 {
     match format {
         Format::Csv { .. } => put(header(alloc, names)?.as_slice(), block, writer),
@@ -153,13 +153,13 @@ fn put_rows<W: Write>(
     format: Format,
     rows: &[Vec<Field>],
     block: &mut Block,
-    writer: &mut Watched<W>,
+    writer: &mut Output<W>,
 ) -> Result<(), AllocError>
     ensures { MatchResult result
         (λ _. TellsAfter (rows_text format (rows_in rows.now))
-        (sheet W.contents block.old writer.old) (sheet W.contents block.new writer.new))
+        (sheet block.old writer.old) (sheet block.new writer.new))
         (λ _. TellsFront (rows_text format (rows_in rows.now))
-        (sheet W.contents block.old writer.old) (sheet W.contents block.new writer.new)) }
+        (sheet block.old writer.old) (sheet block.new writer.new)) }
 {
     let text = text_of(alloc, format, rows)?;
     put(text.as_slice(), block, writer);
@@ -176,14 +176,14 @@ fn put_patterns<'a, W: Write>(
     rows: &[&Row<'a>],
     count: usize,
     block: &mut Block,
-    writer: &mut Watched<W>,
+    writer: &mut Output<W>,
 ) -> Result<(), AllocError>
     requires { count ≤ length rows.now }
     ensures { MatchResult result
         (λ _. TellsAfter (rows_text format (map (pattern_row (option_copied names.entry) format) (first_patterns count number heading.now (rows_lent rows.now))))
-        (sheet W.contents block.old writer.old) (sheet W.contents block.new writer.new))
+        (sheet block.old writer.old) (sheet block.new writer.new))
         (λ _. TellsFront (rows_text format (map (pattern_row (option_copied names.entry) format) (first_patterns count number heading.now (rows_lent rows.now))))
-        (sheet W.contents block.old writer.old) (sheet W.contents block.new writer.new)) }
+        (sheet block.old writer.old) (sheet block.new writer.new)) }
 {
     if writer.failed() {
         return Ok(());
@@ -201,13 +201,13 @@ fn put_some<W: Write>(
     columns: &[ObjectColumn],
     objects: &[Object],
     block: &mut Block,
-    writer: &mut Watched<W>,
+    writer: &mut Output<W>,
 ) -> Result<(), AllocError>
     ensures { MatchResult result
         (λ _. TellsAfter (rows_text format (map (object_row (option_copied names.entry) columns.now) objects.now))
-        (sheet W.contents block.old writer.old) (sheet W.contents block.new writer.new))
+        (sheet block.old writer.old) (sheet block.new writer.new))
         (λ _. TellsFront (rows_text format (map (object_row (option_copied names.entry) columns.now) objects.now))
-        (sheet W.contents block.old writer.old) (sheet W.contents block.new writer.new)) }
+        (sheet block.old writer.old) (sheet block.new writer.new)) }
 {
     if writer.failed() {
         return Ok(());
@@ -224,13 +224,13 @@ fn put_objects<W: Write>(
     columns: &[ObjectColumn],
     objects: &[Object],
     block: &mut Block,
-    writer: &mut Watched<W>,
+    writer: &mut Output<W>,
 ) -> Result<(), AllocError>
     ensures { MatchResult result
         (λ _. TellsAfter (rows_text format (map (object_row (option_copied names.entry) columns.now) objects.now))
-        (sheet W.contents block.old writer.old) (sheet W.contents block.new writer.new))
+        (sheet block.old writer.old) (sheet block.new writer.new))
         (λ _. TellsFront (rows_text format (map (object_row (option_copied names.entry) columns.now) objects.now))
-        (sheet W.contents block.old writer.old) (sheet W.contents block.new writer.new)) }
+        (sheet block.old writer.old) (sheet block.new writer.new)) }
 {
     let mut start = 0;
     while start < objects.len() {
@@ -258,13 +258,13 @@ fn put_lines<'a, W: Write>(
     heading: &Row<'a>,
     rows: &[&Row<'a>],
     block: &mut Block,
-    writer: &mut Watched<W>,
+    writer: &mut Output<W>,
 ) -> Result<(), AllocError>
     ensures { MatchResult result
         (λ _. TellsAfter (rows_text format (map (pattern_row (option_copied names.entry) format) (patterns_under number heading.now (rows_lent rows.now))))
-        (sheet W.contents block.old writer.old) (sheet W.contents block.new writer.new))
+        (sheet block.old writer.old) (sheet block.new writer.new))
         (λ _. TellsFront (rows_text format (map (pattern_row (option_copied names.entry) format) (patterns_under number heading.now (rows_lent rows.now))))
-        (sheet W.contents block.old writer.old) (sheet W.contents block.new writer.new)) }
+        (sheet block.old writer.old) (sheet block.new writer.new)) }
 {
     let mut start = 0;
     while start < rows.len() {
@@ -286,13 +286,13 @@ fn put_section<'a, W: Write>(
     number: u64,
     rows: &[&Row<'a>],
     block: &mut Block,
-    writer: &mut Watched<W>,
+    writer: &mut Output<W>,
 ) -> Result<(), AllocError>
     ensures { MatchResult result
         (λ _. TellsAfter (rows_text format (map (pattern_row (option_copied names.entry) format) (section_patterns number (rows_lent rows.now))))
-        (sheet W.contents block.old writer.old) (sheet W.contents block.new writer.new))
+        (sheet block.old writer.old) (sheet block.new writer.new))
         (λ _. TellsFront (rows_text format (map (pattern_row (option_copied names.entry) format) (section_patterns number (rows_lent rows.now))))
-        (sheet W.contents block.old writer.old) (sheet W.contents block.new writer.new)) }
+        (sheet block.old writer.old) (sheet block.new writer.new)) }
 {
     match rows {
         [heading, lines @ ..] => put_lines(
@@ -309,13 +309,13 @@ fn put_sections<W: Write>(
     names: Option<&Names>,
     sections: &[Vec<&Row>],
     block: &mut Block,
-    writer: &mut Watched<W>,
+    writer: &mut Output<W>,
 ) -> Result<(), AllocError>
     ensures { MatchResult result
         (λ _. TellsAfter (rows_text format (map (pattern_row (option_copied names.entry) format) (all_patterns 1 (sections_lent sections.now))))
-        (sheet W.contents block.old writer.old) (sheet W.contents block.new writer.new))
+        (sheet block.old writer.old) (sheet block.new writer.new))
         (λ _. TellsFront (rows_text format (map (pattern_row (option_copied names.entry) format) (all_patterns 1 (sections_lent sections.now))))
-        (sheet W.contents block.old writer.old) (sheet W.contents block.new writer.new)) }
+        (sheet block.old writer.old) (sheet block.new writer.new)) }
 {
     for index in 0..sections.len() {
         let number = (index + 1) as u64;
@@ -339,13 +339,13 @@ fn put_body<W: Write>(
     names: Option<&Names>,
     table: &Table,
     block: &mut Block,
-    writer: &mut Watched<W>,
+    writer: &mut Output<W>,
 ) -> Result<(), AllocError>
     ensures { MatchResult result
         (λ _. TellsAfter (rows_text format (members_in format (option_copied names.entry) (listing_of table.now)))
-        (sheet W.contents block.old writer.old) (sheet W.contents block.new writer.new))
+        (sheet block.old writer.old) (sheet block.new writer.new))
         (λ _. TellsFront (rows_text format (members_in format (option_copied names.entry) (listing_of table.now)))
-        (sheet W.contents block.old writer.old) (sheet W.contents block.new writer.new)) }
+        (sheet block.old writer.old) (sheet block.new writer.new)) }
 {
     match table {
         Table::Patterns(sections) => put_sections(
@@ -384,13 +384,13 @@ pub fn put_listing<W: Write>(
     names: Option<&Names>,
     table: &Table,
     block: &mut Block,
-    writer: &mut Watched<W>,
+    writer: &mut Output<W>,
 ) -> Result<(), AllocError>
     ensures { MatchResult result
         (λ _. TellsAfter (listing_text format (option_copied names.entry) (listing_of table.now))
-        (sheet W.contents block.old writer.old) (sheet W.contents block.new writer.new))
+        (sheet block.old writer.old) (sheet block.new writer.new))
         (λ _. TellsFront (listing_text format (option_copied names.entry) (listing_of table.now))
-        (sheet W.contents block.old writer.old) (sheet W.contents block.new writer.new)) }
+        (sheet block.old writer.old) (sheet block.new writer.new)) }
 {
     let titles = table.names(alloc, names)?;
     put_head(alloc, format, titles.as_slice(), block, writer)?;
@@ -404,14 +404,14 @@ pub fn put_table<W: Write>(
     format: Format,
     rows: &[Row],
     block: &mut Block,
-    writer: &mut Watched<W>,
+    writer: &mut Output<W>,
 ) -> Result<(), AllocError>
     requires { AreReports rows.now }
     ensures { MatchResult result
         (λ _. TellsAfter (table_text format (patterns_of rows.now))
-        (sheet W.contents block.old writer.old) (sheet W.contents block.new writer.new))
+        (sheet block.old writer.old) (sheet block.new writer.new))
         (λ _. TellsFront (table_text format (patterns_of rows.now))
-        (sheet W.contents block.old writer.old) (sheet W.contents block.new writer.new)) }
+        (sheet block.old writer.old) (sheet block.new writer.new)) }
 {
     let table = table_of(alloc, Subject::Patterns, rows)?;
     put_listing(alloc, format, None, &table, block, writer)

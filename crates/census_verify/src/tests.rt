@@ -4,7 +4,7 @@ use crate::{put_verdict, read_claims};
 use census_readback::read_report;
 use gathered::{Block, send};
 use std::alloc::{AllocError, Global};
-use watched::Watched;
+use watched::Output;
 
 // Two collections with a name in common, and another report.
 const REPORT: &[u8] = b"open 1 4 first
@@ -110,7 +110,7 @@ fn verdict_on(alloc: Global, text: &[u8], report: &[u8]) -> Result<(bool, Vec<u8
         return Err(AllocError);
     };
     let mut block = Block::new(alloc);
-    let mut writer = Watched::new(Vec::new(alloc));
+    let mut writer = Output::new(Vec::new(alloc));
     let any = put_verdict(alloc, &claims, rows.as_slice(), &mut block, &mut writer)?;
     match send(&mut block, &mut writer) {
         Ok(()) => Ok((any, writer.into_inner())),

@@ -17,7 +17,7 @@ use census_table::Entry;
 use gathered::{Block, put};
 use std::alloc::{AllocError, Global};
 use std::io::Write;
-use watched::Watched;
+use watched::Output;
 
 // Whether nothing is told with this text, if this is so before it.
 fn is_silent(before: bool, text: &[u8]) -> bool
@@ -31,14 +31,14 @@ fn put_claims<W: Write>(
     alloc: Global,
     found: &Found,
     block: &mut Block,
-    writer: &mut Watched<W>,
+    writer: &mut Output<W>,
 ) -> Result<bool, AllocError>
     requires { IsFound found.now }
     ensures tells { MatchResult result
         (λ _. TellsAfter (claims_text found.now.patterns.items (claims_read found.now.claims.now))
-        (sheet W.contents block.old writer.old) (sheet W.contents block.new writer.new))
+        (sheet block.old writer.old) (sheet block.new writer.new))
         (λ _. TellsFront (claims_text found.now.patterns.items (claims_read found.now.claims.now))
-        (sheet W.contents block.old writer.old) (sheet W.contents block.new writer.new)) }
+        (sheet block.old writer.old) (sheet block.new writer.new)) }
     ensures silent { IfOk result (λ silent. silent
         ≡ is_empty (claims_text found.now.patterns.items (claims_read found.now.claims.now))) }
 {
@@ -75,16 +75,16 @@ fn put_unclaimed<W: Write>(
     alloc: Global,
     found: &Found,
     block: &mut Block,
-    writer: &mut Watched<W>,
+    writer: &mut Output<W>,
 ) -> Result<bool, AllocError>
     requires { IsFound found.now }
     ensures tells { MatchResult result
         (λ _. TellsAfter
         (all_unclaimed_text (claims_read found.now.claims.now) found.now.patterns.items)
-        (sheet W.contents block.old writer.old) (sheet W.contents block.new writer.new))
+        (sheet block.old writer.old) (sheet block.new writer.new))
         (λ _. TellsFront
         (all_unclaimed_text (claims_read found.now.claims.now) found.now.patterns.items)
-        (sheet W.contents block.old writer.old) (sheet W.contents block.new writer.new)) }
+        (sheet block.old writer.old) (sheet block.new writer.new)) }
     ensures silent { IfOk result (λ silent. silent
         ≡ is_empty (all_unclaimed_text (claims_read found.now.claims.now) found.now.patterns.items)) }
 {
@@ -112,14 +112,14 @@ pub fn put_verdict<W: Write>(
     claims: &Claims,
     rows: &[Row],
     block: &mut Block,
-    writer: &mut Watched<W>,
+    writer: &mut Output<W>,
 ) -> Result<bool, AllocError>
     requires { AreReports rows.now }
     ensures tells { MatchResult result
         (λ _. TellsAfter (verdict_text (claims_read claims.now.items.items) (entries_of rows.now))
-        (sheet W.contents block.old writer.old) (sheet W.contents block.new writer.new))
+        (sheet block.old writer.old) (sheet block.new writer.new))
         (λ _. TellsFront (verdict_text (claims_read claims.now.items.items) (entries_of rows.now))
-        (sheet W.contents block.old writer.old) (sheet W.contents block.new writer.new)) }
+        (sheet block.old writer.old) (sheet block.new writer.new)) }
     ensures any { IfOk result (λ any. IsTrue any
         ↔ (verdict_text (claims_read claims.now.items.items) (entries_of rows.now) ≢ [])) }
 {

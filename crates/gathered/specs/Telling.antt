@@ -1,8 +1,8 @@
 -- What is told to a watched writer by way of a block.
 use Rattle.std.specs.Prelude.{◌≡◌, ℕ, Bool, List, ◌++◌, Option, MatchBool}
 use Rattle.std.specs.Io.KnownBytes.{Appends}
-use Rattle.watched.specs.Watching.{AppendsFront, has_failed, inner_of}
-use Rattle.watched.specs.declared.watched.Watched.{Watched}
+use Rattle.watched.specs.Watching.{AppendsFront}
+use Rattle.watched.specs.Streams.{Sink, Watched}
 use Rattle.gathered.specs.declared.block.Block.{Block}
 
 -- the bytes of a block
@@ -16,9 +16,8 @@ pub record Sheet : Type 0 where
   pub pending : List ℕ
   pub failed : Bool
 
-abbrev pub sheet : {W : Type 0} → (W → Option (List ℕ)) → Block → Watched W → Sheet
-sheet contents block writer =
-    record { written = contents (inner_of writer); pending = pending_of block; failed = has_failed writer }
+abbrev pub sheet : {W : Type 0} → Block → Watched Sink W → Sheet
+sheet block writer = record { written = writer.stream.written; pending = pending_of block; failed = writer.stream.failed }
 
 -- Where the bytes that were written are told after the first ones: all but those of the block, and a prefix of them where
 -- the writer has failed.

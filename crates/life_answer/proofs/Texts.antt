@@ -8,13 +8,14 @@ use Rattle.life_model.specs.Rule.{Rule}
 use Rattle.life_model.specs.Generation.{Generation}
 use Rattle.life_model.specs.Recurrence.{Recurrence}
 use Rattle.life_cells.specs.declared.rule.RuleFault.{RuleFault}
-use Rattle.life_cells.specs.declared.rule.RuleFault.TheVariants.{NotLifeLike, HasB0}
 use Rattle.life_text.specs.declared.rle.RleFault.{RleFault}
 use Rattle.life_text.specs.declared.rle.RleFault.TheVariants.{Memory, NoHeader, ManyStates, BadChar, BadRun, TooFar, TooMany, NoEnd}
+use Rattle.life_text.specs.Faults.{fault_number}
 use Rattle.life_text.specs.Rle as rle
 use Rattle.texts.specs.Faults.{fault_if}
-use Rattle.life_text.specs.Rle.{Meaning, Token, reading, refusal, fault_of, with_body, unless_fault, first_fault, token_fault, header_rule, line_rule, rule_behind, named_rule, rule_or_fault, rule_fault}
+use Rattle.life_text.specs.Rle.{Meaning, Token, reading, refusal, fault_of, with_body, unless_fault, first_fault, token_fault, header_rule, line_rule, rule_behind, named_rule, rule_or_fault}
 use Rattle.life_text.specs.Picture.{Picture, picture_of}
+use Rattle.life_text.proofs.FaultLemmas.{header_rule-numbered}
 use Rattle.life_answer.specs.declared.finding.Finding.{Finding}
 use Rattle.life_answer.specs.declared.finding.Outcome.{Outcome}
 use Rattle.life_answer.specs.declared.finding.Outcome.TheVariants.{Ash, Grows, Large, Unresolved}
@@ -22,7 +23,7 @@ use Rattle.life_answer.specs.declared.finding.Answer.{Answer}
 use Rattle.life_answer.specs.declared.finding.Answer.TheVariants.{Found, Refused}
 use Rattle.life_answer.specs.declared.part.Part.{Part}
 use Rattle.life_answer.specs.declared.tale.Engines.{Engines}
-use Rattle.life_answer.specs.Answers.{outcome_of, fault_number, recurrence_outcome}
+use Rattle.life_answer.specs.Answers.{outcome_of, recurrence_outcome}
 use Rattle.life_answer.specs.Limited.{first_past, unless_large}
 use Rattle.life_answer.specs.Questions.{answer_to, answer_to_question, finding_to}
 use Rattle.life_answer.specs.declared.question.Question.{Question}
@@ -97,13 +98,9 @@ first_fault-numbered before (t ∷ ts) =
     numbered_or (token_fault (rle.row before) (rle.column before) (rle.live_cells before) t) (first_fault (before ++ t ∷ []) ts)
     (token_fault-numbered (rle.row before) (rle.column before) (rle.live_cells before) t) (first_fault-numbered (before ++ t ∷ []) ts)
 
-rule_fault-numbered : (fault : RuleFault) → IsNumber (fault_number (rule_fault fault))
-rule_fault-numbered NotLifeLike = (omega arith, omega arith)
-rule_fault-numbered HasB0 = (omega arith, omega arith)
-
 told-numbered : (r : Result Rule RuleFault) → IsTold (rule_or_fault r)
 told-numbered (Ok rule) = tt
-told-numbered (Err fault) = rule_fault-numbered fault
+told-numbered (Err fault) = header_rule-numbered fault
 
 told_if : {T : Type 0} (b : Bool) (r s : Result T RleFault) → IsTold r → IsTold s → IsTold (cond b r s)
 told_if true r s h k = h

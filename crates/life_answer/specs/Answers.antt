@@ -1,11 +1,9 @@
--- What is found of a pattern that settles, and the numbers of faults.
+-- What is found of a pattern that settles.
 use Rattle.std.specs.Prelude.{ℕ, ◌+◌, Option, Some, None}
 use Rattle.life_model.specs.Rule.{Rule}
 use Rattle.life_model.specs.Generation.{Generation, size}
 use Rattle.life_model.specs.Evolution.{generation}
 use Rattle.life_model.specs.Recurrence.{Recurrence}
-use Rattle.life_text.specs.declared.rle.RleFault.{RleFault}
-use Rattle.life_text.specs.declared.rle.RleFault.TheVariants.{NoHeader, BadHeader, RuleNotLifeLike, RuleHasB0, ManyStates, BadChar, BadRun, TooFar, TooMany, NoEnd, Memory}
 use Rattle.life_answer.specs.declared.finding.Finding.{Finding}
 use Rattle.life_answer.specs.declared.finding.Outcome.{Outcome}
 use Rattle.life_answer.specs.declared.finding.Outcome.TheVariants.{Recurs, Unresolved}
@@ -41,17 +39,3 @@ finding_with G outcome = record { population = size G; outcome = outcome }
 -- what is found of a set within the bound
 abbrev pub finding_of : Rule → Generation → ℕ → Finding
 finding_of R G b = finding_with G (outcome_of R G b)
-
--- the number that reports print
-abbrev pub fault_number : RleFault → ℕ
-fault_number NoHeader = 1
-fault_number BadHeader = 2
-fault_number RuleNotLifeLike = 3
-fault_number RuleHasB0 = 4
-fault_number (ManyStates at) = 5
-fault_number (BadChar at) = 6
-fault_number (BadRun at) = 7
-fault_number (TooFar at) = 8
-fault_number (TooMany at) = 9
-fault_number NoEnd = 10
-fault_number Memory = 11

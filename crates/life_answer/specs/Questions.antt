@@ -6,6 +6,7 @@ use Rattle.life_model.specs.Generation.{Generation}
 use Rattle.life_model.specs.Evolution.{generation}
 use Rattle.life_objects.specs.Limits.{objects_bound_limit}
 use Rattle.life_text.specs.declared.rle.RleFault.{RleFault}
+use Rattle.life_text.specs.Faults.{fault_number}
 use Rattle.life_text.specs.Rle.{reading}
 use Rattle.life_text.specs.Picture.{Picture, picture_of}
 use Rattle.life_answer.specs.contracts.question.Question as question_row
@@ -15,7 +16,7 @@ use Rattle.life_answer.specs.declared.finding.Finding.{Finding}
 use Rattle.life_answer.specs.declared.finding.Outcome.{Outcome}
 use Rattle.life_answer.specs.declared.question.Question.{Question}
 use Rattle.life_answer.specs.declared.question.Question.TheVariants.{Objects, Settles}
-use Rattle.life_answer.specs.Answers.{fault_number, finding_with, outcome_of}
+use Rattle.life_answer.specs.Answers.{finding_with, outcome_of}
 use Rattle.life_answer.specs.Census.{census_of}
 use Rattle.life_answer.specs.Growing.{allowed_bound, growing_or}
 use Rattle.life_answer.specs.Limited.{outcome_unless_large}

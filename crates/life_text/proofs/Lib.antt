@@ -1,3 +1,4 @@
+pub mod FaultLemmas
 pub mod PenLemmas
 pub mod CappedLemmas
 pub mod LexLemmas

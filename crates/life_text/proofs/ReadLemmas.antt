@@ -5,7 +5,6 @@ use Rattle.life_model.specs.Rule.{Rule}
 use Rattle.texts.specs.Bytes.{after_one_of, is_blank, without_ends}
 use Rattle.life_cells.specs.Rules.{life, rule_of}
 use Rattle.life_cells.specs.declared.rule.RuleFault.{RuleFault}
-use Rattle.life_cells.specs.declared.rule.RuleFault.TheVariants.{NotLifeLike, HasB0}
 use Rattle.life_cells.specs.Readings.{Gives}
 use Rattle.life_text.specs.declared.rle.RleFault.{RleFault}
 use Rattle.life_text.specs.declared.rle.RleFault.TheVariants.{Memory, NoHeader}
@@ -41,8 +40,7 @@ neither false r s one other = other
 
 told_memory : (r : Result Rule RuleFault) → rule_or_fault r ≢ Err Memory
 told_memory (Ok rule) = λ e. cc
-told_memory (Err NotLifeLike) = λ e. cc
-told_memory (Err HasB0) = λ e. cc
+told_memory (Err fault) = λ e. cc
 
 named_memory : (text : Option (List ℕ)) → named_rule text ≢ Err Memory
 named_memory None = λ e. cc

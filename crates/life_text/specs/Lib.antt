@@ -1,4 +1,5 @@
 pub mod Rle
+pub mod Faults
 pub mod Reader
 pub mod Found
 pub mod Drawing

@@ -1,14 +1,13 @@
 -- RLE texts that are read: the header, the tokens of the body, what they mean, and the first fault.
-use Rattle.std.specs.Prelude.{ℕ, ◌+◌, ◌-◌, Bool, true, false, not, ◌&&◌, ◌||◌, List, [], ◌∷◌, ◌++◌, length, Option, Some, None, Result, Ok, Err, codes, map, sum_by, nat_lt, ◌==◌, if◌then◌else◌, is_some, is_none, unwrap_or}
+use Rattle.std.specs.Prelude.{ℕ, ◌+◌, ◌-◌, Bool, false, not, ◌&&◌, ◌||◌, List, [], ◌∷◌, ◌++◌, length, Option, Some, None, Result, Ok, Err, codes, map, sum_by, nat_lt, ◌==◌, if◌then◌else◌, is_some, is_none, unwrap_or}
 use Rattle.std.specs.List.{list_all, prefix_len, take_while, before_first, after_first, after_last, range_with_len}
 use Rattle.std.specs.Option.{option_or, option_map_or}
 use Rattle.std.specs.Str.Parse.{digits_value}
 use Rattle.texts.specs.Faults.{fault_if}
 use Rattle.texts.specs.Bytes.{is_in, is_digit, is_letter, is_blank, is_space, without_front, without_ends, after_one_of, ◌>>=◌}
 use Rattle.life_cells.specs.declared.rule.RuleFault.{RuleFault}
-use Rattle.life_cells.specs.declared.rule.RuleFault.TheVariants.{NotLifeLike, HasB0}
 use Rattle.life_text.specs.declared.rle.RleFault.{RleFault}
-use Rattle.life_text.specs.declared.rle.RleFault.TheVariants.{NoHeader, BadHeader, RuleNotLifeLike, RuleHasB0, ManyStates, BadChar, BadRun, TooFar, TooMany, NoEnd}
+use Rattle.life_text.specs.declared.rle.RleFault.TheVariants.{NoHeader, BadHeader, Rule as OfRule, ManyStates, BadChar, BadRun, TooFar, TooMany, NoEnd}
 use Rattle.life_model.specs.Rule.{Rule}
 use Rattle.life_cells.specs.Rules.{rule_of, life}
 use Rattle.life_cells.specs.Limits.{place_limit}
@@ -67,13 +66,9 @@ after_rule_name text = do
   e ← after_one_of (codes "eE") l
   part (codes "=") e
 
-abbrev pub rule_fault : RuleFault → RleFault
-rule_fault NotLifeLike = RuleNotLifeLike
-rule_fault HasB0 = RuleHasB0
-
 abbrev pub rule_or_fault : Result Rule RuleFault → Result Rule RleFault
 rule_or_fault (Ok r) = Ok r
-rule_or_fault (Err fault) = Err (rule_fault fault)
+rule_or_fault (Err fault) = Err (OfRule fault)
 
 -- the rule of the text after `rule =`, without the blanks at its ends
 abbrev pub named_rule : Option (List ℕ) → Result Rule RleFault

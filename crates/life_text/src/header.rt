@@ -8,7 +8,7 @@ ghost use Rattle.life_text.specs.Rle.{part, after_size, after_sizes, after_rule_
 
 use crate::bytes::{is_blank, is_digit};
 use crate::rle::RleFault;
-use life_cells::{Rule, RuleFault, after_byte, after_either};
+use life_cells::{Rule, after_byte, after_either};
 
 /// The text from its first byte on that is no blank, tab or CR.
 pub fn skip_blanks(text: &[u8]) -> &[u8]
@@ -122,8 +122,7 @@ fn named_rule(text: &[u8]) -> Result<Rule, RleFault>
 {
     match Rule::parse(drop_blanks(skip_blanks(text))) {
         Ok(rule) => Ok(rule),
-        Err(RuleFault::NotLifeLike) => Err(RleFault::RuleNotLifeLike),
-        Err(RuleFault::HasB0) => Err(RleFault::RuleHasB0),
+        Err(fault) => Err(RleFault::Rule(fault)),
     }
 }
 

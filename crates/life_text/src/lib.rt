@@ -18,7 +18,6 @@ pub use header::{after_rule_name, after_sizes, drop_blanks, line_rule, skip_blan
 pub use life_cells::{CellFault, CellList, Rule, RuleFault};
 pub use lines::put_token;
 pub use pattern::Pattern;
-pub use rle::{RleFault, line_end, read_rle, rises};
+pub use rle::{RleFault, line_end, read_rle, rises, rule_number};
 pub use token::skip_spaces;
-pub use watched::{Failed, ReadFault, Watched, put_all, read_all};
 pub use write::{write_rle, written_texts_are_read};

@@ -1,8 +1,9 @@
 //! RLE texts that are read.
-ghost use Rattle.std.specs.Prelude.{[], ◌+◌, ◌-◌, ◌<◌, ◌≡◌, ◌≢◌, ◌≤◌, IfErr, IfOk, IsOk, List, OnOk, drop, false, length, take};
+ghost use Rattle.std.specs.Prelude.{[], ◌+◌, ◌-◌, ◌<◌, ◌≡◌, ◌≢◌, ◌≤◌, IfErr, IfOk, IsOk, List, OnOk, Some, drop, false, length, take};
 ghost use Rattle.std.specs.List.{after_first, before_first};
 ghost use Rattle.life_cells.specs.Readings.{Gives};
 ghost use Rattle.life_text.specs.Drawing.{drawing, drawing_of};
+ghost use Rattle.life_text.specs.Faults.{fault_number, fault_of_number, fault_place, rule_number, without_place};
 ghost use Rattle.life_text.specs.Found.{token_found};
 ghost use Rattle.life_text.specs.Picture.{picture_of};
 ghost use Rattle.life_text.specs.Reader.{IsPlain, count_cap, cells_drawn, first_pen, is_line_feed, placed_all, plain_at, tokens_at};
@@ -17,47 +18,123 @@ use crate::pen::{Pen, is_too_far, is_too_many};
 use crate::token::{
     Found, is_bad_run, is_missing, is_no_tag, is_other_state, next_token, skip_spaces,
 };
-use life_cells::{CellList, Rule};
+use life_cells::{CellList, Rule, RuleFault};
 use memchr::memchr;
 use std::alloc::{AllocError, Global};
+use std::fmt;
 use thiserror::Error;
 
 /// Why a text is no pattern, and at which byte, counted from 0.
 #[derive(Clone, Copy, Debug, PartialEq, Eq, Drop, Error)]
 pub enum RleFault {
     /// There is no header line, or it doesn't begin with `x`.
-    #[error("rle fault 1")]
     NoHeader,
     /// The header line begins with `x` and hasn't the form of one.
-    #[error("rle fault 2")]
     BadHeader,
-    /// The header's rule text has none of the three forms.
-    #[error("rle fault 3")]
-    RuleNotLifeLike,
-    /// The header's rule has 0 among its births.
-    #[error("rle fault 4")]
-    RuleHasB0,
+    /// The header's rule text has this fault.
+    Rule(RuleFault),
     /// A letter that names another state than the two stands in the place of a tag.
-    #[error("rle fault 5 at {at}")]
     ManyStates { at: usize },
     /// A byte that is no tag stands in the place of a tag.
-    #[error("rle fault 6 at {at}")]
     BadChar { at: usize },
     /// A run count is 0, or stands before `!`, another count or the end of the text. `at` is the token's first byte.
-    #[error("rle fault 7 at {at}")]
     BadRun { at: usize },
     /// A live cell's x or y is above 1,048,575. `at` is the token's first byte.
-    #[error("rle fault 8 at {at}")]
     TooFar { at: usize },
     /// There are more than 1,048,576 live cells. `at` is the token's first byte.
-    #[error("rle fault 9 at {at}")]
     TooMany { at: usize },
     /// The text ends where a token would begin.
-    #[error("rle fault 10")]
     NoEnd,
     /// Memory was refused.
-    #[error("out of memory")]
     Memory,
+}
+
+/// The number of a fault of a rule text that is given by itself, in no header.
+pub fn rule_number(fault: RuleFault) -> u8
+    ensures { result ≡ rule_number fault }
+{
+    match fault {
+        RuleFault::NotLifeLike => 1,
+        RuleFault::HasB0 => 2,
+    }
+}
+
+impl RleFault {
+    /// Each fault that a text can have, at its first byte where the fault names a byte.
+    const ALL: [RleFault; 10] = [
+        RleFault::NoHeader,
+        RleFault::BadHeader,
+        RleFault::Rule(RuleFault::NotLifeLike),
+        RleFault::Rule(RuleFault::HasB0),
+        RleFault::ManyStates { at: 0 },
+        RleFault::BadChar { at: 0 },
+        RleFault::BadRun { at: 0 },
+        RleFault::TooFar { at: 0 },
+        RleFault::TooMany { at: 0 },
+        RleFault::NoEnd,
+    ];
+
+    /// The number by which reports and the program's lines name it.
+    pub fn number(self) -> u8
+        ensures value { result ≡ fault_number self }
+        // The number tells the fault, but for its byte.
+        ensures told { self ≢ Memory → fault_of_number result ≡ Some (without_place self) }
+    {
+        match self {
+            RleFault::NoHeader => 1,
+            RleFault::BadHeader => 2,
+            RleFault::Rule(RuleFault::NotLifeLike) => 3,
+            RleFault::Rule(RuleFault::HasB0) => 4,
+            RleFault::ManyStates { .. } => 5,
+            RleFault::BadChar { .. } => 6,
+            RleFault::BadRun { .. } => 7,
+            RleFault::TooFar { .. } => 8,
+            RleFault::TooMany { .. } => 9,
+            RleFault::NoEnd => 10,
+            RleFault::Memory => 11,
+        }
+    }
+
+    /// The byte of the text that it names.
+    pub fn at(self) -> Option<usize>
+        ensures { result ≡ fault_place self }
+    {
+        match self {
+            RleFault::ManyStates { at }
+            | RleFault::BadChar { at }
+            | RleFault::BadRun { at }
+            | RleFault::TooFar { at }
+            | RleFault::TooMany { at } => Some(at),
+            RleFault::NoHeader
+            | RleFault::BadHeader
+            | RleFault::Rule(_)
+            | RleFault::NoEnd
+            | RleFault::Memory => None,
+        }
+    }
+
+    /// The fault of a text that has a number, at the text's first byte where it names a byte. Out of memory is none.
+    pub fn of_number(number: u64) -> Option<RleFault>
+        ensures { result ≡ fault_of_number number }
+    {
+        for fault in &RleFault::ALL {
+            if fault.number() as u64 == number {
+                return Some(*fault);
+            }
+        }
+        None
+    }
+}
+
+impl fmt::Display for RleFault {
+    fn fmt<W: fmt::Write>(&self, f: &mut fmt::Formatter<W>) -> fmt::Result {
+        let number = self.number();
+        match (*self, self.at()) {
+            (RleFault::Memory, _) => write!(f, "out of memory"),
+            (_, Some(at)) => write!(f, "rle fault {number} at {at}"),
+            (_, None) => write!(f, "rle fault {number}"),
+        }
+    }
 }
 
 // The fault of the token that was found, where the pen stands.

@@ -4,7 +4,7 @@ use std::alloc::Global;
 use std::io;
 use std::io::{ErrorKind, Read, Write};
 use std::test::Fail;
-use watched::{Failed, ReadFault, Watched, put_all, read_all};
+use watched::{Failed, Input, Output, ReadFault, put_all, read_all};
 
 /// Gives its bytes one at a time, fails once they are gone, and counts the calls.
 #[derive(Drop)]
@@ -100,13 +100,13 @@ const TEXT: &[u8] = b"x = 3, y = 3";
 
 #[test]
 fn calls_that_a_signal_interrupts_are_made_again(rt: HostRuntime) -> Result<(), Fail> {
-    let mut reader = Watched::new(Interrupted {
+    let mut reader = Input::new(Interrupted {
         inner: TEXT,
         next_passes: false,
     });
     let bytes = read_all(rt.alloc(), &mut reader, 100)?;
     assert!(rt; bytes.as_slice() == TEXT && !reader.failed());
-    let mut writer = Watched::new(Interrupted {
+    let mut writer = Output::new(Interrupted {
         inner: Vec::new(rt.alloc()),
         next_passes: false,
     });
@@ -117,7 +117,7 @@ fn calls_that_a_signal_interrupts_are_made_again(rt: HostRuntime) -> Result<(), 
 
 // Whether a text is read whole where there may be so many bytes.
 fn is_read(alloc: Global, text: &[u8], limit: usize) -> Result<bool, ReadFault> {
-    let mut reader = Watched::new(text);
+    let mut reader = Input::new(text);
     let bytes = read_all(alloc, &mut reader, limit)?;
     Ok(bytes.as_slice() == text && !reader.failed())
 }
@@ -132,7 +132,7 @@ fn as_many_bytes_as_the_limit_are_read(rt: HostRuntime) -> Result<(), Fail> {
 #[test]
 fn bytes_past_the_limit_are_too_many(rt: HostRuntime) {
     assert!(rt; is_read(rt.alloc(), b"abcde", 4) == Err(ReadFault::TooLong));
-    let mut endless = Watched::new(io::repeat(b'@'));
+    let mut endless = Input::new(io::repeat(b'@'));
     let fault = read_all(rt.alloc(), &mut endless, 20_000).err();
     assert!(rt; fault == Some(ReadFault::TooLong) && !endless.failed());
 }
@@ -147,7 +147,7 @@ fn more_bytes_than_one_call_gives_are_read(rt: HostRuntime) -> Result<(), Fail> 
 #[test]
 fn a_reader_that_failed_is_not_called_again(rt: HostRuntime) -> Result<(), Fail> {
     for k in 0..TEXT.len() {
-        let mut reader = Watched::new(FailingReader::after(&TEXT[..k]));
+        let mut reader = Input::new(FailingReader::after(&TEXT[..k]));
         for _ in 0..2 {
             let fault = read_all(rt.alloc(), &mut reader, 100).err();
             assert!(rt; fault == Some(ReadFault::Read) && reader.failed());
@@ -162,7 +162,7 @@ fn a_reader_that_failed_is_not_called_again(rt: HostRuntime) -> Result<(), Fail>
 fn a_writer_that_failed_is_not_called_again(rt: HostRuntime) -> Result<(), Fail> {
     for k in 0..TEXT.len() {
         let written = Vec::new(rt.alloc());
-        let mut writer = Watched::new(FailingWriter {
+        let mut writer = Output::new(FailingWriter {
             written,
             room: k,
             calls: 0,
@@ -180,7 +180,7 @@ fn a_writer_that_failed_is_not_called_again(rt: HostRuntime) -> Result<(), Fail>
 #[test]
 fn all_bytes_go_out_one_at_a_time(rt: HostRuntime) -> Result<(), Fail> {
     let written = Vec::new(rt.alloc());
-    let mut writer = Watched::new(FailingWriter {
+    let mut writer = Output::new(FailingWriter {
         written,
         room: 2 * TEXT.len(),
         calls: 0,
@@ -195,7 +195,7 @@ fn all_bytes_go_out_one_at_a_time(rt: HostRuntime) -> Result<(), Fail> {
 #[test]
 fn a_write_that_takes_nothing_is_a_failure(rt: HostRuntime) -> Result<(), Fail> {
     let mut room = [0u8; 3];
-    let mut writer = Watched::new(&mut room[..]);
+    let mut writer = Output::new(&mut room[..]);
     assert!(rt; put_all(&mut writer, b"abcd") == Err(Failed) && writer.failed());
     assert!(rt; room.as_slice() == b"abc".as_slice());
     Ok(())
@@ -204,11 +204,11 @@ fn a_write_that_takes_nothing_is_a_failure(rt: HostRuntime) -> Result<(), Fail> 
 #[test]
 fn a_call_that_succeeds_raises_no_flag(rt: HostRuntime) -> Result<(), Fail> {
     let text: &[u8] = b"abc";
-    let mut reader = Watched::new(text);
+    let mut reader = Input::new(text);
     let mut buffer = [b'-'; 5];
     assert!(rt; reader.get(&mut buffer) == Ok(3) && buffer.as_slice() == b"abc--".as_slice());
     assert!(rt; reader.get(&mut buffer) == Ok(0) && !reader.failed());
-    let mut writer = Watched::new(Vec::new(rt.alloc()));
+    let mut writer = Output::new(Vec::new(rt.alloc()));
     assert!(rt; writer.put(text) == Ok(3) && !writer.failed());
     assert!(rt; writer.into_inner().as_slice() == text);
     Ok(())

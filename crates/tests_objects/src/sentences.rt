@@ -38,7 +38,7 @@ const CASES: &[Case] = &[
         "  the rule is one of Generations, with a number of states: it must be Life-like, with two states, as `B3/S23`\n",
     ),
     (
-        Fault::Text(RleFault::RuleHasB0),
+        Fault::Text(RleFault::Rule(RuleFault::HasB0)),
         None,
         Spot::Nowhere,
         None,
@@ -107,7 +107,7 @@ fn is_at(spot: Spot, line: u64, column: u64) -> bool {
 
 #[test]
 fn faults_have_their_spots(rt: HostRuntime) {
-    let unlike = RleFault::RuleNotLifeLike;
+    let unlike = RleFault::Rule(RuleFault::NotLifeLike);
     assert!(rt; matches!(text_fault(NAMED, unlike), Fault::Rule(RuleKind::Named)));
     assert!(rt; is_at(spot_of_text(NAMED, &unlike), 2, 2));
     let macrocell = text_fault(b"[M2]", RleFault::NoHeader);
@@ -115,7 +115,7 @@ fn faults_have_their_spots(rt: HostRuntime) {
     let generations = rule_fault(b"B2/S/C3", RuleFault::NotLifeLike);
     assert!(rt; matches!(generations, Fault::Rule(RuleKind::Generations)));
     let births = rule_fault(b"B0/S", RuleFault::HasB0);
-    assert!(rt; matches!(births, Fault::Text(RleFault::RuleHasB0)));
+    assert!(rt; matches!(births, Fault::Text(RleFault::Rule(RuleFault::HasB0))));
     let stray = BundleFault::StrayText { line: 7 };
     assert!(rt; matches!(spot_of_bundle(stray), Spot::Line(7)));
     assert!(rt; is_at(spot_of_code(b"xq4_1A3", CodeFault::BadChar { at: 1 }), 1, 6));

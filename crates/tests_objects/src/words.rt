@@ -7,7 +7,7 @@ use census_names::Names;
 use std::alloc::Global;
 use std::sync::atomic::{AtomicU32, Ordering};
 use std::test::Fail;
-use watched::Watched;
+use watched::Streams;
 
 const GLIDER: &[u8] = b"x = 3, y = 3, rule = B3/S23\nbo$2bo$3o!";
 
@@ -117,9 +117,7 @@ const CASES: &[Case] = &[
 #[test]
 fn words_are_told(rt: HostRuntime) -> Result<(), Fail> {
     for (form, words, input, (wanted_status, wanted_output, wanted_errors)) in CASES {
-        let mut input = Watched::new(*input);
-        let mut output = Watched::new(Vec::new(rt.alloc()));
-        let mut errors = Watched::new(Vec::new(rt.alloc()));
+        let mut streams = Streams::new(*input, Vec::new(rt.alloc()), Vec::new(rt.alloc()));
         let inquiry = Inquiry {
             bound: 10_000,
             cells: 1_000_000,
@@ -134,13 +132,12 @@ fn words_are_told(rt: HostRuntime) -> Result<(), Fail> {
             inquiry,
             &Names::none(rt.alloc()),
             words,
-            &mut input,
-            &mut output,
-            &mut errors,
+            &mut streams,
         );
         assert!(rt; status == *wanted_status);
-        assert!(rt; output.into_inner().as_slice() == wanted_output.as_bytes());
-        assert!(rt; errors.into_inner().as_slice() == wanted_errors.as_bytes());
+        let (_, output, errors) = streams.into_inner();
+        assert!(rt; output.as_slice() == wanted_output.as_bytes());
+        assert!(rt; errors.as_slice() == wanted_errors.as_bytes());
     }
     Ok(())
 }
@@ -163,9 +160,7 @@ impl Onlooker for Furthest {
 fn an_onlooker_is_told_generations_up_to_three_times_the_bound(
     rt: HostRuntime,
 ) -> Result<(), Fail> {
-    let mut input = Watched::new(ACORN);
-    let mut output = Watched::new(Vec::new(rt.alloc()));
-    let mut errors = Watched::new(Vec::new(rt.alloc()));
+    let mut streams = Streams::new(ACORN, Vec::new(rt.alloc()), Vec::new(rt.alloc()));
     let inquiry = Inquiry {
         bound: 100,
         cells: 1_000_000,
@@ -183,9 +178,7 @@ fn an_onlooker_is_told_generations_up_to_three_times_the_bound(
         inquiry,
         &Names::none(rt.alloc()),
         &["-"],
-        &mut input,
-        &mut output,
-        &mut errors,
+        &mut streams,
     );
     assert!(rt; status == 0);
     assert!(rt; furthest.generation.load(Ordering::SeqCst) == 300);

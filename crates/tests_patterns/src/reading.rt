@@ -1,7 +1,7 @@
 //! RLE texts that are read.
 
 use life_cells::Rule;
-use life_text::{RleFault, read_rle};
+use life_text::{RleFault, RuleFault, read_rle};
 use std::alloc::Global;
 use std::test::Fail;
 
@@ -36,4 +36,19 @@ fn a_fault_has_its_place(rt: HostRuntime) {
     ] {
         assert!(rt; read_rle(rt.alloc(), text).err() == Some(fault));
     }
+}
+
+#[test]
+fn a_fault_says_its_number_and_its_place(rt: HostRuntime) -> Result<(), Fail> {
+    for (fault, said) in [
+        (RleFault::BadHeader, "rle fault 2"),
+        (RleFault::Rule(RuleFault::HasB0), "rle fault 4"),
+        (RleFault::BadChar { at: 17 }, "rle fault 6 at 17"),
+        (RleFault::NoEnd, "rle fault 10"),
+        (RleFault::Memory, "out of memory"),
+    ] {
+        let text = format!(in rt.alloc(); "{fault}")?;
+        assert!(rt; text.as_str() == said);
+    }
+    Ok(())
 }

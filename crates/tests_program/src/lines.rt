@@ -3,10 +3,10 @@
 use census_bundle::{AddFault, BundleFault, Ticket, read_bundle};
 use census_crew::RunFault;
 use census_errors::{
-    AdvanceError, CommandError, DrawError, ErrorStream, RunError, RunStopped, kept_place,
-    run_saying, say,
+    AdvanceError, CommandError, DrawError, RunError, RunStopped, kept_place, run_saying, say,
 };
 use std::test::Fail;
+use watched::Output;
 
 #[test]
 fn lines_on_standard_error_are_the_texts_of_errors(rt: HostRuntime) -> Result<(), Fail> {
@@ -53,7 +53,7 @@ fn a_pattern_without_a_path_is_told_by_its_numbers(rt: HostRuntime) {
         ticket: Some(ticket),
     };
     let place = kept_place(rt.alloc(), error);
-    let mut errors = ErrorStream::new(Vec::new(rt.alloc()), false);
+    let mut errors = Output::new(Vec::new(rt.alloc()));
     say(run_saying(error).at(&place), &mut errors);
     assert!(rt; errors.into_inner().as_slice() == LINE);
 }

@@ -2,7 +2,6 @@
 
 use census_command::{Streams, dispatch};
 use census_crew::{Gate, OpenGate};
-use census_errors::ErrorStream;
 use std::alloc::Global;
 use std::io::{Read, Write};
 use std::rt::Files;
@@ -46,9 +45,8 @@ pub(crate) fn called_through<
     errors: E,
     is_terminal: bool,
 ) -> (u8, O, E) {
-    let mut streams = Streams::new(input, output);
-    let mut errors = ErrorStream::new(errors, is_terminal);
-    let status = dispatch(rt, rt, alloc, words, gate, &mut streams, &mut errors);
-    let (_, output) = streams.into_inner();
-    (status, output, errors.into_inner())
+    let mut streams = Streams::new(input, output, errors);
+    let status = dispatch(rt, rt, alloc, words, gate, is_terminal, &mut streams);
+    let (_, output, errors) = streams.into_inner();
+    (status, output, errors)
 }

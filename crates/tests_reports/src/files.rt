@@ -10,7 +10,7 @@ use std::io;
 use std::io::{ErrorKind, Read, Write};
 use std::test::Fail;
 use tests_inputs::{Leaf, Memory};
-use watched::Watched;
+use watched::Streams;
 
 const FIRST: &[u8] = b"open 1 2 a
 line 1 1 ok B3/S23 4 0 1 0 0 xs4_33 block
@@ -96,11 +96,12 @@ fn written<I: Read + Drop>(
     words: &[&str],
     input: I,
 ) -> (Result<bool, ReportsError>, Vec<u8>) {
-    let mut input = Watched::new(input);
-    let mut output = Watched::new(Vec::new(alloc));
-    match write_reports(&SHELF, alloc, form, PLAIN, words, &mut input, &mut output) {
-        Ok(written) => (Ok(written.found), output.into_inner()),
-        Err(error) => (Err(error), output.into_inner()),
+    let mut streams = Streams::new(input, Vec::new(alloc), Vec::new(alloc));
+    let result = write_reports(&SHELF, alloc, form, PLAIN, words, &mut streams);
+    let (_, output, _) = streams.into_inner();
+    match result {
+        Ok(written) => (Ok(written.found), output),
+        Err(error) => (Err(error), output),
     }
 }
 
@@ -334,14 +335,16 @@ fn streams_that_fail(rt: HostRuntime) -> Result<(), Fail> {
     assert!(rt; result == Err(ReportsError::Read));
     assert!(rt; text.is_empty());
     for (form, whole) in [(Form::Merged, FIRST), (CSV_FORM, CSV)] {
-        let mut input = Watched::new(FIRST);
-        let mut output = Watched::new(FailingWriter {
+        let writer = FailingWriter {
             written: Vec::new(alloc),
             room: 20,
-        });
-        let result = write_reports(&SHELF, alloc, form, PLAIN, &["-"], &mut input, &mut output);
+        };
+        let mut streams = Streams::new(FIRST, writer, Vec::new(alloc));
+        let result = write_reports(&SHELF, alloc, form, PLAIN, &["-"], &mut streams);
         assert!(rt; matches!(result, Err(ReportsError::Write)));
-        assert_eq!(rt; output.into_inner().written.as_slice(), &whole[..20]);
+        let (_, output, errors) = streams.into_inner();
+        assert_eq!(rt; output.written.as_slice(), &whole[..20]);
+        assert!(rt; errors.is_empty());
     }
     Ok(())
 }
@@ -353,19 +356,12 @@ fn merged_by(
     words: &[&str],
     input: &[u8],
 ) -> (Result<Vec<Cut>, ReportsError>, Vec<u8>) {
-    let mut input = Watched::new(input);
-    let mut output = Watched::new(Vec::new(alloc));
-    match write_reports(
-        &SHELF,
-        alloc,
-        Form::Merged,
-        reading,
-        words,
-        &mut input,
-        &mut output,
-    ) {
-        Ok(written) => (Ok(written.cuts), output.into_inner()),
-        Err(error) => (Err(error), output.into_inner()),
+    let mut streams = Streams::new(input, Vec::new(alloc), Vec::new(alloc));
+    let result = write_reports(&SHELF, alloc, Form::Merged, reading, words, &mut streams);
+    let (_, output, _) = streams.into_inner();
+    match result {
+        Ok(written) => (Ok(written.cuts), output),
+        Err(error) => (Err(error), output),
     }
 }
 

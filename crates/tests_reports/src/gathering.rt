@@ -5,7 +5,7 @@ use gathered::{Block, put, send};
 use std::alloc::{AllocError, Global};
 use std::io::Write;
 use std::test::Fail;
-use watched::{Failed, Watched};
+use watched::{Failed, Output};
 
 const FIRST: &[u8] = b"first ";
 
@@ -21,7 +21,7 @@ fn many(alloc: Global) -> Result<Vec<u8>, AllocError> {
 }
 
 // Tells the first bytes, these and the last bytes.
-fn tell<W: Write>(alloc: Global, bytes: &[u8], writer: &mut Watched<W>) -> Result<(), Failed> {
+fn tell<W: Write>(alloc: Global, bytes: &[u8], writer: &mut Output<W>) -> Result<(), Failed> {
     let mut block = Block::new(alloc);
     put(FIRST, &mut block, writer);
     put(bytes, &mut block, writer);
@@ -40,7 +40,7 @@ fn whole(alloc: Global, bytes: &[u8]) -> Result<Vec<u8>, AllocError> {
 #[test]
 fn more_than_a_block_has_is_told_in_order(rt: HostRuntime) -> Result<(), Fail> {
     let bytes = many(rt.alloc())?;
-    let mut writer = Watched::new(Vec::new(rt.alloc()));
+    let mut writer = Output::new(Vec::new(rt.alloc()));
     assert!(rt; tell(rt.alloc(), bytes.as_slice(), &mut writer).is_ok() && !writer.failed());
     assert!(rt; writer.into_inner().as_slice() == whole(rt.alloc(), bytes.as_slice())?.as_slice());
     Ok(())
@@ -51,7 +51,7 @@ fn a_writer_that_fails_past_a_block_has_taken_a_prefix(rt: HostRuntime) -> Resul
     let bytes = many(rt.alloc())?;
     let text = whole(rt.alloc(), bytes.as_slice())?;
     for room in [0, 6, 65_536, 70_007, 70_011] {
-        let mut writer = Watched::new(FailingWriter {
+        let mut writer = Output::new(FailingWriter {
             written: Vec::new(rt.alloc()),
             room,
         });

@@ -3,12 +3,12 @@
 use census_rows::{Row, put_row};
 use gathered::{Block, put, send};
 use std::alloc::{AllocError, Global};
-use watched::Watched;
+use watched::Output;
 
 // The rows' lines.
 pub fn lines_of(alloc: Global, rows: &[Row]) -> Result<Vec<u8>, AllocError> {
     let mut block = Block::new(alloc);
-    let mut writer = Watched::new(Vec::new(alloc));
+    let mut writer = Output::new(Vec::new(alloc));
     for row in rows {
         put_row(row, &mut block, &mut writer);
         put(b"\n", &mut block, &mut writer);

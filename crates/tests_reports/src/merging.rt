@@ -4,7 +4,7 @@ use census_merge::{Counted, Sums, count, put_end, put_rows};
 use census_readback::fault_of;
 use gathered::{Block, send};
 use std::alloc::{AllocError, Global};
-use watched::Watched;
+use watched::Output;
 
 // Two reports, whose sections interleave, and one of no collection between them.
 pub const PARTS: &[u8] = b"open 2 1 b
@@ -53,7 +53,7 @@ pub fn merged(alloc: Global, text: &[u8]) -> Result<Vec<u8>, AllocError> {
         return Ok(Vec::new(alloc));
     }
     let mut block = Block::new(alloc);
-    let mut writer = Watched::new(Vec::new(alloc));
+    let mut writer = Output::new(Vec::new(alloc));
     let Some(sums) = put_rows(Sums::none(), text, &mut block, &mut writer) else {
         return Ok(Vec::new(alloc));
     };

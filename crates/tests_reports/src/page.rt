@@ -4,7 +4,7 @@ use census_page::{PageOptions, default_options, put_page};
 use census_readback::read_report;
 use gathered::{Block, send};
 use std::alloc::{AllocError, Global};
-use watched::Watched;
+use watched::Output;
 
 // Two collections that interleave, and a second report, with each status, and names with markup,
 // quotes, an entity, and bytes that are not UTF-8. The second collection has one pattern, which
@@ -155,7 +155,7 @@ pub fn page_with(
         return Err(AllocError);
     };
     let mut block = Block::new(alloc);
-    let mut writer = Watched::new(Vec::new(alloc));
+    let mut writer = Output::new(Vec::new(alloc));
     put_page(alloc, options, rows.as_slice(), &mut block, &mut writer)?;
     match send(&mut block, &mut writer) {
         Ok(()) => Ok(writer.into_inner()),

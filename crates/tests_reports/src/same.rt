@@ -4,7 +4,7 @@ use census_readback::read_report;
 use census_same::put_same;
 use gathered::{Block, send};
 use std::alloc::{AllocError, Global};
-use watched::Watched;
+use watched::Output;
 
 // Two collections that interleave, and two more reports: a code under two rules, a code of one
 // pattern alone, parts with the code of a pattern, and a name that is not UTF-8.
@@ -84,7 +84,7 @@ fn same_in(alloc: Global, json: bool, report: &[u8]) -> Result<(bool, Vec<u8>), 
         return Err(AllocError);
     };
     let mut block = Block::new(alloc);
-    let mut writer = Watched::new(Vec::new(alloc));
+    let mut writer = Output::new(Vec::new(alloc));
     let any = put_same(alloc, json, rows.as_slice(), &mut block, &mut writer)?;
     match send(&mut block, &mut writer) {
         Ok(()) => Ok((any, writer.into_inner())),

@@ -7,7 +7,7 @@ use census_table::{Format, Subject, put_listing, put_table, table_of};
 use gathered::{Block, send};
 use std::alloc::{AllocError, Global};
 use std::test::Fail;
-use watched::Watched;
+use watched::Output;
 
 // Two collections that interleave, and a second report, with each status, and names with a blank,
 // quotes, a comma, and bytes that are not UTF-8.
@@ -85,7 +85,7 @@ fn named_table_by(
     };
     let table = table_of(alloc, subject, rows.as_slice())?;
     let mut block = Block::new(alloc);
-    let mut writer = Watched::new(Vec::new(alloc));
+    let mut writer = Output::new(Vec::new(alloc));
     put_listing(alloc, format, names, &table, &mut block, &mut writer)?;
     match send(&mut block, &mut writer) {
         Ok(()) => Ok(writer.into_inner()),
@@ -99,7 +99,7 @@ fn table(alloc: Global, format: Format, report: &[u8]) -> Result<Vec<u8>, AllocE
         return Err(AllocError);
     };
     let mut block = Block::new(alloc);
-    let mut writer = Watched::new(Vec::new(alloc));
+    let mut writer = Output::new(Vec::new(alloc));
     put_table(alloc, format, rows.as_slice(), &mut block, &mut writer)?;
     match send(&mut block, &mut writer) {
         Ok(()) => Ok(writer.into_inner()),

@@ -7,7 +7,7 @@ use census_crew::{Tally, settle};
 use life_answer::Question;
 use std::alloc::Global;
 use std::test::Fail;
-use watched::Watched;
+use watched::Output;
 
 /// A result that comes: its ticket, the pattern that was worked for it, what becomes of it, the text that it releases,
 /// and the least ticket that is missing then. A ticket is a folder and a number.
@@ -188,7 +188,7 @@ fn results_are_settled_in_their_order(rt: HostRuntime) -> Result<(), Fail> {
     for arrival in &ARRIVALS[..5] {
         results.push(result_of(rt.alloc(), &bundle, arrival)?)?;
     }
-    let mut out = Watched::new(Vec::new(rt.alloc()));
+    let mut out = Output::new(Vec::new(rt.alloc()));
     let tally = settle(rt.alloc(), &bundle, SETTLES, results, &mut out)?;
     assert!(rt; tally == tally_of(1, 2, 1) && out.into_inner().as_slice() == TWO_FOLDERS_REPORT);
     Ok(())
@@ -197,7 +197,7 @@ fn results_are_settled_in_their_order(rt: HostRuntime) -> Result<(), Fail> {
 #[test]
 fn without_results_the_caller_works_all(rt: HostRuntime) -> Result<(), Fail> {
     let bundle = two_folders(rt.alloc())?;
-    let mut out = Watched::new(Vec::new(rt.alloc()));
+    let mut out = Output::new(Vec::new(rt.alloc()));
     let tally = settle(rt.alloc(), &bundle, SETTLES, Vec::new(rt.alloc()), &mut out)?;
     assert!(rt; tally == tally_of(0, 0, 3) && out.into_inner().as_slice() == TWO_FOLDERS_REPORT);
     Ok(())

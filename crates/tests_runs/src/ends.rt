@@ -9,7 +9,7 @@ use std::io::{ErrorKind, Read, Write};
 use std::sync::Wait;
 use std::test::Fail;
 use std::thread::Threads;
-use watched::Watched;
+use watched::{Output, Streams};
 
 /// Gives its bytes, and fails once they are gone.
 #[derive(Drop)]
@@ -68,7 +68,7 @@ fn fills_its_room<R: Threads + Wait + Sync>(
     bundle: &Bundle,
     room: usize,
 ) -> bool {
-    let mut out = Watched::new(FailingWriter::after(alloc, room));
+    let mut out = Output::new(FailingWriter::after(alloc, room));
     let answer = run(rt, alloc, bundle, SETTLES, 2, &mut OpenGate, &mut out);
     let has_failed = out.failed();
     let written = out.into_inner().written;
@@ -89,7 +89,7 @@ fn a_writer_that_fails_has_taken_a_prefix_of_the_report(rt: HostRuntime) -> Resu
 fn settling_ends_where_its_writer_fails(rt: HostRuntime) -> Result<(), Fail> {
     let bundle = two_folders(rt.alloc())?;
     for room in 0..TWO_FOLDERS_REPORT.len() {
-        let mut out = Watched::new(FailingWriter::after(rt.alloc(), room));
+        let mut out = Output::new(FailingWriter::after(rt.alloc(), room));
         let answer = settle(rt.alloc(), &bundle, SETTLES, Vec::new(rt.alloc()), &mut out);
         assert!(rt; answer == Err(RunFault::Write));
         assert!(rt; out.into_inner().written.as_slice() == &TWO_FOLDERS_REPORT[..room]);
@@ -100,7 +100,7 @@ fn settling_ends_where_its_writer_fails(rt: HostRuntime) -> Result<(), Fail> {
 #[test]
 fn a_writer_of_single_bytes_takes_the_whole_report(rt: HostRuntime) -> Result<(), Fail> {
     let bundle = read_bundle(rt.alloc(), DEMO)?;
-    let mut out = Watched::new(FailingWriter {
+    let mut out = Output::new(FailingWriter {
         written: Vec::new(rt.alloc()),
         room: usize::MAX,
         at_once: 1,
@@ -126,10 +126,11 @@ fn fault_of<I: Read + Drop, R: Threads + Wait + Sync>(
     input: I,
     room: usize,
 ) -> (Option<BytesFault>, Vec<u8>) {
-    let mut reader = Watched::new(input);
-    let mut out = Watched::new(FailingWriter::after(alloc, room));
-    let answer = run_bytes(rt, alloc, &mut reader, SETTLES, 2, &mut OpenGate, &mut out);
-    (answer.err(), out.into_inner().written)
+    let output = FailingWriter::after(alloc, room);
+    let mut streams = Streams::new(input, output, Vec::new(alloc));
+    let answer = run_bytes(rt, alloc, SETTLES, 2, &mut OpenGate, &mut streams);
+    let (_, output, _) = streams.into_inner();
+    (answer.err(), output.written)
 }
 
 #[test]

@@ -10,7 +10,7 @@ use std::sync::Wait;
 use std::sync::atomic::{AtomicU64, Ordering};
 use std::test::Fail;
 use std::thread::Threads;
-use watched::Watched;
+use watched::{Output, Streams};
 
 // How often a gate looks whether others have come.
 const TURNS: u64 = 1_000_000_000;
@@ -94,7 +94,7 @@ fn reported<G: Gate, R: Threads + Wait + Sync>(
 ) -> Result<(Tally, Vec<u8>), Fail>
     requires { (1 ≤ workers) × (workers ≤ 16) }
 {
-    let mut out = Watched::new(Vec::new(alloc));
+    let mut out = Output::new(Vec::new(alloc));
     let tally = run(rt, alloc, bundle, SETTLES, workers, gate, &mut out)?;
     Ok((tally, out.into_inner()))
 }
@@ -128,18 +128,10 @@ fn as_many_workers_as_were_asked_for_meet_at_the_gate(rt: HostRuntime) -> Result
 #[test]
 fn a_text_is_worked_by_as_many_as_were_asked_for(rt: HostRuntime) -> Result<(), Fail> {
     let mut gate = Crowd::of(5);
-    let mut reader = Watched::new(DEMO);
-    let mut out = Watched::new(Vec::new(rt.alloc()));
-    let tally = run_bytes(
-        &rt,
-        rt.alloc(),
-        &mut reader,
-        SETTLES,
-        5,
-        &mut gate,
-        &mut out,
-    )?;
-    assert!(rt; tally == demo_tally(0) && out.into_inner().as_slice() == DEMO_REPORT);
+    let mut streams = Streams::new(DEMO, Vec::new(rt.alloc()), Vec::new(rt.alloc()));
+    let tally = run_bytes(&rt, rt.alloc(), SETTLES, 5, &mut gate, &mut streams)?;
+    let (_, report, _) = streams.into_inner();
+    assert!(rt; tally == demo_tally(0) && report.as_slice() == DEMO_REPORT);
     assert!(rt; gate.gave_up.load(Ordering::SeqCst) == 0);
     Ok(())
 }
@@ -164,7 +156,7 @@ fn one_worker_works_what_is_not_soon_done(rt: HostRuntime) -> Result<(), Fail> {
         bound: 1_000,
         cells: None,
     };
-    let mut out = Watched::new(Vec::new(rt.alloc()));
+    let mut out = Output::new(Vec::new(rt.alloc()));
     let tally = run(
         &rt,
         rt.alloc(),

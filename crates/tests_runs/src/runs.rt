@@ -6,13 +6,13 @@ use census_crew::{Gate, OpenGate, run, run_bytes, run_on};
 use census_feed::Feed;
 use std::sync::atomic::{AtomicU64, Ordering};
 use std::test::Fail;
-use watched::Watched;
+use watched::{Output, Streams};
 
 #[test]
 fn a_bundle_has_one_report_by_any_number_of_workers(rt: HostRuntime) -> Result<(), Fail> {
     let bundle = read_bundle(rt.alloc(), DEMO)?;
     for workers in [1, 2, 16] {
-        let mut out = Watched::new(Vec::new(rt.alloc()));
+        let mut out = Output::new(Vec::new(rt.alloc()));
         let tally = run(
             &rt,
             rt.alloc(),
@@ -30,18 +30,17 @@ fn a_bundle_has_one_report_by_any_number_of_workers(rt: HostRuntime) -> Result<(
 #[test]
 fn a_text_has_one_report_by_any_number_of_workers(rt: HostRuntime) -> Result<(), Fail> {
     for workers in [1, 2, 16] {
-        let mut reader = Watched::new(DEMO);
-        let mut out = Watched::new(Vec::new(rt.alloc()));
+        let mut streams = Streams::new(DEMO, Vec::new(rt.alloc()), Vec::new(rt.alloc()));
         let tally = run_bytes(
             &rt,
             rt.alloc(),
-            &mut reader,
             SETTLES,
             workers,
             &mut OpenGate,
-            &mut out,
+            &mut streams,
         )?;
-        assert!(rt; tally == demo_tally(0) && out.into_inner().as_slice() == DEMO_REPORT);
+        let (_, report, _) = streams.into_inner();
+        assert!(rt; tally == demo_tally(0) && report.as_slice() == DEMO_REPORT);
     }
     Ok(())
 }
@@ -79,7 +78,7 @@ fn a_ticket_that_a_hand_took_before_is_worked_by_the_caller(rt: HostRuntime) -> 
     let gate = Counting {
         entered: AtomicU64::new(0),
     };
-    let mut out = Watched::new(Vec::new(rt.alloc()));
+    let mut out = Output::new(Vec::new(rt.alloc()));
     let tally = run_on(
         &rt,
         rt.alloc(),

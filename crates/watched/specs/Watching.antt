@@ -1,15 +1,6 @@
--- What a watched reader or writer has under it, whether it has failed, and what calls of it do to known bytes.
-use Rattle.std.specs.Prelude.{ℕ, ◌<◌, ◌≤◌, Bool, List, length, take, Option}
+-- What calls of readers and writers do to known bytes.
+use Rattle.std.specs.Prelude.{ℕ, ◌<◌, ◌≤◌, List, length, take, Option}
 use Rattle.std.specs.Io.KnownBytes.{Appends, Consumes}
-use Rattle.watched.specs.declared.watched.Watched.{Watched}
-
--- the reader or writer
-abbrev pub inner_of : {T : Type 0} → Watched T → T
-inner_of w = w.inner
-
--- whether a call has failed
-abbrev pub has_failed : {T : Type 0} → Watched T → Bool
-has_failed w = w.failed
 
 -- known bytes grow by some prefix of these bytes
 abbrev pub AppendsFront : Option (List ℕ) → Option (List ℕ) → List ℕ → Type 0

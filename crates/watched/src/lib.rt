@@ -1,17 +1,23 @@
 //! Readers and writers that remember that they failed.
 //!
-//! A `Watched` holds a reader or a writer and a flag. The flag is raised by the first call that fails, stays from then
-//! on, and no call reaches the reader or writer while it stands. So whoever holds a `Watched` can tell a failure of the
-//! reader or writer from every other cause of an error. A call that a signal interrupts has not failed: it is made again.
+//! An `Input` holds a reader and a flag, an `Output` a writer and a flag. The flag is raised by the first call that fails,
+//! stays from then on, and no call reaches the reader or writer while it stands. So whoever holds one can tell a failure of
+//! the reader or writer from every other cause of an error. A call that a signal interrupts has not failed: it is made again.
 //!
 //! Tested in `tests_inputs`.
 #![tactic(auto)]
 
+mod failed;
+mod input;
 mod interrupted;
+mod output;
 mod reading;
-mod watched;
+mod streams;
 mod writing;
 
+pub use failed::Failed;
+pub use input::Input;
+pub use output::Output;
 pub use reading::{ReadFault, read_all};
-pub use watched::{Failed, Watched};
+pub use streams::Streams;
 pub use writing::put_all;

@@ -1,10 +1,11 @@
 //! Reading a watched reader to its end.
 ghost use Rattle.std.specs.Prelude.{◌≡◌, ◌↔◌, ◌+◌, ◌≤◌, true, IfOk, IfSome, OnOk, vec_len};
 ghost use Rattle.std.specs.Io.KnownBytes.{Consumes, IsAtEnd};
-ghost use Rattle.watched.specs.Watching.{inner_of, has_failed, ConsumesAtMost, ConsumesMoreThan};
+ghost use Rattle.watched.specs.Watching.{ConsumesAtMost, ConsumesMoreThan};
 ghost use Rattle.watched.specs.declared.reading.ReadFault.{ReadFault};
 
-use crate::watched::{Failed, Watched};
+use crate::failed::Failed;
+use crate::input::Input;
 use std::alloc::{AllocError, Global};
 use std::io::Read;
 use thiserror::Error;
@@ -54,27 +55,26 @@ const BUFFER_LEN: usize = 8192;
 /// than `limit` + 1 bytes are ever taken from the reader.
 pub fn read_all<R: Read>(
     alloc: Global,
-    reader: &mut Watched<R>,
+    reader: &mut Input<R>,
     limit: usize,
 ) -> Result<Vec<u8>, ReadFault>
-    ensures failed { (result ≡ Err ReadFault.Read) ↔ (has_failed reader.new ≡ true) }
-    ensures stays { has_failed reader.old ≡ true → has_failed reader.new ≡ true }
-    ensures uncalled { has_failed reader.old ≡ true → inner_of reader.new ≡ inner_of reader.old }
+    ensures failed { (result ≡ Err ReadFault.Read) ↔ (reader.new.stream.failed ≡ true) }
+    ensures uncalled { reader.old.stream.failed ≡ true → reader.new ≡ reader.old }
 
     // All the bytes up to the end.
     ensures within { IfOk result (λ bytes. vec_len bytes ≤ limit) }
     ensures bytes { IfOk result
-        (λ bytes. Consumes (R.remaining (inner_of reader.old)) (R.remaining (inner_of reader.new))
+        (λ bytes. Consumes reader.old.stream.unread reader.new.stream.unread
         bytes.items) }
-    ensures end { OnOk result (IsAtEnd (R.remaining (inner_of reader.new))) }
+    ensures end { OnOk result (IsAtEnd reader.new.stream.unread) }
     ensures whole { IfOk result
-        (λ bytes. IfSome (R.remaining (inner_of reader.old)) (λ all. bytes.items ≡ all)) }
+        (λ bytes. IfSome reader.old.stream.unread (λ all. bytes.items ≡ all)) }
 
     ensures too_long { result ≡ Err ReadFault.TooLong
-        → ConsumesMoreThan limit (R.remaining (inner_of reader.old))
-        (R.remaining (inner_of reader.new)) }
-    ensures taken { ConsumesAtMost (limit + 1) (R.remaining (inner_of reader.old))
-        (R.remaining (inner_of reader.new)) }
+        → ConsumesMoreThan limit reader.old.stream.unread
+        reader.new.stream.unread }
+    ensures taken { ConsumesAtMost (limit + 1) reader.old.stream.unread
+        reader.new.stream.unread }
 {
     if reader.failed() {
         return Err(ReadFault::Read);

@@ -6,22 +6,20 @@ use Rattle.std.proofs.lemmas.Bool.{false≢true}
 use Rattle.texts.specs.Bytes.{is_blank, without_ends, after_one_of, ◌>>=◌}
 use Rattle.life_cells.specs.Rules.{rule_of, life}
 use Rattle.life_cells.specs.declared.rule.RuleFault.{RuleFault}
-use Rattle.life_cells.specs.declared.rule.RuleFault.TheVariants.{NotLifeLike, HasB0}
 use Rattle.life_model.specs.Rule.{Rule}
 use Rattle.life_text.specs.declared.rle.RleFault.{RleFault}
-use Rattle.life_text.specs.declared.rle.RleFault.TheVariants.{NoHeader, BadHeader, RuleNotLifeLike, RuleHasB0, ManyStates, BadChar, BadRun, TooFar, TooMany, NoEnd, Memory}
+use Rattle.life_text.specs.declared.rle.RleFault.TheVariants.{NoHeader, BadHeader, Rule as OfRule, ManyStates, BadChar, BadRun, TooFar, TooMany, NoEnd, Memory}
 use Rattle.texts.specs.Faults.{fault_if}
 use Rattle.life_text.specs.Rle.{Token, Meaning, after_rule_name, after_sizes, body_tokens, cells_after, fault_of, first_fault, header_line, header_rule, is_bad_run, is_missing, is_no_tag, is_other_state, is_too_far, is_too_many, line_rule, live_cells, column, named_rule, row, rule_behind, rule_or_fault, token_fault, unless_fault, with_body}
 use Rattle.census_faults.specs.Rle.Rules.{rule_in_line}
 use Rattle.census_faults.specs.Rle.Refused.{RefusedRulesAreTold}
 
--- whether a fault is that of a rule that is not Life-like
+-- whether a fault is that of a rule
 abbrev is_of_rule : Option RleFault → Bool
 is_of_rule None = false
 is_of_rule (Some NoHeader) = false
 is_of_rule (Some BadHeader) = false
-is_of_rule (Some RuleNotLifeLike) = true
-is_of_rule (Some RuleHasB0) = false
+is_of_rule (Some (OfRule fault)) = true
 is_of_rule (Some (ManyStates at)) = false
 is_of_rule (Some (BadChar at)) = false
 is_of_rule (Some (BadRun at)) = false
@@ -62,33 +60,33 @@ of_meaning (Some fault) meaning h = h
 
 -- # So the header has it
 
-by_reading : (r : Result Rule RleFault) (ts : List Token) → fault_of (with_body r ts) ≡ Some RuleNotLifeLike → r ≡ Err RuleNotLifeLike
-by_reading (Err fault) ts e = ap (λ (o : Option RleFault). Err (unwrap_or o NoHeader)) e
-by_reading (Ok rule) ts e = absurd (false≢true (sym (of_meaning (first_fault [] ts) (record { rule = rule; cells = cells_after [] ts }) (of_body [] ts)) ∙ ap is_of_rule e))
+module _ (fault : RuleFault) where
+  by_reading : (r : Result Rule RleFault) (ts : List Token) → fault_of (with_body r ts) ≡ Some (OfRule fault) → r ≡ Err (OfRule fault)
+  by_reading (Err other) ts e = ap (λ (o : Option RleFault). Err (unwrap_or o NoHeader)) e
+  by_reading (Ok rule) ts e = absurd (false≢true (sym (of_meaning (first_fault [] ts) (record { rule = rule; cells = cells_after [] ts }) (of_body [] ts)) ∙ ap is_of_rule e))
 
-by_rule : (r : Result Rule RuleFault) → rule_or_fault r ≡ Err RuleNotLifeLike → r ≡ Err NotLifeLike
-by_rule (Ok rule) e = absurd (false≢true (ap (λ r. is_of_rule (fault_in r)) e))
-by_rule (Err NotLifeLike) e = refl
-by_rule (Err HasB0) e = absurd (false≢true (ap (λ r. is_of_rule (fault_in r)) e))
+  by_rule : (r : Result Rule RuleFault) → rule_or_fault r ≡ Err (OfRule fault) → r ≡ Err fault
+  by_rule (Ok rule) e = absurd (false≢true (ap (λ r. is_of_rule (fault_in r)) e))
+  by_rule (Err other) e = ap (λ (f : RuleFault). Err f) (let same : other ≡ fault = cc in same)
 
-by_name : (o : Option (List ℕ)) → named_rule o ≡ Err RuleNotLifeLike → option_map rule_of (o >>= (λ text. Some (without_ends is_blank text))) ≡ Some (Err NotLifeLike)
-by_name None e = absurd (false≢true (ap (λ r. is_of_rule (fault_in r)) e))
-by_name (Some text) e = ap Some (by_rule (rule_of (without_ends is_blank text)) e)
+  by_name : (o : Option (List ℕ)) → named_rule o ≡ Err (OfRule fault) → option_map rule_of (o >>= (λ text. Some (without_ends is_blank text))) ≡ Some (Err fault)
+  by_name None e = absurd (false≢true (ap (λ r. is_of_rule (fault_in r)) e))
+  by_name (Some text) e = ap Some (by_rule (rule_of (without_ends is_blank text)) e)
 
-unless_blank : (b : Bool) (r : Result Rule RleFault) → (if b then Ok life else r) ≡ Err RuleNotLifeLike → r ≡ Err RuleNotLifeLike
-unless_blank true r e = absurd (false≢true (ap (λ r. is_of_rule (fault_in r)) e))
-unless_blank false r e = e
+  unless_blank : (b : Bool) (r : Result Rule RleFault) → (if b then Ok life else r) ≡ Err (OfRule fault) → r ≡ Err (OfRule fault)
+  unless_blank true r e = absurd (false≢true (ap (λ r. is_of_rule (fault_in r)) e))
+  unless_blank false r e = e
 
-by_sizes : (o : Option (List ℕ)) → rule_behind o ≡ Err RuleNotLifeLike → option_map rule_of (o >>= (λ behind. after_rule_name behind >>= (λ text. Some (without_ends is_blank text)))) ≡ Some (Err NotLifeLike)
-by_sizes None e = absurd (false≢true (ap (λ r. is_of_rule (fault_in r)) e))
-by_sizes (Some behind) e = by_name (after_rule_name behind) (unless_blank (list_all is_blank behind) (named_rule (after_rule_name behind)) e)
+  by_sizes : (o : Option (List ℕ)) → rule_behind o ≡ Err (OfRule fault) → option_map rule_of (o >>= (λ behind. after_rule_name behind >>= (λ text. Some (without_ends is_blank text)))) ≡ Some (Err fault)
+  by_sizes None e = absurd (false≢true (ap (λ r. is_of_rule (fault_in r)) e))
+  by_sizes (Some behind) e = by_name (after_rule_name behind) (unless_blank (list_all is_blank behind) (named_rule (after_rule_name behind)) e)
 
-by_front : (b : Bool) (r : Result Rule RleFault) → (if b then r else Err NoHeader) ≡ Err RuleNotLifeLike → r ≡ Err RuleNotLifeLike
-by_front true r e = e
-by_front false r e = absurd (false≢true (ap (λ r. is_of_rule (fault_in r)) e))
+  by_front : (b : Bool) (r : Result Rule RleFault) → (if b then r else Err NoHeader) ≡ Err (OfRule fault) → r ≡ Err (OfRule fault)
+  by_front true r e = e
+  by_front false r e = absurd (false≢true (ap (λ r. is_of_rule (fault_in r)) e))
 
-by_line : (line : List ℕ) → line_rule line ≡ Err RuleNotLifeLike → option_map rule_of (rule_in_line line) ≡ Some (Err NotLifeLike)
-by_line line e = by_sizes (after_sizes line) (by_front (is_some (after_one_of (codes "xX") line)) (rule_behind (after_sizes line)) e)
+  by_line : (line : List ℕ) → line_rule line ≡ Err (OfRule fault) → option_map rule_of (rule_in_line line) ≡ Some (Err fault)
+  by_line line e = by_sizes (after_sizes line) (by_front (is_some (after_one_of (codes "xX") line)) (rule_behind (after_sizes line)) e)
 
 pub refused_rules_are_told : RefusedRulesAreTold
-refused_rules_are_told text e = by_line (header_line text) (by_reading (header_rule text) (body_tokens text) e)
+refused_rules_are_told text fault e = by_line fault (header_line text) (by_reading fault (header_rule text) (body_tokens text) e)

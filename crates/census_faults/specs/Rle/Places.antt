@@ -4,7 +4,7 @@ use Rattle.std.specs.List.{prefix_len, suffix_len}
 use Rattle.texts.specs.Bytes.{is_space}
 use Rattle.life_text.specs.Rle.{without_comments}
 use Rattle.life_text.specs.declared.rle.RleFault.{RleFault}
-use Rattle.life_text.specs.declared.rle.RleFault.TheVariants.{NoHeader, BadHeader, RuleNotLifeLike, RuleHasB0, ManyStates, BadChar, BadRun, TooFar, TooMany, NoEnd, Memory}
+use Rattle.life_text.specs.declared.rle.RleFault.TheVariants.{NoHeader, BadHeader, Rule, ManyStates, BadChar, BadRun, TooFar, TooMany, NoEnd, Memory}
 use Rattle.census_faults.specs.declared.rle.places.Place.{Place}
 
 -- how often a byte stands in a text
@@ -31,8 +31,7 @@ header_place text = prefix_len is_space (without_comments text)
 abbrev pub place_in : List ℕ → RleFault → ℕ
 place_in text NoHeader = header_place text
 place_in text BadHeader = header_place text
-place_in text RuleNotLifeLike = header_place text
-place_in text RuleHasB0 = header_place text
+place_in text (Rule fault) = header_place text
 place_in text (ManyStates at) = at
 place_in text (BadChar at) = at
 place_in text (BadRun at) = at

@@ -2,21 +2,7 @@
 use Rattle.std.specs.Prelude.{ℕ, Option, Some, None as Nothing, if◌then◌else◌, ◌==◌, List, ◌++◌, codes, decimal}
 use Rattle.census_faults.specs.Rle.Sentences.{sentence_of}
 use Rattle.life_text.specs.declared.rle.RleFault.{RleFault}
-use Rattle.life_text.specs.declared.rle.RleFault.TheVariants as rle
-
--- the fault that a report names by this number, without its place
-abbrev pub fault_of : ℕ → Option RleFault
-fault_of number =
-    if number == 1 then Some rle.NoHeader else
-    (if number == 2 then Some rle.BadHeader else
-    (if number == 3 then Some rle.RuleNotLifeLike else
-    (if number == 4 then Some rle.RuleHasB0 else
-    (if number == 5 then Some (rle.ManyStates 0) else
-    (if number == 6 then Some (rle.BadChar 0) else
-    (if number == 7 then Some (rle.BadRun 0) else
-    (if number == 8 then Some (rle.TooFar 0) else
-    (if number == 9 then Some (rle.TooMany 0) else
-    (if number == 10 then Some rle.NoEnd else Nothing)))))))))
+use Rattle.life_text.specs.Faults.{fault_of_number}
 
 -- a number that names no fault of a text
 abbrev pub unnamed_words : ℕ → List ℕ
@@ -28,4 +14,4 @@ words_for number Nothing = unnamed_words number
 
 -- what a report means that names a fault by this number
 abbrev pub fault_words : ℕ → List ℕ
-fault_words number = words_for number (fault_of number)
+fault_words number = words_for number (fault_of_number number)

@@ -1,7 +1,9 @@
 -- The sentence for each fault.
 use Rattle.std.specs.Prelude.{◌≡◌, ℕ, List, Option, Some, None, codes}
+use Rattle.life_cells.specs.declared.rule.RuleFault.TheVariants.{NotLifeLike, HasB0}
 use Rattle.life_text.specs.declared.rle.RleFault.{RleFault}
-use Rattle.life_text.specs.declared.rle.RleFault.TheVariants.{NoHeader, BadHeader, RuleNotLifeLike, RuleHasB0, ManyStates, BadChar, BadRun, TooFar, TooMany, NoEnd, Memory}
+use Rattle.life_text.specs.declared.rle.RleFault.TheVariants.{NoHeader, BadHeader, Rule, ManyStates, BadChar, BadRun, TooFar, TooMany, NoEnd, Memory}
+use Rattle.life_text.specs.Faults.{without_place}
 use Rattle.census_faults.specs.Rle.Files.{file_kind}
 use Rattle.census_faults.specs.Rle.Rules.{rule_in_header, rule_kind}
 use Rattle.census_faults.specs.declared.rle.files.FileKind.{FileKind}
@@ -13,8 +15,8 @@ use Rattle.census_faults.specs.declared.rle.kinds.RuleKind.TheVariants.{Named, B
 abbrev pub sentence_of : RleFault → List ℕ
 sentence_of NoHeader = codes "there is no header line: the first line that is neither blank nor a comment must begin with `x`, as in `x = 3, y = 3`"
 sentence_of BadHeader = codes "the header line is malformed: it must have the form `x = 3, y = 3` or `x = 3, y = 3, rule = B3/S23`"
-sentence_of RuleNotLifeLike = codes "the rule has no Life-like form: it must be written as `B3/S23`, `S23/B3` or `23/3`, with digits from 0 to 8"
-sentence_of RuleHasB0 = codes "the rule has 0 among its births, so that cells come alive with no live neighbour: its births must be from 1 to 8"
+sentence_of (Rule NotLifeLike) = codes "the rule has no Life-like form: it must be written as `B3/S23`, `S23/B3` or `23/3`, with digits from 0 to 8"
+sentence_of (Rule HasB0) = codes "the rule has 0 among its births, so that cells come alive with no live neighbour: its births must be from 1 to 8"
 sentence_of (ManyStates at) = codes "a letter stands for neither of the two states: dead cells must be `b` or `.`, and live cells `o` or `A`"
 sentence_of (BadChar at) = codes "a byte has no meaning here: the body must be made of counts, `b`, `.`, `o`, `A`, `$`, `!` and blanks"
 sentence_of (BadRun at) = codes "a count is 0 or has nothing to count: it must be 1 or more and stand before a cell or `$`"
@@ -45,15 +47,15 @@ file_sentence_of OtherFile = sentence_of NoHeader
 
 -- the sentence for the rule of a header
 abbrev pub sentence_of_rule : Option (List ℕ) → List ℕ
-sentence_of_rule None = sentence_of RuleNotLifeLike
+sentence_of_rule None = sentence_of (Rule NotLifeLike)
 sentence_of_rule (Some rule) = rule_sentence_of (rule_kind rule)
 
 -- the sentence for a fault of a text, which says what a text without a header line is, and of a rule that is not Life-like which kind it is
 abbrev pub words_of : List ℕ → RleFault → List ℕ
-words_of text RuleNotLifeLike = sentence_of_rule (rule_in_header text)
+words_of text (Rule NotLifeLike) = sentence_of_rule (rule_in_header text)
+words_of text (Rule fault) = sentence_of (Rule fault)
 words_of text NoHeader = file_sentence_of (file_kind text)
 words_of text BadHeader = sentence_of BadHeader
-words_of text RuleHasB0 = sentence_of RuleHasB0
 words_of text (ManyStates at) = sentence_of (ManyStates at)
 words_of text (BadChar at) = sentence_of (BadChar at)
 words_of text (BadRun at) = sentence_of (BadRun at)
@@ -63,20 +65,6 @@ words_of text NoEnd = sentence_of NoEnd
 words_of text Memory = sentence_of Memory
 
 -- # No two have the same
-
--- the fault without its byte
-abbrev pub without_place : RleFault → RleFault
-without_place NoHeader = NoHeader
-without_place BadHeader = BadHeader
-without_place RuleNotLifeLike = RuleNotLifeLike
-without_place RuleHasB0 = RuleHasB0
-without_place (ManyStates at) = ManyStates 0
-without_place (BadChar at) = BadChar 0
-without_place (BadRun at) = BadRun 0
-without_place (TooFar at) = TooFar 0
-without_place (TooMany at) = TooMany 0
-without_place NoEnd = NoEnd
-without_place Memory = Memory
 
 -- faults with one sentence differ in their byte at most
 abbrev pub SentencesDiffer : Type 0

@@ -26,10 +26,7 @@ fn place_in(text: &[u8], fault: RleFault) -> usize
     ensures { result ≡ place_in text.now fault }
 {
     match fault {
-        RleFault::NoHeader
-        | RleFault::BadHeader
-        | RleFault::RuleNotLifeLike
-        | RleFault::RuleHasB0 => header_place(text),
+        RleFault::NoHeader | RleFault::BadHeader | RleFault::Rule(_) => header_place(text),
         RleFault::ManyStates { at }
         | RleFault::BadChar { at }
         | RleFault::BadRun { at }

@@ -6,6 +6,7 @@ ghost use Rattle.census_faults.specs.Rle.Sentences.{FileSentencesDiffer, RuleSen
 use crate::rle::files::{FileKind, file_kind};
 use crate::rle::header::rule_in_header;
 use crate::rle::kinds::{RuleKind, rule_kind};
+use life_cells::RuleFault;
 use life_text::RleFault;
 
 /// The sentence for a fault: what is wrong, and what would be right.
@@ -18,9 +19,9 @@ pub fn sentence(fault: RleFault) -> &'static str
             "there is no header line: the first line that is neither blank nor a comment must begin with `x`, as in `x = 3, y = 3`",
         RleFault::BadHeader =>
             "the header line is malformed: it must have the form `x = 3, y = 3` or `x = 3, y = 3, rule = B3/S23`",
-        RleFault::RuleNotLifeLike =>
+        RleFault::Rule(RuleFault::NotLifeLike) =>
             "the rule has no Life-like form: it must be written as `B3/S23`, `S23/B3` or `23/3`, with digits from 0 to 8",
-        RleFault::RuleHasB0 =>
+        RleFault::Rule(RuleFault::HasB0) =>
             "the rule has 0 among its births, so that cells come alive with no live neighbour: its births must be from 1 to 8",
         RleFault::ManyStates { at: _ } =>
             "a letter stands for neither of the two states: dead cells must be `b` or `.`, and live cells `o` or `A`",
@@ -90,7 +91,7 @@ pub fn words_of(text: &[u8], fault: RleFault) -> &'static str
 {
     match fault {
         RleFault::NoHeader => file_sentence(file_kind(text)),
-        RleFault::RuleNotLifeLike => match rule_in_header(text) {
+        RleFault::Rule(RuleFault::NotLifeLike) => match rule_in_header(text) {
             Some(rule) => rule_sentence(rule_kind(rule)),
             None => sentence(fault),
         },
@@ -107,8 +108,8 @@ pub fn sentences_differ()
     ensures words { WordsDiffer }
 {}
 
-/// A text that the reader refuses since its rule is not Life-like has a rule text in its header, and this is the one
-/// that is not: of this the kind is told.
+/// A text that the reader refuses for its rule has a rule text in its header, and this is the one that has the fault: where
+/// the rule is not Life-like, of this the kind is told.
 pub fn refused_rules_are_told()
     ensures { RefusedRulesAreTold }
 {}

@@ -1,7 +1,8 @@
 //! The lines that tell a fault.
 ghost use Rattle.std.specs.Prelude.{◌≡◌, ◌++◌, OnOk, IfOk, decimal};
-ghost use Rattle.census_faults.specs.Rle.Lines.{fault_line, number_and_place, with_number, place_text, sentence_line};
+ghost use Rattle.census_faults.specs.Rle.Lines.{fault_line, fault_name, place_text, sentence_line};
 
+use crate::messages::{Message, message, numbered};
 use crate::rle::line::place_of;
 use crate::rle::places::Place;
 use crate::rle::sentences::words_of;
@@ -28,35 +29,15 @@ fn push_place(line: &mut Vec<u8>, place: Place) -> Result<(), AllocError>
     Ok(())
 }
 
-// The words of a fault's number, and the byte that follows them where there is one.
-fn number_words(fault: RleFault) -> (&'static str, Option<usize>)
-    ensures { number_and_place fault ≡ with_number result.0.now result.1 }
+/// What the program's lines call a fault: `rle fault N`, with its byte as in `rle fault 6 at 17` where it names one, or
+/// `out of memory`.
+pub fn fault_name(fault: RleFault) -> Message
+    ensures { result.bytes ≡ fault_name fault }
 {
     match fault {
-        RleFault::NoHeader => ("rle fault 1", None),
-        RleFault::BadHeader => ("rle fault 2", None),
-        RleFault::RuleNotLifeLike => ("rle fault 3", None),
-        RleFault::RuleHasB0 => ("rle fault 4", None),
-        RleFault::ManyStates { at } => ("rle fault 5 at ", Some(at)),
-        RleFault::BadChar { at } => ("rle fault 6 at ", Some(at)),
-        RleFault::BadRun { at } => ("rle fault 7 at ", Some(at)),
-        RleFault::TooFar { at } => ("rle fault 8 at ", Some(at)),
-        RleFault::TooMany { at } => ("rle fault 9 at ", Some(at)),
-        RleFault::NoEnd => ("rle fault 10", None),
-        RleFault::Memory => ("out of memory", None),
+        RleFault::Memory => message("out of memory"),
+        _ => numbered("rle", fault.number(), fault.at()),
     }
-}
-
-// Appends the number of a fault, and its byte where it has one.
-fn push_fault_number(line: &mut Vec<u8>, fault: RleFault) -> Result<(), AllocError>
-    ensures { OnOk result (line.new.items ≡ line.old.items ++ number_and_place fault) }
-{
-    let (words, place) = number_words(fault);
-    line.extend_from_slice(words.as_bytes())?;
-    if let Some(place) = place {
-        push_number(line, place as u64)?;
-    }
-    Ok(())
 }
 
 // Appends `LINE:COLUMN: WORDS`.
@@ -86,7 +67,7 @@ pub fn fault_line(alloc: Global, text: &[u8], fault: &RleFault) -> Result<Vec<u8
     let mut line = Vec::new(alloc);
     push_sentence(&mut line, text, *fault)?;
     line.extend_from_slice(b" (")?;
-    push_fault_number(&mut line, *fault)?;
+    line.extend_from_slice(fault_name(*fault).as_str().as_bytes())?;
     line.extend_from_slice(b")")?;
     Ok(line)
 }

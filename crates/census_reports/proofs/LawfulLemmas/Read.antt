@@ -13,7 +13,7 @@ use Rattle.census_rows.proofs.Texts.{text-append}
 use Rattle.census_reports.specs.Mending.{AreLookedAt}
 use Rattle.census_reports.specs.Outcomes.{WritesReports}
 use Rattle.census_reports.specs.Rows.{AreRowsOf}
-use Rattle.census_reports.specs.Streams.{Streams}
+use Rattle.watched.specs.Streams.{Streams}
 use Rattle.census_reports.specs.declared.form.Form.TheVariants.{Merged}
 use Rattle.census_reports.specs.declared.reading.Reading.{Reading}
 use Rattle.census_reports.specs.declared.reading.Written.{Written}

@@ -3,9 +3,9 @@ use Rattle.std.specs.Prelude.{◌≡◌, ℕ, Option, List}
 use Rattle.census_format.specs.Reports.{IsReport}
 use Rattle.census_bundle.specs.declared.bundle.Folder.{Folder}
 use Rattle.census_folders.specs.Told.{Told}
-use Rattle.census_identify.specs.Streams.{Writes}
+use Rattle.watched.specs.Streams.{Writes}
 use Rattle.census_reports.specs.Outcomes.{ReadsTexts}
-use Rattle.census_reports.specs.Streams.{Streams}
+use Rattle.watched.specs.Streams.{Streams}
 use Rattle.life_answer.specs.declared.question.Question.{Question}
 use Rattle.report_laws.specs.Joining.{AreBundles, EachIsReport, bundles, texts}
 

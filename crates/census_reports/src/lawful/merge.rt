@@ -1,41 +1,36 @@
 //! Reports that files or standard input have, written as one.
 ghost use Rattle.std.specs.Prelude.{◌≡◌, [], false, map, IfErr, IfOk, OnOk};
-ghost use Rattle.watched.specs.Watching.{has_failed};
 ghost use Rattle.census_reports.specs.Outcomes.{ReportsFail, WritesReports};
-ghost use Rattle.census_reports.specs.Streams.{streams};
 ghost use Rattle.census_reports.specs.Lawful.Lawful.{MergesLawfully};
 
 use crate::{Form, Reading, ReportsError, Written, write_reports};
 use census_folders::Shelf;
 use std::alloc::Global;
 use std::io::{Read, Write};
-use watched::Watched;
+use watched::Streams;
 
 /// Reads the texts of words, and writes one report of all the reports in them, as `write_reports` does. Where these are
 /// lawful reports of bundles under one question, and none is mended, what is written is a lawful report of the bundles, one
-/// after another. Nothing is looked for.
-pub fn merge_reports<S: Shelf, I: Read, O: Write>(
+/// after another. Nothing is looked for, and nothing is told on standard error.
+pub fn merge_reports<S: Shelf, I: Read, O: Write, E: Write>(
     shelf: &S,
     alloc: Global,
     reading: Reading,
     words: &[&str],
-    input: &mut Watched<I>,
-    output: &mut Watched<O>,
+    streams: &mut Streams<I, O, E>,
 ) -> Result<Written, ReportsError>
-    requires { has_failed input.old ≡ false }
+    requires { streams.old.input.failed ≡ false }
     ensures done { IfOk result
         (λ written. WritesReports Form.Merged reading written ((S.tellings shelf.now).held []) (map (λ s. s.now) words.now)
-        (streams I.remaining O.contents input.old output.old)
-        (streams I.remaining O.contents input.new output.new)) }
+        streams.old streams.new) }
     ensures fails { IfErr result
         (λ error. ReportsFail error Form.Merged reading ((S.tellings shelf.now).held [])
         (map (λ s. s.now) words.now)
-        (streams I.remaining O.contents input.old output.old)
-        (streams I.remaining O.contents input.new output.new)) }
+        streams.old streams.new) }
     ensures lawful { reading.cut ≡ false → OnOk result
         (MergesLawfully reading.limit ((S.tellings shelf.now).held []) (map (λ s. s.now) words.now)
-        (streams I.remaining O.contents input.old output.old)
-        (streams I.remaining O.contents input.new output.new)) }
+        streams.old streams.new) }
+    ensures quiet { streams.new.errors ≡ streams.old.errors }
 {
-    write_reports(shelf, alloc, Form::Merged, reading, words, input, output)
+    write_reports(shelf, alloc, Form::Merged, reading, words, streams)
 }

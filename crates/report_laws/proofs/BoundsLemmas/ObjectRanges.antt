@@ -8,7 +8,6 @@ use Rattle.census_bundle.specs.declared.bundle.Folder.{Folder}
 use Rattle.census_format.specs.Lines.{answer_to_entry, answers}
 use Rattle.census_format.specs.Objects.{objects, outcome_objects}
 use Rattle.census_format.proofs.AshParts.{length-part_objects}
-use Rattle.life_answer.specs.Answers.{fault_number}
 use Rattle.life_answer.specs.Census.{ash_onset, census_found, census_of, counted_parts, part_code, parts_found}
 use Rattle.life_answer.specs.Counted.{code_bound, counted_of}
 use Rattle.life_answer.specs.Limited.{first_past, unless_large}
@@ -37,7 +36,8 @@ use Rattle.life_objects.specs.Limits.{objects_bound_limit}
 use Rattle.life_text.specs.Picture.{picture_of}
 use Rattle.life_text.specs.Rle.{Token, body_tokens, cells_after, first_fault, header_rule, unless_fault, with_body}
 use Rattle.life_text.specs.declared.rle.RleFault.{RleFault}
-use Rattle.life_text.specs.declared.rle.RleFault.TheVariants.{NoHeader, BadHeader, RuleNotLifeLike, RuleHasB0, ManyStates, BadChar, BadRun, TooFar, TooMany, NoEnd, Memory}
+use Rattle.life_text.specs.Faults.{fault_number}
+use Rattle.life_text.proofs.FaultLemmas.{fault_number-most}
 use Rattle.life_text.proofs.PictureLemmas.{placed_rises, placed_within}
 use Rattle.life_text.proofs.RisingLemmas.{meaning_rises}
 use Rattle.census_readback.specs.Limits.{period_limit}
@@ -130,17 +130,7 @@ module _ (R : Rule) (G : Generation) (b : ℕ) (few : b ≤ objects_bound_limit)
 -- ---- what is found of a text
 
 fault-fits : (fault : RleFault) → fault_number fault < 2 ^ 64
-fault-fits NoHeader = omega arith
-fault-fits BadHeader = omega arith
-fault-fits RuleNotLifeLike = omega arith
-fault-fits RuleHasB0 = omega arith
-fault-fits (ManyStates at) = omega arith
-fault-fits (BadChar at) = omega arith
-fault-fits (BadRun at) = omega arith
-fault-fits (TooFar at) = omega arith
-fault-fits (TooMany at) = omega arith
-fault-fits NoEnd = omega arith
-fault-fits Memory = omega arith
+fault-fits fault = let few = fault_number-most fault in omega arith
 
 module _ (bound : ℕ) (limit : Option ℕ) (near : Bool) (horizon : ℕ) (answered : IsAnswered (Objects bound limit near horizon)) where
   abbrev question : Question

@@ -11,7 +11,7 @@ use Rattle.census_format.specs.Objects.{objects, outcome_objects}
 use Rattle.life_answer.proofs.Findings.{settled_or_not}
 use Rattle.life_answer.proofs.Limits.{first_past-is}
 use Rattle.life_answer.proofs.Texts.{answer-no_ash}
-use Rattle.life_answer.specs.Answers.{fault_number, outcome_of, recurrence_outcome}
+use Rattle.life_answer.specs.Answers.{outcome_of, recurrence_outcome}
 use Rattle.life_answer.specs.Apgcode.{bodies, code_of, prefix}
 use Rattle.life_answer.specs.Limited.{first_past, outcome_unless_large, unless_large}
 use Rattle.life_answer.specs.Questions.{IsAnswered, answer_to, answer_to_question, settles_bound_limit}
@@ -31,7 +31,8 @@ use Rattle.life_shape.specs.TextOrder.{least_text}
 use Rattle.life_text.specs.Picture.{Picture, picture_of}
 use Rattle.life_text.specs.Rle.{reading}
 use Rattle.life_text.specs.declared.rle.RleFault.{RleFault}
-use Rattle.life_text.specs.declared.rle.RleFault.TheVariants.{NoHeader, BadHeader, RuleNotLifeLike, RuleHasB0, ManyStates, BadChar, BadRun, TooFar, TooMany, NoEnd, Memory}
+use Rattle.life_text.specs.Faults.{fault_number}
+use Rattle.life_text.proofs.FaultLemmas.{fault_number-most}
 use Rattle.report_laws.specs.Ranges.{FitsOutcome, InRange, IsToldAnswer, IsToldFolder}
 use Rattle.report_laws.proofs.Solid.{each-map}
 use Rattle.report_laws.proofs.BoundsLemmas.Standing.{IsTextual, IsTextualPicture, Stands, generation-stands, moved-fits, text-textual}
@@ -48,17 +49,7 @@ unfolding code_of
 code-some R H period d = after-some (prefix (size H) period d) 95 (least_text (bodies R H period))
 
 pub fault-small : (fault : RleFault) → fault_number fault < 2 ^ 64
-fault-small NoHeader = omega arith
-fault-small BadHeader = omega arith
-fault-small RuleNotLifeLike = omega arith
-fault-small RuleHasB0 = omega arith
-fault-small (ManyStates at) = omega arith
-fault-small (BadChar at) = omega arith
-fault-small (BadRun at) = omega arith
-fault-small (TooFar at) = omega arith
-fault-small (TooMany at) = omega arith
-fault-small NoEnd = omega arith
-fault-small Memory = omega arith
+fault-small fault = let few = fault_number-most fault in omega arith
 
 -- ---- objects
 

@@ -18,5 +18,5 @@ returns-in_err-put_all-clause-fails g c =
       advances_file_in_part c.in_ok-text.text.items c.as_slice.result.now c.args.generations c.in_ok-later.later.items c.as_slice.ensures.value c.in_ok-later.ensures
           (g.S.Shelf.tellings c.args.shelf.now) c.args.path.now c.as_slice-2.result.now _ _ c.as_slice-2.ensures.value (subst (λ p. GivesTold ((g.S.Shelf.tellings c.args.shelf.now).held [] p) c.in_ok-text.text.items) c.as_bytes.ensures.value c.in_ok-text.ensures.told) (omega (arith, c.in_ok-text.ensures.within, c.in_ok-text.text.ok.0))
           refl c.in_err-put_all.ensures.bytes,
-      record { read = ap (λ s. s.read_failed) c.streams.view_is ∙ c.requires.sound.read; write = c.in_err-put_all.ensures.failed },
+      record { read = ap (λ s. s.input.failed) c.streams.view_is ∙ c.requires.sound.read; write = c.in_err-put_all.ensures.failed },
     )

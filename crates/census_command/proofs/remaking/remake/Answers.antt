@@ -1,14 +1,35 @@
-use Rattle.std.proofs.Common.{List, inl, subst}
+use Rattle.std.proofs.Common.{List, ap, inl, inr, map, subst, sym, ◌∙◌, []}
+use Rattle.watched.specs.Streams.{Sink, Streams}
 use Rattle.census_cut.specs.declared.mending.Cut.{Cut}
-use Rattle.census_command.specs.Remakes.{TellsCuts}
+use Rattle.census_reports.specs.Outcomes.{ReportsFail, WritesReports}
+use Rattle.census_command.specs.Remakes.{KeepsLaw, TellsCuts, TellsOfReports}
+use Rattle.census_command.proofs.Outcomes.{untold_is}
 use Rattle.census_command.proofs.remaking.remake.Goals as goal
 
 pub returns-in-Ok : goal.returns-in-Ok
 returns-in-Ok g c =
+    let held = (g.S.Shelf.tellings c.args.shelf.now).held [] in
+    let quiet = ap (λ (s : Streams). s.errors) c.streams.view_is ∙ c.write.ensures.quiet in
+    let reached : Streams = record { input = c.streams.inside.input.stream; output = c.streams.inside.output.stream; errors = c.streams.inside.errors.stream } in
+    let is = sym c.streams.view_is ∙ untold_is c.args.streams.now reached c.tell_cuts.new.errors.stream quiet in
     inl (record {
       written = c.in-Ok.written;
       status_is = c.found_status.ensures;
-      done = c.in-Ok.ensures.done;
-      lawful = c.in-Ok.ensures.lawful;
-      told = subst (λ (cuts : List Cut). TellsCuts cuts c.args.errors.now c.tell_cuts.new.errors) c.as_slice.ensures.value c.tell_cuts.ensures;
+      done = subst (λ (s : Streams). WritesReports c.args.form c.args.reading c.in-Ok.written held (map (λ s. s.now) c.args.files.now) c.args.streams.now s) is c.in-Ok.ensures.done;
+      lawful = subst (λ (s : Streams). KeepsLaw c.args.form c.args.reading held (map (λ s. s.now) c.args.files.now) c.args.streams.now s) is c.in-Ok.ensures.lawful;
+      told = subst (λ (s : Sink). TellsCuts c.in-Ok.written.cuts.items s c.tell_cuts.new.errors.stream) quiet
+          (subst (λ (cuts : List Cut). TellsCuts cuts c.streams.inside.errors.stream c.tell_cuts.new.errors.stream) c.as_slice.ensures.value c.tell_cuts.ensures);
+    })
+
+pub returns-in-Err : goal.returns-in-Err
+returns-in-Err g c =
+    let held = (g.S.Shelf.tellings c.args.shelf.now).held [] in
+    let quiet = ap (λ (s : Streams). s.errors) c.streams.view_is ∙ c.write.ensures.quiet in
+    let reached : Streams = record { input = c.streams.inside.input.stream; output = c.streams.inside.output.stream; errors = c.streams.inside.errors.stream } in
+    let is = sym c.streams.view_is ∙ untold_is c.args.streams.now reached c.stop_of.new.errors.stream quiet in
+    inr (record {
+      error = c.in-Err.error;
+      status_is = c.stop_of.ensures.status;
+      fails = subst (λ (s : Streams). ReportsFail c.in-Err.error c.args.form c.args.reading held (map (λ s. s.now) c.args.files.now) c.args.streams.now s) is c.in-Err.ensures.fails;
+      told = subst (λ (s : Sink). TellsOfReports held (map (λ s. s.now) c.args.files.now) c.in-Err.error c.args.explain s c.stop_of.new.errors.stream) quiet c.stop_of.ensures.told;
     })

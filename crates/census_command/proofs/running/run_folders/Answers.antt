@@ -41,7 +41,7 @@ returns-clause-fails g c =
       front = c.in-Err-report.ensures.report;
       unread = refl;
     })
-    (ap (λ s. s.read_failed) c.streams.view_is ∙ c.requires.sound.read) c.in-Err-report.ensures.failed)
+    (ap (λ s. s.input.failed) c.streams.view_is ∙ c.requires.sound.read) c.in-Err-report.ensures.failed)
 
 pub returns-clause-place : goal.returns-clause-place
 returns-clause-place g c =

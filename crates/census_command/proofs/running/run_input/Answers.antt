@@ -7,7 +7,7 @@ pub returns-in_err-bundle-clause-fails : goal.returns-in_err-bundle-clause-fails
 returns-in_err-bundle-clause-fails g c =
     let p = err_from_is_err_and c.from_residual.result c.from_residual.ensures.1 in
     rw (p.1, p.2, ← c.streams.view_is)
-    (input_stops _ _ _ _ c.in_err-bundle.ensures.failed c.in_err-bundle.ensures.read refl (ap (λ s. s.write_failed) c.streams.view_is ∙ c.requires.sound.write))
+    (input_stops _ _ _ _ c.in_err-bundle.ensures.failed c.in_err-bundle.ensures.read refl (ap (λ s. s.output.failed) c.streams.view_is ∙ c.requires.sound.write))
 
 pub returns-in_err-lines-clause-fails : goal.returns-in_err-lines-clause-fails
 returns-in_err-lines-clause-fails g c =

@@ -7,4 +7,4 @@ use Rattle.census_cut.proofs.written.put_lines.Given as goal
 abbrev pub invariant-loop-row : goal.invariant-loop-row
 invariant-loop-row g l =
     TellsUpTo (text_of l.rows) (text_of (drop l.row-index l.rows))
-    (sheet g.W.Write.contents l.fn.block l.fn.writer) (sheet g.W.Write.contents l.block l.writer)
+    (sheet l.fn.block l.fn.writer) (sheet l.block l.writer)

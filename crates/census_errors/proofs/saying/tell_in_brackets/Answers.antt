@@ -7,4 +7,4 @@ pub returns : goal.returns
 returns g c =
     let word = printable_text c.args.word.now in
     more_after (32 ∷ 40 ∷ [] ++ word) (41 ∷ []) _ _ _
-    (more_after (32 ∷ 40 ∷ []) word _ _ _ c.tell_more.ensures c.tell_bytes.ensures) c.tell_more-2.ensures
+    (more_after (32 ∷ 40 ∷ []) word _ _ _ c.tell.ensures c.tell_bytes.ensures) c.tell-2.ensures

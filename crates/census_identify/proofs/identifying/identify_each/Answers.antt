@@ -1,10 +1,13 @@
-use Rattle.std.proofs.Common.{[], refl, arith}
+use Rattle.std.proofs.Common.{[], refl, ap, ◌∙◌, arith}
 use Rattle.std.proofs.lemmas.Result.{err_from_is_err_and}
+use Rattle.watched.specs.Streams.{Streams}
 use Rattle.census_identify.proofs.Words.{at_first, lacks_memory, loses_output, next_told}
 use Rattle.census_identify.proofs.identifying.identify_each.Goals as goal
 
 pub loop-word-init : goal.loop-word-init
-loop-word-init g c = at_first _ _ _ _ _ refl refl c.requires.output c.requires.errors
+loop-word-init g c =
+    rw (← c.streams.view_is)
+    (at_first _ _ _ _ _ refl refl (ap (λ (s : Streams). s.output.failed) c.streams.view_is ∙ c.requires.output) (ap (λ (s : Streams). s.errors.failed) c.streams.view_is ∙ c.requires.errors))
 
 pub returns-in_err-heard : goal.returns-in_err-heard
 returns-in_err-heard g c =

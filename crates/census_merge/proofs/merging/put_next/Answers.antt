@@ -7,5 +7,5 @@ use Rattle.census_merge.proofs.merging.put_next.Goals as goal
 
 pub returns : goal.returns
 returns g c =
-    let here = sheet g.W.Write.contents c.args.block.now c.args.writer.now in
+    let here = sheet c.args.block.now c.args.writer.now in
     subst (λ (o : Option Sums). PutsEnd o c.args.sums c.args.row c.with.result here here) (sym (sym c.sums_at_end.ensures ∙ c.in-Some.is)) (tells_none here, c.with.ensures)

@@ -11,14 +11,14 @@ use Rattle.census_page.proofs.code_row.put_code.Goals as goal
 
 pub returns-then-failed : goal.returns-then-failed
 returns-then-failed g c =
-    tells_failed (code_cells (linking_of c.args.links.now) c.args.rule.now c.args.code.now c.args.count c.args.holders.now) (sheet g.W.Write.contents c.args.block.now c.args.writer.now)
+    tells_failed (code_cells (linking_of c.args.links.now) c.args.rule.now c.args.code.now c.args.count c.args.holders.now) (sheet c.args.block.now c.args.writer.now)
     (sym c.failed.ensures ∙ c.if-failed.true)
 
 pub returns-in_err-front : goal.returns-in_err-front
 returns-in_err-front g c =
     let p = err_from_is_err_and c.from_residual.result c.from_residual.ensures.1 in
     rw p.1
-    (front_none (code_cells (linking_of c.args.links.now) c.args.rule.now c.args.code.now c.args.count c.args.holders.now) (sheet g.W.Write.contents c.args.block.now c.args.writer.now))
+    (front_none (code_cells (linking_of c.args.links.now) c.args.rule.now c.args.code.now c.args.count c.args.holders.now) (sheet c.args.block.now c.args.writer.now))
 
 pub returns-in_err-put_list : goal.returns-in_err-put_list
 returns-in_err-put_list g c =
@@ -26,9 +26,9 @@ returns-in_err-put_list g c =
     let first = front_cells c.args.links.now.catalogue c.args.rule.now c.args.code.now c.args.count (way_of c.args.holders.now) in
     let list = holder_list (linking_of c.args.links.now) c.args.holders.now in
     let last = codes "</td></tr>\n" in
-    let a = sheet g.W.Write.contents c.args.block.now c.args.writer.now in
-    let b = sheet g.W.Write.contents c.put.new.block c.put.new.writer in
-    let d = sheet g.W.Write.contents c.put_list.new.block c.put_list.new.writer in
+    let a = sheet c.args.block.now c.args.writer.now in
+    let b = sheet c.put.new.block c.put.new.writer in
+    let d = sheet c.put_list.new.block c.put_list.new.writer in
     let told = subst (λ t. TellsAfter t a b) (c.as_slice.ensures.value ∙ c.in_ok-front.ensures ∙ ap (front_cells c.args.links.now.catalogue c.args.rule.now c.args.code.now c.args.count) c.way_of-way.ensures) c.put.ensures in
     rw p.1 (front_more first (list ++ last) a b d told (front_first (list ++ last) list last b d refl c.in_err-put_list.ensures))
 
@@ -37,9 +37,9 @@ returns g c =
     let first = front_cells c.args.links.now.catalogue c.args.rule.now c.args.code.now c.args.count (way_of c.args.holders.now) in
     let list = holder_list (linking_of c.args.links.now) c.args.holders.now in
     let last = codes "</td></tr>\n" in
-    let a = sheet g.W.Write.contents c.args.block.now c.args.writer.now in
-    let b = sheet g.W.Write.contents c.put.new.block c.put.new.writer in
-    let d = sheet g.W.Write.contents c.put_list.new.block c.put_list.new.writer in
-    let e = sheet g.W.Write.contents c.put-2.new.block c.put-2.new.writer in
+    let a = sheet c.args.block.now c.args.writer.now in
+    let b = sheet c.put.new.block c.put.new.writer in
+    let d = sheet c.put_list.new.block c.put_list.new.writer in
+    let e = sheet c.put-2.new.block c.put-2.new.writer in
     let told = subst (λ t. TellsAfter t a b) (c.as_slice.ensures.value ∙ c.in_ok-front.ensures ∙ ap (front_cells c.args.links.now.catalogue c.args.rule.now c.args.code.now c.args.count) c.way_of-way.ensures) c.put.ensures in
     tells_more first (list ++ last) a b e told (tells_more list last b d e c.in_ok-put_list.ensures c.put-2.ensures)

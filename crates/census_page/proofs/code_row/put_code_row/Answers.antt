@@ -7,5 +7,5 @@ use Rattle.census_page.proofs.code_row.put_code_row.Goals as goal
 
 pub returns-in_default : goal.returns-in_default
 returns-in_default g c =
-    let here = sheet g.W.Write.contents c.args.block.now c.args.writer.now in
+    let here = sheet c.args.block.now c.args.writer.now in
     subst (λ t. TellsAfter t here here) (sym (no-row (linking_of c.args.links.now) c.args.holders.now c.args.row.now (λ collection rule code count e. c.in_default.not-Code collection rule code count e))) (tells_none here)

@@ -9,4 +9,4 @@ use Rattle.census_page.proofs.code_row.put_code_rows.Given as goal
 abbrev pub invariant-loop-row : goal.invariant-loop-row
 invariant-loop-row g l =
     TellsUpTo (code_rows (linking_of l.links) l.holders (rows_lent l.rows)) (code_rows (linking_of l.links) l.holders (rows_lent (drop l.row-index l.rows)))
-    (sheet g.W.Write.contents l.fn.block l.fn.writer) (sheet g.W.Write.contents l.block l.writer)
+    (sheet l.fn.block l.fn.writer) (sheet l.block l.writer)

@@ -8,4 +8,4 @@ use Rattle.census_page.proofs.heading.put_headings.Given as goal
 abbrev pub invariant-loop-row : goal.invariant-loop-row
 invariant-loop-row g l =
     TellsUpTo (headings (rows_lent l.rows)) (headings (rows_lent (drop l.row-index l.rows)))
-    (sheet g.W.Write.contents l.fn.block l.fn.writer) (sheet g.W.Write.contents l.block l.writer)
+    (sheet l.fn.block l.fn.writer) (sheet l.block l.writer)

@@ -8,7 +8,7 @@ use Rattle.census_page.proofs.Numbered.{numbered_end, numbered_more, numbered_st
 use Rattle.census_page.proofs.index.put_rows.Goals as goal
 
 pub loop-index-init : goal.loop-index-init
-loop-index-init g c = up_to_start (index_rows 1 (sections_lent c.args.sections.now)) (sheet g.W.Write.contents c.args.block.now c.args.writer.now)
+loop-index-init g c = up_to_start (index_rows 1 (sections_lent c.args.sections.now)) (sheet c.args.block.now c.args.writer.now)
 
 pub returns-in_err-text : goal.returns-in_err-text
 returns-in_err-text g c =
@@ -16,15 +16,15 @@ returns-in_err-text g c =
     let l = c.loop-index in
     rw p.1
     (numbered_stop (λ n rows. index_row n (rows_lent rows.items)) (λ n sections. index_rows n (sections_lent sections)) (λ n x xs. refl) c.args.sections.now l.index
-    (sheet g.W.Write.contents c.args.block.now c.args.writer.now) (sheet g.W.Write.contents l.block l.writer) l.invariant)
+    (sheet c.args.block.now c.args.writer.now) (sheet l.block l.writer) l.invariant)
 
 pub loop-index-preserved : goal.loop-index-preserved
 loop-index-preserved g c =
     let l = c.loop-index in
-    let b = sheet g.W.Write.contents l.block l.writer in
-    let d = sheet g.W.Write.contents c.put.new.block c.put.new.writer in
+    let b = sheet l.block l.writer in
+    let d = sheet c.put.new.block c.put.new.writer in
     numbered_more (λ n rows. index_row n (rows_lent rows.items)) (λ n sections. index_rows n (sections_lent sections)) (λ n x xs. refl) c.args.sections.now l.index
-    (sheet g.W.Write.contents c.args.block.now c.args.writer.now) b l.invariant _ d c.loop-index-test.true
+    (sheet c.args.block.now c.args.writer.now) b l.invariant _ d c.loop-index-test.true
     (subst (λ t. TellsAfter t b d)
     (c.as_slice-in-loop-index.ensures.value ∙ c.in_ok-text.ensures
     ∙ ap (λ rows. index_row (l.index + 1) (rows_lent rows)) (c.as_slice.ensures.value ∙ ap (λ v. v.items) c.index-sections-index.is)) c.put.ensures)
@@ -33,5 +33,5 @@ pub returns : goal.returns
 returns g c =
     let l = c.loop-index in
     numbered_end (λ n rows. index_row n (rows_lent rows.items)) (λ n sections. index_rows n (sections_lent sections)) (λ n x xs. refl) c.args.sections.now l.index
-    (sheet g.W.Write.contents c.args.block.now c.args.writer.now) (sheet g.W.Write.contents l.block l.writer) l.invariant
+    (sheet c.args.block.now c.args.writer.now) (sheet l.block l.writer) l.invariant
     c.loop-index-test.false (λ n. refl)

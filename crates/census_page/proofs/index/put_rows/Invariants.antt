@@ -8,4 +8,4 @@ use Rattle.census_page.proofs.index.put_rows.Given as goal
 abbrev pub invariant-loop-index : goal.invariant-loop-index
 invariant-loop-index g l =
     TellsUpTo (index_rows 1 (sections_lent l.sections)) (index_rows (l.index + 1) (sections_lent (drop l.index l.sections)))
-    (sheet g.W.Write.contents l.fn.block l.fn.writer) (sheet g.W.Write.contents l.block l.writer)
+    (sheet l.fn.block l.fn.writer) (sheet l.block l.writer)

@@ -7,26 +7,26 @@ use Rattle.census_page.specs.Lists.{item, items}
 use Rattle.census_page.proofs.list.put_items.Goals as goal
 
 pub loop-holder-init : goal.loop-holder-init
-loop-holder-init g c = up_to_start (items (linking_of c.args.links.now) c.args.holders.now) (sheet g.W.Write.contents c.args.block.now c.args.writer.now)
+loop-holder-init g c = up_to_start (items (linking_of c.args.links.now) c.args.holders.now) (sheet c.args.block.now c.args.writer.now)
 
 pub returns-in_err-text : goal.returns-in_err-text
 returns-in_err-text g c =
     let p = err_from_is_err_and c.from_residual.result c.from_residual.ensures.1 in
     let l = c.loop-holder in
     rw p.1
-    (up_to_stop (items (linking_of c.args.links.now) c.args.holders.now) (items (linking_of c.args.links.now) (drop l.holder-index c.args.holders.now)) (sheet g.W.Write.contents c.args.block.now c.args.writer.now)
-    (sheet g.W.Write.contents l.block l.writer) l.invariant)
+    (up_to_stop (items (linking_of c.args.links.now) c.args.holders.now) (items (linking_of c.args.links.now) (drop l.holder-index c.args.holders.now)) (sheet c.args.block.now c.args.writer.now)
+    (sheet l.block l.writer) l.invariant)
 
 pub loop-holder-preserved : goal.loop-holder-preserved
 loop-holder-preserved g c =
     let l = c.loop-holder in
-    let b = sheet g.W.Write.contents l.block l.writer in
-    let d = sheet g.W.Write.contents c.put.new.block c.put.new.writer in
-    each_more (item (linking_of c.args.links.now)) (items (linking_of c.args.links.now)) (λ x xs. refl) c.args.holders.now l.holder-index (sheet g.W.Write.contents c.args.block.now c.args.writer.now) b l.invariant _ d
+    let b = sheet l.block l.writer in
+    let d = sheet c.put.new.block c.put.new.writer in
+    each_more (item (linking_of c.args.links.now)) (items (linking_of c.args.links.now)) (λ x xs. refl) c.args.holders.now l.holder-index (sheet c.args.block.now c.args.writer.now) b l.invariant _ d
     c.loop-holder-test.true (subst (λ t. TellsAfter t b d) (c.as_slice.ensures.value ∙ c.in_ok-text.ensures) c.put.ensures)
 
 pub returns : goal.returns
 returns g c =
     let l = c.loop-holder in
-    each_end (item (linking_of c.args.links.now)) (items (linking_of c.args.links.now)) (λ x xs. refl) c.args.holders.now l.holder-index (sheet g.W.Write.contents c.args.block.now c.args.writer.now)
-    (sheet g.W.Write.contents l.block l.writer) l.invariant c.loop-holder-test.false refl
+    each_end (item (linking_of c.args.links.now)) (items (linking_of c.args.links.now)) (λ x xs. refl) c.args.holders.now l.holder-index (sheet c.args.block.now c.args.writer.now)
+    (sheet l.block l.writer) l.invariant c.loop-holder-test.false refl

@@ -8,4 +8,4 @@ use Rattle.census_page.proofs.list.put_items.Given as goal
 abbrev pub invariant-loop-holder : goal.invariant-loop-holder
 invariant-loop-holder g l =
     TellsUpTo (items (linking_of l.links) l.holders) (items (linking_of l.links) (drop l.holder-index l.holders))
-    (sheet g.W.Write.contents l.fn.block l.fn.writer) (sheet g.W.Write.contents l.block l.writer)
+    (sheet l.fn.block l.fn.writer) (sheet l.block l.writer)

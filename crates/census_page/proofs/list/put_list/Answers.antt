@@ -14,9 +14,9 @@ returns-in_err-put_items g c =
     let hs = c.args.holders.now in
     let shown = items (linking_of c.args.links.now) (take c.min.result hs) in
     let rest = codes "</ul>" ++ more_items (linking_of c.args.links.now) (drop c.min.result hs) in
-    let a = sheet g.W.Write.contents c.args.block.now c.args.writer.now in
-    let b = sheet g.W.Write.contents c.put.new.block c.put.new.writer in
-    let d = sheet g.W.Write.contents c.put_items.new.block c.put_items.new.writer in
+    let a = sheet c.args.block.now c.args.writer.now in
+    let b = sheet c.put.new.block c.put.new.writer in
+    let d = sheet c.put_items.new.block c.put_items.new.writer in
     rw p.1
     (subst (λ t. TellsFront t a d) (sym (list-is (linking_of c.args.links.now) hs c.min.result c.min.ensures))
     (front_more (codes "<ul>") (shown ++ rest) a b d c.put.ensures
@@ -31,11 +31,11 @@ returns g c =
     let shown = items (linking_of c.args.links.now) (take c.min.result hs) in
     let others = more_items (linking_of c.args.links.now) (drop c.min.result hs) in
     let rest = codes "</ul>" ++ others in
-    let a = sheet g.W.Write.contents c.args.block.now c.args.writer.now in
-    let b = sheet g.W.Write.contents c.put.new.block c.put.new.writer in
-    let d = sheet g.W.Write.contents c.put_items.new.block c.put_items.new.writer in
-    let e = sheet g.W.Write.contents c.put-2.new.block c.put-2.new.writer in
-    let f = sheet g.W.Write.contents c.put_more.new.block c.put_more.new.writer in
+    let a = sheet c.args.block.now c.args.writer.now in
+    let b = sheet c.put.new.block c.put.new.writer in
+    let d = sheet c.put_items.new.block c.put_items.new.writer in
+    let e = sheet c.put-2.new.block c.put-2.new.writer in
+    let f = sheet c.put_more.new.block c.put_more.new.writer in
     let told =
     tells_more (codes "<ul>") shown a b d c.put.ensures (subst (λ xs. TellsAfter (items (linking_of c.args.links.now) xs) b d) c.split_at.ensures.front c.in_ok-put_items.ensures) in
     let before = tells_more (codes "<ul>" ++ shown) (codes "</ul>") a d e told c.put-2.ensures in

@@ -11,13 +11,13 @@ use Rattle.census_page.proofs.list.put_more.Goals as goal
 
 pub returns-then-is_empty : goal.returns-then-is_empty
 returns-then-is_empty g c =
-    let here = sheet g.W.Write.contents c.args.block.now c.args.writer.now in
+    let here = sheet c.args.block.now c.args.writer.now in
     subst (λ t. TellsAfter t here here) (sym (more-none (linking_of c.args.links.now) c.args.holders.now (sym c.is_empty.ensures ∙ c.if-is_empty.true))) (tells_none here)
 
 pub returns-in_err-front : goal.returns-in_err-front
 returns-in_err-front g c =
     let p = err_from_is_err_and c.from_residual.result c.from_residual.ensures.1 in
-    rw p.1 (front_none (more_items (linking_of c.args.links.now) c.args.holders.now) (sheet g.W.Write.contents c.args.block.now c.args.writer.now))
+    rw p.1 (front_none (more_items (linking_of c.args.links.now) c.args.holders.now) (sheet c.args.block.now c.args.writer.now))
 
 pub returns-in_err-put_items : goal.returns-in_err-put_items
 returns-in_err-put_items g c =
@@ -25,9 +25,9 @@ returns-in_err-put_items g c =
     let first = codes "<details><summary>" ++ grouped (length c.args.holders.now) ++ codes " more</summary><ul>" in
     let all = items (linking_of c.args.links.now) c.args.holders.now in
     let last = codes "</ul></details>" in
-    let a = sheet g.W.Write.contents c.args.block.now c.args.writer.now in
-    let b = sheet g.W.Write.contents c.put.new.block c.put.new.writer in
-    let d = sheet g.W.Write.contents c.put_items.new.block c.put_items.new.writer in
+    let a = sheet c.args.block.now c.args.writer.now in
+    let b = sheet c.put.new.block c.put.new.writer in
+    let d = sheet c.put_items.new.block c.put_items.new.writer in
     let told = subst (λ t. TellsAfter t a b) (c.as_slice.ensures.value ∙ c.in_ok-front.ensures) c.put.ensures in
     rw p.1
     (subst (λ t. TellsFront t a d) (sym (more-is (linking_of c.args.links.now) c.args.holders.now (sym c.is_empty.ensures ∙ c.if-is_empty.false)))
@@ -38,10 +38,10 @@ returns g c =
     let first = codes "<details><summary>" ++ grouped (length c.args.holders.now) ++ codes " more</summary><ul>" in
     let all = items (linking_of c.args.links.now) c.args.holders.now in
     let last = codes "</ul></details>" in
-    let a = sheet g.W.Write.contents c.args.block.now c.args.writer.now in
-    let b = sheet g.W.Write.contents c.put.new.block c.put.new.writer in
-    let d = sheet g.W.Write.contents c.put_items.new.block c.put_items.new.writer in
-    let e = sheet g.W.Write.contents c.put-2.new.block c.put-2.new.writer in
+    let a = sheet c.args.block.now c.args.writer.now in
+    let b = sheet c.put.new.block c.put.new.writer in
+    let d = sheet c.put_items.new.block c.put_items.new.writer in
+    let e = sheet c.put-2.new.block c.put-2.new.writer in
     let told = subst (λ t. TellsAfter t a b) (c.as_slice.ensures.value ∙ c.in_ok-front.ensures) c.put.ensures in
     subst (λ t. TellsAfter t a e) (sym (more-is (linking_of c.args.links.now) c.args.holders.now (sym c.is_empty.ensures ∙ c.if-is_empty.false)))
     (tells_more first (all ++ last) a b e told (tells_more all last b d e c.in_ok-put_items.ensures c.put-2.ensures))

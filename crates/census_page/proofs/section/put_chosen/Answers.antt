@@ -17,11 +17,11 @@ returns-in_err-chosen g c =
     let p = err_from_is_err_and c.from_residual.result c.from_residual.ensures.1 in
     rw p.1
     (front_none (table_of (linking_of c.args.links.now) c.args.holders.now (chosen (options_of c.args.options.now) c.args.holders.now (rows_lent c.args.rows.now)))
-    (sheet g.W.Write.contents c.args.block.now c.args.writer.now))
+    (sheet c.args.block.now c.args.writer.now))
 
 pub returns-then-not-have_codes : goal.returns-then-not-have_codes
 returns-then-not-have_codes g c =
-    let here = sheet g.W.Write.contents c.args.block.now c.args.writer.now in
+    let here = sheet c.args.block.now c.args.writer.now in
     let lent = c.as_slice-lent.result.now in
     let is = ap rows_lent c.as_slice-lent.ensures.value ∙ c.in_ok-chosen.ensures in
     subst (λ t. TellsAfter t here here)
@@ -35,9 +35,9 @@ returns-in_err-put_code_rows g c =
     let lent = c.as_slice-lent.result.now in
     let is = ap rows_lent c.as_slice-lent.ensures.value ∙ c.in_ok-chosen.ensures in
     let all = code_rows (linking_of c.args.links.now) holders (rows_lent lent) in
-    let a = sheet g.W.Write.contents c.args.block.now c.args.writer.now in
-    let b = sheet g.W.Write.contents c.put.new.block c.put.new.writer in
-    let d = sheet g.W.Write.contents c.put_code_rows.new.block c.put_code_rows.new.writer in
+    let a = sheet c.args.block.now c.args.writer.now in
+    let b = sheet c.put.new.block c.put.new.writer in
+    let d = sheet c.put_code_rows.new.block c.put_code_rows.new.writer in
     let whole = sym (ap (table_of (linking_of c.args.links.now) holders) is) ∙ table-is (linking_of c.args.links.now) holders (rows_lent lent) (sym (any_lent is_code lent) ∙ sym c.have_codes.ensures ∙ c.if-not-have_codes.false) in
     rw p.1
     (subst (λ t. TellsFront t a d) (sym whole)
@@ -50,10 +50,10 @@ returns g c =
     let lent = c.as_slice-lent.result.now in
     let is = ap rows_lent c.as_slice-lent.ensures.value ∙ c.in_ok-chosen.ensures in
     let all = code_rows (linking_of c.args.links.now) holders (rows_lent lent) in
-    let a = sheet g.W.Write.contents c.args.block.now c.args.writer.now in
-    let b = sheet g.W.Write.contents c.put.new.block c.put.new.writer in
-    let d = sheet g.W.Write.contents c.put_code_rows.new.block c.put_code_rows.new.writer in
-    let e = sheet g.W.Write.contents c.put-2.new.block c.put-2.new.writer in
+    let a = sheet c.args.block.now c.args.writer.now in
+    let b = sheet c.put.new.block c.put.new.writer in
+    let d = sheet c.put_code_rows.new.block c.put_code_rows.new.writer in
+    let e = sheet c.put-2.new.block c.put-2.new.writer in
     let whole = sym (ap (table_of (linking_of c.args.links.now) holders) is) ∙ table-is (linking_of c.args.links.now) holders (rows_lent lent) (sym (any_lent is_code lent) ∙ sym c.have_codes.ensures ∙ c.if-not-have_codes.false) in
     subst (λ t. TellsAfter t a e) (sym whole)
     (tells_more table_begin (all ++ table_end) a b e (subst (λ t. TellsAfter t a b) c.table_begin.ensures c.put.ensures)

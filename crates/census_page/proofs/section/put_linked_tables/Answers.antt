@@ -16,8 +16,8 @@ returns-in_err-put_code_table g c =
     let rows = rows_lent c.args.rows.now in
     let first = code_table links options rows in
     let last = pattern_table links options.patterns rows in
-    let a = sheet g.W.Write.contents c.args.block.now c.args.writer.now in
-    let b = sheet g.W.Write.contents c.put_code_table.new.block c.put_code_table.new.writer in
+    let a = sheet c.args.block.now c.args.writer.now in
+    let b = sheet c.put_code_table.new.block c.put_code_table.new.writer in
     rw p.1 (front_first (first ++ last) first last a b refl c.in_err-put_code_table.ensures)
 
 pub returns : goal.returns
@@ -27,7 +27,7 @@ returns g c =
     let rows = rows_lent c.args.rows.now in
     let first = code_table links options rows in
     let last = pattern_table links options.patterns rows in
-    let a = sheet g.W.Write.contents c.args.block.now c.args.writer.now in
-    let b = sheet g.W.Write.contents c.put_code_table.new.block c.put_code_table.new.writer in
-    let d = sheet g.W.Write.contents c.put_pattern_table.new.block c.put_pattern_table.new.writer in
+    let a = sheet c.args.block.now c.args.writer.now in
+    let b = sheet c.put_code_table.new.block c.put_code_table.new.writer in
+    let d = sheet c.put_pattern_table.new.block c.put_pattern_table.new.writer in
     told_both c.put_pattern_table.result (first ++ last) first last a b d refl c.in_ok-put_code_table.ensures c.put_pattern_table.ensures

@@ -9,13 +9,13 @@ use Rattle.census_page.proofs.section.put_pattern_table.Goals as goal
 pub returns-then-not-shown : goal.returns-then-not-shown
 returns-then-not-shown g c =
     let list = stray_list (linking_of c.args.links.now) (rows_lent c.args.rows.now) in
-    let here = sheet g.W.Write.contents c.args.block.now c.args.writer.now in
+    let here = sheet c.args.block.now c.args.writer.now in
     subst (λ t. TellsAfter t here here) (sym (ap (λ (b : Bool). if b then list else []) c.if-not-shown.true)) (tells_none here)
 
 pub returns : goal.returns
 returns g c =
     let list = stray_list (linking_of c.args.links.now) (rows_lent c.args.rows.now) in
-    let a = sheet g.W.Write.contents c.args.block.now c.args.writer.now in
-    let b = sheet g.W.Write.contents c.put_stray_list.new.block c.put_stray_list.new.writer in
+    let a = sheet c.args.block.now c.args.writer.now in
+    let b = sheet c.put_stray_list.new.block c.put_stray_list.new.writer in
     subst (λ text. MatchResult c.put_stray_list.result (λ _. TellsAfter text a b) (λ _. TellsFront text a b))
     (sym (ap (λ (b : Bool). if b then list else []) c.if-not-shown.false)) c.put_stray_list.ensures

@@ -13,7 +13,7 @@ use Rattle.census_page.proofs.section.put_stray_list.Goals as goal
 
 pub returns-then-not-have_strays : goal.returns-then-not-have_strays
 returns-then-not-have_strays g c =
-    let here = sheet g.W.Write.contents c.args.block.now c.args.writer.now in
+    let here = sheet c.args.block.now c.args.writer.now in
     subst (λ t. TellsAfter t here here)
     (sym (list-none (linking_of c.args.links.now) (rows_lent c.args.rows.now) (sym (any_lent is_stray c.args.rows.now) ∙ sym c.have_strays.ensures ∙ c.if-not-have_strays.true))) (tells_none here)
 
@@ -22,9 +22,9 @@ returns-in_err-put_stray_rows g c =
     let p = err_from_is_err_and c.from_residual.result c.from_residual.ensures.1 in
     let rows = rows_lent c.args.rows.now in
     let all = stray_rows (linking_of c.args.links.now) rows in
-    let a = sheet g.W.Write.contents c.args.block.now c.args.writer.now in
-    let b = sheet g.W.Write.contents c.put.new.block c.put.new.writer in
-    let d = sheet g.W.Write.contents c.put_stray_rows.new.block c.put_stray_rows.new.writer in
+    let a = sheet c.args.block.now c.args.writer.now in
+    let b = sheet c.put.new.block c.put.new.writer in
+    let d = sheet c.put_stray_rows.new.block c.put_stray_rows.new.writer in
     let whole = list-is (linking_of c.args.links.now) rows (sym (any_lent is_stray c.args.rows.now) ∙ sym c.have_strays.ensures ∙ c.if-not-have_strays.false) in
     rw p.1
     (subst (λ t. TellsFront t a d) (sym whole)
@@ -35,10 +35,10 @@ pub returns : goal.returns
 returns g c =
     let rows = rows_lent c.args.rows.now in
     let all = stray_rows (linking_of c.args.links.now) rows in
-    let a = sheet g.W.Write.contents c.args.block.now c.args.writer.now in
-    let b = sheet g.W.Write.contents c.put.new.block c.put.new.writer in
-    let d = sheet g.W.Write.contents c.put_stray_rows.new.block c.put_stray_rows.new.writer in
-    let e = sheet g.W.Write.contents c.put-2.new.block c.put-2.new.writer in
+    let a = sheet c.args.block.now c.args.writer.now in
+    let b = sheet c.put.new.block c.put.new.writer in
+    let d = sheet c.put_stray_rows.new.block c.put_stray_rows.new.writer in
+    let e = sheet c.put-2.new.block c.put-2.new.writer in
     let whole = list-is (linking_of c.args.links.now) rows (sym (any_lent is_stray c.args.rows.now) ∙ sym c.have_strays.ensures ∙ c.if-not-have_strays.false) in
     subst (λ t. TellsAfter t a e) (sym whole)
     (tells_more list_begin (all ++ table_end) a b e (subst (λ t. TellsAfter t a b) c.list_begin.ensures c.put.ensures)

@@ -11,14 +11,14 @@ use Rattle.census_page.proofs.section.put_tables.Goals as goal
 pub returns-in_err-address : goal.returns-in_err-address
 returns-in_err-address g c =
     let p = err_from_is_err_and c.from_residual.result c.from_residual.ensures.1 in
-    rw p.1 (front_none (tables (options_of c.args.options.now) (rows_lent c.args.rows.now)) (sheet g.W.Write.contents c.args.block.now c.args.writer.now))
+    rw p.1 (front_none (tables (options_of c.args.options.now) (rows_lent c.args.rows.now)) (sheet c.args.block.now c.args.writer.now))
 
 pub returns : goal.returns
 returns g c =
     let options = options_of c.args.options.now in
     let rows = rows_lent c.args.rows.now in
-    let a = sheet g.W.Write.contents c.args.block.now c.args.writer.now in
-    let b = sheet g.W.Write.contents c.put_linked_tables.new.block c.put_linked_tables.new.writer in
+    let a = sheet c.args.block.now c.args.writer.now in
+    let b = sheet c.put_linked_tables.new.block c.put_linked_tables.new.writer in
     subst (λ (links : Linking). MatchResult c.put_linked_tables.result (λ _. TellsAfter (linked_tables links options rows) a b) (λ _. TellsFront (linked_tables links options rows) a b))
     (c.links_in-links.ensures ∙ ap (λ names. record { names = names; catalogue = options.links }) c.in_ok-address.ensures)
     c.put_linked_tables.ensures

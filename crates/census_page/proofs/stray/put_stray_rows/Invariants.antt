@@ -9,4 +9,4 @@ use Rattle.census_page.proofs.stray.put_stray_rows.Given as goal
 abbrev pub invariant-loop-index : goal.invariant-loop-index
 invariant-loop-index g l =
     TellsUpTo (stray_rows (linking_of l.links) (rows_lent l.rows)) (stray_rows (linking_of l.links) (rows_lent (drop l.index l.rows)))
-    (sheet g.W.Write.contents l.fn.block l.fn.writer) (sheet g.W.Write.contents l.block l.writer)
+    (sheet l.fn.block l.fn.writer) (sheet l.block l.writer)

@@ -16,9 +16,9 @@ returns-in_err-put_rows g c =
     let rows = index_rows 1 sections in
     let last = sections_text (options_of c.args.options.now) 1 sections ++ page_end in
     let rest = (index_end ++ choices c.args.rows.now) ++ last in
-    let a = sheet g.W.Write.contents c.args.block.now c.args.writer.now in
-    let b = sheet g.W.Write.contents c.put.new.block c.put.new.writer in
-    let d = sheet g.W.Write.contents c.put_rows.new.block c.put_rows.new.writer in
+    let a = sheet c.args.block.now c.args.writer.now in
+    let b = sheet c.put.new.block c.put.new.writer in
+    let d = sheet c.put_rows.new.block c.put_rows.new.writer in
     rw p.1
     (front_more index_begin (rows ++ rest) a b d (subst (λ t. TellsAfter t a b) c.index_begin.ensures c.put.ensures)
     (front_first (rows ++ rest) rows rest b d refl c.in_err-put_rows.ensures))
@@ -31,10 +31,10 @@ returns-in_err-choices g c =
     let kinds = choices c.args.rows.now in
     let last = sections_text (options_of c.args.options.now) 1 sections ++ page_end in
     let rest = (index_end ++ kinds) ++ last in
-    let a = sheet g.W.Write.contents c.args.block.now c.args.writer.now in
-    let b = sheet g.W.Write.contents c.put.new.block c.put.new.writer in
-    let d = sheet g.W.Write.contents c.put_rows.new.block c.put_rows.new.writer in
-    let e = sheet g.W.Write.contents c.put-2.new.block c.put-2.new.writer in
+    let a = sheet c.args.block.now c.args.writer.now in
+    let b = sheet c.put.new.block c.put.new.writer in
+    let d = sheet c.put_rows.new.block c.put_rows.new.writer in
+    let e = sheet c.put-2.new.block c.put-2.new.writer in
     let behind = subst (λ t. TellsAfter t d e) c.index_end.ensures c.put-2.ensures in
     rw p.1
     (front_more index_begin (rows ++ rest) a b e (subst (λ t. TellsAfter t a b) c.index_begin.ensures c.put.ensures)
@@ -49,12 +49,12 @@ returns-in_err-put_sections g c =
     let all = sections_text (options_of c.args.options.now) 1 sections in
     let last = all ++ page_end in
     let rest = (index_end ++ kinds) ++ last in
-    let a = sheet g.W.Write.contents c.args.block.now c.args.writer.now in
-    let b = sheet g.W.Write.contents c.put.new.block c.put.new.writer in
-    let d = sheet g.W.Write.contents c.put_rows.new.block c.put_rows.new.writer in
-    let e = sheet g.W.Write.contents c.put-2.new.block c.put-2.new.writer in
-    let f = sheet g.W.Write.contents c.put-3.new.block c.put-3.new.writer in
-    let h = sheet g.W.Write.contents c.put_sections.new.block c.put_sections.new.writer in
+    let a = sheet c.args.block.now c.args.writer.now in
+    let b = sheet c.put.new.block c.put.new.writer in
+    let d = sheet c.put_rows.new.block c.put_rows.new.writer in
+    let e = sheet c.put-2.new.block c.put-2.new.writer in
+    let f = sheet c.put-3.new.block c.put-3.new.writer in
+    let h = sheet c.put_sections.new.block c.put_sections.new.writer in
     let behind = subst (λ t. TellsAfter t d e) c.index_end.ensures c.put-2.ensures in
     let chosen = subst (λ t. TellsAfter t e f) (c.as_slice.ensures.value ∙ c.in_ok-choices.ensures) c.put-3.ensures in
     rw p.1
@@ -70,13 +70,13 @@ returns g c =
     let all = sections_text (options_of c.args.options.now) 1 sections in
     let last = all ++ page_end in
     let rest = (index_end ++ kinds) ++ last in
-    let a = sheet g.W.Write.contents c.args.block.now c.args.writer.now in
-    let b = sheet g.W.Write.contents c.put.new.block c.put.new.writer in
-    let d = sheet g.W.Write.contents c.put_rows.new.block c.put_rows.new.writer in
-    let e = sheet g.W.Write.contents c.put-2.new.block c.put-2.new.writer in
-    let f = sheet g.W.Write.contents c.put-3.new.block c.put-3.new.writer in
-    let h = sheet g.W.Write.contents c.put_sections.new.block c.put_sections.new.writer in
-    let i = sheet g.W.Write.contents c.put-4.new.block c.put-4.new.writer in
+    let a = sheet c.args.block.now c.args.writer.now in
+    let b = sheet c.put.new.block c.put.new.writer in
+    let d = sheet c.put_rows.new.block c.put_rows.new.writer in
+    let e = sheet c.put-2.new.block c.put-2.new.writer in
+    let f = sheet c.put-3.new.block c.put-3.new.writer in
+    let h = sheet c.put_sections.new.block c.put_sections.new.writer in
+    let i = sheet c.put-4.new.block c.put-4.new.writer in
     let behind = subst (λ t. TellsAfter t d e) c.index_end.ensures c.put-2.ensures in
     let chosen = subst (λ t. TellsAfter t e f) (c.as_slice.ensures.value ∙ c.in_ok-choices.ensures) c.put-3.ensures in
     tells_more index_begin (rows ++ rest) a b i (subst (λ t. TellsAfter t a b) c.index_begin.ensures c.put.ensures)

@@ -11,21 +11,21 @@ use Rattle.census_page.proofs.whole_page.put_page.Goals as goal
 pub returns-in_err-sections : goal.returns-in_err-sections
 returns-in_err-sections g c =
     let p = err_from_is_err_and c.from_residual.result c.from_residual.ensures.1 in
-    rw p.1 (front_none (page_of (options_of c.args.options.now) c.args.rows.now) (sheet g.W.Write.contents c.args.block.now c.args.writer.now))
+    rw p.1 (front_none (page_of (options_of c.args.options.now) c.args.rows.now) (sheet c.args.block.now c.args.writer.now))
 
 pub returns-in_err-front : goal.returns-in_err-front
 returns-in_err-front g c =
     let p = err_from_is_err_and c.from_residual-in_err-front.result c.from_residual-in_err-front.ensures.1 in
-    rw p.1 (front_none (page_of (options_of c.args.options.now) c.args.rows.now) (sheet g.W.Write.contents c.args.block.now c.args.writer.now))
+    rw p.1 (front_none (page_of (options_of c.args.options.now) c.args.rows.now) (sheet c.args.block.now c.args.writer.now))
 
 pub returns : goal.returns
 returns g c =
     let rows = c.args.rows.now in
     let lists = collections_of [] rows in
     let options = options_of c.args.options.now in
-    let a = sheet g.W.Write.contents c.args.block.now c.args.writer.now in
-    let b = sheet g.W.Write.contents c.put.new.block c.put.new.writer in
-    let d = sheet g.W.Write.contents c.put_body.new.block c.put_body.new.writer in
+    let a = sheet c.args.block.now c.args.writer.now in
+    let b = sheet c.put.new.block c.put.new.writer in
+    let d = sheet c.put_body.new.block c.put_body.new.writer in
     let items = c.in_ok-sections.sections.items in
     let count : length c.as_slice-lent.result.now ≡ length lists =
     ap length c.as_slice-lent.ensures.value ∙ sym (length_lent items) ∙ ap length c.in_ok-sections.ensures in

@@ -9,4 +9,4 @@ use Rattle.census_page.proofs.whole_page.put_sections.Given as goal
 abbrev pub invariant-loop-index : goal.invariant-loop-index
 invariant-loop-index g l =
     TellsUpTo (sections_text (options_of l.options) 1 (sections_lent l.sections)) (sections_text (options_of l.options) (l.index + 1) (sections_lent (drop l.index l.sections)))
-    (sheet g.W.Write.contents l.fn.block l.fn.writer) (sheet g.W.Write.contents l.block l.writer)
+    (sheet l.fn.block l.fn.writer) (sheet l.block l.writer)

@@ -10,23 +10,20 @@ use Rattle.census_reports.proofs.form.write_disagreement.Goals as goal
 
 pub returns-in_err-told-in-Ok : goal.returns-in_err-told-in-Ok
 returns-in_err-told-in-Ok g c =
-    let contents = g.O.Write.contents in
     let p = err_from_is_err_and c.from_residual.result c.from_residual.ensures.1 in
     rw (p.1, p.2)
     (inr (halted (form.Verdict c.args.text) c.args.rows.now (verdict_text (claims_read c.args.claims.now.items.items) (entries_of c.args.rows.now)) (claims_read c.args.claims.now.items.items, c.requires.claims, refl)
-    (sheet contents c.new-block.result c.args.output.now) (sheet contents c.put_verdict-told.new.block c.put_verdict-told.new.writer) (sheet contents c.send.new.block c.send.new.writer)
+    (sheet c.new-block.result c.args.output.now) (sheet c.put_verdict-told.new.block c.put_verdict-told.new.writer) (sheet c.send.new.block c.send.new.writer)
     c.new-block.ensures c.send.ensures.tells c.send.ensures.empty tt c.in_err-told-in-Ok.ensures.tells c.in-Ok.ensures.failed))
 
 pub returns-in-Ok : goal.returns-in-Ok
 returns-in-Ok g c =
-    let contents = g.O.Write.contents in
     all_written (form.Verdict c.args.text) c.args.rows.now (verdict_text (claims_read c.args.claims.now.items.items) (entries_of c.args.rows.now)) (claims_read c.args.claims.now.items.items, c.requires.claims, refl)
-    (sheet contents c.new-block.result c.args.output.now) (sheet contents c.put_verdict-told.new.block c.put_verdict-told.new.writer) (sheet contents c.send.new.block c.send.new.writer)
+    (sheet c.new-block.result c.args.output.now) (sheet c.put_verdict-told.new.block c.put_verdict-told.new.writer) (sheet c.send.new.block c.send.new.writer)
     c.new-block.ensures c.send.ensures.tells c.send.ensures.empty c.in_ok-told-in-Ok.ensures.tells c.in-Ok.ensures.failed _ (found_bytes _ _ c.in_ok-told-in-Ok.ensures.any)
 
 pub returns : goal.returns
 returns g c =
-    let contents = g.O.Write.contents in
     lost (form.Verdict c.args.text) c.args.rows.now (verdict_text (claims_read c.args.claims.now.items.items) (entries_of c.args.rows.now)) (claims_read c.args.claims.now.items.items, c.requires.claims, refl)
-    (sheet contents c.new-block.result c.args.output.now) (sheet contents c.put_verdict-told.new.block c.put_verdict-told.new.writer) (sheet contents c.send.new.block c.send.new.writer)
+    (sheet c.new-block.result c.args.output.now) (sheet c.put_verdict-told.new.block c.put_verdict-told.new.writer) (sheet c.send.new.block c.send.new.writer)
     c.new-block.ensures c.send.ensures.tells c.send.ensures.empty c.put_verdict-told.result c.put_verdict-told.ensures.tells c.in-Err.ensures.failed

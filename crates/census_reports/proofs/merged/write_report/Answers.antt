@@ -6,7 +6,6 @@ use Rattle.census_reports.proofs.merged.write_report.Goals as goal
 
 pub returns : goal.returns
 returns g c = λ rows are fewer fits.
-    let contents = g.O.Write.contents in
-    told_whole c.send.result (text_of (merged_rows rows)) (sheet contents c.new-block.result c.args.output.now)
-    (sheet contents c.put_all.new.block c.put_all.new.output) (sheet contents c.send.new.block c.send.new.writer)
+    told_whole c.send.result (text_of (merged_rows rows)) (sheet c.new-block.result c.args.output.now)
+    (sheet c.put_all.new.block c.put_all.new.output) (sheet c.send.new.block c.send.new.writer)
     c.new-block.ensures (c.put_all.ensures rows are fewer fits) c.send.ensures.tells c.send.ensures.empty c.send.ensures.failed

@@ -1,6 +1,5 @@
 use Rattle.std.proofs.Common.{List, ℕ, subst, sym}
 use Rattle.std.proofs.lemmas.Result.{err_from_is_err_and}
-use Rattle.census_identify.specs.Streams.{sink}
 use Rattle.census_reports.specs.Mending.{AreMended}
 use Rattle.census_reports.proofs.Failing.{mended-fails, read-fails}
 use Rattle.census_reports.proofs.Mended.{some-looked}
@@ -12,15 +11,13 @@ write_of-requires g c =
 
 pub returns-in_err-found : goal.returns-in_err-found
 returns-in_err-found g c =
-    let contents = g.O.Write.contents in
     let p = err_from_is_err_and c.from_residual-in_err-found.result c.from_residual-in_err-found.ensures.1 in
     rw (p.1, p.2)
-    (mended-fails c.in_err-found.field-0.0 c.args.form c.args.cut c.args.texts.now c.as_slice.result.now c.in_ok-looked.looked.cuts.items (sink contents c.args.output.now) (sink contents c.write_of.new.output) c.if-cut.true
+    (mended-fails c.in_err-found.field-0.0 c.args.form c.args.cut c.args.texts.now c.as_slice.result.now c.in_ok-looked.looked.cuts.items c.args.output.now.stream c.write_of.new.output.stream c.if-cut.true
     (subst (λ (texts : List (List ℕ)). AreMended c.args.texts.now texts c.in_ok-looked.looked.cuts.items) (sym c.as_slice.ensures.value) c.in_ok-looked.ensures) c.in_err-found.ensures)
 
 pub returns-in_err-found-2 : goal.returns-in_err-found-2
 returns-in_err-found-2 g c =
-    let contents = g.O.Write.contents in
     let p = err_from_is_err_and c.from_residual-in_err-found-2.result c.from_residual-in_err-found-2.ensures.1 in
     rw (p.1, p.2)
-    (read-fails c.in_err-found-2.field-0.0 c.args.form c.args.cut c.args.texts.now (sink contents c.args.output.now) (sink contents c.write_of-2.new.output) c.if-cut.false c.in_err-found-2.ensures)
+    (read-fails c.in_err-found-2.field-0.0 c.args.form c.args.cut c.args.texts.now c.args.output.now.stream c.write_of-2.new.output.stream c.if-cut.false c.in_err-found-2.ensures)

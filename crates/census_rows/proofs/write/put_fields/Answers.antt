@@ -5,9 +5,9 @@ use Rattle.census_rows.proofs.write.put_fields.Goals as goal
 pub loop-field-preserved : goal.loop-field-preserved
 loop-field-preserved g c = λ last told.
     c.loop-field.invariant last
-    (optional_at c.args.fields.now c.loop-field.field-index _ _ (sheet g.W.Write.contents c.put_optional.new.block c.put_optional.new.writer) last c.loop-field-test.true c.put_optional.ensures told)
+    (optional_at c.args.fields.now c.loop-field.field-index _ _ (sheet c.put_optional.new.block c.put_optional.new.writer) last c.loop-field-test.true c.put_optional.ensures told)
 
 pub returns : goal.returns
 returns g c =
-    let now = sheet g.W.Write.contents c.loop-field.block c.loop-field.writer in
+    let now = sheet c.loop-field.block c.loop-field.writer in
     c.loop-field.invariant now (optional_end c.args.fields.now c.loop-field.field-index now c.loop-field-test.false)

@@ -7,5 +7,5 @@ use Rattle.census_rows.proofs.write.put_fields.Given as goal
 -- who tells the others has told all
 abbrev pub invariant-loop-field : goal.invariant-loop-field
 invariant-loop-field g l =
-    (last : Sheet) → TellsAfter (fields_text (texts_of (present (drop l.field-index l.fields)))) (sheet g.W.Write.contents l.block l.writer) last
-    → TellsAfter (fields_text (texts_of (present l.fields))) (sheet g.W.Write.contents l.fn.block l.fn.writer) last
+    (last : Sheet) → TellsAfter (fields_text (texts_of (present (drop l.field-index l.fields)))) (sheet l.block l.writer) last
+    → TellsAfter (fields_text (texts_of (present l.fields))) (sheet l.fn.block l.fn.writer) last

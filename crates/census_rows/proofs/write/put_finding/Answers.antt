@@ -19,6 +19,5 @@ returns-in-Ok g c =
 
 pub returns-in_default : goal.returns-in_default
 returns-in_default g c =
-    let contents = g.W.Write.contents in
-    subst (λ fields. TellsAfter (fields_text (texts_of fields)) (sheet contents c.args.block.now c.args.writer.now) (sheet contents c.put_fields.new.block c.put_fields.new.writer))
+    subst (λ fields. TellsAfter (fields_text (texts_of fields)) (sheet c.args.block.now c.args.writer.now) (sheet c.put_fields.new.block c.put_fields.new.writer))
     c.said.ensures.fields c.put_fields.ensures

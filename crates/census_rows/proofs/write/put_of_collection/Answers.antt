@@ -51,6 +51,6 @@ none-told (End n k) not_open not_code not_close = refl
 
 pub returns-in_default : goal.returns-in_default
 returns-in_default g c =
-    let s = sheet g.W.Write.contents c.args.block.now c.args.writer.now in
+    let s = sheet c.args.block.now c.args.writer.now in
     let others = c.in_default in
     subst (λ t. TellsAfter t s s) (none-told c.args.row.now others.not-Open others.not-Code others.not-Close) (tells_none s)

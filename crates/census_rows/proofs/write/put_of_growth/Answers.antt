@@ -50,6 +50,6 @@ none-told (End n k) not_engine not_emits = refl
 
 pub returns-in_default : goal.returns-in_default
 returns-in_default g c =
-    let s = sheet g.W.Write.contents c.args.block.now c.args.writer.now in
+    let s = sheet c.args.block.now c.args.writer.now in
     let others = c.in_default in
     subst (λ t. TellsAfter t s s) (none-told c.args.row.now others.not-Engine others.not-Emits) (tells_none s)

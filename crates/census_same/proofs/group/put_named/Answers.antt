@@ -5,6 +5,5 @@ use Rattle.census_same.proofs.group.put_named.Goals as goal
 
 pub returns : goal.returns
 returns g c =
-    let contents = g.W.Write.contents in
-    tells_more (heading_text c.args.first.now) (lines_text c.args.group.now) (sheet contents c.args.block.now c.args.writer.now)
-    (sheet contents c.put_heading.new.block c.put_heading.new.writer) (sheet contents c.put_lines.new.block c.put_lines.new.writer) c.put_heading.ensures c.put_lines.ensures
+    tells_more (heading_text c.args.first.now) (lines_text c.args.group.now) (sheet c.args.block.now c.args.writer.now)
+    (sheet c.put_heading.new.block c.put_heading.new.writer) (sheet c.put_lines.new.block c.put_lines.new.writer) c.put_heading.ensures c.put_lines.ensures

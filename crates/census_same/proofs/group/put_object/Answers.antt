@@ -8,4 +8,4 @@ use Rattle.census_same.proofs.group.put_object.Goals as goal
 pub returns-in_err-text : goal.returns-in_err-text
 returns-in_err-text g c =
     let p = err_from_is_err_and c.from_residual.result c.from_residual.ensures.1 in
-    rw p.1 (front_none (json_line (members_of c.args.told.now)) (sheet g.W.Write.contents c.args.block.now c.args.writer.now))
+    rw p.1 (front_none (json_line (members_of c.args.told.now)) (sheet c.args.block.now c.args.writer.now))

@@ -7,4 +7,4 @@ use Rattle.census_same.proofs.group.put_objects.Given as goal
 abbrev pub invariant-loop-told : goal.invariant-loop-told
 invariant-loop-told g l =
     TellsUpTo (objects_text l.tolds) (objects_text (drop l.told-index l.tolds))
-    (sheet g.W.Write.contents l.fn.block l.fn.writer) (sheet g.W.Write.contents l.block l.writer)
+    (sheet l.fn.block l.fn.writer) (sheet l.block l.writer)

@@ -9,7 +9,7 @@ use Rattle.census_same.proofs.same.put_groups.Goals as goal
 pub loop-at-init : goal.loop-at-init
 loop-at-init g c = record {
   within = omega arith;
-  told = up_to_start (same_text c.args.json c.args.tolds.now) (sheet g.W.Write.contents c.args.block.now c.args.writer.now);
+  told = up_to_start (same_text c.args.json c.args.tolds.now) (sheet c.args.block.now c.args.writer.now);
   order = c.requires;
   any = refl;
 }
@@ -29,8 +29,8 @@ returns-in_err-several-clause-tells g c =
     let on : Walk c.args.json ts l.at group =
     walk c.args.json ts l.at c.group_len.result group l.invariant.order c.loop-at-test.true c.group_len.ensures c.split_at.ensures.front c.split_at.ensures.front_len in
     rw p.1
-    (up_to_front (same_text c.args.json ts) _ (group_text c.args.json group) _ (sheet g.W.Write.contents c.args.block.now c.args.writer.now)
-    (sheet g.W.Write.contents l.block l.writer) (sheet g.W.Write.contents c.put_group.new.block c.put_group.new.writer) l.invariant.told on.text c.in_err-several.ensures.tells)
+    (up_to_front (same_text c.args.json ts) _ (group_text c.args.json group) _ (sheet c.args.block.now c.args.writer.now)
+    (sheet l.block l.writer) (sheet c.put_group.new.block c.put_group.new.writer) l.invariant.told on.text c.in_err-several.ensures.tells)
 
 pub loop-at-preserved : goal.loop-at-preserved
 loop-at-preserved g c =
@@ -41,8 +41,8 @@ loop-at-preserved g c =
     walk c.args.json ts l.at c.group_len.result group l.invariant.order c.loop-at-test.true c.group_len.ensures c.split_at.ensures.front c.split_at.ensures.front_len in
     record {
       within = on.within;
-      told = up_to_more (same_text c.args.json ts) _ (group_text c.args.json group) _ (sheet g.W.Write.contents c.args.block.now c.args.writer.now) (sheet g.W.Write.contents l.block l.writer)
-          (sheet g.W.Write.contents c.put_group.new.block c.put_group.new.writer) l.invariant.told on.text c.in_ok-several.ensures.tells;
+      told = up_to_more (same_text c.args.json ts) _ (group_text c.args.json group) _ (sheet c.args.block.now c.args.writer.now) (sheet l.block l.writer)
+          (sheet c.put_group.new.block c.put_group.new.writer) l.invariant.told on.text c.in_ok-several.ensures.tells;
       order = on.order;
       any = any-more _ l.any c.in_ok-several.several (group_text c.args.json group) _ _ l.invariant.any on.text c.in_ok-several.ensures.several;
     }
@@ -51,7 +51,7 @@ pub returns-clause-tells : goal.returns-clause-tells
 returns-clause-tells g c =
     let ts = c.args.tolds.now in
     let l = c.loop-at in
-    up_to_end (same_text c.args.json ts) _ (sheet g.W.Write.contents c.args.block.now c.args.writer.now) (sheet g.W.Write.contents l.block l.writer) l.invariant.told
+    up_to_end (same_text c.args.json ts) _ (sheet c.args.block.now c.args.writer.now) (sheet l.block l.writer) l.invariant.told
     (nothing-left c.args.json ts l.at c.loop-at-test.false)
 
 pub returns-clause-any : goal.returns-clause-any

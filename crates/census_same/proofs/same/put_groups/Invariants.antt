@@ -8,7 +8,7 @@ use Rattle.census_same.proofs.same.put_groups.Given as goal
 abbrev pub invariant-loop-at : goal.invariant-loop-at
 invariant-loop-at g l = record {
   within : l.at ≤ length l.tolds;
-  told : TellsUpTo (same_text l.json l.tolds) (same_text l.json (drop l.at l.tolds)) (sheet g.W.Write.contents l.fn.block l.fn.writer) (sheet g.W.Write.contents l.block l.writer);
+  told : TellsUpTo (same_text l.json l.tolds) (same_text l.json (drop l.at l.tolds)) (sheet l.fn.block l.fn.writer) (sheet l.block l.writer);
   order : AreInOrder (drop l.at l.tolds);
   any : has_bytes (same_text l.json l.tolds) ≡ (l.any || has_bytes (same_text l.json (drop l.at l.tolds)));
 }

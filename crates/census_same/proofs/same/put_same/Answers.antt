@@ -12,17 +12,17 @@ use Rattle.census_same.proofs.same.put_same.Goals as goal
 pub returns-in_err-sections-clause-tells : goal.returns-in_err-sections-clause-tells
 returns-in_err-sections-clause-tells g c =
     let p = err_from_is_err_and c.from_residual.result c.from_residual.ensures.1 in
-    rw p.1 (front_none (same_text c.args.json (tolds_of c.args.rows.now)) (sheet g.W.Write.contents c.args.block.now c.args.writer.now))
+    rw p.1 (front_none (same_text c.args.json (tolds_of c.args.rows.now)) (sheet c.args.block.now c.args.writer.now))
 
 pub returns-in_err-tolds-clause-tells : goal.returns-in_err-tolds-clause-tells
 returns-in_err-tolds-clause-tells g c =
     let p = err_from_is_err_and c.from_residual-in_err-tolds.result c.from_residual-in_err-tolds.ensures.1 in
-    rw p.1 (front_none (same_text c.args.json (tolds_of c.args.rows.now)) (sheet g.W.Write.contents c.args.block.now c.args.writer.now))
+    rw p.1 (front_none (same_text c.args.json (tolds_of c.args.rows.now)) (sheet c.args.block.now c.args.writer.now))
 
 pub returns-in_err-put_in_order-clause-tells : goal.returns-in_err-put_in_order-clause-tells
 returns-in_err-put_in_order-clause-tells g c =
     let p = err_from_is_err_and c.from_residual-in_err-put_in_order.result c.from_residual-in_err-put_in_order.ensures.1 in
-    rw p.1 (front_none (same_text c.args.json (tolds_of c.args.rows.now)) (sheet g.W.Write.contents c.args.block.now c.args.writer.now))
+    rw p.1 (front_none (same_text c.args.json (tolds_of c.args.rows.now)) (sheet c.args.block.now c.args.writer.now))
 
 pub returns-clause-tells : goal.returns-clause-tells
 returns-clause-tells g c =
@@ -33,8 +33,8 @@ returns-clause-tells g c =
     ∙ same-sorted j c.in_ok-tolds.tolds.items c.put_in_order.new.tolds.items c.put_in_order.ensures.same
     ∙ ap (same_text j) (c.in_ok-tolds.ensures ∙ ap all_told (ap sections_lent c.as_slice.ensures.value ∙ c.in_ok-sections.ensures)) in
     subst (λ t. MatchResult c.put_groups.result
-    (λ _. TellsAfter t (sheet g.W.Write.contents c.args.block.now c.args.writer.now) (sheet g.W.Write.contents c.put_groups.new.block c.put_groups.new.writer))
-    (λ _. TellsFront t (sheet g.W.Write.contents c.args.block.now c.args.writer.now) (sheet g.W.Write.contents c.put_groups.new.block c.put_groups.new.writer))) same
+    (λ _. TellsAfter t (sheet c.args.block.now c.args.writer.now) (sheet c.put_groups.new.block c.put_groups.new.writer))
+    (λ _. TellsFront t (sheet c.args.block.now c.args.writer.now) (sheet c.put_groups.new.block c.put_groups.new.writer))) same
     c.put_groups.ensures.tells
 
 pub returns-clause-any : goal.returns-clause-any

@@ -9,7 +9,7 @@ use Rattle.census_table.proofs.table.put_head.Goals as goal
 pub returns-in_err-header-in-Csv : goal.returns-in_err-header-in-Csv
 returns-in_err-header-in-Csv g c =
     let p = err_from_is_err_and c.from_residual.result c.from_residual.ensures.1 in
-    rw p.1 (front_none (head_text c.args.format (map (λ s. s.now) c.args.names.now)) (sheet g.W.Write.contents c.args.block.now c.args.writer.now))
+    rw p.1 (front_none (head_text c.args.format (map (λ s. s.now) c.args.names.now)) (sheet c.args.block.now c.args.writer.now))
 
 pub returns-in-Json : goal.returns-in-Json
-returns-in-Json g c = rw c.in-Json.is (tells_none (sheet g.W.Write.contents c.args.block.now c.args.writer.now))
+returns-in-Json g c = rw c.in-Json.is (tells_none (sheet c.args.block.now c.args.writer.now))

@@ -15,7 +15,7 @@ pub loop-start-init : goal.loop-start-init
 loop-start-init g c = (
   omega arith,
   up_to_start (rows_text c.args.format (map (pattern_row (option_copied c.args.names) c.args.format) (patterns_under c.args.number c.args.heading.now (rows_lent c.args.rows.now))))
-      (sheet g.W.Write.contents c.args.block.now c.args.writer.now),
+      (sheet c.args.block.now c.args.writer.now),
 )
 
 pub returns-in_err-put_patterns : goal.returns-in_err-put_patterns
@@ -28,8 +28,8 @@ returns-in_err-put_patterns g c =
     let under : List (Bor Row) → List ℕ = λ rows. rows_text c.args.format (map (pattern_row (option_copied c.args.names) c.args.format) (patterns_under c.args.number c.args.heading.now (rows_lent rows))) in
     rw p.1
     (up_to_front (under rows) (under (drop l.start rows)) (rows_text c.args.format (map (pattern_row (option_copied c.args.names) c.args.format) some)) (under (drop (l.start + m) rows))
-    (sheet g.W.Write.contents c.args.block.now c.args.writer.now) (sheet g.W.Write.contents l.block l.writer)
-    (sheet g.W.Write.contents c.put_patterns.new.block c.put_patterns.new.writer) l.invariant.1
+    (sheet c.args.block.now c.args.writer.now) (sheet l.block l.writer)
+    (sheet c.put_patterns.new.block c.put_patterns.new.writer) l.invariant.1
     (rows-cut (option_copied c.args.names) c.args.format c.args.number c.args.heading.now rows l.start m _ (rest-whole l.start rows)) c.in_err-put_patterns.ensures)
 
 pub loop-start-preserved : goal.loop-start-preserved
@@ -41,7 +41,7 @@ loop-start-preserved g c =
     let under : List (Bor Row) → List ℕ = λ rows. rows_text c.args.format (map (pattern_row (option_copied c.args.names) c.args.format) (patterns_under c.args.number c.args.heading.now (rows_lent rows))) in (
       omega (arith, c.min-count.ensures, l.invariant.0),
       up_to_more (under rows) (under (drop l.start rows)) (rows_text c.args.format (map (pattern_row (option_copied c.args.names) c.args.format) some)) (under (drop (l.start + m) rows))
-          (sheet g.W.Write.contents c.args.block.now c.args.writer.now) (sheet g.W.Write.contents l.block l.writer)
-          (sheet g.W.Write.contents c.put_patterns.new.block c.put_patterns.new.writer) l.invariant.1
+          (sheet c.args.block.now c.args.writer.now) (sheet l.block l.writer)
+          (sheet c.put_patterns.new.block c.put_patterns.new.writer) l.invariant.1
           (rows-cut (option_copied c.args.names) c.args.format c.args.number c.args.heading.now rows l.start m _ (rest-whole l.start rows)) c.in_ok-put_patterns.ensures,
     )

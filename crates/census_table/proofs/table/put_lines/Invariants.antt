@@ -13,7 +13,7 @@ invariant-loop-start g l =
     (l.start ≤ length l.rows)
     × TellsUpTo (rows_text l.format (map (pattern_row (option_copied l.names) l.format) (patterns_under l.number l.heading (rows_lent l.rows))))
     (rows_text l.format (map (pattern_row (option_copied l.names) l.format) (patterns_under l.number l.heading (rows_lent (drop l.start l.rows)))))
-    (sheet g.W.Write.contents l.fn.block l.fn.writer) (sheet g.W.Write.contents l.block l.writer)
+    (sheet l.fn.block l.fn.writer) (sheet l.block l.writer)
 
 abbrev pub decreases-loop-start : goal.decreases-loop-start
 decreases-loop-start g l = length l.rows - l.start

@@ -12,7 +12,7 @@ use Rattle.census_table.proofs.table.put_objects.Goals as goal
 pub loop-start-init : goal.loop-start-init
 loop-start-init g c = (
   omega arith,
-  up_to_start (rows_text c.args.format (map (object_row (option_copied c.args.names) c.args.columns.now) c.args.objects.now)) (sheet g.W.Write.contents c.args.block.now c.args.writer.now),
+  up_to_start (rows_text c.args.format (map (object_row (option_copied c.args.names) c.args.columns.now) c.args.objects.now)) (sheet c.args.block.now c.args.writer.now),
 )
 
 pub returns-in_err-put_some : goal.returns-in_err-put_some
@@ -26,8 +26,8 @@ returns-in_err-put_some g c =
     let cut = objects-cut (option_copied c.args.names) c.args.format c.args.columns.now (drop l.start all) some (drop (l.start + m) all) some (drop-cut all l.start m) refl in
     rw p.1
     (up_to_front (under all) (under (drop l.start all)) (under some) (under (drop (l.start + m) all))
-    (sheet g.W.Write.contents c.args.block.now c.args.writer.now) (sheet g.W.Write.contents l.block l.writer)
-    (sheet g.W.Write.contents c.put_some.new.block c.put_some.new.writer) l.invariant.1 cut c.in_err-put_some.ensures)
+    (sheet c.args.block.now c.args.writer.now) (sheet l.block l.writer)
+    (sheet c.put_some.new.block c.put_some.new.writer) l.invariant.1 cut c.in_err-put_some.ensures)
 
 pub loop-start-preserved : goal.loop-start-preserved
 loop-start-preserved g c =
@@ -39,6 +39,6 @@ loop-start-preserved g c =
     let cut = objects-cut (option_copied c.args.names) c.args.format c.args.columns.now (drop l.start all) some (drop (l.start + m) all) some (drop-cut all l.start m) refl in (
       omega (arith, c.min.ensures, l.invariant.0),
       up_to_more (under all) (under (drop l.start all)) (under some) (under (drop (l.start + m) all))
-          (sheet g.W.Write.contents c.args.block.now c.args.writer.now) (sheet g.W.Write.contents l.block l.writer)
-          (sheet g.W.Write.contents c.put_some.new.block c.put_some.new.writer) l.invariant.1 cut c.in_ok-put_some.ensures,
+          (sheet c.args.block.now c.args.writer.now) (sheet l.block l.writer)
+          (sheet c.put_some.new.block c.put_some.new.writer) l.invariant.1 cut c.in_ok-put_some.ensures,
     )

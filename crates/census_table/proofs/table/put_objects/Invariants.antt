@@ -10,7 +10,7 @@ abbrev pub invariant-loop-start : goal.invariant-loop-start
 invariant-loop-start g l =
     (l.start ≤ length l.objects)
     × TellsUpTo (rows_text l.format (map (object_row (option_copied l.names) l.columns) l.objects)) (rows_text l.format (map (object_row (option_copied l.names) l.columns) (drop l.start l.objects)))
-    (sheet g.W.Write.contents l.fn.block l.fn.writer) (sheet g.W.Write.contents l.block l.writer)
+    (sheet l.fn.block l.fn.writer) (sheet l.block l.writer)
 
 abbrev pub decreases-loop-start : goal.decreases-loop-start
 decreases-loop-start g l = length l.objects - l.start

@@ -8,4 +8,4 @@ use Rattle.census_table.proofs.table.put_rows.Goals as goal
 pub returns-in_err-text : goal.returns-in_err-text
 returns-in_err-text g c =
     let p = err_from_is_err_and c.from_residual.result c.from_residual.ensures.1 in
-    rw p.1 (front_none (rows_text c.args.format (rows_in c.args.rows.now)) (sheet g.W.Write.contents c.args.block.now c.args.writer.now))
+    rw p.1 (front_none (rows_text c.args.format (rows_in c.args.rows.now)) (sheet c.args.block.now c.args.writer.now))

@@ -7,5 +7,5 @@ use Rattle.census_table.proofs.table.put_section.Goals as goal
 
 pub returns-in-empty : goal.returns-in-empty
 returns-in-empty g c =
-    let here = sheet g.W.Write.contents c.args.block.now c.args.writer.now in
+    let here = sheet c.args.block.now c.args.writer.now in
     subst (λ t. TellsAfter t here here) (sym (section-empty (option_copied c.args.names) c.args.format c.args.number c.args.rows.now c.in-empty.len_below)) (tells_none here)

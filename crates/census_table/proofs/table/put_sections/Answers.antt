@@ -12,7 +12,7 @@ use Rattle.census_table.proofs.table.put_sections.Goals as goal
 
 pub loop-index-init : goal.loop-index-init
 loop-index-init g c =
-    up_to_start (rows_text c.args.format (map (pattern_row (option_copied c.args.names) c.args.format) (all_patterns 1 (sections_lent c.args.sections.now)))) (sheet g.W.Write.contents c.args.block.now c.args.writer.now)
+    up_to_start (rows_text c.args.format (map (pattern_row (option_copied c.args.names) c.args.format) (all_patterns 1 (sections_lent c.args.sections.now)))) (sheet c.args.block.now c.args.writer.now)
 
 pub returns-in_err-put_section : goal.returns-in_err-put_section
 returns-in_err-put_section g c =
@@ -25,8 +25,8 @@ returns-in_err-put_section g c =
     rw p.1
     (up_to_front (rows_text c.args.format (map (pattern_row (option_copied c.args.names) c.args.format) (all_patterns 1 (sections_lent all)))) (from l.index)
     (rows_text c.args.format (map (pattern_row (option_copied c.args.names) c.args.format) (section_patterns (l.index + 1) (rows_lent c.as_slice.result.now)))) (from (l.index + 1))
-    (sheet g.W.Write.contents c.args.block.now c.args.writer.now) (sheet g.W.Write.contents l.block l.writer)
-    (sheet g.W.Write.contents c.put_section.new.block c.put_section.new.writer) l.invariant cut c.in_err-put_section.ensures)
+    (sheet c.args.block.now c.args.writer.now) (sheet l.block l.writer)
+    (sheet c.put_section.new.block c.put_section.new.writer) l.invariant cut c.in_err-put_section.ensures)
 
 pub loop-index-preserved : goal.loop-index-preserved
 loop-index-preserved g c =
@@ -37,5 +37,5 @@ loop-index-preserved g c =
     (c.as_slice.ensures.value ∙ ap (λ v. v.items) c.index-sections-index.is) in
     up_to_more (rows_text c.args.format (map (pattern_row (option_copied c.args.names) c.args.format) (all_patterns 1 (sections_lent all)))) (from l.index)
     (rows_text c.args.format (map (pattern_row (option_copied c.args.names) c.args.format) (section_patterns (l.index + 1) (rows_lent c.as_slice.result.now)))) (from (l.index + 1))
-    (sheet g.W.Write.contents c.args.block.now c.args.writer.now) (sheet g.W.Write.contents l.block l.writer)
-    (sheet g.W.Write.contents c.put_section.new.block c.put_section.new.writer) l.invariant cut c.in_ok-put_section.ensures
+    (sheet c.args.block.now c.args.writer.now) (sheet l.block l.writer)
+    (sheet c.put_section.new.block c.put_section.new.writer) l.invariant cut c.in_ok-put_section.ensures

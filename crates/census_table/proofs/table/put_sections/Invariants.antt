@@ -12,4 +12,4 @@ abbrev pub invariant-loop-index : goal.invariant-loop-index
 invariant-loop-index g l =
     TellsUpTo (rows_text l.format (map (pattern_row (option_copied l.names) l.format) (all_patterns 1 (sections_lent l.sections))))
     (rows_text l.format (map (pattern_row (option_copied l.names) l.format) (all_patterns (l.index + 1) (sections_lent (drop l.index l.sections)))))
-    (sheet g.W.Write.contents l.fn.block l.fn.writer) (sheet g.W.Write.contents l.block l.writer)
+    (sheet l.fn.block l.fn.writer) (sheet l.block l.writer)

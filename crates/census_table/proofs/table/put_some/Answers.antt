@@ -10,9 +10,9 @@ use Rattle.census_table.proofs.table.put_some.Goals as goal
 
 pub returns-then-failed : goal.returns-then-failed
 returns-then-failed g c =
-    tells_failed (rows_text c.args.format (map (object_row (option_copied c.args.names) c.args.columns.now) c.args.objects.now)) (sheet g.W.Write.contents c.args.block.now c.args.writer.now) (sym c.failed.ensures ∙ c.if-failed.true)
+    tells_failed (rows_text c.args.format (map (object_row (option_copied c.args.names) c.args.columns.now) c.args.objects.now)) (sheet c.args.block.now c.args.writer.now) (sym c.failed.ensures ∙ c.if-failed.true)
 
 pub returns-in_err-rows : goal.returns-in_err-rows
 returns-in_err-rows g c =
     let p = err_from_is_err_and c.from_residual.result c.from_residual.ensures.1 in
-    rw p.1 (front_none (rows_text c.args.format (map (object_row (option_copied c.args.names) c.args.columns.now) c.args.objects.now)) (sheet g.W.Write.contents c.args.block.now c.args.writer.now))
+    rw p.1 (front_none (rows_text c.args.format (map (object_row (option_copied c.args.names) c.args.columns.now) c.args.objects.now)) (sheet c.args.block.now c.args.writer.now))

@@ -10,7 +10,7 @@ use Rattle.census_verify.proofs.verdict.put_claims.Goals as goal
 
 pub loop-index-init : goal.loop-index-init
 loop-index-init g c = record {
-  told = up_to_start (claims_text c.args.found.now.patterns.items (claims_read c.args.found.now.claims.now)) (sheet g.W.Write.contents c.args.block.now c.args.writer.now);
+  told = up_to_start (claims_text c.args.found.now.patterns.items (claims_read c.args.found.now.claims.now)) (sheet c.args.block.now c.args.writer.now);
   silent = refl;
 }
 
@@ -30,8 +30,8 @@ loop-index-preserved g c =
     let cut : claims_text patterns (claims_read (drop l.index found.claims.now)) ≡ c.as_slice-bytes.result.now ++ others =
     claims-cut patterns found.claims.now l.index d c.loop-index-test.true ∙ ap (λ t. t ++ others) (sym text) in
     record {
-      told = up_to_more whole _ c.as_slice-bytes.result.now others (sheet g.W.Write.contents c.args.block.now c.args.writer.now) (sheet g.W.Write.contents l.block l.writer)
-          (sheet g.W.Write.contents c.put.new.block c.put.new.writer) l.invariant.told cut c.put.ensures;
+      told = up_to_more whole _ c.as_slice-bytes.result.now others (sheet c.args.block.now c.args.writer.now) (sheet l.block l.writer)
+          (sheet c.put.new.block c.put.new.writer) l.invariant.told cut c.put.ensures;
       silent = silent-more whole _ c.as_slice-bytes.result.now others l.silent l.invariant.silent cut
           ∙ ap (λ b. b && is_empty others) (sym c.is_silent-silent.ensures);
     }

@@ -9,7 +9,7 @@ use Rattle.census_verify.proofs.verdict.put_claims.Given as goal
 abbrev pub invariant-loop-index : goal.invariant-loop-index
 invariant-loop-index g l = record {
   told : TellsUpTo (claims_text l.found.patterns.items (claims_read l.found.claims.now)) (claims_text l.found.patterns.items (claims_read (drop l.index l.found.claims.now)))
-      (sheet g.W.Write.contents l.fn.block l.fn.writer) (sheet g.W.Write.contents l.block l.writer);
+      (sheet l.fn.block l.fn.writer) (sheet l.block l.writer);
   silent : is_empty (claims_text l.found.patterns.items (claims_read l.found.claims.now))
       ≡ (l.silent && is_empty (claims_text l.found.patterns.items (claims_read (drop l.index l.found.claims.now))));
 }

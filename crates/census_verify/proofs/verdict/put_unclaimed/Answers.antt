@@ -9,7 +9,7 @@ use Rattle.census_verify.proofs.verdict.put_unclaimed.Goals as goal
 
 pub loop-index-init : goal.loop-index-init
 loop-index-init g c = record {
-  told = up_to_start (all_unclaimed_text (claims_read c.args.found.now.claims.now) c.args.found.now.patterns.items) (sheet g.W.Write.contents c.args.block.now c.args.writer.now);
+  told = up_to_start (all_unclaimed_text (claims_read c.args.found.now.claims.now) c.args.found.now.patterns.items) (sheet c.args.block.now c.args.writer.now);
   silent = refl;
 }
 
@@ -27,8 +27,8 @@ loop-index-preserved g c =
     let cut : all_unclaimed_text claims (drop l.index patterns) ≡ c.as_slice-bytes.result.now ++ others =
     unclaimed-cut claims patterns l.index pattern less ∙ ap (λ t. t ++ others) (sym text) in
     record {
-      told = up_to_more (all_unclaimed_text claims patterns) _ c.as_slice-bytes.result.now others (sheet g.W.Write.contents c.args.block.now c.args.writer.now)
-          (sheet g.W.Write.contents l.block l.writer) (sheet g.W.Write.contents c.put.new.block c.put.new.writer) l.invariant.told cut c.put.ensures;
+      told = up_to_more (all_unclaimed_text claims patterns) _ c.as_slice-bytes.result.now others (sheet c.args.block.now c.args.writer.now)
+          (sheet l.block l.writer) (sheet c.put.new.block c.put.new.writer) l.invariant.told cut c.put.ensures;
       silent = silent-more (all_unclaimed_text claims patterns) _ c.as_slice-bytes.result.now others l.silent l.invariant.silent cut
           ∙ ap (λ b. b && is_empty others) (sym c.is_silent-silent.ensures);
     }

@@ -10,7 +10,7 @@ abbrev pub invariant-loop-index : goal.invariant-loop-index
 invariant-loop-index g l = record {
   told : TellsUpTo (all_unclaimed_text (claims_read l.found.claims.now) l.found.patterns.items)
       (all_unclaimed_text (claims_read l.found.claims.now) (drop l.index l.found.patterns.items))
-      (sheet g.W.Write.contents l.fn.block l.fn.writer) (sheet g.W.Write.contents l.block l.writer);
+      (sheet l.fn.block l.fn.writer) (sheet l.block l.writer);
   silent : is_empty (all_unclaimed_text (claims_read l.found.claims.now) l.found.patterns.items)
       ≡ (l.silent && is_empty (all_unclaimed_text (claims_read l.found.claims.now) (drop l.index l.found.patterns.items)));
 }

@@ -12,7 +12,7 @@ pub returns-in_err-found-clause-tells : goal.returns-in_err-found-clause-tells
 returns-in_err-found-clause-tells g c =
     let p = err_from_is_err_and c.from_residual.result c.from_residual.ensures.1 in
     rw p.1
-    (front_none (verdict_text (claims_read c.args.claims.now.items.items) (entries_of c.args.rows.now)) (sheet g.W.Write.contents c.args.block.now c.args.writer.now))
+    (front_none (verdict_text (claims_read c.args.claims.now.items.items) (entries_of c.args.rows.now)) (sheet c.args.block.now c.args.writer.now))
 
 pub returns-in_err-agree-clause-tells : goal.returns-in_err-agree-clause-tells
 returns-in_err-agree-clause-tells g c =
@@ -23,8 +23,8 @@ returns-in_err-agree-clause-tells g c =
     ap₂ verdict_text (ap claims_read (sym (c.in_ok-found.ensures.claims ∙ c.as_slice.ensures.value))) (sym c.in_ok-found.ensures.patterns) in
     rw p.1
     (front_first (verdict_text (claims_read c.args.claims.now.items.items) (entries_of c.args.rows.now)) (claims_text found.patterns.items claims)
-    (all_unclaimed_text claims found.patterns.items) (sheet g.W.Write.contents c.args.block.now c.args.writer.now)
-    (sheet g.W.Write.contents c.put_claims.new.block c.put_claims.new.writer) whole c.in_err-agree.ensures.tells)
+    (all_unclaimed_text claims found.patterns.items) (sheet c.args.block.now c.args.writer.now)
+    (sheet c.put_claims.new.block c.put_claims.new.writer) whole c.in_err-agree.ensures.tells)
 
 pub returns-in_err-all_claimed-clause-tells : goal.returns-in_err-all_claimed-clause-tells
 returns-in_err-all_claimed-clause-tells g c =
@@ -33,12 +33,12 @@ returns-in_err-all_claimed-clause-tells g c =
     let claims = claims_read found.claims.now in
     let whole : verdict_text (claims_read c.args.claims.now.items.items) (entries_of c.args.rows.now) ≡ verdict_text claims found.patterns.items =
     ap₂ verdict_text (ap claims_read (sym (c.in_ok-found.ensures.claims ∙ c.as_slice.ensures.value))) (sym c.in_ok-found.ensures.patterns) in
-    let before = sheet g.W.Write.contents c.args.block.now c.args.writer.now in
-    let after = sheet g.W.Write.contents c.put_unclaimed.new.block c.put_unclaimed.new.writer in
+    let before = sheet c.args.block.now c.args.writer.now in
+    let after = sheet c.put_unclaimed.new.block c.put_unclaimed.new.writer in
     rw p.1
     (subst (λ t. TellsFront t before after) (sym whole)
     (front_more (claims_text found.patterns.items claims) (all_unclaimed_text claims found.patterns.items) before
-    (sheet g.W.Write.contents c.put_claims.new.block c.put_claims.new.writer) after c.in_ok-agree.ensures.tells c.in_err-all_claimed.ensures.tells))
+    (sheet c.put_claims.new.block c.put_claims.new.writer) after c.in_ok-agree.ensures.tells c.in_err-all_claimed.ensures.tells))
 
 pub returns-clause-tells : goal.returns-clause-tells
 returns-clause-tells g c =
@@ -46,8 +46,8 @@ returns-clause-tells g c =
     let claims = claims_read found.claims.now in
     let whole : verdict_text (claims_read c.args.claims.now.items.items) (entries_of c.args.rows.now) ≡ verdict_text claims found.patterns.items =
     ap₂ verdict_text (ap claims_read (sym (c.in_ok-found.ensures.claims ∙ c.as_slice.ensures.value))) (sym c.in_ok-found.ensures.patterns) in
-    let before = sheet g.W.Write.contents c.args.block.now c.args.writer.now in
-    let after = sheet g.W.Write.contents c.put_unclaimed.new.block c.put_unclaimed.new.writer in
+    let before = sheet c.args.block.now c.args.writer.now in
+    let after = sheet c.put_unclaimed.new.block c.put_unclaimed.new.writer in
     subst (λ t. TellsAfter t before after) (sym whole)
     (tells_more (claims_text found.patterns.items claims) (all_unclaimed_text claims found.patterns.items) before
-    (sheet g.W.Write.contents c.put_claims.new.block c.put_claims.new.writer) after c.in_ok-agree.ensures.tells c.in_ok-all_claimed.ensures.tells)
+    (sheet c.put_claims.new.block c.put_claims.new.writer) after c.in_ok-agree.ensures.tells c.in_ok-all_claimed.ensures.tells)

@@ -5,6 +5,5 @@ use Rattle.gathered.proofs.putting.put.Goals as goal
 
 pub returns-else-not-takes : goal.returns-else-not-takes
 returns-else-not-takes g c =
-    let contents = g.W.Write.contents in
-    tells_gathered c.args.bytes.now (sheet contents c.args.block.now c.args.writer.now) (sheet contents c.takes.new.self c.args.writer.now)
+    tells_gathered c.args.bytes.now (sheet c.args.block.now c.args.writer.now) (sheet c.takes.new.self c.args.writer.now)
     (c.takes.ensures.yes c.if-not-takes.false) refl refl

@@ -4,9 +4,9 @@ use Rattle.watched.proofs.reading.read_all.Given as goal
 
 abbrev pub invariant-loop-bytes : goal.invariant-loop-bytes
 invariant-loop-bytes g l = record {
-  taken : Consumes (g.R.Read.remaining l.fn.reader.inner) (g.R.Read.remaining l.reader.inner) l.bytes.items;
+  taken : Consumes l.fn.reader.stream.unread l.reader.stream.unread l.bytes.items;
   within : vec_len l.bytes ≤ l.limit;
-  sound : l.reader.failed ≡ false;
+  sound : l.reader.stream.failed ≡ false;
 }
 
 abbrev pub decreases-loop-bytes : goal.decreases-loop-bytes

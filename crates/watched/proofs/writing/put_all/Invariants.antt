@@ -4,8 +4,8 @@ use Rattle.watched.proofs.writing.put_all.Given as goal
 
 abbrev pub invariant-loop-rest : goal.invariant-loop-rest
 invariant-loop-rest g l = record {
-  written : IsFrontWritten (g.W.Write.contents l.fn.writer.inner) (g.W.Write.contents l.writer.inner) l.fn.bytes l.rest;
-  sound : l.writer.failed ≡ false;
+  written : IsFrontWritten l.fn.writer.stream.written l.writer.stream.written l.fn.bytes l.rest;
+  sound : l.writer.stream.failed ≡ false;
 }
 
 abbrev pub decreases-loop-rest : goal.decreases-loop-rest

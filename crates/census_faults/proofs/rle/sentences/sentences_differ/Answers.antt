@@ -1,4 +1,4 @@
-use Rattle.census_faults.proofs.RleLemmas.SentenceLemmas.{words_differ}
+use Rattle.census_faults.proofs.Differing.{words_differ}
 use Rattle.census_faults.proofs.rle.sentences.sentences_differ.Goals as goal
 
 pub returns-clause-words : goal.returns-clause-words

@@ -1,8 +1,7 @@
--- What stands in a reader and in a writer: one value before and one after.
+-- What stands in readers and writers that remember that they failed: one value before and one after.
 use Rattle.std.specs.Prelude.{◌≡◌, ℕ, ◌≤◌, Bool, true, false, List, length, take, Option, MatchBool}
 use Rattle.std.specs.Io.KnownBytes.{Appends}
-use Rattle.watched.specs.Watching.{AppendsFront, has_failed, inner_of}
-use Rattle.watched.specs.declared.watched.Watched.{Watched}
+use Rattle.watched.specs.Watching.{AppendsFront}
 
 -- a reader: the bytes that it has left, where it tells any, and whether it has failed
 pub record Reader : Type 0 where
@@ -14,13 +13,10 @@ pub record Sink : Type 0 where
   pub written : Option (List ℕ)
   pub failed : Bool
 
--- a watched reader, by what its reader has left
-abbrev pub source : {R : Type 0} → (R → Option (List ℕ)) → Watched R → Reader
-source remaining reader = record { unread = remaining (inner_of reader); failed = has_failed reader }
-
--- a watched writer, by what was written to its writer
-abbrev pub sink : {W : Type 0} → (W → Option (List ℕ)) → Watched W → Sink
-sink contents writer = record { written = contents (inner_of writer); failed = has_failed writer }
+-- what stands in a reader or a writer, and that itself
+pub record Watched (S T : Type 0) : Type 0 where
+  pub stream : S
+  pub inner : T
 
 -- standard input, standard output and standard error
 pub record Streams : Type 0 where
@@ -28,11 +24,7 @@ pub record Streams : Type 0 where
   pub output : Sink
   pub errors : Sink
 
--- watched streams
-abbrev pub streams : {I O E : Type 0} → (I → Option (List ℕ)) → (O → Option (List ℕ)) → (E → Option (List ℕ))
-    → Watched I → Watched O → Watched E → Streams
-streams remaining contents told input output errors =
-    record { input = source remaining input; output = sink contents output; errors = sink told errors }
+-- # Of one writer
 
 -- these bytes were written, and the writer has not failed
 pub record Writes (bytes : List ℕ) (before after : Sink) : Type 0 where

@@ -1,0 +1,92 @@
+//! A writer with a flag that stands once a call of it failed.
+ghost use Rattle.std.specs.Prelude.{◌≡◌, ◌<◌, ◌≤◌, true, false, length, take, IfOk, MatchResult};
+ghost use Rattle.std.specs.Io.KnownBytes.{Appends, Keeps};
+ghost use Rattle.watched.specs.Streams.{PutsMoreBytes};
+
+use crate::failed::Failed;
+use crate::interrupted::write_through;
+use crate::writing::put_all;
+use std::io::Write;
+use std::marker::Model;
+
+/// A writer, and whether it has failed. It has not failed at first, and once it has, it stays so. A clause sees the bytes that
+/// were written, where the writer tells any, and whether it has failed.
+#[derive(Drop)]
+pub struct Output<W: Write> {
+    writer: W,
+    failed: bool,
+}
+
+impl<W: Write> Model for Output<W> {
+    ghost use Rattle.watched.specs.Streams.{Sink, Watched};
+
+    ghost Value = { Watched Sink W };
+
+    ghost view = { λ o. record {
+      stream = record { written = W.contents o.writer; failed = o.failed };
+      inner = o.writer;
+    } };
+}
+
+impl<W: Write> Output<W> {
+    /// Watches a writer, which has not failed yet.
+    pub fn new(writer: W) -> Output<W>
+        ensures written { result.stream.written ≡ W.contents writer }
+        ensures failed { result.stream.failed ≡ false }
+        ensures inner { result.inner ≡ writer }
+    {
+        Output {
+            writer,
+            failed: false,
+        }
+    }
+
+    /// The writer, as the last call left it.
+    pub fn into_inner(self) -> W
+        ensures written { W.contents result ≡ self.stream.written }
+        ensures inner { result ≡ self.inner }
+    {
+        let Output { writer, failed: _ } = self;
+        writer
+    }
+
+    /// Whether a call has failed.
+    pub fn failed(&self) -> bool
+        ensures { result ≡ self.now.stream.failed }
+    {
+        self.failed
+    }
+
+    /// Writes a prefix of the bytes, by one call of the writer, and returns how many bytes it took, at least 1. `Failed`
+    /// is answered where the writer's call fails or takes nothing, or one has failed before, and then nothing was
+    /// written. In the last case the writer is not called. A call that a signal interrupts is made again.
+    pub fn put(&mut self, bytes: &[u8]) -> Result<usize, Failed>
+        requires { 0 < length bytes.now }
+        ensures failed { MatchResult result (λ _. self.new.stream.failed ≡ false)
+            (λ _. self.new.stream.failed ≡ true) }
+        ensures uncalled { self.old.stream.failed ≡ true → self.new ≡ self.old }
+        ensures count { IfOk result (λ count. (0 < count) × (count ≤ length bytes.now)) }
+        ensures bytes { MatchResult result
+            (λ count. Appends self.old.stream.written self.new.stream.written (take count bytes.now))
+            (λ _. Keeps self.old.stream.written self.new.stream.written) }
+    {
+        if self.failed {
+            return Err(Failed);
+        }
+        match write_through(&mut self.writer, bytes) {
+            Ok(count) if count > 0 => Ok(count),
+            Ok(_) | Err(_) => {
+                self.failed = true;
+                Err(Failed)
+            }
+        }
+    }
+
+    /// Tells a text, and asks for no memory. Where the writer fails, a prefix of the text went out; where it has failed
+    /// before, the text is lost.
+    pub fn tell(&mut self, text: &[u8])
+        ensures { PutsMoreBytes text.now self.old.stream self.new.stream }
+    {
+        let _ = put_all(self, text);
+    }
+}
