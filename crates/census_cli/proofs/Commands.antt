@@ -390,11 +390,13 @@ run_has words e = record {
   workers = number_in RunText 1 16 (codes "workers") _
       (read_by_default RunText built_run run_rules words e (codes "workers") (inr (inl (refl, record { first = codes "4"; rest = []; is = refl })))) (λ v q. q.1 refl);
   cells = limit_in RunText 4294967295 (codes "cells") _ (read_if_used RunText built_run run_rules words e (codes "cells")) (λ v q. q.2 refl);
-  input = limit_in RunText 9223372036854775807 (codes "input") _ (read_if_used RunText built_run run_rules words e (codes "input")) (λ v q. q.7 refl);
-  recursive = flag_in RunText (codes "recursive") _
-      (read_by_default RunText built_run run_rules words e (codes "recursive") (inr (inr (inr (inr (inl (refl, false_by_default))))))) (λ v q. q.3 refl);
-  keep_going = flag_in RunText (codes "keep-going") _
-      (read_by_default RunText built_run run_rules words e (codes "keep-going") (inr (inr (inr (inr (inr (inl (refl, false_by_default)))))))) (λ v q. q.4 refl);
+  collections = record {
+    input = limit_in RunText 9223372036854775807 (codes "input") _ (read_if_used RunText built_run run_rules words e (codes "input")) (λ v q. q.7 refl);
+    recursive = flag_in RunText (codes "recursive") _
+        (read_by_default RunText built_run run_rules words e (codes "recursive") (inr (inr (inr (inr (inl (refl, false_by_default))))))) (λ v q. q.3 refl);
+    keep_going = flag_in RunText (codes "keep-going") _
+        (read_by_default RunText built_run run_rules words e (codes "keep-going") (inr (inr (inr (inr (inr (inl (refl, false_by_default)))))))) (λ v q. q.4 refl);
+  };
   explain = flag_in RunText (codes "explain") _
       (read_by_default RunText built_run run_rules words e (codes "explain") (inr (inr (inr (inr (inr (inr (inl (refl, false_by_default))))))))) (λ v q. q.5 refl);
   no_progress = flag_in RunText (codes "no-progress") _
@@ -413,11 +415,13 @@ objects_has words e = record {
       (read_by_default ObjectsText built_objects objects_rules words e (codes "near") (inr (inr (inr (inl (refl, false_by_default)))))) (λ v q. q.8 refl);
   horizon = number_in ObjectsText 1 horizon_limit (codes "horizon") _
       (read_by_default ObjectsText built_objects objects_rules words e (codes "horizon") (inr (inr (inr (inr (inl (refl, record { first = codes "1000"; rest = []; is = refl }))))))) (λ v q. q.9 refl);
-  input = limit_in ObjectsText 9223372036854775807 (codes "input") _ (read_if_used ObjectsText built_objects objects_rules words e (codes "input")) (λ v q. q.7 refl);
-  recursive = flag_in ObjectsText (codes "recursive") _
-      (read_by_default ObjectsText built_objects objects_rules words e (codes "recursive") (inr (inr (inr (inr (inr (inr (inl (refl, false_by_default))))))))) (λ v q. q.3 refl);
-  keep_going = flag_in ObjectsText (codes "keep-going") _
-      (read_by_default ObjectsText built_objects objects_rules words e (codes "keep-going") (inr (inr (inr (inr (inr (inr (inr (inl (refl, false_by_default)))))))))) (λ v q. q.4 refl);
+  collections = record {
+    input = limit_in ObjectsText 9223372036854775807 (codes "input") _ (read_if_used ObjectsText built_objects objects_rules words e (codes "input")) (λ v q. q.7 refl);
+    recursive = flag_in ObjectsText (codes "recursive") _
+        (read_by_default ObjectsText built_objects objects_rules words e (codes "recursive") (inr (inr (inr (inr (inr (inr (inl (refl, false_by_default))))))))) (λ v q. q.3 refl);
+    keep_going = flag_in ObjectsText (codes "keep-going") _
+        (read_by_default ObjectsText built_objects objects_rules words e (codes "keep-going") (inr (inr (inr (inr (inr (inr (inr (inl (refl, false_by_default)))))))))) (λ v q. q.4 refl);
+  };
   explain = flag_in ObjectsText (codes "explain") _
       (read_by_default ObjectsText built_objects objects_rules words e (codes "explain") (inr (inr (inr (inr (inr (inr (inr (inr (inl (refl, false_by_default))))))))))) (λ v q. q.5 refl);
   no_progress = flag_in ObjectsText (codes "no-progress") _

@@ -3,48 +3,49 @@ use Rattle.std.proofs.Common.{◌≡◌, [], ◌∷◌, Some, None, true, false,
 use Rattle.clap.specs.Faults.{fault_of}
 use Rattle.clap.specs.declared.error.kind.ErrorKind.TheVariants.{ArgumentConflict, DisplayHelp, DisplayVersion, MissingSubcommand, TooManyValues, UnknownArgument, ValueValidation}
 use Rattle.clap.proofs.OnLiterals.{clap_on_literals}
+use Rattle.life_answer.specs.declared.question.Question.TheVariants.{Objects, Settles}
 use Rattle.census_cli.specs.CommandLine.{census_app}
-use Rattle.census_cli.specs.Asking.{AsksAdvance, AsksDraw, AsksIdentify, AsksMerge, AsksObjects, AsksPage, AsksRun, AsksSame, AsksTable, AsksToExplain, AsksVerify}
+use Rattle.census_cli.specs.Asking.{AsksAdvance, AsksCensus, AsksDraw, AsksIdentify, AsksMerge, AsksPage, AsksSame, AsksTable, AsksToExplain, AsksVerify}
 use Rattle.census_cli.specs.Refusing.{AsksStrangePage, AsksTwoTables}
 use Rattle.census_cli.specs.declared.request.PageSort.TheVariants.{Report, Count}
 use Rattle.census_cli.specs.declared.request.TableSubject.TheVariants.{Patterns, Codes}
 use Rattle.census_cli.specs.declared.request.TableFormat.TheVariants.{Csv, Json}
 
-run_alone : AsksRun (codes "run" ∷ []) 1000 4 None None false false []
+run_alone : AsksCensus (codes "run" ∷ []) (Settles 1000 None) 4 None false false []
 unfolding clap_on_literals
-run_alone = (refl, record { rows = _; named = refl; bound_is = refl; bound_in = (lit≤ tt, lit≤ tt); workers_are = refl; workers_in = (lit≤ tt, lit≤ tt); cells_are = refl; cells_in = tt; input_is = refl; input_in = tt; recursive_is = refl; keep_going_is = refl; folders_are = refl })
+run_alone = (refl, record { rows = _; named = refl; asks = record { bound_is = refl; cells_are = refl; cells_in = tt }; answered = (lit≤ tt, lit≤ tt, tt); workers_are = refl; workers_in = (lit≤ tt, lit≤ tt); collections = record { input_is = refl; input_in = tt; recursive_is = refl; keep_going_is = refl; folders_are = refl } })
 
-run_among : AsksRun (codes "run" ∷ codes "a" ∷ codes "--bound" ∷ codes "50" ∷ codes "b" ∷ codes "-w2" ∷ []) 50 2 None None false false (codes "a" ∷ codes "b" ∷ [])
+run_among : AsksCensus (codes "run" ∷ codes "a" ∷ codes "--bound" ∷ codes "50" ∷ codes "b" ∷ codes "-w2" ∷ []) (Settles 50 None) 2 None false false (codes "a" ∷ codes "b" ∷ [])
 unfolding clap_on_literals
-run_among = (refl, record { rows = _; named = refl; bound_is = refl; bound_in = (lit≤ tt, lit≤ tt); workers_are = refl; workers_in = (lit≤ tt, lit≤ tt); cells_are = refl; cells_in = tt; input_is = refl; input_in = tt; recursive_is = refl; keep_going_is = refl; folders_are = refl })
+run_among = (refl, record { rows = _; named = refl; asks = record { bound_is = refl; cells_are = refl; cells_in = tt }; answered = (lit≤ tt, lit≤ tt, tt); workers_are = refl; workers_in = (lit≤ tt, lit≤ tt); collections = record { input_is = refl; input_in = tt; recursive_is = refl; keep_going_is = refl; folders_are = refl } })
 
-run_small : AsksRun (codes "run" ∷ codes "--cells" ∷ codes "5" ∷ []) 1000 4 (Some 5) None false false []
+run_small : AsksCensus (codes "run" ∷ codes "--cells" ∷ codes "5" ∷ []) (Settles 1000 (Some 5)) 4 None false false []
 unfolding clap_on_literals
-run_small = (refl, record { rows = _; named = refl; bound_is = refl; bound_in = (lit≤ tt, lit≤ tt); workers_are = refl; workers_in = (lit≤ tt, lit≤ tt); cells_are = refl; cells_in = (lit≤ tt, lit≤ tt); input_is = refl; input_in = tt; recursive_is = refl; keep_going_is = refl; folders_are = refl })
+run_small = (refl, record { rows = _; named = refl; asks = record { bound_is = refl; cells_are = refl; cells_in = (lit≤ tt, lit≤ tt) }; answered = (lit≤ tt, lit≤ tt, tt); workers_are = refl; workers_in = (lit≤ tt, lit≤ tt); collections = record { input_is = refl; input_in = tt; recursive_is = refl; keep_going_is = refl; folders_are = refl } })
 
-run_flags : AsksRun (codes "run" ∷ codes "--recursive" ∷ codes "a" ∷ codes "-k" ∷ []) 1000 4 None None true true (codes "a" ∷ [])
+run_flags : AsksCensus (codes "run" ∷ codes "--recursive" ∷ codes "a" ∷ codes "-k" ∷ []) (Settles 1000 None) 4 None true true (codes "a" ∷ [])
 unfolding clap_on_literals
-run_flags = (refl, record { rows = _; named = refl; bound_is = refl; bound_in = (lit≤ tt, lit≤ tt); workers_are = refl; workers_in = (lit≤ tt, lit≤ tt); cells_are = refl; cells_in = tt; input_is = refl; input_in = tt; recursive_is = refl; keep_going_is = refl; folders_are = refl })
+run_flags = (refl, record { rows = _; named = refl; asks = record { bound_is = refl; cells_are = refl; cells_in = tt }; answered = (lit≤ tt, lit≤ tt, tt); workers_are = refl; workers_in = (lit≤ tt, lit≤ tt); collections = record { input_is = refl; input_in = tt; recursive_is = refl; keep_going_is = refl; folders_are = refl } })
 
-objects_alone : AsksObjects (codes "objects" ∷ []) 10000 4 1000000 false 1000 None false false []
+objects_alone : AsksCensus (codes "objects" ∷ []) (Objects 10000 (Some 1000000) false 1000) 4 None false false []
 unfolding clap_on_literals
-objects_alone = (refl, record { rows = _; named = refl; bound_is = refl; bound_in = (lit≤ tt, lit≤ tt); workers_are = refl; workers_in = (lit≤ tt, lit≤ tt); cells_are = refl; cells_in = (lit≤ tt, lit≤ tt); near_is = refl; horizon_is = refl; horizon_in = (lit≤ tt, lit≤ tt); input_is = refl; input_in = tt; recursive_is = refl; keep_going_is = refl; folders_are = refl })
+objects_alone = (refl, record { rows = _; named = refl; asks = record { bound_is = refl; cells_are = refl; cells_in = (lit≤ tt, lit≤ tt); near_is = refl; horizon_is = refl }; answered = (lit≤ tt, lit≤ tt, (lit≤ tt, lit≤ tt)); workers_are = refl; workers_in = (lit≤ tt, lit≤ tt); collections = record { input_is = refl; input_in = tt; recursive_is = refl; keep_going_is = refl; folders_are = refl } })
 
-objects_flags : AsksObjects (codes "objects" ∷ codes "-rb5" ∷ codes "a" ∷ codes "--near" ∷ []) 5 4 1000000 true 1000 None true false (codes "a" ∷ [])
+objects_flags : AsksCensus (codes "objects" ∷ codes "-rb5" ∷ codes "a" ∷ codes "--near" ∷ []) (Objects 5 (Some 1000000) true 1000) 4 None true false (codes "a" ∷ [])
 unfolding clap_on_literals
-objects_flags = (refl, record { rows = _; named = refl; bound_is = refl; bound_in = (lit≤ tt, lit≤ tt); workers_are = refl; workers_in = (lit≤ tt, lit≤ tt); cells_are = refl; cells_in = (lit≤ tt, lit≤ tt); near_is = refl; horizon_is = refl; horizon_in = (lit≤ tt, lit≤ tt); input_is = refl; input_in = tt; recursive_is = refl; keep_going_is = refl; folders_are = refl })
+objects_flags = (refl, record { rows = _; named = refl; asks = record { bound_is = refl; cells_are = refl; cells_in = (lit≤ tt, lit≤ tt); near_is = refl; horizon_is = refl }; answered = (lit≤ tt, lit≤ tt, (lit≤ tt, lit≤ tt)); workers_are = refl; workers_in = (lit≤ tt, lit≤ tt); collections = record { input_is = refl; input_in = tt; recursive_is = refl; keep_going_is = refl; folders_are = refl } })
 
 identify_among : AsksIdentify (codes "identify" ∷ codes "a" ∷ codes "-b" ∷ codes "50" ∷ codes "-" ∷ []) 50 1000000 false 1000 false None (codes "a" ∷ codes "-" ∷ [])
 unfolding clap_on_literals
-identify_among = (refl, record { rows = _; named = refl; bound_is = refl; bound_in = (lit≤ tt, lit≤ tt); cells_are = refl; cells_in = (lit≤ tt, lit≤ tt); near_is = refl; horizon_is = refl; horizon_in = (lit≤ tt, lit≤ tt); json_is = refl; names_are = refl; files_are = refl })
+identify_among = (refl, record { rows = _; named = refl; asks = record { bound_is = refl; cells_are = refl; cells_in = (lit≤ tt, lit≤ tt); near_is = refl; horizon_is = refl }; answered = (lit≤ tt, lit≤ tt, (lit≤ tt, lit≤ tt)); json_is = refl; names_are = refl; files_are = refl })
 
 identify_near : AsksIdentify (codes "identify" ∷ codes "--near" ∷ []) 10000 1000000 true 1000 false None []
 unfolding clap_on_literals
-identify_near = (refl, record { rows = _; named = refl; bound_is = refl; bound_in = (lit≤ tt, lit≤ tt); cells_are = refl; cells_in = (lit≤ tt, lit≤ tt); near_is = refl; horizon_is = refl; horizon_in = (lit≤ tt, lit≤ tt); json_is = refl; names_are = refl; files_are = refl })
+identify_near = (refl, record { rows = _; named = refl; asks = record { bound_is = refl; cells_are = refl; cells_in = (lit≤ tt, lit≤ tt); near_is = refl; horizon_is = refl }; answered = (lit≤ tt, lit≤ tt, (lit≤ tt, lit≤ tt)); json_is = refl; names_are = refl; files_are = refl })
 
 identify_small : AsksIdentify (codes "identify" ∷ codes "--cells" ∷ codes "7" ∷ codes "a" ∷ codes "--horizon=20" ∷ []) 10000 7 false 20 false None (codes "a" ∷ [])
 unfolding clap_on_literals
-identify_small = (refl, record { rows = _; named = refl; bound_is = refl; bound_in = (lit≤ tt, lit≤ tt); cells_are = refl; cells_in = (lit≤ tt, lit≤ tt); near_is = refl; horizon_is = refl; horizon_in = (lit≤ tt, lit≤ tt); json_is = refl; names_are = refl; files_are = refl })
+identify_small = (refl, record { rows = _; named = refl; asks = record { bound_is = refl; cells_are = refl; cells_in = (lit≤ tt, lit≤ tt); near_is = refl; horizon_is = refl }; answered = (lit≤ tt, lit≤ tt, (lit≤ tt, lit≤ tt)); json_is = refl; names_are = refl; files_are = refl })
 
 advance_file : AsksAdvance (codes "advance" ∷ codes "4" ∷ codes "a" ∷ []) 4 (Some (codes "a"))
 unfolding clap_on_literals
@@ -64,7 +65,7 @@ merge_small = (refl, record { rows = _; named = refl; reading = record { cut_is 
 
 identify_named : AsksIdentify (codes "identify" ∷ codes "--json" ∷ codes "--names" ∷ codes "n.tsv" ∷ codes "a" ∷ []) 10000 1000000 false 1000 true (Some (codes "n.tsv")) (codes "a" ∷ [])
 unfolding clap_on_literals
-identify_named = (refl, record { rows = _; named = refl; bound_is = refl; bound_in = (lit≤ tt, lit≤ tt); cells_are = refl; cells_in = (lit≤ tt, lit≤ tt); near_is = refl; horizon_is = refl; horizon_in = (lit≤ tt, lit≤ tt); json_is = refl; names_are = refl; files_are = refl })
+identify_named = (refl, record { rows = _; named = refl; asks = record { bound_is = refl; cells_are = refl; cells_in = (lit≤ tt, lit≤ tt); near_is = refl; horizon_is = refl }; answered = (lit≤ tt, lit≤ tt, (lit≤ tt, lit≤ tt)); json_is = refl; names_are = refl; files_are = refl })
 
 table_json : AsksTable (codes "table" ∷ codes "a" ∷ codes "--json" ∷ codes "b" ∷ []) Patterns Json None false None (codes "a" ∷ codes "b" ∷ [])
 unfolding clap_on_literals

@@ -8,18 +8,21 @@ use Rattle.clap.specs.Faults.{fault_of}
 use Rattle.clap.specs.Simple.{subcommand_of}
 use Rattle.clap.specs.Values.{bool_text}
 use Rattle.clap.specs.Walk.{Row, all_of, first_of, one_of}
+use Rattle.life_answer.specs.declared.question.Question.{Question}
+use Rattle.life_answer.specs.declared.question.Question.TheVariants.{Objects, Settles}
+use Rattle.life_answer.specs.Questions.{IsAnswered}
 use Rattle.census_cli.specs.CommandLine.{census_app}
 use Rattle.census_cli.specs.declared.request.Asked.{Asked}
 use Rattle.census_cli.specs.declared.request.PageAsked.{PageAsked}
 use Rattle.census_cli.specs.declared.request.PageSort.{PageSort}
 use Rattle.census_cli.specs.declared.request.PageSort.TheVariants.{Report, Count, Code, Period, Name}
 use Rattle.census_cli.specs.declared.request.Request.{Request}
-use Rattle.census_cli.specs.declared.request.Request.TheVariants.{Run, Objects, Identify, Advance, Draw, Merge, Table, Page, Same, Verify}
+use Rattle.census_cli.specs.declared.request.Request.TheVariants.{Census, Identify, Advance, Draw, Merge, Table, Page, Same, Verify}
 use Rattle.census_cli.specs.declared.request.TableFormat.{TableFormat}
 use Rattle.census_cli.specs.declared.request.TableFormat.TheVariants.{Csv, Json}
 use Rattle.census_cli.specs.declared.request.TableSubject.{TableSubject}
 use Rattle.census_cli.specs.declared.request.TableSubject.TheVariants.{Patterns, Parts, Codes}
-use Rattle.census_cli.specs.Limits.{generation_limit, horizon_limit, objects_bound_limit, settles_bound_limit, worker_limit}
+use Rattle.census_cli.specs.Limits.{generation_limit, worker_limit}
 
 -- ---- what the matches of a command say
 
@@ -39,6 +42,11 @@ IsFlag id rows used = one_of id rows ≡ Some (bool_text used)
 abbrev pub IsLimit : ℕ → Option ℕ → Type 0
 IsLimit most None = Unit {0}
 IsLimit most (Some n) = (1 ≤ n) × (n ≤ most)
+
+-- there is a number, from 1 to the most
+abbrev pub IsNumber : ℕ → Option ℕ → Type 0
+IsNumber most None = ⊥
+IsNumber most (Some n) = (1 ≤ n) × (n ≤ most)
 
 -- JSON is asked for by its flag alone, and CSV without that of JSON, with texts that are to be safe by the flag of these
 abbrev pub IsFormat : TableFormat → List Row → Type 0
@@ -78,56 +86,57 @@ pub record GivesReports (rows : List Row) (cut : Bool) (input : Option ℕ) (rep
   pub input_in : IsLimit 9223372036854775807 input
   pub reports_are : values_of (codes "report") rows ≡ reports
 
--- The command and its matches are those of a census of these folders, or of the bundle on standard input where there is
--- none.
-pub record GivesRun (command : Option (List ℕ × List Row)) (bound workers : ℕ) (cells input : Option ℕ)
-    (recursive keep_going : Bool) (folders : List (List ℕ)) : Type 0 where
-  pub rows : List Row
-  pub named : command ≡ Some (codes "run", rows)
+-- The matches ask of each pattern which generation comes again first.
+pub record GivesSettles (rows : List Row) (bound : ℕ) (cells : Option ℕ) : Type 0 where
   pub bound_is : argument_number (codes "bound") rows ≡ Some bound
-  pub bound_in : (1 ≤ bound) × (bound ≤ settles_bound_limit)
-  pub workers_are : argument_number (codes "workers") rows ≡ Some workers
-  pub workers_in : (1 ≤ workers) × (workers ≤ worker_limit)
   pub cells_are : argument_number (codes "cells") rows ≡ cells
   pub cells_in : IsLimit 4294967295 cells
+
+-- They ask into which objects it falls apart, or by which engines it grows; there is always a number of cells.
+pub record GivesObjects (rows : List Row) (bound : ℕ) (cells : Option ℕ) (near : Bool) (horizon : ℕ) : Type 0 where
+  pub bound_is : argument_number (codes "bound") rows ≡ Some bound
+  pub cells_are : argument_number (codes "cells") rows ≡ cells
+  pub cells_in : IsNumber 4294967295 cells
+  pub near_is : IsFlag (codes "near") rows near
+  pub horizon_is : argument_number (codes "horizon") rows ≡ Some horizon
+
+-- they ask this of each pattern
+abbrev pub GivesQuestion : List Row → Question → Type 0
+GivesQuestion rows (Settles bound cells) = GivesSettles rows bound cells
+GivesQuestion rows (Objects bound cells near horizon) = GivesObjects rows bound cells near horizon
+
+-- the command that asks this of collections
+abbrev pub command_asking : Question → List ℕ
+command_asking (Settles bound cells) = codes "run"
+command_asking (Objects bound cells near horizon) = codes "objects"
+
+-- The matches name these folders, none for the bundle on standard input, and say how they are read.
+pub record GivesCollections (rows : List Row) (input : Option ℕ) (recursive keep_going : Bool) (folders : List (List ℕ)) : Type 0 where
   pub input_is : argument_number (codes "input") rows ≡ input
   pub input_in : IsLimit 9223372036854775807 input
   pub recursive_is : IsFlag (codes "recursive") rows recursive
   pub keep_going_is : IsFlag (codes "keep-going") rows keep_going
   pub folders_are : values_of (codes "folder") rows ≡ folders
 
--- those of a census of the objects of these folders, or of those of the bundle
-pub record GivesObjects (command : Option (List ℕ × List Row)) (bound workers cells : ℕ) (near : Bool) (horizon : ℕ)
-    (input : Option ℕ) (recursive keep_going : Bool) (folders : List (List ℕ)) : Type 0 where
+-- The command and its matches are those of a census of these collections, by so many workers, which asks this of each
+-- pattern.
+pub record GivesCensus (command : Option (List ℕ × List Row)) (question : Question) (workers : ℕ) (input : Option ℕ)
+    (recursive keep_going : Bool) (folders : List (List ℕ)) : Type 0 where
   pub rows : List Row
-  pub named : command ≡ Some (codes "objects", rows)
-  pub bound_is : argument_number (codes "bound") rows ≡ Some bound
-  pub bound_in : (1 ≤ bound) × (bound ≤ objects_bound_limit)
+  pub named : command ≡ Some (command_asking question, rows)
+  pub asks : GivesQuestion rows question
+  pub answered : IsAnswered question
   pub workers_are : argument_number (codes "workers") rows ≡ Some workers
   pub workers_in : (1 ≤ workers) × (workers ≤ worker_limit)
-  pub cells_are : argument_number (codes "cells") rows ≡ Some cells
-  pub cells_in : (1 ≤ cells) × (cells ≤ 4294967295)
-  pub near_is : IsFlag (codes "near") rows near
-  pub horizon_is : argument_number (codes "horizon") rows ≡ Some horizon
-  pub horizon_in : (1 ≤ horizon) × (horizon ≤ horizon_limit)
-  pub input_is : argument_number (codes "input") rows ≡ input
-  pub input_in : IsLimit 9223372036854775807 input
-  pub recursive_is : IsFlag (codes "recursive") rows recursive
-  pub keep_going_is : IsFlag (codes "keep-going") rows keep_going
-  pub folders_are : values_of (codes "folder") rows ≡ folders
+  pub collections : GivesCollections rows input recursive keep_going folders
 
 -- those of the blocks of these files, or, where there is none, of the block of standard input
 pub record GivesIdentify (command : Option (List ℕ × List Row)) (bound cells : ℕ) (near : Bool) (horizon : ℕ)
     (json : Bool) (names : Option (List ℕ)) (files : List (List ℕ)) : Type 0 where
   pub rows : List Row
   pub named : command ≡ Some (codes "identify", rows)
-  pub bound_is : argument_number (codes "bound") rows ≡ Some bound
-  pub bound_in : (1 ≤ bound) × (bound ≤ objects_bound_limit)
-  pub cells_are : argument_number (codes "cells") rows ≡ Some cells
-  pub cells_in : (1 ≤ cells) × (cells ≤ 4294967295)
-  pub near_is : IsFlag (codes "near") rows near
-  pub horizon_is : argument_number (codes "horizon") rows ≡ Some horizon
-  pub horizon_in : (1 ≤ horizon) × (horizon ≤ horizon_limit)
+  pub asks : GivesObjects rows bound (Some cells) near horizon
+  pub answered : IsAnswered (Objects bound (Some cells) near horizon)
   pub json_is : IsFlag (codes "json") rows json
   pub names_are : first_of (codes "names") rows ≡ names
   pub files_are : values_of (codes "file") rows ≡ files
@@ -198,10 +207,9 @@ pub record GivesVerify (command : Option (List ℕ × List Row)) (claims : List 
   pub reading : GivesReports rows cut input reports
 
 abbrev pub GivesRequest : Option (List ℕ × List Row) → Request → Type 0
-GivesRequest command (Run bound workers cells input recursive keep_going folders) =
-    GivesRun command bound workers cells input recursive keep_going (map (λ s. s.now) folders.items)
-GivesRequest command (Objects bound workers cells near horizon input recursive keep_going folders) =
-    GivesObjects command bound workers cells near horizon input recursive keep_going (map (λ s. s.now) folders.items)
+GivesRequest command (Census census) =
+    GivesCensus command census.question census.workers census.collections.input census.collections.recursive
+    census.collections.keep_going (map (λ s. s.now) census.collections.folders.items)
 GivesRequest command (Identify bound cells near horizon json names files) =
     GivesIdentify command bound cells near horizon json (option_map (λ s. s.now) names) (map (λ s. s.now) files.items)
 GivesRequest command (Advance generations file) = GivesAdvance command generations (option_map (λ s. s.now) file)
@@ -244,15 +252,10 @@ GivesAsked command asked =
 abbrev pub IsMatched : List (List ℕ) → Type 0
 IsMatched words = fault_of census_app words ≡ []
 
--- the words ask for the census of these folders, or of the bundle on standard input where there is none
-abbrev pub AsksRun : List (List ℕ) → ℕ → ℕ → Option ℕ → Option ℕ → Bool → Bool → List (List ℕ) → Type 0
-AsksRun words bound workers cells input recursive keep_going folders =
-    IsMatched words × GivesRun (subcommand_of census_app words) bound workers cells input recursive keep_going folders
-
--- for the census of the objects of these folders, or of those of the bundle
-abbrev pub AsksObjects : List (List ℕ) → ℕ → ℕ → ℕ → Bool → ℕ → Option ℕ → Bool → Bool → List (List ℕ) → Type 0
-AsksObjects words bound workers cells near horizon input recursive keep_going folders =
-    IsMatched words × GivesObjects (subcommand_of census_app words) bound workers cells near horizon input recursive keep_going folders
+-- the words ask for a census of these folders, or of the bundle on standard input where there is none
+abbrev pub AsksCensus : List (List ℕ) → Question → ℕ → Option ℕ → Bool → Bool → List (List ℕ) → Type 0
+AsksCensus words question workers input recursive keep_going folders =
+    IsMatched words × GivesCensus (subcommand_of census_app words) question workers input recursive keep_going folders
 
 -- for the blocks of these files, or, where there is none, for the block of standard input
 abbrev pub AsksIdentify : List (List ℕ) → ℕ → ℕ → Bool → ℕ → Bool → Option (List ℕ) → List (List ℕ) → Type 0

@@ -25,14 +25,18 @@ HasFlag id rows = (used : Bool) × IsFlag id rows used
 abbrev pub HasText : List ℕ → List Row → Type 0
 HasText id rows = (text : List ℕ) × (first_of id rows ≡ Some text)
 
+-- the matches of a census say how its collections are read
+pub record HasCollections (rows : List Row) : Type 0 where
+  pub input : HasLimit 9223372036854775807 (codes "input") rows
+  pub recursive : HasFlag (codes "recursive") rows
+  pub keep_going : HasFlag (codes "keep-going") rows
+
 -- the matches of `run` have their numbers and flags
 pub record HasRun (rows : List Row) : Type 0 where
   pub bound : HasNumberIn 1 settles_bound_limit (codes "bound") rows
   pub workers : HasNumberIn 1 worker_limit (codes "workers") rows
   pub cells : HasLimit 4294967295 (codes "cells") rows
-  pub input : HasLimit 9223372036854775807 (codes "input") rows
-  pub recursive : HasFlag (codes "recursive") rows
-  pub keep_going : HasFlag (codes "keep-going") rows
+  pub collections : HasCollections rows
   pub explain : HasFlag (codes "explain") rows
   pub no_progress : HasFlag (codes "no-progress") rows
 
@@ -43,9 +47,7 @@ pub record HasObjects (rows : List Row) : Type 0 where
   pub cells : HasNumberIn 1 4294967295 (codes "cells") rows
   pub near : HasFlag (codes "near") rows
   pub horizon : HasNumberIn 1 horizon_limit (codes "horizon") rows
-  pub input : HasLimit 9223372036854775807 (codes "input") rows
-  pub recursive : HasFlag (codes "recursive") rows
-  pub keep_going : HasFlag (codes "keep-going") rows
+  pub collections : HasCollections rows
   pub explain : HasFlag (codes "explain") rows
   pub no_progress : HasFlag (codes "no-progress") rows
 

@@ -14,5 +14,6 @@ mod request;
 
 pub use fault::WordsFault;
 pub use request::{
-    Asked, PageAsked, PageSort, Reports, Request, TableFormat, TableSubject, read_words,
+    Asked, Census, Collections, PageAsked, PageSort, Reports, Request, TableFormat, TableSubject,
+    read_words,
 };

@@ -1,15 +1,16 @@
 //! What words ask for.
 ghost use Rattle.std.specs.Prelude.{◌≡◌, IfNone, IfOk, IfSome, MatchResult, Some, codes, false, map, option_map};
 ghost use Rattle.clap.specs.Words.{first_of, found_of, rows_of, subcommand_rows_of};
-ghost use Rattle.census_cli.specs.Asking.{AsksFor, Explains, GivesAsked, GivesReports, GivesRequest, IsFlag, IsQuiet, argument_number, values_of};
+ghost use Rattle.census_cli.specs.Asking.{AsksFor, Explains, GivesAsked, GivesCollections, GivesReports, GivesRequest, IsFlag, IsQuiet, argument_number, values_of};
 ghost use Rattle.census_cli.specs.Asking.{IsAddress, is_address, order_of};
-ghost use Rattle.census_cli.specs.Holding.{HasFlag, HasIdentify, HasLimit, HasNumber, HasObjects, HasPage, HasReports, HasRun, HasTable, HasText};
+ghost use Rattle.census_cli.specs.Holding.{HasCollections, HasFlag, HasIdentify, HasLimit, HasNumber, HasObjects, HasPage, HasReports, HasRun, HasTable, HasText};
 ghost use Rattle.census_cli.specs.Holding.{IsCommand};
 ghost use Rattle.census_cli.specs.Refusing.{NamesFormat, NamesSubject, RefusesCommand, RefusesWords};
 
 use crate::command;
 use crate::fault::{WordsFault, fault_of};
 use clap::ArgMatches;
+use life_answer::Question;
 use std::alloc::{AllocError, Global};
 
 /// How a table is written.
@@ -80,50 +81,35 @@ pub struct Reports<'a> {
     pub words: Vec<&'a str>,
 }
 
+/// The collections of a census, and how they are read.
+#[derive(Debug, PartialEq, Drop)]
+pub struct Collections<'a> {
+    /// How many bytes the files of the folders may have together, 1 to 9,223,372,036,854,775,807, where there is such a limit.
+    pub input: Option<u64>,
+    /// Whether the folders below a folder are collections too.
+    pub recursive: bool,
+    /// Whether the census goes on past what can't be read.
+    pub keep_going: bool,
+    /// In the order of the words. Where there is none, the collections are those of the bundle on standard input.
+    pub folders: Vec<&'a str>,
+}
+
+/// A census of collections.
+#[derive(Debug, PartialEq, Drop)]
+pub struct Census<'a> {
+    /// What is asked of each pattern, with its numbers in their ranges. There is always a limit of cells where objects are
+    /// asked for.
+    pub question: Question,
+    /// How many threads work, 1 to 16.
+    pub workers: u32,
+    pub collections: Collections<'a>,
+}
+
 /// What words ask for.
 #[derive(Debug, PartialEq, Drop)]
 pub enum Request<'a> {
-    /// The census of collections: of these folders, or, where there is none, of the bundle on standard input.
-    Run {
-        /// How many generations are searched, 1 to 1,000,000.
-        bound: u32,
-        /// How many threads work, 1 to 16.
-        workers: u32,
-        /// How many live cells a pattern may have, 1 to 4,294,967,295, where there is such a limit.
-        cells: Option<u32>,
-        /// How many bytes the files of the folders may have together, 1 to 9,223,372,036,854,775,807, where there is such
-        /// a limit.
-        input: Option<u64>,
-        /// Whether the folders below a folder are collections too.
-        recursive: bool,
-        /// Whether the census goes on past what can't be read.
-        keep_going: bool,
-        /// In the order of the words.
-        folders: Vec<&'a str>,
-    },
-    /// The census of the objects in what collections become: of these folders, or, where there is none, of the bundle on
-    /// standard input.
-    Objects {
-        /// How many generations are searched, 1 to 100,000.
-        bound: u32,
-        /// How many threads work, 1 to 16.
-        workers: u32,
-        /// How many live cells a pattern may have, 1 to 4,294,967,295.
-        cells: u32,
-        /// Whether what comes near each other is counted as one object.
-        near: bool,
-        /// Within how many generations growth is looked for, 1 to 10,000.
-        horizon: u32,
-        /// How many bytes the files of the folders may have together, 1 to 9,223,372,036,854,775,807, where there is such
-        /// a limit.
-        input: Option<u64>,
-        /// Whether the folders below a folder are collections too.
-        recursive: bool,
-        /// Whether the census goes on past what can't be read.
-        keep_going: bool,
-        /// In the order of the words.
-        folders: Vec<&'a str>,
-    },
+    /// The report of a census.
+    Census(Census<'a>),
     /// What the pattern of each of these files is, or, where there is none, that of standard input.
     Identify {
         /// How many generations are searched, 1 to 100,000.
@@ -255,20 +241,34 @@ fn texts<'a>(alloc: Global, matches: &ArgMatches<'a>, id: &str) -> Result<Vec<&'
     }
 }
 
+// The collections that the matches of a census name, and how they are read.
+fn collections_of<'a>(alloc: Global, census: &ArgMatches<'a>) -> Result<Collections<'a>, AllocError>
+    requires { HasCollections (rows_of (found_of census.now)) }
+    ensures { IfOk result
+        (λ asked. GivesCollections (rows_of (found_of census.now)) asked.input asked.recursive asked.keep_going
+        (map (λ s. s.now) asked.folders.items)) }
+{
+    Ok(Collections {
+        input: long_limit(census, "input"),
+        recursive: flag(census, "recursive"),
+        keep_going: flag(census, "keep-going"),
+        folders: texts(alloc, census, "folder")?,
+    })
+}
+
 // What the matches of `run` ask for.
 fn run_of<'a>(alloc: Global, run: &ArgMatches<'a>) -> Result<Request<'a>, AllocError>
     requires { HasRun (rows_of (found_of run.now)) }
     ensures { IfOk result (GivesRequest (Some (codes "run", rows_of (found_of run.now)))) }
 {
-    Ok(Request::Run {
-        bound: number(run, "bound"),
+    Ok(Request::Census(Census {
+        question: Question::Settles {
+            bound: number(run, "bound"),
+            cells: limit(run, "cells"),
+        },
         workers: number(run, "workers"),
-        cells: limit(run, "cells"),
-        input: long_limit(run, "input"),
-        recursive: flag(run, "recursive"),
-        keep_going: flag(run, "keep-going"),
-        folders: texts(alloc, run, "folder")?,
-    })
+        collections: collections_of(alloc, run)?,
+    }))
 }
 
 // What the matches of `objects` ask for.
@@ -276,17 +276,16 @@ fn objects_of<'a>(alloc: Global, objects: &ArgMatches<'a>) -> Result<Request<'a>
     requires { HasObjects (rows_of (found_of objects.now)) }
     ensures { IfOk result (GivesRequest (Some (codes "objects", rows_of (found_of objects.now)))) }
 {
-    Ok(Request::Objects {
-        bound: number(objects, "bound"),
+    Ok(Request::Census(Census {
+        question: Question::Objects {
+            bound: number(objects, "bound"),
+            cells: Some(number(objects, "cells")),
+            near: flag(objects, "near"),
+            horizon: number(objects, "horizon"),
+        },
         workers: number(objects, "workers"),
-        cells: number(objects, "cells"),
-        near: flag(objects, "near"),
-        horizon: number(objects, "horizon"),
-        input: long_limit(objects, "input"),
-        recursive: flag(objects, "recursive"),
-        keep_going: flag(objects, "keep-going"),
-        folders: texts(alloc, objects, "folder")?,
-    })
+        collections: collections_of(alloc, objects)?,
+    }))
 }
 
 // What the matches of `identify` ask for.

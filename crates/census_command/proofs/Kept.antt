@@ -1,11 +1,11 @@
 -- What a census that goes on past what can't be read wrote and told.
-use Rattle.std.proofs.Common.{◌≡◌, ◌≢◌, ◌⊎◌, ℕ, ◌+◌, ◌<◌, true, false, List, [], ◌∷◌, ◌++◌, length, get_or, drop, inl, inr, refl, sym, ap, ◌∙◌}
+use Rattle.std.proofs.Common.{◌≡◌, ◌≢◌, ◌⊎◌, ℕ, ◌+◌, ◌<◌, false, List, [], ◌∷◌, ◌++◌, length, get_or, drop, inl, inr, refl, sym, ap, ◌∙◌}
 use Rattle.std.proofs.lemmas.List.{append_assoc, drop_more}
 use Rattle.census_folders.specs.declared.loss.Loss.{Loss}
-use Rattle.census_folders.specs.declared.loss.OnLoss.{OnLoss}
-use Rattle.census_folders.specs.declared.loss.OnLoss.TheVariants.{Keep}
+use Rattle.census_folders.specs.Sources.{Asked}
+use Rattle.census_cli.specs.declared.request.Collections.{Collections}
 use Rattle.census_command.specs.Keeps.{kept_status, lost_line, lost_lines}
-use Rattle.census_errors.specs.Sources.{Collections, Folders, StopsAtFirstLoss, on_loss_of, source_by}
+use Rattle.census_errors.specs.Sources.{Folders, StopsAtFirstLoss, asked_of, on_loss_of, source_by}
 
 -- # The lines
 
@@ -28,17 +28,12 @@ status_kept (loss ∷ lost) lines status is none some = some (λ e. let both : l
 -- # Where collections come from
 
 -- nothing goes on where it isn't asked for, or without a word
-pub stops_at_first : (from : Collections) (words : List (List ℕ)) → (from.keep_going ≡ false) ⊎ (words ≡ []) → StopsAtFirstLoss (source_by from words)
+pub stops_at_first : (from : Collections) (words : List (List ℕ)) → (from.keep_going ≡ false) ⊎ (words ≡ []) → StopsAtFirstLoss (source_by (asked_of from) words)
 stops_at_first from [] why = tt
 stops_at_first from (word ∷ words) (inl h) = ap on_loss_of h
 stops_at_first from (word ∷ words) (inr h) = absurd cc
 
-pub goes_on : (from : Collections) (words : List (List ℕ)) → from.keep_going ≡ true → (words ≢ []) → source_by from words ≡ Folders (record { words = from.words; below = from.recursive; limit = from.limit; on_loss = Keep })
-goes_on from [] asked any = absurd (any refl)
-goes_on from (word ∷ words) asked any = ap (λ (o : OnLoss). Folders (record { words = from.words; below = from.recursive; limit = from.limit; on_loss = o })) (ap on_loss_of asked)
-
--- where the first thing that can't be read ends it, it is as if nothing else were asked for
-pub ends_at_first : (from : Collections) (words : List (List ℕ)) → StopsAtFirstLoss (source_by from words)
-    → source_by (record { limit = from.limit; recursive = from.recursive; keep_going = false; words = from.words }) words ≡ source_by from words
-ends_at_first from [] whole = refl
-ends_at_first from (word ∷ words) whole = ap (λ (o : OnLoss). Folders (record { words = from.words; below = from.recursive; limit = from.limit; on_loss = o })) (sym whole)
+-- words are folders
+pub are_folders : (asked : Asked) (words : List (List ℕ)) → (words ≢ []) → source_by asked words ≡ Folders asked
+are_folders asked [] any = absurd (any refl)
+are_folders asked (word ∷ words) any = refl

@@ -1,5 +1,6 @@
 pub mod Advanced
 pub mod Outcomes
+pub mod Statuses
 pub mod Reports
 mod Kept
 mod Cuts

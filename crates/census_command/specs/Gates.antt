@@ -1,11 +1,11 @@
 -- What the gate is told.
-use Rattle.std.specs.Prelude.{◌≡◌, ◌⊎◌, ℕ, Bool, true, false, List, Option, map}
+use Rattle.std.specs.Prelude.{◌≡◌, ◌⊎◌, ℕ, Bool, true, false, List, Option}
 use Rattle.watched.specs.Streams.{Reader}
 use Rattle.census_bundle.specs.declared.bundle.Folder.{Folder}
 use Rattle.census_cli.specs.Asking.{Asks, AsksForQuiet}
 use Rattle.census_cli.specs.Refusing.{AsksHelp}
 use Rattle.census_cli.specs.declared.request.Request.{Request}
-use Rattle.census_cli.specs.declared.request.Request.TheVariants.{Run, Objects}
+use Rattle.census_cli.specs.declared.request.Request.TheVariants.{Census}
 use Rattle.census_crew.specs.Bytes.{ReadsFolders}
 use Rattle.census_crew.specs.Gates.{Hears, News, news_of}
 use Rattle.census_errors.specs.Errors.{run_status}
@@ -14,7 +14,6 @@ use Rattle.census_errors.specs.declared.run_error.RunError.{RunError}
 use Rattle.census_folders.specs.Sources.{Asked, Reads}
 use Rattle.census_folders.specs.Tellings.{Tellings}
 use Rattle.census_folders.specs.declared.reading.Kept.{Kept}
-use Rattle.census_command.specs.Asking.{AsksForNone}
 use Rattle.census_command.specs.Keeps.{StopsKeeping}
 
 -- what a gate was told, as far as it tells that
@@ -53,13 +52,21 @@ HearsKept shelf asked quiet status old new =
 
 -- # Of what is asked for
 
+-- no census is asked for
+abbrev pub AsksForNone : Request → Type 0
+AsksForNone (Census census) = ⊥
+AsksForNone request = Unit {0}
+
 -- of the run, where a census is asked for, and else nothing
 abbrev pub HearsRequest : Tellings → Request → Bool → Reader → Reader → Heard → Heard → Type 0
-HearsRequest shelf (Run bound workers cells input recursive keep_going folders) quiet before after old new =
-    HearsRun shelf (source_of (record { limit = input; recursive = recursive; keep_going = keep_going; words = map (λ s. s.now) folders.items })) quiet before after old new
-HearsRequest shelf (Objects bound workers cells near horizon input recursive keep_going folders) quiet before after old new =
-    HearsRun shelf (source_of (record { limit = input; recursive = recursive; keep_going = keep_going; words = map (λ s. s.now) folders.items })) quiet before after old new
+HearsRequest shelf (Census census) quiet before after old new =
+    HearsRun shelf (source_of census.collections) quiet before after old new
 HearsRequest shelf request quiet before after old new = new ≡ old
+
+-- By the exit status of what was asked for: where a census was done, of its run; and else of it, or nothing.
+abbrev pub HearsEnd : Tellings → Request → Bool → ℕ → Reader → Reader → Heard → Heard → Type 0
+HearsEnd shelf request quiet status before after old new =
+    HearsRequest shelf request quiet before after old new ⊎ ((status ≡ 0 → AsksForNone request) × (new ≡ old))
 
 -- The words ask for this, and the gate was told of it; with `--no-progress`, nothing.
 pub record HearsAsked (shelf : Tellings) (words : List (List ℕ)) (before after : Reader) (old new : Heard) : Type 0 where

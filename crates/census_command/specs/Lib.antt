@@ -3,7 +3,6 @@ pub mod BesideReports
 pub mod Advances
 pub mod Draws
 pub mod Runs
-pub mod Asking
 pub mod Keeps
 pub mod Forms
 pub mod Remakes
@@ -11,3 +10,4 @@ pub mod Identifying
 pub mod Requests
 pub mod Gates
 pub mod Outcomes
+pub mod Statuses

@@ -1,25 +1,25 @@
 //! What the program does with its words.
-ghost use Rattle.std.specs.Prelude.{◌≡◌, ◌⊎◌, ◌||◌, ◌++◌, false, map, IfErr, IfNone, IfOk, IfSome, MatchResult, OnOk};
+ghost use Rattle.std.specs.Prelude.{◌≡◌, ◌⊎◌, ◌||◌, false, map, IfErr, IfOk, MatchResult, OnOk};
+ghost use Rattle.census_cli.specs.declared.request.Request.TheVariants as request;
 ghost use Rattle.census_errors.specs.Errors.{status_of};
 ghost use Rattle.census_errors.specs.Messages.{error_line};
 ghost use Rattle.census_errors.specs.Places.{IsPlaceOf};
-ghost use Rattle.census_errors.specs.Sayings.{line_said, said_if};
-ghost use Rattle.census_command.specs.Forms.{reading_of};
-ghost use Rattle.census_command.specs.Gates.{HearsOutcome, HearsRequest};
-ghost use Rattle.census_command.specs.Outcomes.{Answers, IsBeside, IsRemaking, Outcome};
-ghost use Rattle.census_command.specs.Requests.{Does, Fails, HasNoText, IsDone, IsLawful, MakesNothing};
+ghost use Rattle.census_errors.specs.Sources.{StopsAtFirstLoss, source_of};
+ghost use Rattle.census_command.specs.Gates.{HearsEnd, HearsOutcome, HearsRequest};
+ghost use Rattle.census_command.specs.Outcomes.{Answers, Concludes, Ends, Outcome};
+ghost use Rattle.census_command.specs.Requests.{Does, Fails, IsLawful};
 ghost use Rattle.watched.specs.Streams.{PutsBytes};
 ghost use Rattle.census_command.specs.Streams.{HasSoundStreams, TellsIf};
 
 use crate::advancing::advance;
-use crate::census::{census_of, kept_of};
+use crate::collections::goes_on;
 use crate::drawing::draw;
-use crate::forms::{Beside, format_of, options_asked, reading_of, subject_of};
+use crate::forms::{Beside, names_beside, options_asked, table_form};
 use crate::identifying::{form_told, tell_patterns};
 use crate::keeping::keep_going;
 use crate::remaking::{remake, remake_with};
 use crate::running::run_command;
-use census_cli::{Reports, Request, WordsFault, read_words};
+use census_cli::{Census, Request, WordsFault, read_words};
 use census_crew::Gate;
 use census_errors::{CommandError, Place, Stopped, file_place, saying_of, stop_saying};
 use census_folders::Shelf;
@@ -31,130 +31,103 @@ use std::sync::Wait;
 use std::thread::Threads;
 use watched::{Output, Streams, put_all};
 
-// What is made of reports alone, and of which, where that is asked for.
-fn remaking_of<'r, 'a>(request: &'r Request<'a>) -> Option<(Form<'a>, &'r Reports<'a>)>
-    ensures some { IfSome result
-        (λ made. IsRemaking request.now made.0 (reading_of made.1.now) (map (λ s. s.now) made.1.now.words.items)) }
-    ensures none { IfNone result (MakesNothing request.now) }
-{
-    match request {
-        Request::Merge { reports } => Some((Form::Merged, reports)),
-        Request::Table {
-            subject,
-            format,
-            names: None,
-            reports,
-        } => {
-            let form = Form::Table {
-                subject: subject_of(*subject),
-                format: format_of(*format),
-                names: None,
-            };
-            Some((form, reports))
-        }
-        Request::Page { page, reports } => {
-            let form = Form::Page {
-                options: options_asked(page),
-            };
-            Some((form, reports))
-        }
-        Request::Same { json, reports } => Some((Form::Same { json: *json }, reports)),
-        _ => None,
-    }
-}
-
-// What is made of reports with a text that is read before them, the word of that text, and which reports, where that is
-// asked for.
-fn beside_of<'r, 'a>(request: &'r Request<'a>) -> Option<(Beside, &'a str, &'r Reports<'a>)>
-    ensures some { IfSome result
-        (λ made. IsBeside request.now made.0 made.1.now (reading_of made.2.now)
-        (map (λ s. s.now) made.2.now.words.items)) }
-    ensures none { IfNone result (HasNoText request.now) }
-{
-    match request {
-        Request::Table {
-            subject,
-            format,
-            names: Some(names),
-            reports,
-        } => {
-            let beside = Beside::Names {
-                subject: subject_of(*subject),
-                format: format_of(*format),
-            };
-            Some((beside, *names, reports))
-        }
-        Request::Verify { claims, reports } => Some((Beside::Claims, *claims, reports)),
-        _ => None,
-    }
-}
-
-// Does what is asked for, which is neither to tell what patterns are nor to make something of reports, and ends at the
-// first thing that can't be read. It gives the lines that are said beside what was written, where faults are explained.
-fn execute<S: Shelf, I: Read, O: Write, E: Write, G: Gate, R: Threads + Wait + Sync>(
+// Writes the report of a census that ends at the first thing that can't be read. It gives the lines that are said beside
+// the report, where faults are explained.
+fn report_census<S: Shelf, I: Read, O: Write, E: Write, G: Gate, R: Threads + Wait + Sync>(
     rt: &R,
     shelf: &S,
     alloc: Global,
-    request: &Request<'_>,
+    census: &Census<'_>,
     explain: bool,
     quiet: bool,
     gate: &mut G,
     streams: &mut Streams<I, O, E>,
 ) -> Result<Vec<u8>, Stopped>
-    requires lawful { IsLawful request.now }
-    requires more { IsDone request.now }
+    requires lawful { IsLawful (request.Census census.now) }
+    requires stops { StopsAtFirstLoss (source_of census.now.collections) }
     requires sound { HasSoundStreams streams.old }
     ensures done { IfOk result
-        (λ lines. Does (S.tellings shelf.now)
-        request.now explain lines.items streams.old streams.new) }
+        (λ lines. Does (S.tellings shelf.now) (request.Census census.now) explain lines.items streams.old streams.new) }
     ensures sound { OnOk result (HasSoundStreams streams.new) }
     ensures fails { IfErr result
-        (λ stopped. Fails stopped.error (S.tellings shelf.now)
-        request.now streams.old streams.new) }
+        (λ stopped. Fails stopped.error (S.tellings shelf.now) (request.Census census.now) streams.old streams.new) }
     ensures place { IfErr result
-        (λ stopped. IsPlaceOf (S.tellings shelf.now)
-        request.now stopped.error stopped.place) }
+        (λ stopped. IsPlaceOf (S.tellings shelf.now) (request.Census census.now) stopped.error stopped.place) }
     ensures gate { MatchResult result
-        (λ _. HearsRequest (S.tellings shelf.now) request.now quiet
+        (λ _. HearsRequest (S.tellings shelf.now) (request.Census census.now) quiet
         streams.old.input streams.new.input (G.heard gate.old) (G.heard gate.new))
         (λ _. (G.heard gate.new ≡ G.heard gate.old)
-        ⊎ HearsRequest (S.tellings shelf.now) request.now quiet
+        ⊎ HearsRequest (S.tellings shelf.now) (request.Census census.now) quiet
         streams.old.input streams.new.input (G.heard gate.old) (G.heard gate.new)) }
     ensures quiet { streams.new.errors ≡ streams.old.errors }
 {
-    if let Some(census) = census_of(request) {
-        return match run_command(rt, shelf, alloc, census, explain, quiet, gate, streams) {
-            Ok(lines) => Ok(lines),
-            Err(stopped) => Err(Stopped::from(stopped)),
-        };
+    match run_command(rt, shelf, alloc, census, explain, quiet, gate, streams) {
+        Ok(lines) => Ok(lines),
+        Err(stopped) => Err(Stopped::from(stopped)),
     }
-    match request {
-        Request::Advance { generations, file } => {
-            if let Err(error) = advance(shelf, alloc, *generations, *file, streams) {
-                return Err(Stopped {
-                    error: CommandError::Advance(error),
-                    place: file_place(alloc, error),
-                });
-            }
-        }
-        Request::Draw { code, rule } => {
-            if let Err(error) = draw(alloc, code.as_bytes(), rule.as_bytes(), streams) {
-                return Err(Stopped {
-                    error: CommandError::Draw(error),
-                    place: Place::nowhere(),
-                });
-            }
-        }
-        Request::Run { .. }
-        | Request::Objects { .. }
-        | Request::Identify { .. }
-        | Request::Merge { .. }
-        | Request::Table { .. }
-        | Request::Page { .. }
-        | Request::Same { .. }
-        | Request::Verify { .. } => unreachable!(),
+}
+
+// Writes a later generation of the pattern of a file, or of that on standard input. Nothing is said beside it.
+fn advance_asked<S: Shelf, I: Read, O: Write, E: Write>(
+    shelf: &S,
+    alloc: Global,
+    generations: u32,
+    file: Option<&str>,
+    explain: bool,
+    streams: &mut Streams<I, O, E>,
+) -> Result<Vec<u8>, Stopped>
+    requires lawful { IsLawful (request.Advance generations file) }
+    requires sound { HasSoundStreams streams.old }
+    ensures done { IfOk result
+        (λ lines. Does (S.tellings shelf.now) (request.Advance generations file.entry) explain lines.items
+        streams.old streams.new) }
+    ensures sound { OnOk result (HasSoundStreams streams.new) }
+    ensures fails { IfErr result
+        (λ stopped. Fails stopped.error (S.tellings shelf.now) (request.Advance generations file.entry)
+        streams.old streams.new) }
+    ensures place { IfErr result
+        (λ stopped. IsPlaceOf (S.tellings shelf.now) (request.Advance generations file.entry)
+        stopped.error stopped.place) }
+    ensures quiet { streams.new.errors ≡ streams.old.errors }
+{
+    match advance(shelf, alloc, generations, file, streams) {
+        Ok(()) => Ok(Vec::new(alloc)),
+        Err(error) => Err(Stopped {
+            error: CommandError::Advance(error),
+            place: file_place(alloc, error),
+        }),
     }
-    Ok(Vec::new(alloc))
+}
+
+// Writes what a code draws under a rule. Nothing is said beside it.
+fn draw_asked<S: Shelf, I: Read, O: Write, E: Write>(
+    shelf: &S,
+    alloc: Global,
+    code: &str,
+    rule: &str,
+    explain: bool,
+    streams: &mut Streams<I, O, E>,
+) -> Result<Vec<u8>, Stopped>
+    requires sound { HasSoundStreams streams.old }
+    ensures done { IfOk result
+        (λ lines. Does (S.tellings shelf.now) (request.Draw code.entry rule.entry) explain lines.items
+        streams.old streams.new) }
+    ensures sound { OnOk result (HasSoundStreams streams.new) }
+    ensures fails { IfErr result
+        (λ stopped. Fails stopped.error (S.tellings shelf.now) (request.Draw code.entry rule.entry)
+        streams.old streams.new) }
+    ensures place { IfErr result
+        (λ stopped. IsPlaceOf (S.tellings shelf.now) (request.Draw code.entry rule.entry)
+        stopped.error stopped.place) }
+    ensures quiet { streams.new.errors ≡ streams.old.errors }
+{
+    match draw(alloc, code.as_bytes(), rule.as_bytes(), streams) {
+        Ok(()) => Ok(Vec::new(alloc)),
+        Err(error) => Err(Stopped {
+            error: CommandError::Draw(error),
+            place: Place::nowhere(),
+        }),
+    }
 }
 
 // Whether faults are explained: where that is asked for, or at a terminal.
@@ -174,6 +147,28 @@ fn tell_if<E: Write>(asked: bool, lines: &[u8], errors: &mut Output<E>)
     }
 }
 
+// Tells what is said beside what was done, where faults are explained, or the error that ended it, and gives the exit status.
+fn conclude<E: Write>(
+    request: &Request<'_>,
+    ended: Result<Vec<u8>, Stopped>,
+    explain: bool,
+    errors: &mut Output<E>,
+) -> u8
+    requires { errors.old.stream.failed ≡ false }
+    ensures { Concludes request.now ended explain result errors.old.stream errors.new.stream }
+{
+    match ended {
+        Ok(lines) => {
+            tell_if(explain, lines.as_slice(), errors);
+            0
+        }
+        Err(stopped) => {
+            let saying = saying_of(request, stopped.error).at(&stopped.place);
+            stop_saying(stopped.error, saying, explain, errors)
+        }
+    }
+}
+
 /// Tells an error by its line, and gives its exit status. That it can't be told changes nothing.
 pub fn stop<E: Write>(error: CommandError, errors: &mut Output<E>) -> u8
     requires { errors.old.stream.failed ≡ false }
@@ -182,23 +177,6 @@ pub fn stop<E: Write>(error: CommandError, errors: &mut Output<E>) -> u8
 {
     errors.tell(error.line().as_str().as_bytes());
     error.status()
-}
-
-// The same of what was asked for, with one more line where faults are explained, which has its place as far as that is known.
-fn stop_at<E: Write>(
-    request: &Request<'_>,
-    stopped: Stopped,
-    explain: bool,
-    errors: &mut Output<E>,
-) -> u8
-    requires { errors.old.stream.failed ≡ false }
-    ensures status { result ≡ status_of stopped.error }
-    ensures lines { PutsBytes (error_line stopped.error
-        ++ said_if explain (line_said request.now stopped.error stopped.place))
-        errors.old.stream errors.new.stream }
-{
-    let saying = saying_of(request, stopped.error).at(&stopped.place);
-    stop_saying(stopped.error, saying, explain, errors)
 }
 
 /// Writes why words ask for nothing that can be done, and gives the exit status: help by its own text on standard output,
@@ -218,6 +196,97 @@ pub fn answer<I: Read, O: Write, E: Write>(fault: &WordsFault, streams: &mut Str
             2
         }
         WordsFault::Memory => stop(CommandError::Memory, &mut streams.errors),
+    }
+}
+
+// Does what is asked for, and gives the exit status.
+fn carry_out<S: Shelf, I: Read, O: Write, E: Write, G: Gate, R: Threads + Wait + Sync>(
+    rt: &R,
+    shelf: &S,
+    alloc: Global,
+    request: &Request<'_>,
+    explain: bool,
+    quiet: bool,
+    gate: &mut G,
+    streams: &mut Streams<I, O, E>,
+) -> u8
+    requires lawful { IsLawful request.now }
+    requires sound { HasSoundStreams streams.old }
+    requires errors { streams.old.errors.failed ≡ false }
+    ensures ends { Ends (S.tellings shelf.now) request.now explain result streams.old streams.new }
+    ensures gate { HearsEnd (S.tellings shelf.now) request.now quiet result
+        streams.old.input streams.new.input (G.heard gate.old) (G.heard gate.new) }
+{
+    match request {
+        Request::Census(census) => {
+            if goes_on(&census.collections) {
+                return keep_going(rt, shelf, alloc, census, explain, quiet, gate, streams);
+            }
+            let ended = report_census(rt, shelf, alloc, census, explain, quiet, gate, streams);
+            conclude(request, ended, explain, &mut streams.errors)
+        }
+        Request::Identify {
+            bound,
+            cells,
+            near,
+            horizon,
+            json,
+            names,
+            files,
+        } => {
+            let inquiry = Inquiry {
+                bound: *bound,
+                cells: *cells,
+                near: *near,
+                horizon: *horizon,
+                form: form_told(*json),
+            };
+            let files = files.as_slice();
+            tell_patterns(
+                shelf, alloc, &*gate, inquiry, *names, files, explain, streams,
+            )
+        }
+        Request::Advance { generations, file } => {
+            let ended = advance_asked(shelf, alloc, *generations, *file, explain, streams);
+            conclude(request, ended, explain, &mut streams.errors)
+        }
+        Request::Draw { code, rule } => {
+            let ended = draw_asked(shelf, alloc, *code, *rule, explain, streams);
+            conclude(request, ended, explain, &mut streams.errors)
+        }
+        Request::Merge { reports } => remake(shelf, alloc, Form::Merged, reports, explain, streams),
+        Request::Table {
+            subject,
+            format,
+            names: None,
+            reports,
+        } => {
+            let form = table_form(*subject, *format);
+            remake(shelf, alloc, form, reports, explain, streams)
+        }
+        Request::Table {
+            subject,
+            format,
+            names: Some(names),
+            reports,
+        } => {
+            let beside = names_beside(*subject, *format);
+            remake_with(shelf, alloc, beside, *names, reports, explain, streams)
+        }
+        Request::Page { page, reports } => {
+            let form = Form::Page {
+                options: options_asked(page),
+            };
+            remake(shelf, alloc, form, reports, explain, streams)
+        }
+        Request::Same { json, reports } => {
+            let form = Form::Same { json: *json };
+            remake(shelf, alloc, form, reports, explain, streams)
+        }
+        Request::Verify { claims, reports } => {
+            let beside = Beside::Claims;
+            remake_with(shelf, alloc, beside, *claims, reports, explain, streams)
+        }
     }
 }
 
@@ -275,48 +344,14 @@ pub fn dispatch<S: Shelf, I: Read, O: Write, E: Write, G: Gate, R: Threads + Wai
         Err(fault) => return answer(&fault, streams),
     };
     let explain = explains(asked.explain, at_terminal);
-    let quiet = asked.quiet;
-    let request = &asked.request;
-    if let Some(census) = kept_of(request) {
-        return keep_going(rt, shelf, alloc, census, explain, quiet, gate, streams);
-    }
-    if let Some((form, reports)) = remaking_of(request) {
-        let files = reports.words.as_slice();
-        let reading = reading_of(reports);
-        return remake(shelf, alloc, form, reading, files, explain, streams);
-    }
-    if let Some((beside, word, reports)) = beside_of(request) {
-        let files = reports.words.as_slice();
-        let reading = reading_of(reports);
-        return remake_with(shelf, alloc, beside, word, reading, files, explain, streams);
-    }
-    if let Request::Identify {
-        bound,
-        cells,
-        near,
-        horizon,
-        json,
-        names,
-        files,
-    } = request
-    {
-        let inquiry = Inquiry {
-            bound: *bound,
-            cells: *cells,
-            near: *near,
-            horizon: *horizon,
-            form: form_told(*json),
-        };
-        let files = files.as_slice();
-        return tell_patterns(
-            shelf, alloc, &*gate, inquiry, *names, files, explain, streams,
-        );
-    }
-    match execute(rt, shelf, alloc, request, explain, quiet, gate, streams) {
-        Ok(lines) => {
-            tell_if(explain, lines.as_slice(), &mut streams.errors);
-            0
-        }
-        Err(stopped) => stop_at(request, stopped, explain, &mut streams.errors),
-    }
+    carry_out(
+        rt,
+        shelf,
+        alloc,
+        &asked.request,
+        explain,
+        asked.quiet,
+        gate,
+        streams,
+    )
 }

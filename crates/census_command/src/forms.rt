@@ -1,5 +1,7 @@
 //! What the words of `table`, `page` and `verify` ask to make of reports, and how reports are read.
-ghost use Rattle.std.specs.Prelude.{◌≡◌, option_map, unwrap_or};
+ghost use Rattle.std.specs.Prelude.{◌≡◌, None, option_map, unwrap_or};
+ghost use Rattle.census_reports.specs.declared.form.Form.TheVariants as form;
+ghost use Rattle.census_command.specs.declared.forms.Beside.TheVariants as beside;
 ghost use Rattle.census_page.specs.Options.{options_of};
 ghost use Rattle.census_command.specs.Forms.{form_beside, format_of, options_asked, reading_of, sort_of, subject_of};
 
@@ -85,6 +87,27 @@ pub fn options_asked<'a>(page: &PageAsked<'a>) -> PageOptions<'a>
         base,
         links: page.links,
         patterns: page.patterns,
+    }
+}
+
+/// A table of this, without names of codes.
+pub fn table_form<'a>(subject: TableSubject, format: TableFormat) -> Form<'a>
+    ensures { result ≡ form.Table (subject_of subject) (format_of format) None }
+{
+    Form::Table {
+        subject: subject_of(subject),
+        format: format_of(format),
+        names: None,
+    }
+}
+
+/// A table of this, with names of codes.
+pub fn names_beside(subject: TableSubject, format: TableFormat) -> Beside
+    ensures { result ≡ beside.Names (subject_of subject) (format_of format) }
+{
+    Beside::Names {
+        subject: subject_of(subject),
+        format: format_of(format),
     }
 }
 

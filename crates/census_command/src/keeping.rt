@@ -3,15 +3,16 @@ ghost use Rattle.std.specs.Prelude.{◌≡◌, ◌≢◌, ◌≤◌, ◌++◌, [
 ghost use Rattle.life_answer.specs.Questions.{IsAnswered};
 ghost use Rattle.census_folders.specs.Sources.{Reads, asked_by};
 ghost use Rattle.census_errors.specs.Errors.{run_status};
-ghost use Rattle.census_command.specs.Asking.{folders_of};
+ghost use Rattle.census_errors.specs.Sources.{asked_of};
 ghost use Rattle.census_command.specs.Gates.{HearsKept};
 ghost use Rattle.census_command.specs.Keeps.{Keeps, StopsKeeping, cut_lines, lost_line, lost_lines};
 ghost use Rattle.watched.specs.Streams.{PutsMoreBytes};
 ghost use Rattle.census_command.specs.Streams.{HasSoundStreams};
 ghost use Rattle.census_bundle.specs.Sizes.{worker_limit};
 
-use crate::census::Census;
+use crate::collections::folders_of;
 use crate::reporting::report;
+use census_cli::Census;
 use census_crew::Gate;
 use census_errors::{
     CommandError, RunError, RunStopped, kept_place, run_saying, say_if, stop_saying,
@@ -119,24 +120,25 @@ pub fn keep_going<S: Shelf, I: Read, O: Write, E: Write, G: Gate, R: Threads + W
     rt: &R,
     shelf: &S,
     alloc: Global,
-    census: Census<'_, '_>,
+    census: &Census<'_>,
     explain: bool,
     quiet: bool,
     gate: &mut G,
     streams: &mut Streams<I, O, E>,
 ) -> u8
-    requires question { IsAnswered census.question }
-    requires workers { (1 ≤ census.workers) × (census.workers ≤ worker_limit) }
+    requires question { IsAnswered census.now.question }
+    requires workers { (1 ≤ census.now.workers) × (census.now.workers ≤ worker_limit) }
+    requires keeps { (asked_of census.now.collections).on_loss ≡ OnLoss.Keep }
     requires sound { HasSoundStreams streams.old }
     requires errors { streams.old.errors.failed ≡ false }
     ensures kept { Keeps (S.tellings shelf.now) (record {
-      asked = folders_of census.entry OnLoss.Keep;
-      question = census.entry.question;
+      asked = asked_of census.now.collections;
+      question = census.now.question;
     }) explain result streams.old streams.new }
-    ensures gate { HearsKept (S.tellings shelf.now) (folders_of census.entry OnLoss.Keep) quiet result
+    ensures gate { HearsKept (S.tellings shelf.now) (asked_of census.now.collections) quiet result
         (G.heard gate.old) (G.heard gate.new) }
 {
-    let source = census.source(OnLoss::Keep);
+    let source = folders_of(&census.collections);
     let (kept, lost) = match gather(shelf, alloc, source) {
         Ok(gathered) => gathered,
         Err(error) => {

@@ -3,10 +3,12 @@
 ghost use Rattle.std.specs.Prelude.{◌≡◌, [], false, map, IfErr, IfOk, OnOk};
 ghost use Rattle.census_reports.specs.Errors as reports;
 ghost use Rattle.census_reports.specs.Outcomes.{ReportsFail, WritesReports};
+ghost use Rattle.census_command.specs.Forms.{reading_of};
 ghost use Rattle.census_command.specs.Remakes.{KeepsLaw, Remakes, RemakesWith, TellsCuts, TellsOfReports, found_status};
 ghost use Rattle.census_command.specs.Streams.{HasSoundStreams};
 
-use crate::forms::{Beside, form_beside};
+use crate::forms::{Beside, form_beside, reading_of};
+use census_cli::Reports;
 use census_cut::Cut;
 use census_errors::{CommandError, cut_line, reports_place_if, reports_saying, stop_saying};
 use census_folders::Shelf;
@@ -83,7 +85,7 @@ fn tell_cuts<E: Write>(cuts: &[Cut], errors: &mut Output<E>)
     }
 }
 
-/// Reads the reports of these files, of `-` and without a file those of standard input, writes what this form makes of
+/// Reads these reports, of `-` and without a file those of standard input, writes what this form makes of
 /// them, and gives the exit status.
 ///
 /// - 0: it was written.
@@ -100,17 +102,17 @@ pub fn remake<S: Shelf, I: Read, O: Write, E: Write>(
     shelf: &S,
     alloc: Global,
     form: Form<'_>,
-    reading: Reading,
-    files: &[&str],
+    reports: &Reports<'_>,
     explain: bool,
     streams: &mut Streams<I, O, E>,
 ) -> u8
     requires sound { HasSoundStreams streams.old }
     requires errors { streams.old.errors.failed ≡ false }
-    ensures { Remakes ((S.tellings shelf.now).held []) form.entry reading (map (λ s. s.now) files.now) explain
-        result streams.old streams.new }
+    ensures { Remakes ((S.tellings shelf.now).held []) form.entry (reading_of reports.now)
+        (map (λ s. s.now) reports.now.words.items) explain result streams.old streams.new }
 {
-    match write(shelf, alloc, form, reading, files, streams) {
+    let files = reports.words.as_slice();
+    match write(shelf, alloc, form, reading_of(reports), files, streams) {
         Ok(written) => {
             tell_cuts(written.cuts.as_slice(), &mut streams.errors);
             found_status(written.found)
@@ -119,7 +121,7 @@ pub fn remake<S: Shelf, I: Read, O: Write, E: Write>(
     }
 }
 
-/// Reads the text of a word, `-` is standard input, writes what is made with it of the reports of these files, and gives the
+/// Reads the text of a word, `-` is standard input, writes what is made with it of these reports, and gives the
 /// exit status, as `remake` does. Where the text can't be read, or is too long, the status is that of the error, whose line
 /// was told, with one more where faults are explained; nothing was written, and no report was read.
 pub fn remake_with<S: Shelf, I: Read, O: Write, E: Write>(
@@ -127,20 +129,19 @@ pub fn remake_with<S: Shelf, I: Read, O: Write, E: Write>(
     alloc: Global,
     beside: Beside,
     word: &str,
-    reading: Reading,
-    files: &[&str],
+    reports: &Reports<'_>,
     explain: bool,
     streams: &mut Streams<I, O, E>,
 ) -> u8
     requires sound { HasSoundStreams streams.old }
     requires errors { streams.old.errors.failed ≡ false }
-    ensures { RemakesWith ((S.tellings shelf.now).held []) beside word.now reading
-        (map (λ s. s.now) files.now) explain result streams.old streams.new }
+    ensures { RemakesWith ((S.tellings shelf.now).held []) beside word.now (reading_of reports.now)
+        (map (λ s. s.now) reports.now.words.items) explain result streams.old streams.new }
 {
     match read_text(shelf, alloc, word, &mut streams.input) {
         Ok(text) => {
             let form = form_beside(beside, text.as_slice());
-            remake(shelf, alloc, form, reading, files, explain, streams)
+            remake(shelf, alloc, form, reports, explain, streams)
         }
         Err(error) => stop_of(shelf, alloc, &[word], error, explain, &mut streams.errors),
     }

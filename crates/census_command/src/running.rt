@@ -1,19 +1,19 @@
 //! `census run` and `census objects`: the report of collections.
-ghost use Rattle.std.specs.Prelude.{◌≡◌, ◌⊎◌, ◌↔◌, ◌≤◌, true, false, map, Err, IfErr, IfOk, MatchResult, OnOk};
+ghost use Rattle.std.specs.Prelude.{◌≡◌, ◌⊎◌, ◌↔◌, ◌≤◌, true, Err, IfErr, IfOk, MatchResult, OnOk};
 ghost use Rattle.census_crew.specs.Bytes.{ReadsBundle};
 ghost use Rattle.census_crew.specs.declared.bytes.BytesFault.{BytesFault};
 ghost use Rattle.life_answer.specs.Questions.{IsAnswered};
-ghost use Rattle.census_command.specs.Asking.{plain_folders};
 ghost use Rattle.census_command.specs.Gates.{HearsFolders, HearsInput, HearsRun};
 ghost use Rattle.census_command.specs.Runs.{FoldersFail, InputFails, ReportsFolders, ReportsInput, RunFails, Runs};
 ghost use Rattle.census_errors.specs.Places.{IsCensusPlace, IsFoldersPlace};
-ghost use Rattle.census_errors.specs.Sources.{plain_source};
+ghost use Rattle.census_errors.specs.Sources.{StopsAtFirstLoss, asked_of, source_of};
 ghost use Rattle.census_command.specs.Streams.{HasSoundStreams};
 ghost use Rattle.census_bundle.specs.Sizes.{worker_limit};
 
-use crate::census::Census;
+use crate::collections::folders_of;
 use crate::reporting::report;
 use census_bundle::{Bundle, BundleFault, INPUT_LIMIT, read_bundle};
+use census_cli::Census;
 use census_crew::{BytesFault, Gate};
 use census_errors::{RunError, RunStopped};
 use census_folders::{OnLoss, Shelf, read_source};
@@ -47,21 +47,21 @@ fn run_input<S: Shelf, I: Read, O: Write, E: Write, G: Gate, R: Threads + Wait +
     rt: &R,
     shelf: &S,
     alloc: Global,
-    census: Census<'_, '_>,
+    census: &Census<'_>,
     explain: bool,
     quiet: bool,
     gate: &mut G,
     streams: &mut Streams<I, O, E>,
 ) -> Result<Vec<u8>, RunError>
-    requires question { IsAnswered census.question }
-    requires workers { (1 ≤ census.workers) × (census.workers ≤ worker_limit) }
+    requires question { IsAnswered census.now.question }
+    requires workers { (1 ≤ census.now.workers) × (census.now.workers ≤ worker_limit) }
     requires sound { HasSoundStreams streams.old }
     ensures done { IfOk result
         (λ lines. ReportsInput
         (S.tellings shelf.now)
-        census.entry.question explain lines.items streams.old streams.new) }
+        census.now.question explain lines.items streams.old streams.new) }
     ensures sound { OnOk result (HasSoundStreams streams.new) }
-    ensures fails { IfErr result (λ e. InputFails e census.entry.question streams.old streams.new) }
+    ensures fails { IfErr result (λ e. InputFails e census.now.question streams.old streams.new) }
     ensures gate { MatchResult result
         (λ _. HearsInput quiet streams.old.input streams.new.input (G.heard gate.old) (G.heard gate.new))
         (λ _. (G.heard gate.new ≡ G.heard gate.old)
@@ -90,34 +90,35 @@ fn run_folders<S: Shelf, I: Read, O: Write, E: Write, G: Gate, R: Threads + Wait
     rt: &R,
     shelf: &S,
     alloc: Global,
-    census: Census<'_, '_>,
+    census: &Census<'_>,
     explain: bool,
     quiet: bool,
     gate: &mut G,
     streams: &mut Streams<I, O, E>,
 ) -> Result<Vec<u8>, RunStopped>
-    requires question { IsAnswered census.question }
-    requires workers { (1 ≤ census.workers) × (census.workers ≤ worker_limit) }
+    requires question { IsAnswered census.now.question }
+    requires workers { (1 ≤ census.now.workers) × (census.now.workers ≤ worker_limit) }
+    requires stops { (asked_of census.now.collections).on_loss ≡ OnLoss.Stop }
     requires sound { HasSoundStreams streams.old }
     ensures done { IfOk result
-        (λ lines. ReportsFolders (S.tellings shelf.now) (plain_folders census.entry)
-        census.entry.question explain lines.items streams.old streams.new) }
+        (λ lines. ReportsFolders (S.tellings shelf.now) (asked_of census.now.collections)
+        census.now.question explain lines.items streams.old streams.new) }
     ensures sound { OnOk result (HasSoundStreams streams.new) }
     ensures fails { IfErr result
-        (λ stopped. FoldersFail stopped.error (S.tellings shelf.now) (plain_folders census.entry)
-        census.entry.question streams.old streams.new) }
+        (λ stopped. FoldersFail stopped.error (S.tellings shelf.now) (asked_of census.now.collections)
+        census.now.question streams.old streams.new) }
     ensures place { IfErr result
-        (λ stopped. IsFoldersPlace (S.tellings shelf.now) (plain_folders census.entry)
+        (λ stopped. IsFoldersPlace (S.tellings shelf.now) (asked_of census.now.collections)
         stopped.error stopped.place) }
     ensures gate { MatchResult result
-        (λ _. HearsFolders (S.tellings shelf.now) (plain_folders census.entry) quiet
+        (λ _. HearsFolders (S.tellings shelf.now) (asked_of census.now.collections) quiet
         (G.heard gate.old) (G.heard gate.new))
         (λ _. (G.heard gate.new ≡ G.heard gate.old)
-        ⊎ HearsFolders (S.tellings shelf.now) (plain_folders census.entry) quiet
+        ⊎ HearsFolders (S.tellings shelf.now) (asked_of census.now.collections) quiet
         (G.heard gate.old) (G.heard gate.new)) }
     ensures quiet { streams.new.errors ≡ streams.old.errors }
 {
-    let source = census.source(OnLoss::Stop);
+    let source = folders_of(&census.collections);
     let kept = match read_source(shelf, alloc, source) {
         Ok(kept) => kept,
         Err(fault) => return Err(RunStopped::reading(alloc, fault)),
@@ -158,43 +159,39 @@ pub fn run_command<S: Shelf, I: Read, O: Write, E: Write, G: Gate, R: Threads + 
     rt: &R,
     shelf: &S,
     alloc: Global,
-    census: Census<'_, '_>,
+    census: &Census<'_>,
     explain: bool,
     quiet: bool,
     gate: &mut G,
     streams: &mut Streams<I, O, E>,
 ) -> Result<Vec<u8>, RunStopped>
-    requires question { IsAnswered census.question }
-    requires workers { (1 ≤ census.workers) × (census.workers ≤ worker_limit) }
+    requires question { IsAnswered census.now.question }
+    requires workers { (1 ≤ census.now.workers) × (census.now.workers ≤ worker_limit) }
+    requires stops { StopsAtFirstLoss (source_of census.now.collections) }
     requires sound { HasSoundStreams streams.old }
     ensures done { IfOk result
         (λ lines. Runs (S.tellings shelf.now)
-        (plain_source census.entry.limit census.entry.recursive
-        (map (λ s. s.now) census.entry.folders.now)) census.entry.question
+        (source_of census.now.collections) census.now.question
         explain lines.items streams.old streams.new) }
     ensures sound { OnOk result (HasSoundStreams streams.new) }
     ensures fails { IfErr result
         (λ stopped. RunFails stopped.error (S.tellings shelf.now)
-        (plain_source census.entry.limit census.entry.recursive
-        (map (λ s. s.now) census.entry.folders.now)) census.entry.question
+        (source_of census.now.collections) census.now.question
         streams.old streams.new) }
     ensures place { IfErr result
         (λ stopped. IsCensusPlace (S.tellings shelf.now)
-        (plain_source census.entry.limit census.entry.recursive
-        (map (λ s. s.now) census.entry.folders.now)) stopped.error stopped.place) }
+        (source_of census.now.collections) stopped.error stopped.place) }
     ensures gate { MatchResult result
         (λ _. HearsRun (S.tellings shelf.now)
-        (plain_source census.entry.limit census.entry.recursive
-        (map (λ s. s.now) census.entry.folders.now)) quiet
+        (source_of census.now.collections) quiet
         streams.old.input streams.new.input (G.heard gate.old) (G.heard gate.new))
         (λ _. (G.heard gate.new ≡ G.heard gate.old)
         ⊎ HearsRun (S.tellings shelf.now)
-        (plain_source census.entry.limit census.entry.recursive
-        (map (λ s. s.now) census.entry.folders.now)) quiet
+        (source_of census.now.collections) quiet
         streams.old.input streams.new.input (G.heard gate.old) (G.heard gate.new)) }
     ensures quiet { streams.new.errors ≡ streams.old.errors }
 {
-    if !census.folders.is_empty() {
+    if !census.collections.folders.is_empty() {
         return run_folders(rt, shelf, alloc, census, explain, quiet, gate, streams);
     }
     match run_input(rt, shelf, alloc, census, explain, quiet, gate, streams) {

@@ -1,5 +1,5 @@
 -- Where something stands that can't be read or is refused, as far as that is known.
-use Rattle.std.specs.Prelude.{◌≡◌, ◌⊎◌, ℕ, ℤ, false, List, ◌++◌, Option, None, Some, IfSome, codes, decimal, map, if◌then◌else◌}
+use Rattle.std.specs.Prelude.{◌≡◌, ◌⊎◌, ℕ, ℤ, false, List, ◌++◌, Option, None, Some, IfSome, codes, decimal, if◌then◌else◌}
 use Rattle.std.specs.Option.{option_copied, option_or}
 use Rattle.census_bundle.specs.Sizes.{input_limit}
 use Rattle.census_bundle.specs.Tickets.{element_at, entry_at}
@@ -22,7 +22,7 @@ use Rattle.census_folders.specs.declared.unread.Unread.{Unread}
 use Rattle.census_reports.specs.declared.error.ReportsError.{ReportsError}
 use Rattle.census_reports.specs.declared.error.ReportsError.TheVariants as reports
 use Rattle.census_cli.specs.declared.request.Request.{Request}
-use Rattle.census_cli.specs.declared.request.Request.TheVariants.{Run, Objects, Advance}
+use Rattle.census_cli.specs.declared.request.Request.TheVariants.{Census, Advance}
 use Rattle.census_errors.specs.Errors.{run_error_of_run, run_error_of_source}
 use Rattle.census_errors.specs.Sources as source
 use Rattle.census_errors.specs.Sources.{Source, source_of}
@@ -122,10 +122,8 @@ IsFilePlace error place = place ≡ nowhere
 
 -- of what is asked for
 abbrev pub IsPlaceOf : Tellings → Request → CommandError → Place → Type 0
-IsPlaceOf shelf (Run bound workers cells input recursive keep_going folders) (command.Run error) place =
-    IsCensusPlace shelf (source_of (record { limit = input; recursive = recursive; keep_going = keep_going; words = map (λ s. s.now) folders.items })) error place
-IsPlaceOf shelf (Objects bound workers cells near horizon input recursive keep_going folders) (command.Run error) place =
-    IsCensusPlace shelf (source_of (record { limit = input; recursive = recursive; keep_going = keep_going; words = map (λ s. s.now) folders.items })) error place
+IsPlaceOf shelf (Census census) (command.Run error) place =
+    IsCensusPlace shelf (source_of census.collections) error place
 IsPlaceOf shelf (Advance generations file) (command.Advance error) place = IsFilePlace error place
 IsPlaceOf shelf request error place = place ≡ nowhere
 

@@ -4,6 +4,7 @@ use census_cli::{
     Asked as Wanted, PageAsked, PageSort, Reports, Request, TableFormat, TableSubject, WordsFault,
     read_words,
 };
+use life_answer::Question;
 use std::alloc::Global;
 use std::test::Fail;
 
@@ -57,43 +58,26 @@ const RUNS: &[(Words, Asked)] = &[
 
 // Whether a census is asked for so, with or without `--recursive` and `--keep-going`, by the command that comes first.
 fn is_asked(request: &Request, words: Words, asked: &Asked, flags: (bool, bool)) -> bool {
-    let (command, numbers, found, folders) = match request {
-        Request::Run {
+    let Request::Census(census) = request else {
+        return false;
+    };
+    let (command, bound, cells) = match census.question {
+        Question::Settles { bound, cells } => ("run", bound, cells),
+        Question::Objects {
             bound,
-            workers,
-            cells,
-            input: _,
-            recursive,
-            keep_going,
-            folders,
-        } => (
-            "run",
-            (*bound, *workers, *cells),
-            (*recursive, *keep_going),
-            folders.as_slice(),
-        ),
-        Request::Objects {
-            bound,
-            workers,
             cells,
             near: _,
             horizon: _,
-            input: _,
-            recursive,
-            keep_going,
-            folders,
-        } => (
-            "objects",
-            (*bound, *workers, Some(*cells)),
-            (*recursive, *keep_going),
-            folders.as_slice(),
-        ),
-        _ => return false,
+        } => ("objects", bound, cells),
     };
     let is_command = match words.first() {
         Some(word) => *word == command,
         None => false,
     };
+    let numbers = (bound, census.workers, cells);
+    let collections = &census.collections;
+    let found = (collections.recursive, collections.keep_going);
+    let folders = collections.folders.as_slice();
     is_command && numbers == (asked.0, asked.1, asked.2) && found == flags && folders == asked.3
 }
 
@@ -218,7 +202,7 @@ fn the_bytes_of_files_have_a_limit_where_one_is_asked_for(rt: HostRuntime) -> Re
     ];
     for (words, limit) in ASKED {
         let found = match request_of(rt.alloc(), words)? {
-            Request::Run { input, .. } | Request::Objects { input, .. } => input,
+            Request::Census(census) => census.collections.input,
             other => panic!(rt; "{words:?}: {other:?}"),
         };
         assert_eq!(rt; found, *limit, "{words:?}");
@@ -794,6 +778,18 @@ fn each_command_explains_its_faults_where_it_is_asked_to(rt: HostRuntime) -> Res
     Ok(())
 }
 
+// Whether what is near is one object, and within how many generations growth is looked for, where objects are asked for.
+fn of_objects(request: &Request) -> Option<(bool, u32)> {
+    match request {
+        Request::Census(census) => match census.question {
+            Question::Objects { near, horizon, .. } => Some((near, horizon)),
+            Question::Settles { .. } => None,
+        },
+        Request::Identify { near, horizon, .. } => Some((*near, *horizon)),
+        _ => None,
+    }
+}
+
 #[test]
 fn what_is_near_is_one_object_where_that_is_asked_for(rt: HostRuntime) -> Result<(), Fail> {
     const ASKED: &[(Words, bool)] = &[
@@ -807,9 +803,9 @@ fn what_is_near_is_one_object_where_that_is_asked_for(rt: HostRuntime) -> Result
         (&["identify", "--", "--near"], false),
     ];
     for (words, asked) in ASKED {
-        let found = match request_of(rt.alloc(), words)? {
-            Request::Objects { near, .. } | Request::Identify { near, .. } => near,
-            other => panic!(rt; "{words:?}: {other:?}"),
+        let found = match of_objects(&request_of(rt.alloc(), words)?) {
+            Some((near, _)) => near,
+            None => panic!(rt; "{words:?}"),
         };
         assert_eq!(rt; found, *asked, "{words:?}");
     }
@@ -829,9 +825,9 @@ fn growth_has_a_horizon(rt: HostRuntime) -> Result<(), Fail> {
         (&["identify", "--", "--horizon=5"], 1_000),
     ];
     for (words, asked) in ASKED {
-        let found = match request_of(rt.alloc(), words)? {
-            Request::Objects { horizon, .. } | Request::Identify { horizon, .. } => horizon,
-            other => panic!(rt; "{words:?}: {other:?}"),
+        let found = match of_objects(&request_of(rt.alloc(), words)?) {
+            Some((_, horizon)) => horizon,
+            None => panic!(rt; "{words:?}"),
         };
         assert_eq!(rt; found, *asked, "{words:?}");
     }

@@ -21,7 +21,7 @@ returns-in-Err-clause-kept g c =
     let before = c.args.streams.now in
     inr (inr (record {
       error = error;
-      why = subst (λ a. StopsKeeping shelf a error) c.source-source.ensures.asked c.in-Err.ensures;
+      why = subst (λ a. StopsKeeping shelf a error) c.folders_of-source.ensures c.in-Err.ensures;
       untouched = untouched before _ (ap (λ (s : Streams). s.input) c.streams.view_is) (ap (λ (s : Streams). s.output) c.streams.view_is) c.requires.sound;
       told = subst (λ (l : List ℕ). PutsBytes (error_line (command.Run error) ++ said_if c.args.explain l) before.errors c.stop_saying.new.errors.stream) line
           (subst (λ (s : Sink). PutsBytes (error_line (command.Run error) ++ said_if c.args.explain (said c.run_saying-saying.result)) s c.stop_saying.new.errors.stream)
@@ -42,12 +42,12 @@ returns-in-Ok-report-clause-kept g c =
     subst (λ (l : List ℕ). PutsMoreBytes l c.tell.new.self.stream c.tell-in-Ok-report.new.self.stream) c.as_slice-in-Ok-report.ensures.value c.tell-in-Ok-report.ensures in
     rw (← c.streams.view_is) (inl (record {
       kept = kept;
-      read = subst (λ a. Reads (g.S.Shelf.tellings c.args.shelf.now) a kept) c.source-source.ensures.asked c.in-Ok.ensures.0;
+      read = subst (λ a. Reads (g.S.Shelf.tellings c.args.shelf.now) a kept) c.folders_of-source.ensures c.in-Ok.ensures.0;
       report = c.in-Ok-report.ensures.report;
       unread = refl;
       sound = record { read = ap (λ s. s.input.failed) c.streams.view_is ∙ c.requires.sound.read; write = c.in-Ok-report.ensures.failed };
       lines = beside;
-      said = subst (λ a. IfExplained c.args.explain (SaysBesideReport (g.S.Shelf.tellings c.args.shelf.now) (Some a) kept.bundle beside) beside) c.source-source.ensures.asked c.in-Ok-report.ensures.lines;
+      said = subst (λ a. IfExplained c.args.explain (SaysBesideReport (g.S.Shelf.tellings c.args.shelf.now) (Some a) kept.bundle beside) beside) c.folders_of-source.ensures c.in-Ok-report.ensures.lines;
       told = tells_more (lost_lines lost) beside c.streams.inside.errors.stream c.tell.new.self.stream c.tell-in-Ok-report.new.self.stream first more;
       status_is = status_kept lost c.as_slice-in-Ok-report-2.result.now c.status_of_kept.result (c.as_slice-in-Ok-report-2.ensures.value ∙ c.in-Ok.ensures.1)
           c.status_of_kept.ensures.none c.status_of_kept.ensures.some;
@@ -64,7 +64,7 @@ returns-clause-kept g c =
     at_sound (lost_lines lost) c.streams.inside.errors.stream c.tell.new.self.stream sound (subst (λ (l : List ℕ). PutsMoreBytes l c.streams.inside.errors.stream c.tell.new.self.stream) lines c.tell.ensures) in
     rw (← c.streams.view_is) (inr (inl (record {
       kept = kept;
-      read = subst (λ a. Reads (g.S.Shelf.tellings c.args.shelf.now) a kept) c.source-source.ensures.asked c.in-Ok.ensures.0;
+      read = subst (λ a. Reads (g.S.Shelf.tellings c.args.shelf.now) a kept) c.folders_of-source.ensures c.in-Ok.ensures.0;
       part = c.in-Err-report.ensures.report;
       unread = refl;
       error = error;
@@ -76,14 +76,14 @@ returns-clause-kept g c =
 pub returns-in-Err-clause-gate : goal.returns-in-Err-clause-gate
 returns-in-Err-clause-gate g c =
     let error = c.in-Err.error in
-    inr (error, subst (λ a. StopsKeeping (g.S.Shelf.tellings c.args.shelf.now) a error) c.source-source.ensures.asked c.in-Err.ensures, c.stop_saying.ensures.status, refl)
+    inr (error, subst (λ a. StopsKeeping (g.S.Shelf.tellings c.args.shelf.now) a error) c.folders_of-source.ensures c.in-Err.ensures, c.stop_saying.ensures.status, refl)
 
 pub returns-in-Ok-report-clause-gate : goal.returns-in-Ok-report-clause-gate
 returns-in-Ok-report-clause-gate g c =
     let kept = c.in-Ok.gathered.0 in
-    inl (record { kept = kept; read = subst (λ a. Reads (g.S.Shelf.tellings c.args.shelf.now) a kept) c.source-source.ensures.asked c.in-Ok.ensures.0; heard = c.in-Ok-report.ensures.gate })
+    inl (record { kept = kept; read = subst (λ a. Reads (g.S.Shelf.tellings c.args.shelf.now) a kept) c.folders_of-source.ensures c.in-Ok.ensures.0; heard = c.in-Ok-report.ensures.gate })
 
 pub returns-clause-gate : goal.returns-clause-gate
 returns-clause-gate g c =
     let kept = c.in-Ok.gathered.0 in
-    inl (record { kept = kept; read = subst (λ a. Reads (g.S.Shelf.tellings c.args.shelf.now) a kept) c.source-source.ensures.asked c.in-Ok.ensures.0; heard = c.in-Err-report.ensures.gate })
+    inl (record { kept = kept; read = subst (λ a. Reads (g.S.Shelf.tellings c.args.shelf.now) a kept) c.folders_of-source.ensures c.in-Ok.ensures.0; heard = c.in-Err-report.ensures.gate })

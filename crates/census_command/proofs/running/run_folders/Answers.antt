@@ -1,6 +1,6 @@
 use Rattle.std.proofs.Common.{Some, refl, ap, ◌∙◌, subst, inl, inr}
 use Rattle.census_folders.specs.Sources.{Reads, Stops}
-use Rattle.census_command.specs.Asking.{plain_folders}
+use Rattle.census_errors.specs.Sources.{asked_of}
 use Rattle.census_command.specs.BesideReports.{IfExplained, SaysBesideReport}
 use Rattle.census_command.proofs.Reports.{folders_fail, folders_stop}
 use Rattle.census_command.proofs.running.run_folders.Goals as goal
@@ -8,24 +8,24 @@ use Rattle.census_command.proofs.running.run_folders.Goals as goal
 pub returns-in-Err-clause-fails : goal.returns-in-Err-clause-fails
 returns-in-Err-clause-fails g c =
     let shelf = g.S.Shelf.tellings c.args.shelf.now in
-    folders_stop shelf (plain_folders c.args.census) c.args.census.question c.reading.result.error _ _
-    (record { stops = refl; fault = c.in-Err.fault; is = c.reading.ensures.error; why = subst (λ a. Stops shelf a c.in-Err.fault) c.source-source.ensures.asked c.in-Err.ensures })
+    folders_stop shelf (asked_of c.args.census.now.collections) c.args.census.now.question c.reading.result.error _ _
+    (record { stops = c.requires.stops; fault = c.in-Err.fault; is = c.reading.ensures.error; why = subst (λ a. Stops shelf a c.in-Err.fault) c.folders_of-source.ensures c.in-Err.ensures })
     (record { unread = refl; written = refl; sound = c.requires.sound })
 
 pub returns-in-Err-clause-place : goal.returns-in-Err-clause-place
 returns-in-Err-clause-place g c =
     let shelf = g.S.Shelf.tellings c.args.shelf.now in
-    inl (record { fault = c.in-Err.fault; is = c.reading.ensures.error; why = subst (λ a. Stops shelf a c.in-Err.fault) c.source-source.ensures.asked c.in-Err.ensures; at = c.reading.ensures.place })
+    inl (record { fault = c.in-Err.fault; is = c.reading.ensures.error; why = subst (λ a. Stops shelf a c.in-Err.fault) c.folders_of-source.ensures c.in-Err.ensures; at = c.reading.ensures.place })
 
 pub returns-in-Ok-report-clause-done : goal.returns-in-Ok-report-clause-done
 returns-in-Ok-report-clause-done g c =
     let shelf = g.S.Shelf.tellings c.args.shelf.now in
     rw (← c.streams.view_is) (record {
-      stops = refl;
+      stops = c.requires.stops;
       kept = c.in-Ok.kept;
-      read = subst (λ a. Reads shelf a c.in-Ok.kept) c.source-source.ensures.asked c.in-Ok.ensures;
+      read = subst (λ a. Reads shelf a c.in-Ok.kept) c.folders_of-source.ensures c.in-Ok.ensures;
       report = c.in-Ok-report.ensures.report;
-      said = subst (λ a. IfExplained c.args.explain (SaysBesideReport shelf (Some a) c.in-Ok.kept.bundle c.in-Ok-report.lines.items) c.in-Ok-report.lines.items) c.source-source.ensures.asked c.in-Ok-report.ensures.lines;
+      said = subst (λ a. IfExplained c.args.explain (SaysBesideReport shelf (Some a) c.in-Ok.kept.bundle c.in-Ok-report.lines.items) c.in-Ok-report.lines.items) c.folders_of-source.ensures c.in-Ok-report.ensures.lines;
       unread = refl;
     })
 
@@ -33,11 +33,11 @@ pub returns-clause-fails : goal.returns-clause-fails
 returns-clause-fails g c =
     let shelf = g.S.Shelf.tellings c.args.shelf.now in
     rw (c.running.ensures.error, ← c.streams.view_is)
-    (folders_fail shelf (plain_folders c.args.census) c.args.census.question _ _ c.in-Err-report.fault
+    (folders_fail shelf (asked_of c.args.census.now.collections) c.args.census.now.question _ _ c.in-Err-report.fault
     (record {
-      stops = refl;
+      stops = c.requires.stops;
       kept = c.in-Ok.kept;
-      read = subst (λ a. Reads shelf a c.in-Ok.kept) c.source-source.ensures.asked c.in-Ok.ensures;
+      read = subst (λ a. Reads shelf a c.in-Ok.kept) c.folders_of-source.ensures c.in-Ok.ensures;
       front = c.in-Err-report.ensures.report;
       unread = refl;
     })
@@ -48,7 +48,7 @@ returns-clause-place g c =
     let shelf = g.S.Shelf.tellings c.args.shelf.now in
     inr (record {
       kept = c.in-Ok.kept;
-      read = subst (λ a. Reads shelf a c.in-Ok.kept) c.source-source.ensures.asked c.in-Ok.ensures;
+      read = subst (λ a. Reads shelf a c.in-Ok.kept) c.folders_of-source.ensures c.in-Ok.ensures;
       fault = c.in-Err-report.fault;
       is = c.running.ensures.error;
       at = c.running.ensures.place;
@@ -57,9 +57,9 @@ returns-clause-place g c =
 pub returns-in-Ok-report-clause-gate : goal.returns-in-Ok-report-clause-gate
 returns-in-Ok-report-clause-gate g c =
     let shelf = g.S.Shelf.tellings c.args.shelf.now in
-    record { kept = c.in-Ok.kept; read = subst (λ a. Reads shelf a c.in-Ok.kept) c.source-source.ensures.asked c.in-Ok.ensures; heard = c.in-Ok-report.ensures.gate }
+    record { kept = c.in-Ok.kept; read = subst (λ a. Reads shelf a c.in-Ok.kept) c.folders_of-source.ensures c.in-Ok.ensures; heard = c.in-Ok-report.ensures.gate }
 
 pub returns-clause-gate : goal.returns-clause-gate
 returns-clause-gate g c =
     let shelf = g.S.Shelf.tellings c.args.shelf.now in
-    inr (record { kept = c.in-Ok.kept; read = subst (λ a. Reads shelf a c.in-Ok.kept) c.source-source.ensures.asked c.in-Ok.ensures; heard = c.in-Err-report.ensures.gate })
+    inr (record { kept = c.in-Ok.kept; read = subst (λ a. Reads shelf a c.in-Ok.kept) c.folders_of-source.ensures c.in-Ok.ensures; heard = c.in-Err-report.ensures.gate })
