@@ -8,7 +8,6 @@ use Rattle.std.specs.Ordering.{is_lt, nat_cmp}
 use Rattle.std.proofs.lemmas.Cmp.{back_total, nat_cmp_total, nat_list_cmp_total, on_total, then_total}
 use Rattle.std.proofs.lemmas.List.Sorted.{ranks_by}
 use Rattle.census_rows.specs.declared.row.Row.{Row}
-use Rattle.census_readback.specs.Grouped.{rows_lent}
 use Rattle.census_page_pieces.specs.Kinds.{period_told}
 use Rattle.census_page.specs.Holders.{having}
 use Rattle.census_page.specs.Options.{Options}
@@ -31,8 +30,8 @@ row_total by.Code holders = then_total (on_total code_in shorter_total) (on_text
 row_total by.Period holders = back_total (on_total (λ (row : Row). period_told (code_in row)) shorter_total)
 row_total by.Name holders = on_texts (name_in holders)
 
-pub row-order : (sort : Sort) (holders : List Holder) → IsStrictWeakOrder (λ (one other : Bor Row). is_lt (row_cmp sort holders one.now other.now))
-row-order sort holders = ranks_by (row_total sort holders) (λ (row : Bor Row). row.now)
+pub row-order : (sort : Sort) (holders : List Holder) → IsStrictWeakOrder (λ (one other : Row). is_lt (row_cmp sort holders one other))
+row-order sort holders = ranks_by (row_total sort holders) (λ (row : Row). row)
 
 -- where an order is asked for
 pub sorted-other : (sort : Sort) (holders : List Holder) (rows : List Row) → (sort ≡ by.Report → ⊥)
@@ -43,50 +42,12 @@ sorted-other by.Code holders rows other = refl
 sorted-other by.Period holders rows other = refl
 sorted-other by.Name holders rows other = refl
 
--- # Rows that are lent
-
-lent-if : (b : Bool) (xs ys : List (Bor Row)) → rows_lent (if b then xs else ys) ≡ if b then rows_lent xs else rows_lent ys
-lent-if true xs ys = refl
-lent-if false xs ys = refl
-
-cond-lent : (b : Bool) (xs ys : List (Bor Row)) → rows_lent (cond b xs ys) ≡ cond b (rows_lent xs) (rows_lent ys)
-cond-lent true xs ys = refl
-cond-lent false xs ys = refl
-
-pub codes-lent : (rows : List (Bor Row)) → rows_lent (filter (λ row. is_code row.now) rows) ≡ filter is_code (rows_lent rows)
-codes-lent [] = refl
-codes-lent (row ∷ rows) =
-    cond-lent (is_code row.now) (row ∷ filter (λ other. is_code other.now) rows) (filter (λ other. is_code other.now) rows)
-    ∙ ap (λ others. cond (is_code row.now) (row.now ∷ others) others) (codes-lent rows)
-
-take-lent : (n : ℕ) (rows : List (Bor Row)) → rows_lent (take n rows) ≡ take n (rows_lent rows)
-take-lent zero rows = refl
-take-lent (suc n) [] = refl
-take-lent (suc n) (row ∷ rows) = ap (λ others. row.now ∷ others) (take-lent n rows)
-
-pub at-most-lent : (top : Option ℕ) (rows : List (Bor Row)) → rows_lent (at_most top rows) ≡ at_most top (rows_lent rows)
-at-most-lent Nothing rows = refl
-at-most-lent (Some count) rows = take-lent count rows
-
-module _ (before : Row → Row → Bool) where
-  put-lent : (x : Bor Row) (ys : List (Bor Row)) → rows_lent (put_by (λ one other. before one.now other.now) x ys) ≡ put_by before x.now (rows_lent ys)
-  put-lent x [] = refl
-  put-lent x (y ∷ ys) =
-      lent-if (before y.now x.now) (y ∷ put_by (λ one other. before one.now other.now) x ys) (x ∷ (y ∷ ys))
-      ∙ ap (λ l. if before y.now x.now then y.now ∷ l else x.now ∷ (y.now ∷ rows_lent ys)) (put-lent x ys)
-
-  sorted-lent : (xs : List (Bor Row)) → rows_lent (sorted_by (λ one other. before one.now other.now) xs) ≡ sorted_by before (rows_lent xs)
-  sorted-lent [] = refl
-  sorted-lent (x ∷ xs) = put-lent x (sorted_by (λ one other. before one.now other.now) xs) ∙ ap (put_by before x.now) (sorted-lent xs)
-
--- what a stable sort makes of rows that are lent
-pub rows-sorted : (sort : Sort) (holders : List Holder) (old new : List (Bor Row))
-    → IsSortedBy (λ one other. is_lt (row_cmp sort holders one.now other.now)) new → IsStableBy (λ one other. is_lt (row_cmp sort holders one.now other.now)) old new
-    → rows_lent new ≡ sorted_by (λ one other. is_lt (row_cmp sort holders one other)) (rows_lent old)
+-- what a stable sort makes of rows
+pub rows-sorted : (sort : Sort) (holders : List Holder) (old new : List Row)
+    → IsSortedBy (λ one other. is_lt (row_cmp sort holders one other)) new → IsStableBy (λ one other. is_lt (row_cmp sort holders one other)) old new
+    → new ≡ sorted_by (λ one other. is_lt (row_cmp sort holders one other)) old
 rows-sorted sort holders old new up stable =
-    ap rows_lent
-    (sorted-is (λ (one other : Bor Row). is_lt (row_cmp sort holders one.now other.now)) (row-order sort holders) old new up stable)
-    ∙ sorted-lent (λ one other. is_lt (row_cmp sort holders one other)) old
+    sorted-is (λ (one other : Row). is_lt (row_cmp sort holders one other)) (row-order sort holders) old new up stable
 
 -- # Patterns that are put in order
 

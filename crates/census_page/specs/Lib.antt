@@ -5,3 +5,4 @@ pub mod Options
 pub mod Order
 pub mod Pages
 pub mod Sorting
+pub mod Counted

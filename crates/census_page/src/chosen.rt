@@ -1,6 +1,5 @@
 //! Which of a collection's codes its table has.
 ghost use Rattle.std.specs.Prelude.{◌≡◌, filter, IfOk};
-ghost use Rattle.census_readback.specs.Grouped.{rows_lent};
 ghost use Rattle.census_page.specs.Options.{options_of};
 ghost use Rattle.census_page.specs.Order.{AreInOrder};
 ghost use Rattle.census_page.specs.Pages.{at_most, chosen, is_code};
@@ -8,6 +7,7 @@ ghost use Rattle.census_page.specs.Pages.{at_most, chosen, is_code};
 use crate::holder::Holder;
 use crate::options::PageOptions;
 use crate::sorting::sort_rows;
+use census_kept::Section;
 use census_rows::Row;
 use std::alloc::{AllocError, Global};
 
@@ -22,20 +22,21 @@ pub fn is_code(row: &Row) -> bool
 }
 
 // The rows that tell of codes.
-fn told_codes<'b, 'a>(alloc: Global, rows: &[&'b Row<'a>]) -> Result<Vec<&'b Row<'a>>, AllocError>
-    ensures { IfOk result (λ list. list.items ≡ filter (λ row. is_code row.now) rows.now) }
+fn told_codes<'a>(alloc: Global, rows: &Section<'_, 'a>) -> Result<Vec<Row<'a>>, AllocError>
+    ensures { IfOk result (λ list. list.items ≡ filter is_code rows.now) }
 {
     let mut list = Vec::new(alloc);
-    for row in rows {
-        if is_code(*row) {
-            list.push(*row)?;
+    for index in 0..rows.len() {
+        let row = rows.row(index);
+        if is_code(&row) {
+            list.push(row)?;
         }
     }
     Ok(list)
 }
 
 // Keeps the first rows, at most so many.
-fn cut(top: Option<u64>, rows: &mut Vec<&Row>)
+fn cut(top: Option<u64>, rows: &mut Vec<Row>)
     ensures { rows.new.items ≡ at_most top rows.old.items }
 {
     match top {
@@ -46,15 +47,15 @@ fn cut(top: Option<u64>, rows: &mut Vec<&Row>)
 
 /// The rows that tell of codes, in the order that is asked for, where these patterns have the codes, and
 /// no more rows than are asked for. The only error is out of memory.
-pub fn chosen<'b, 'a>(
+pub fn chosen<'a>(
     alloc: Global,
     options: &PageOptions,
     holders: &[Holder],
-    rows: &[&'b Row<'a>],
-) -> Result<Vec<&'b Row<'a>>, AllocError>
+    rows: &Section<'_, 'a>,
+) -> Result<Vec<Row<'a>>, AllocError>
     requires { AreInOrder holders.now }
-    ensures { IfOk result (λ list. rows_lent list.items
-        ≡ chosen (options_of options.now) holders.now (rows_lent rows.now)) }
+    ensures { IfOk result (λ list. list.items
+        ≡ chosen (options_of options.now) holders.now rows.now) }
 {
     let mut list = told_codes(alloc, rows)?;
     sort_rows(options.sort, holders, &mut list)?;

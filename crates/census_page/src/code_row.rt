@@ -1,7 +1,6 @@
 //! Rows of a table of codes.
 ghost use Rattle.std.specs.Prelude.{◌≡◌, ◌++◌, codes, IfOk, MatchResult, OnOk};
 ghost use Rattle.gathered.specs.Telling.{TellsAfter, TellsFront, sheet};
-ghost use Rattle.census_readback.specs.Grouped.{rows_lent};
 ghost use Rattle.census_page_pieces.specs.Links.{linking_of};
 ghost use Rattle.census_page_pieces.specs.Numbers.{grouped};
 ghost use Rattle.census_page.specs.Holders.{having};
@@ -207,19 +206,19 @@ pub fn put_code_rows<W: Write>(
     alloc: Global,
     links: &Links,
     holders: &[Holder],
-    rows: &[&Row],
+    rows: &[Row],
     block: &mut Block,
     writer: &mut Output<W>,
 ) -> Result<(), AllocError>
     requires { AreInOrder holders.now }
     ensures { MatchResult result
-        (λ _. TellsAfter (code_rows (linking_of links.now) holders.now (rows_lent rows.now))
+        (λ _. TellsAfter (code_rows (linking_of links.now) holders.now rows.now)
         (sheet block.old writer.old) (sheet block.new writer.new))
-        (λ _. TellsFront (code_rows (linking_of links.now) holders.now (rows_lent rows.now))
+        (λ _. TellsFront (code_rows (linking_of links.now) holders.now rows.now)
         (sheet block.old writer.old) (sheet block.new writer.new)) }
 {
     for row in rows {
-        put_code_row(alloc, links, holders, *row, block, writer)?;
+        put_code_row(alloc, links, holders, row, block, writer)?;
     }
     Ok(())
 }

@@ -7,8 +7,8 @@ use crate::options::PageOptions;
 use crate::tally::{
     count_patterns, count_refused, count_resolved, count_shown, count_shown_as, count_unresolved,
 };
+use census_kept::Rows;
 use census_page_pieces::{Kind, page_begin, page_style, push_grouped, push_text};
-use census_rows::Row;
 use std::alloc::{AllocError, Global};
 
 // Adds a number under a word.
@@ -26,7 +26,7 @@ fn push_total(text: &mut Vec<u8>, word: &[u8], number: u64) -> Result<(), AllocE
 
 // Adds how many collections and patterns there are, and what became of these.
 #[tactic(auto, unfolding(crate::specs::Pages::totals))]
-fn push_totals(text: &mut Vec<u8>, collections: u64, rows: &[Row]) -> Result<(), AllocError>
+fn push_totals(text: &mut Vec<u8>, collections: u64, rows: &Rows) -> Result<(), AllocError>
     ensures { OnOk result (text.new.items ≡ text.old.items ++ totals collections rows.now) }
 {
     text.extend_from_slice(b"<dl>")?;
@@ -58,7 +58,7 @@ pub fn front(
     alloc: Global,
     options: &PageOptions,
     collections: u64,
-    rows: &[Row],
+    rows: &Rows,
 ) -> Result<Vec<u8>, AllocError>
     ensures { IfOk result (λ text. text.items
         ≡ front (options_of options.now) collections rows.now) }
@@ -88,7 +88,7 @@ fn push_choice(text: &mut Vec<u8>, begin: &[u8], number: u64) -> Result<(), Allo
 }
 
 /// The kinds of rows that can be chosen, with how many there are. The only error is out of memory.
-pub fn choices(alloc: Global, rows: &[Row]) -> Result<Vec<u8>, AllocError>
+pub fn choices(alloc: Global, rows: &Rows) -> Result<Vec<u8>, AllocError>
     ensures { IfOk result (λ text. text.items ≡ choices rows.now) }
 {
     let mut text = Vec::new(alloc);

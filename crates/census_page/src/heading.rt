@@ -1,9 +1,9 @@
 //! What is told of a collection as a whole.
 ghost use Rattle.std.specs.Prelude.{◌≡◌, ◌++◌, MatchResult, OnOk};
 ghost use Rattle.gathered.specs.Telling.{TellsAfter, TellsFront, sheet};
-ghost use Rattle.census_readback.specs.Grouped.{rows_lent};
 ghost use Rattle.census_page.specs.Pages.{collection_name, counts_text, heading, headings};
 
+use census_kept::Section;
 use census_page_pieces::{push_labelled, push_told};
 use census_rows::Row;
 use gathered::{Block, put};
@@ -84,18 +84,18 @@ fn put_heading<W: Write>(
 /// Tells the name of a collection and its counts. Where memory is refused, a prefix was told.
 pub fn put_headings<W: Write>(
     alloc: Global,
-    rows: &[&Row],
+    rows: &Section,
     block: &mut Block,
     writer: &mut Output<W>,
 ) -> Result<(), AllocError>
     ensures { MatchResult result
-        (λ _. TellsAfter (headings (rows_lent rows.now))
+        (λ _. TellsAfter (headings rows.now)
         (sheet block.old writer.old) (sheet block.new writer.new))
-        (λ _. TellsFront (headings (rows_lent rows.now))
+        (λ _. TellsFront (headings rows.now)
         (sheet block.old writer.old) (sheet block.new writer.new)) }
 {
-    for row in rows {
-        put_heading(alloc, *row, block, writer)?;
+    for index in 0..rows.len() {
+        put_heading(alloc, &rows.row(index), block, writer)?;
     }
     Ok(())
 }

@@ -4,11 +4,11 @@ ghost use Rattle.std.specs.List.{All};
 ghost use Rattle.std.specs.List.Sorted.{IsPartitionPoint};
 ghost use Rattle.census_rows.specs.Kinds.{said};
 ghost use Rattle.census_rows.specs.declared.kinds.Behind.TheVariants as behind;
-ghost use Rattle.census_readback.specs.Grouped.{rows_lent};
 ghost use Rattle.census_readback.specs.Sections.{same_behind};
 ghost use Rattle.census_page.specs.Holders.{has_code, holder_by_part, holder_in, holder_of, having, holders_from, naming_after, naming_in, way_of};
 ghost use Rattle.census_page.specs.Order.{AreInOrder, holder_key, is_before, key_cmp};
 
+use census_kept::Section;
 use census_page_pieces::Way;
 use census_rows::{Behind, Finding, Outcome, Row};
 use std::alloc::{AllocError, Global};
@@ -141,14 +141,15 @@ fn holder_of<'a>(naming: &Option<Naming<'a>>, row: &Row<'a>) -> Option<Holder<'a
 
 /// The patterns of a collection's rows with their codes, in the order of the rows. A pattern that
 /// has fallen apart comes once for each code of its parts. The only error is out of memory.
-pub fn holders<'a>(alloc: Global, rows: &[&Row<'a>]) -> Result<Vec<Holder<'a>>, AllocError>
-    ensures { IfOk result (λ holders. holders.items ≡ holders_from None (rows_lent rows.now)) }
+pub fn holders<'a>(alloc: Global, rows: &Section<'_, 'a>) -> Result<Vec<Holder<'a>>, AllocError>
+    ensures { IfOk result (λ holders. holders.items ≡ holders_from None rows.now) }
 {
     let mut holders = Vec::new(alloc);
     let mut naming = None;
-    for row in rows {
-        naming = naming_after(&naming, *row);
-        if let Some(holder) = holder_of(&naming, *row) {
+    for index in 0..rows.len() {
+        let row = rows.row(index);
+        naming = naming_after(&naming, &row);
+        if let Some(holder) = holder_of(&naming, &row) {
             holders.push(holder)?;
         }
     }

@@ -1,11 +1,12 @@
 //! The table of all collections.
 ghost use Rattle.std.specs.Prelude.{◌≡◌, ◌++◌, IfOk, MatchResult, OnOk};
 ghost use Rattle.gathered.specs.Telling.{TellsAfter, TellsFront, sheet};
-ghost use Rattle.census_readback.specs.Grouped.{rows_lent, sections_lent};
 ghost use Rattle.census_page.specs.Pages.{all_index_cells, index_cells, index_row, index_rows, link_cell, number_cell};
 
 use crate::tally::count_lent;
+use census_kept::Section;
 use census_page_pieces::{Kind, push_grouped, push_number, push_told};
+use census_readback::Sections;
 use census_rows::Row;
 use gathered::{Block, put};
 use std::alloc::{AllocError, Global};
@@ -64,20 +65,20 @@ fn push_all_cells(
     alloc: Global,
     text: &mut Vec<u8>,
     number: u64,
-    rows: &[&Row],
+    rows: &Section,
 ) -> Result<(), AllocError>
     ensures { OnOk result (text.new.items
-        ≡ text.old.items ++ all_index_cells number (rows_lent rows.now)) }
+        ≡ text.old.items ++ all_index_cells number rows.now) }
 {
-    for row in rows {
-        push_cells(alloc, text, number, *row)?;
+    for index in 0..rows.len() {
+        push_cells(alloc, text, number, &rows.row(index))?;
     }
     Ok(())
 }
 
 // The row of a collection.
-fn row_of(alloc: Global, number: u64, rows: &[&Row]) -> Result<Vec<u8>, AllocError>
-    ensures { IfOk result (λ text. text.items ≡ index_row number (rows_lent rows.now)) }
+fn row_of(alloc: Global, number: u64, rows: &Section) -> Result<Vec<u8>, AllocError>
+    ensures { IfOk result (λ text. text.items ≡ index_row number rows.now) }
 {
     let mut text = Vec::new(alloc);
     text.extend_from_slice(b"<tr>")?;
@@ -93,18 +94,18 @@ fn row_of(alloc: Global, number: u64, rows: &[&Row]) -> Result<Vec<u8>, AllocErr
 /// still lifes, oscillators and spaceships. Where memory is refused, a prefix was told.
 pub fn put_rows<W: Write>(
     alloc: Global,
-    sections: &[Vec<&Row>],
+    sections: &Sections,
     block: &mut Block,
     writer: &mut Output<W>,
 ) -> Result<(), AllocError>
     ensures { MatchResult result
-        (λ _. TellsAfter (index_rows 1 (sections_lent sections.now))
+        (λ _. TellsAfter (index_rows 1 sections.now)
         (sheet block.old writer.old) (sheet block.new writer.new))
-        (λ _. TellsFront (index_rows 1 (sections_lent sections.now))
+        (λ _. TellsFront (index_rows 1 sections.now)
         (sheet block.old writer.old) (sheet block.new writer.new)) }
 {
     for index in 0..sections.len() {
-        let text = row_of(alloc, index as u64 + 1, sections[index].as_slice())?;
+        let text = row_of(alloc, index as u64 + 1, &sections.section(index))?;
         put(text.as_slice(), block, writer);
     }
     Ok(())

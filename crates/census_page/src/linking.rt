@@ -1,10 +1,10 @@
 //! Where the names and the codes of a collection lead to.
 ghost use Rattle.std.specs.Prelude.{◌≡◌, IfOk};
-ghost use Rattle.census_readback.specs.Grouped.{rows_lent};
 ghost use Rattle.census_page_pieces.specs.Links.{lent_bytes, linking_of};
 ghost use Rattle.census_page.specs.Linking.{address_in, collection_in, held_bytes, name_opened};
 
 use crate::options::PageOptions;
+use census_kept::Section;
 use census_page_pieces::{Links, push_collection_address};
 use census_rows::Row;
 use std::alloc::{AllocError, Global};
@@ -20,11 +20,11 @@ fn name_opened<'a>(row: &Row<'a>) -> &'a [u8]
 }
 
 // The name of the collection of these rows, of which the first gives it.
-fn collection_in<'a>(rows: &[&Row<'a>]) -> &'a [u8]
-    ensures { result.now ≡ collection_in (rows_lent rows.now) }
+fn collection_in<'a>(rows: &Section<'_, 'a>) -> &'a [u8]
+    ensures { result.now ≡ collection_in rows.now }
 {
-    match rows.first() {
-        Some(row) => name_opened(*row),
+    match rows.split_first() {
+        Some((row, _)) => name_opened(&row),
         None => b"",
     }
 }
@@ -34,10 +34,10 @@ fn collection_in<'a>(rows: &[&Row<'a>]) -> &'a [u8]
 pub fn address_in(
     alloc: Global,
     base: Option<&[u8]>,
-    rows: &[&Row],
+    rows: &Section,
 ) -> Result<Option<Vec<u8>>, AllocError>
     ensures { IfOk result (λ address. held_bytes address
-        ≡ address_in (lent_bytes base.entry) (rows_lent rows.now)) }
+        ≡ address_in (lent_bytes base.entry) rows.now) }
 {
     let Some(base) = base else {
         return Ok(None);

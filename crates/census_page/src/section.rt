@@ -2,7 +2,6 @@
 ghost use Rattle.std.specs.Prelude.{◌≡◌, ◌++◌, IfOk, MatchResult, codes, decimal};
 ghost use Rattle.std.specs.List.{list_any};
 ghost use Rattle.gathered.specs.Telling.{TellsAfter, TellsFront, sheet};
-ghost use Rattle.census_readback.specs.Grouped.{rows_lent};
 ghost use Rattle.census_page_pieces.specs.Links.{linking_of};
 ghost use Rattle.census_page.specs.Options.{options_of};
 ghost use Rattle.census_page.specs.Order.{AreInOrder};
@@ -15,6 +14,7 @@ use crate::holder::{Holder, holders, put_in_order};
 use crate::linking::{address_in, links_in};
 use crate::options::PageOptions;
 use crate::stray::put_stray_rows;
+use census_kept::Section;
 use census_page_pieces::{Links, list_begin, push_number, recurs, table_begin, table_end};
 use census_rows::Row;
 use gathered::{Block, put};
@@ -33,17 +33,22 @@ fn is_stray(row: &Row) -> bool
 }
 
 // Whether any row tells of a code.
-fn have_codes(rows: &[&Row]) -> bool
-    ensures { result ≡ list_any (λ row. is_code row.now) rows.now }
+fn have_codes(rows: &[Row]) -> bool
+    ensures { result ≡ list_any is_code rows.now }
 {
-    rows.iter().any(|row| is_code(*row))
+    rows.iter().any(|row| is_code(row))
 }
 
 // Whether any row tells of a pattern that does not recur.
-fn have_strays(rows: &[&Row]) -> bool
-    ensures { result ≡ list_any (λ row. is_stray row.now) rows.now }
+fn have_strays(rows: &Section) -> bool
+    ensures { result ≡ list_any is_stray rows.now }
 {
-    rows.iter().any(|row| is_stray(*row))
+    for index in 0..rows.len() {
+        if is_stray(&rows.row(index)) {
+            return true;
+        }
+    }
+    false
 }
 
 // Tells the table of those of these rows that are asked for, where there are any.
@@ -52,15 +57,15 @@ fn put_chosen<W: Write>(
     links: &Links,
     options: &PageOptions,
     holders: &[Holder],
-    rows: &[&Row],
+    rows: &Section,
     block: &mut Block,
     writer: &mut Output<W>,
 ) -> Result<(), AllocError>
     requires { AreInOrder holders.now }
     ensures { MatchResult result
-        (λ _. TellsAfter (table_of (linking_of links.now) holders.now (chosen (options_of options.now) holders.now (rows_lent rows.now)))
+        (λ _. TellsAfter (table_of (linking_of links.now) holders.now (chosen (options_of options.now) holders.now rows.now))
         (sheet block.old writer.old) (sheet block.new writer.new))
-        (λ _. TellsFront (table_of (linking_of links.now) holders.now (chosen (options_of options.now) holders.now (rows_lent rows.now)))
+        (λ _. TellsFront (table_of (linking_of links.now) holders.now (chosen (options_of options.now) holders.now rows.now))
         (sheet block.old writer.old) (sheet block.new writer.new)) }
 {
     let chosen = chosen(alloc, options, holders, rows)?;
@@ -79,14 +84,14 @@ fn put_code_table<W: Write>(
     alloc: Global,
     links: &Links,
     options: &PageOptions,
-    rows: &[&Row],
+    rows: &Section,
     block: &mut Block,
     writer: &mut Output<W>,
 ) -> Result<(), AllocError>
     ensures { MatchResult result
-        (λ _. TellsAfter (code_table (linking_of links.now) (options_of options.now) (rows_lent rows.now))
+        (λ _. TellsAfter (code_table (linking_of links.now) (options_of options.now) rows.now)
         (sheet block.old writer.old) (sheet block.new writer.new))
-        (λ _. TellsFront (code_table (linking_of links.now) (options_of options.now) (rows_lent rows.now))
+        (λ _. TellsFront (code_table (linking_of links.now) (options_of options.now) rows.now)
         (sheet block.old writer.old) (sheet block.new writer.new)) }
 {
     let mut holders = holders(alloc, rows)?;
@@ -106,14 +111,14 @@ fn put_code_table<W: Write>(
 fn put_stray_list<W: Write>(
     alloc: Global,
     links: &Links,
-    rows: &[&Row],
+    rows: &Section,
     block: &mut Block,
     writer: &mut Output<W>,
 ) -> Result<(), AllocError>
     ensures { MatchResult result
-        (λ _. TellsAfter (stray_list (linking_of links.now) (rows_lent rows.now))
+        (λ _. TellsAfter (stray_list (linking_of links.now) rows.now)
         (sheet block.old writer.old) (sheet block.new writer.new))
-        (λ _. TellsFront (stray_list (linking_of links.now) (rows_lent rows.now))
+        (λ _. TellsFront (stray_list (linking_of links.now) rows.now)
         (sheet block.old writer.old) (sheet block.new writer.new)) }
 {
     if !have_strays(rows) {
@@ -130,14 +135,14 @@ fn put_pattern_table<W: Write>(
     alloc: Global,
     links: &Links,
     shown: bool,
-    rows: &[&Row],
+    rows: &Section,
     block: &mut Block,
     writer: &mut Output<W>,
 ) -> Result<(), AllocError>
     ensures { MatchResult result
-        (λ _. TellsAfter (pattern_table (linking_of links.now) shown (rows_lent rows.now))
+        (λ _. TellsAfter (pattern_table (linking_of links.now) shown rows.now)
         (sheet block.old writer.old) (sheet block.new writer.new))
-        (λ _. TellsFront (pattern_table (linking_of links.now) shown (rows_lent rows.now))
+        (λ _. TellsFront (pattern_table (linking_of links.now) shown rows.now)
         (sheet block.old writer.old) (sheet block.new writer.new)) }
 {
     if !shown {
@@ -151,14 +156,14 @@ fn put_linked_tables<W: Write>(
     alloc: Global,
     links: &Links,
     options: &PageOptions,
-    rows: &[&Row],
+    rows: &Section,
     block: &mut Block,
     writer: &mut Output<W>,
 ) -> Result<(), AllocError>
     ensures { MatchResult result
-        (λ _. TellsAfter (linked_tables (linking_of links.now) (options_of options.now) (rows_lent rows.now))
+        (λ _. TellsAfter (linked_tables (linking_of links.now) (options_of options.now) rows.now)
         (sheet block.old writer.old) (sheet block.new writer.new))
-        (λ _. TellsFront (linked_tables (linking_of links.now) (options_of options.now) (rows_lent rows.now))
+        (λ _. TellsFront (linked_tables (linking_of links.now) (options_of options.now) rows.now)
         (sheet block.old writer.old) (sheet block.new writer.new)) }
 {
     put_code_table(alloc, links, options, rows, block, writer)?;
@@ -169,14 +174,14 @@ fn put_linked_tables<W: Write>(
 fn put_tables<W: Write>(
     alloc: Global,
     options: &PageOptions,
-    rows: &[&Row],
+    rows: &Section,
     block: &mut Block,
     writer: &mut Output<W>,
 ) -> Result<(), AllocError>
     ensures { MatchResult result
-        (λ _. TellsAfter (tables (options_of options.now) (rows_lent rows.now))
+        (λ _. TellsAfter (tables (options_of options.now) rows.now)
         (sheet block.old writer.old) (sheet block.new writer.new))
-        (λ _. TellsFront (tables (options_of options.now) (rows_lent rows.now))
+        (λ _. TellsFront (tables (options_of options.now) rows.now)
         (sheet block.old writer.old) (sheet block.new writer.new)) }
 {
     let address = address_in(alloc, options.base, rows)?;
@@ -202,14 +207,14 @@ pub fn put_section<W: Write>(
     alloc: Global,
     options: &PageOptions,
     number: u64,
-    rows: &[&Row],
+    rows: &Section,
     block: &mut Block,
     writer: &mut Output<W>,
 ) -> Result<(), AllocError>
     ensures { MatchResult result
-        (λ _. TellsAfter (section_text (options_of options.now) number (rows_lent rows.now))
+        (λ _. TellsAfter (section_text (options_of options.now) number rows.now)
         (sheet block.old writer.old) (sheet block.new writer.new))
-        (λ _. TellsFront (section_text (options_of options.now) number (rows_lent rows.now))
+        (λ _. TellsFront (section_text (options_of options.now) number rows.now)
         (sheet block.old writer.old) (sheet block.new writer.new)) }
 {
     if writer.failed() {

@@ -1,6 +1,5 @@
 //! The order of the rows of a table of codes.
 ghost use Rattle.std.specs.Prelude.{◌≡◌, OnOk};
-ghost use Rattle.census_readback.specs.Grouped.{rows_lent};
 ghost use Rattle.census_page.specs.Order.{AreInOrder};
 ghost use Rattle.census_page.specs.Sorting.{code_in, count_in, name_in, row_cmp, rule_in, shorter_cmp, sorted_rows};
 
@@ -75,13 +74,13 @@ fn compared(sort: Sort, holders: &[Holder], one: &Row, other: &Row) -> Ordering
 
 /// Puts rows in an order, where these patterns have their codes. Rows that it does not tell apart stand
 /// as they stood. The only error is out of memory.
-pub fn sort_rows(sort: Sort, holders: &[Holder], rows: &mut Vec<&Row>) -> Result<(), AllocError>
+pub fn sort_rows(sort: Sort, holders: &[Holder], rows: &mut Vec<Row>) -> Result<(), AllocError>
     requires { AreInOrder holders.now }
-    ensures { OnOk result (rows_lent rows.new.items
-        ≡ sorted_rows sort holders.now (rows_lent rows.old.items)) }
+    ensures { OnOk result (rows.new.items
+        ≡ sorted_rows sort holders.now rows.old.items) }
 {
     match sort {
         Sort::Report => Ok(()),
-        _ => rows.sort_by(|one, other| compared(sort, holders, *one, *other)),
+        _ => rows.sort_by(|one, other| compared(sort, holders, one, other)),
     }
 }

@@ -1,10 +1,10 @@
 //! Rows of the table of the patterns that do not recur.
 ghost use Rattle.std.specs.Prelude.{◌≡◌, ◌++◌, MatchResult, OnOk};
 ghost use Rattle.gathered.specs.Telling.{TellsAfter, TellsFront, sheet};
-ghost use Rattle.census_readback.specs.Grouped.{rows_lent};
 ghost use Rattle.census_page_pieces.specs.Links.{linking_of};
 ghost use Rattle.census_page.specs.Pages.{stray_row, stray_rows};
 
+use census_kept::Section;
 use census_page_pieces::{Links, push_fate_row};
 use census_readback::rows_behind;
 use census_rows::{Behind, Row};
@@ -19,16 +19,16 @@ fn push_stray_row(
     text: &mut Vec<u8>,
     links: &Links,
     row: &Row,
-    rows: &[&Row],
+    rows: &Section,
 ) -> Result<(), AllocError>
     ensures { OnOk result (text.new.items
-        ≡ text.old.items ++ stray_row (linking_of links.now) row.now (rows_lent rows.now)) }
+        ≡ text.old.items ++ stray_row (linking_of links.now) row.now rows.now) }
 {
     match row {
         Row::Line { outcome, name, .. } => {
             let growth = rows_behind(Behind::Engines, rows);
             let parts = rows_behind(Behind::Parts, rows);
-            push_fate_row(alloc, text, links, *name, outcome, growth, parts)
+            push_fate_row(alloc, text, links, *name, outcome, &growth, &parts)
         }
         _ => Ok(()),
     }
@@ -39,14 +39,14 @@ fn put_stray_row<W: Write>(
     alloc: Global,
     links: &Links,
     row: &Row,
-    rows: &[&Row],
+    rows: &Section,
     block: &mut Block,
     writer: &mut Output<W>,
 ) -> Result<(), AllocError>
     ensures { MatchResult result
-        (λ _. TellsAfter (stray_row (linking_of links.now) row.now (rows_lent rows.now))
+        (λ _. TellsAfter (stray_row (linking_of links.now) row.now rows.now)
         (sheet block.old writer.old) (sheet block.new writer.new))
-        (λ _. TellsFront (stray_row (linking_of links.now) row.now (rows_lent rows.now))
+        (λ _. TellsFront (stray_row (linking_of links.now) row.now rows.now)
         (sheet block.old writer.old) (sheet block.new writer.new)) }
 {
     let mut text = Vec::new(alloc);
@@ -60,18 +60,20 @@ fn put_stray_row<W: Write>(
 pub fn put_stray_rows<W: Write>(
     alloc: Global,
     links: &Links,
-    rows: &[&Row],
+    rows: &Section,
     block: &mut Block,
     writer: &mut Output<W>,
 ) -> Result<(), AllocError>
     ensures { MatchResult result
-        (λ _. TellsAfter (stray_rows (linking_of links.now) (rows_lent rows.now))
+        (λ _. TellsAfter (stray_rows (linking_of links.now) rows.now)
         (sheet block.old writer.old) (sheet block.new writer.new))
-        (λ _. TellsFront (stray_rows (linking_of links.now) (rows_lent rows.now))
+        (λ _. TellsFront (stray_rows (linking_of links.now) rows.now)
         (sheet block.old writer.old) (sheet block.new writer.new)) }
 {
     for index in 0..rows.len() {
-        put_stray_row(alloc, links, rows[index], &rows[index + 1..], block, writer)?;
+        let row = rows.row(index);
+        let behind = rows.from(index + 1);
+        put_stray_row(alloc, links, &row, &behind, block, writer)?;
     }
     Ok(())
 }

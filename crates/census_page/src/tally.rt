@@ -1,11 +1,12 @@
 //! How many rows there are of each kind.
-ghost use Rattle.std.specs.Prelude.{◌≡◌, map};
+ghost use Rattle.std.specs.Prelude.{◌≡◌};
 ghost use Rattle.std.specs.List.{count_by};
 ghost use Rattle.census_readback.specs.Shapes.{any_outcome, is_line};
 ghost use Rattle.census_rows.specs.Kinds.{is_refused, is_resolved, is_unresolved};
 ghost use Rattle.census_page.specs.Pages.{is_shown, is_shown_as, kind_shown};
-ghost use Rattle.census_readback.specs.Grouped.{rows_lent};
+ghost use Rattle.census_page.specs.Counted.{counts};
 
+use census_kept::{Rows, Section};
 use census_page_pieces::{Kind, is_kind, kind_of, recurs};
 use census_rows::{Class, Row};
 
@@ -38,27 +39,6 @@ fn is_shown(row: &Row) -> bool
     ensures { result ≡ is_shown row.now }
 {
     kind_shown(row).is_some()
-}
-
-/// How many rows of a kind the page has for these.
-pub fn count_shown_as(kind: Kind, rows: &[Row]) -> u64
-    ensures { result ≡ count_by (is_shown_as kind) rows.now }
-{
-    rows.iter().filter(|row| is_shown_as(kind, *row)).count() as u64
-}
-
-/// How many rows the page has for these.
-pub fn count_shown(rows: &[Row]) -> u64
-    ensures { result ≡ count_by is_shown rows.now }
-{
-    rows.iter().filter(|row| is_shown(*row)).count() as u64
-}
-
-/// How many rows of a kind the page has for these, which are lent.
-pub fn count_lent(kind: Kind, rows: &[&Row]) -> u64
-    ensures { result ≡ count_by (is_shown_as kind) (rows_lent rows.now) }
-{
-    rows.iter().filter(|row| is_shown_as(kind, **row)).count() as u64
 }
 
 // Whether a row tells of a pattern.
@@ -110,30 +90,108 @@ fn is_refused(row: &Row) -> bool
     }
 }
 
+// Which rows are counted.
+#[derive(Clone, Copy)]
+enum Which {
+    // Those for which the page has a row.
+    Shown,
+    // Those for which it has a row of this kind.
+    ShownAs(Kind),
+    // Those that tell of patterns.
+    Patterns,
+    // Those that tell of patterns that are resolved.
+    Resolved,
+    // Those that tell of patterns that are unresolved.
+    Unresolved,
+    // Those that tell of patterns that are refused.
+    Refused,
+}
+
+// Whether a row is one of these.
+fn counts(which: Which, row: &Row) -> bool
+    ensures { result ≡ counts which row.now }
+{
+    match which {
+        Which::Shown => is_shown(row),
+        Which::ShownAs(kind) => is_shown_as(kind, row),
+        Which::Patterns => is_pattern(row),
+        Which::Resolved => is_resolved(row),
+        Which::Unresolved => is_unresolved(row),
+        Which::Refused => is_refused(row),
+    }
+}
+
+// How many of these there are among all rows.
+fn count_of(which: Which, rows: &Rows) -> u64
+    ensures { result ≡ count_by (counts which) rows.now }
+{
+    let mut count = 0;
+    for index in 0..rows.len() {
+        if counts(which, &rows.row(index)) {
+            count += 1;
+        }
+    }
+    count
+}
+
+// How many of these there are among rows that are lent.
+fn count_among(which: Which, rows: &Section) -> u64
+    ensures { result ≡ count_by (counts which) rows.now }
+{
+    let mut count = 0;
+    for index in 0..rows.len() {
+        if counts(which, &rows.row(index)) {
+            count += 1;
+        }
+    }
+    count
+}
+
+/// How many rows of a kind the page has for these.
+pub fn count_shown_as(kind: Kind, rows: &Rows) -> u64
+    ensures { result ≡ count_by (is_shown_as kind) rows.now }
+{
+    count_of(Which::ShownAs(kind), rows)
+}
+
+/// How many rows the page has for these.
+pub fn count_shown(rows: &Rows) -> u64
+    ensures { result ≡ count_by is_shown rows.now }
+{
+    count_of(Which::Shown, rows)
+}
+
+/// How many rows of a kind the page has for these, which are lent.
+pub fn count_lent(kind: Kind, rows: &Section) -> u64
+    ensures { result ≡ count_by (is_shown_as kind) rows.now }
+{
+    count_among(Which::ShownAs(kind), rows)
+}
+
 /// How many of the rows tell of patterns.
-pub fn count_patterns(rows: &[Row]) -> u64
+pub fn count_patterns(rows: &Rows) -> u64
     ensures { result ≡ count_by (is_line any_outcome) rows.now }
 {
-    rows.iter().filter(|row| is_pattern(*row)).count() as u64
+    count_of(Which::Patterns, rows)
 }
 
 /// How many of the rows tell of patterns that are resolved.
-pub fn count_resolved(rows: &[Row]) -> u64
+pub fn count_resolved(rows: &Rows) -> u64
     ensures { result ≡ count_by (is_line is_resolved) rows.now }
 {
-    rows.iter().filter(|row| is_resolved(*row)).count() as u64
+    count_of(Which::Resolved, rows)
 }
 
 /// How many of the rows tell of patterns that are unresolved.
-pub fn count_unresolved(rows: &[Row]) -> u64
+pub fn count_unresolved(rows: &Rows) -> u64
     ensures { result ≡ count_by (is_line is_unresolved) rows.now }
 {
-    rows.iter().filter(|row| is_unresolved(*row)).count() as u64
+    count_of(Which::Unresolved, rows)
 }
 
 /// How many of the rows tell of patterns that are refused.
-pub fn count_refused(rows: &[Row]) -> u64
+pub fn count_refused(rows: &Rows) -> u64
     ensures { result ≡ count_by (is_line is_refused) rows.now }
 {
-    rows.iter().filter(|row| is_refused(*row)).count() as u64
+    count_of(Which::Refused, rows)
 }

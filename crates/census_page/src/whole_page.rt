@@ -2,7 +2,7 @@
 ghost use Rattle.std.specs.Prelude.{◌≡◌, [], List, MatchResult};
 ghost use Rattle.gathered.specs.Telling.{TellsAfter, TellsFront, sheet};
 ghost use Rattle.census_rows.specs.declared.row.Row.{Row};
-ghost use Rattle.census_readback.specs.Grouped.{collections_of, sections_lent};
+ghost use Rattle.census_readback.specs.Grouped.{collections_of};
 ghost use Rattle.census_readback.specs.Shapes.{AreReports};
 ghost use Rattle.census_page.specs.Options.{options_of};
 ghost use Rattle.census_page.specs.Pages.{body_text, codes_in, page_of, sections_codes, sections_text};
@@ -11,9 +11,9 @@ use crate::front::{choices, front};
 use crate::index::put_rows;
 use crate::options::PageOptions;
 use crate::section::put_section;
+use census_kept::Rows;
 use census_page_pieces::{index_begin, index_end, page_end};
-use census_readback::collections;
-use census_rows::Row;
+use census_readback::{Sections, collections};
 use gathered::{Block, put};
 use std::alloc::{AllocError, Global};
 use std::io::Write;
@@ -23,14 +23,14 @@ use watched::Output;
 fn put_sections<W: Write>(
     alloc: Global,
     options: &PageOptions,
-    sections: &[Vec<&Row>],
+    sections: &Sections,
     block: &mut Block,
     writer: &mut Output<W>,
 ) -> Result<(), AllocError>
     ensures { MatchResult result
-        (λ _. TellsAfter (sections_text (options_of options.now) 1 (sections_lent sections.now))
+        (λ _. TellsAfter (sections_text (options_of options.now) 1 sections.now)
         (sheet block.old writer.old) (sheet block.new writer.new))
-        (λ _. TellsFront (sections_text (options_of options.now) 1 (sections_lent sections.now))
+        (λ _. TellsFront (sections_text (options_of options.now) 1 sections.now)
         (sheet block.old writer.old) (sheet block.new writer.new)) }
 {
     for index in 0..sections.len() {
@@ -38,7 +38,7 @@ fn put_sections<W: Write>(
             alloc,
             options,
             index as u64 + 1,
-            sections[index].as_slice(),
+            &sections.section(index),
             block,
             writer,
         )?;
@@ -50,15 +50,15 @@ fn put_sections<W: Write>(
 fn put_body<W: Write>(
     alloc: Global,
     options: &PageOptions,
-    rows: &[Row],
-    sections: &[Vec<&Row>],
+    rows: &Rows,
+    sections: &Sections,
     block: &mut Block,
     writer: &mut Output<W>,
 ) -> Result<(), AllocError>
     ensures { MatchResult result
-        (λ _. TellsAfter (body_text (options_of options.now) rows.now (sections_lent sections.now))
+        (λ _. TellsAfter (body_text (options_of options.now) rows.now sections.now)
         (sheet block.old writer.old) (sheet block.new writer.new))
-        (λ _. TellsFront (body_text (options_of options.now) rows.now (sections_lent sections.now))
+        (λ _. TellsFront (body_text (options_of options.now) rows.now sections.now)
         (sheet block.old writer.old) (sheet block.new writer.new)) }
 {
     put(index_begin(), block, writer);
@@ -85,7 +85,7 @@ fn put_body<W: Write>(
 pub fn put_page<W: Write>(
     alloc: Global,
     options: &PageOptions,
-    rows: &[Row],
+    rows: &Rows,
     block: &mut Block,
     writer: &mut Output<W>,
 ) -> Result<(), AllocError>
@@ -97,10 +97,9 @@ pub fn put_page<W: Write>(
         (sheet block.old writer.old) (sheet block.new writer.new)) }
 {
     let sections = collections(alloc, rows)?;
-    let lent = sections.as_slice();
-    let front = front(alloc, options, lent.len() as u64, rows)?;
+    let front = front(alloc, options, sections.len() as u64, rows)?;
     put(front.as_slice(), block, writer);
-    put_body(alloc, options, rows, lent, block, writer)
+    put_body(alloc, options, rows, &sections, block, writer)
 }
 
 /// The collections of a page have as many code rows as its reports have.

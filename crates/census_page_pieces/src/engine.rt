@@ -2,10 +2,10 @@
 ghost use Rattle.std.specs.Prelude.{◌≡◌, ◌&&◌, pos};
 ghost use Rattle.std.specs.List.{list_all};
 ghost use Rattle.std.specs.Ordering.{int_eq};
-ghost use Rattle.census_readback.specs.Grouped.{rows_lent};
 ghost use Rattle.census_page_pieces.specs.Growth.{emits_ship, engine_kind, engine_name};
 
 use crate::kind::{Kind, is_kind, kind_of};
+use census_kept::Section;
 use census_rows::Row;
 
 /// What emits without end.
@@ -30,10 +30,15 @@ fn emits_ship(row: &Row) -> bool
 }
 
 // Whether all rows tell that an engine emits spaceships.
-fn emit_ships(rows: &[&Row]) -> bool
-    ensures { result ≡ list_all (λ row. emits_ship row.now) rows.now }
+fn emit_ships(rows: &Section) -> bool
+    ensures { result ≡ list_all emits_ship rows.now }
 {
-    rows.iter().all(|row| emits_ship(*row))
+    for index in 0..rows.len() {
+        if !emits_ship(&rows.row(index)) {
+            return false;
+        }
+    }
+    true
 }
 
 // Whether an engine stays that moves so far in a period.
@@ -44,8 +49,8 @@ fn stays(dx: i64, dy: i64) -> bool
 }
 
 /// What an engine is that moves so far in a period and emits what these rows tell.
-pub fn engine_kind(dx: i64, dy: i64, emits: &[&Row]) -> EngineKind
-    ensures { result ≡ engine_kind dx dy (rows_lent emits.now) }
+pub fn engine_kind(dx: i64, dy: i64, emits: &Section) -> EngineKind
+    ensures { result ≡ engine_kind dx dy emits.now }
 {
     if stays(dx, dy) {
         EngineKind::Gun

@@ -1,6 +1,5 @@
 //! What becomes of patterns that do not recur.
 ghost use Rattle.std.specs.Prelude.{◌≡◌, ◌++◌, OnOk};
-ghost use Rattle.census_readback.specs.Grouped.{rows_lent};
 ghost use Rattle.census_page_pieces.specs.Fates.{fate_cells, fate_row, finding_words, found_cells, objects_text, recurs, refused_cells, rule_found};
 ghost use Rattle.census_page_pieces.specs.Links.{linking_of};
 ghost use Rattle.census_rows.specs.declared.row.Finding.TheVariants.{Ash, Large};
@@ -11,6 +10,7 @@ use crate::link::{Links, push_name};
 use crate::numbers::{push_grouped, push_labelled, push_plural};
 use crate::parts::push_parts;
 use census_faults::fault_words;
+use census_kept::Section;
 use census_rows::{Finding, Outcome, Row};
 use std::alloc::{AllocError, Global};
 
@@ -121,11 +121,11 @@ fn push_objects(
     text: &mut Vec<u8>,
     linked: bool,
     rule: &[u8],
-    growth: &[&Row],
-    parts: &[&Row],
+    growth: &Section,
+    parts: &Section,
 ) -> Result<(), AllocError>
     ensures { OnOk result (text.new.items ≡ text.old.items
-        ++ objects_text linked rule.now (rows_lent growth.now) (rows_lent parts.now)) }
+        ++ objects_text linked rule.now growth.now parts.now) }
 {
     push_growth(alloc, text, linked, rule, growth)?;
     push_parts(alloc, text, linked, rule, parts)?;
@@ -141,11 +141,11 @@ pub fn push_fate_row(
     links: &Links,
     name: &[u8],
     outcome: &Outcome,
-    growth: &[&Row],
-    parts: &[&Row],
+    growth: &Section,
+    parts: &Section,
 ) -> Result<(), AllocError>
     ensures { OnOk result (text.new.items ≡ text.old.items
-        ++ fate_row (linking_of links.now) name.now outcome.now (rows_lent growth.now) (rows_lent parts.now)) }
+        ++ fate_row (linking_of links.now) name.now outcome.now growth.now parts.now) }
 {
     if recurs(outcome) {
         return Ok(());

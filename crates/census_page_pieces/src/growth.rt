@@ -1,12 +1,12 @@
 //! How patterns grow, in words, and what they emit.
 ghost use Rattle.std.specs.Prelude.{◌≡◌, ◌++◌, OnOk};
-ghost use Rattle.census_readback.specs.Grouped.{rows_lent};
 ghost use Rattle.census_page_pieces.specs.Growth.{all_emitted, deeds, emission, emitted, engine_head, engine_text, growth_text, moves, several, verb};
 
 use crate::engine::{EngineKind, engine_kind, engine_name};
 use crate::numbers::{push_grouped, push_labelled, push_plural, push_signed};
 use crate::parts::push_counted;
 use crate::picture::{push_picture, spelled};
+use census_kept::Section;
 use census_readback::emits_first;
 use census_rows::Row;
 use std::alloc::{AllocError, Global};
@@ -110,13 +110,13 @@ fn push_all_emitted(
     text: &mut Vec<u8>,
     linked: bool,
     rule: &[u8],
-    emits: &[&Row],
+    emits: &Section,
 ) -> Result<(), AllocError>
     ensures { OnOk result (text.new.items
-        ≡ text.old.items ++ all_emitted linked rule.now (rows_lent emits.now)) }
+        ≡ text.old.items ++ all_emitted linked rule.now emits.now) }
 {
-    for row in emits {
-        push_emitted(alloc, text, linked, rule, *row)?;
+    for index in 0..emits.len() {
+        push_emitted(alloc, text, linked, rule, &emits.row(index))?;
     }
     Ok(())
 }
@@ -127,10 +127,10 @@ fn push_emission(
     text: &mut Vec<u8>,
     linked: bool,
     rule: &[u8],
-    emits: &[&Row],
+    emits: &Section,
 ) -> Result<(), AllocError>
     ensures { OnOk result (text.new.items
-        ≡ text.old.items ++ emission linked rule.now (rows_lent emits.now)) }
+        ≡ text.old.items ++ emission linked rule.now emits.now) }
 {
     text.extend_from_slice(b"</div><ul>")?;
     push_all_emitted(alloc, text, linked, rule, emits)?;
@@ -165,10 +165,10 @@ fn push_engine(
     linked: bool,
     rule: &[u8],
     row: &Row,
-    emits: &[&Row],
+    emits: &Section,
 ) -> Result<(), AllocError>
     ensures { OnOk result (text.new.items
-        ≡ text.old.items ++ engine_text linked rule.now row.now (rows_lent emits.now)) }
+        ≡ text.old.items ++ engine_text linked rule.now row.now emits.now) }
 {
     match row {
         Row::Engine {
@@ -196,14 +196,14 @@ pub fn push_growth(
     text: &mut Vec<u8>,
     linked: bool,
     rule: &[u8],
-    rows: &[&Row],
+    rows: &Section,
 ) -> Result<(), AllocError>
     ensures { OnOk result (text.new.items
-        ≡ text.old.items ++ growth_text linked rule.now (rows_lent rows.now)) }
+        ≡ text.old.items ++ growth_text linked rule.now rows.now) }
 {
     for index in 0..rows.len() {
-        let emits = emits_first(&rows[index + 1..]);
-        push_engine(alloc, text, linked, rule, rows[index], emits)?;
+        let emits = emits_first(&rows.from(index + 1));
+        push_engine(alloc, text, linked, rule, &rows.row(index), &emits)?;
     }
     Ok(())
 }

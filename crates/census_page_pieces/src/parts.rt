@@ -1,11 +1,11 @@
 //! The objects that patterns consist of.
 ghost use Rattle.std.specs.Prelude.{◌≡◌, ◌++◌, OnOk, codes};
-ghost use Rattle.census_readback.specs.Grouped.{rows_lent};
 ghost use Rattle.census_page_pieces.specs.Numbers.{grouped, plural};
 ghost use Rattle.census_page_pieces.specs.Objects.{counted_code, others_text, part_item, part_items, parts_text};
 
 use crate::code::push_code;
 use crate::numbers::{push_grouped, push_labelled, push_plural};
+use census_kept::Section;
 use census_rows::Row;
 use std::alloc::{AllocError, Global};
 
@@ -59,13 +59,13 @@ fn push_items(
     text: &mut Vec<u8>,
     linked: bool,
     rule: &[u8],
-    rows: &[&Row],
+    rows: &Section,
 ) -> Result<(), AllocError>
     ensures { OnOk result (text.new.items
-        ≡ text.old.items ++ part_items linked rule.now (rows_lent rows.now)) }
+        ≡ text.old.items ++ part_items linked rule.now rows.now) }
 {
-    for row in rows {
-        push_part(alloc, text, linked, rule, *row)?;
+    for index in 0..rows.len() {
+        push_part(alloc, text, linked, rule, &rows.row(index))?;
     }
     Ok(())
 }
@@ -100,18 +100,19 @@ pub fn push_parts(
     text: &mut Vec<u8>,
     linked: bool,
     rule: &[u8],
-    rows: &[&Row],
+    rows: &Section,
 ) -> Result<(), AllocError>
     ensures { OnOk result (text.new.items
-        ≡ text.old.items ++ parts_text linked rule.now (rows_lent rows.now)) }
+        ≡ text.old.items ++ parts_text linked rule.now rows.now) }
 {
-    if rows.is_empty() {
+    let count = rows.len();
+    if count == 0 {
         return Ok(());
     }
-    let told = rows.len().min(TOLD);
+    let told = count.min(TOLD);
     text.extend_from_slice(b"<ul>")?;
-    push_items(alloc, text, linked, rule, &rows[..told])?;
+    push_items(alloc, text, linked, rule, &rows.before(told))?;
     text.extend_from_slice(b"</ul>")?;
-    push_others(text, (rows.len() - told) as u64)?;
+    push_others(text, (count - told) as u64)?;
     Ok(())
 }

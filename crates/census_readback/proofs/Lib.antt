@@ -14,3 +14,4 @@ pub mod Tallied
 pub mod Compared
 pub mod Counted
 pub mod Walks
+pub mod Filling

@@ -44,6 +44,10 @@ passed-end text rest p stuck = record {
   all = λ others after lines e apart. reached-end others after p.done rest (p.all others after lines e apart) stuck;
 }
 
+pub passed-whole : (text rest : List ℕ) (p : Passed text rest) → IsStuck rest → (e : Ends text rest) × (e.rows ≡ p.done)
+unfolding passed-end
+passed-whole text rest p stuck = (passed-end text rest p stuck, refl)
+
 -- ---- lists of rows
 
 lines-append : (xs ys : List Row) → AllLines xs → AllLines ys → AllLines (xs ++ ys)

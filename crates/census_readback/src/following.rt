@@ -2,9 +2,9 @@
 ghost use Rattle.std.specs.Prelude.{◌≡◌, ◌≤◌, length};
 ghost use Rattle.std.specs.List.{prefix_len, take_while};
 ghost use Rattle.census_readback.specs.Following.{is_emits, rows_behind, stands_behind};
-ghost use Rattle.census_readback.specs.Grouped.{rows_lent};
 
 use crate::place::same_behind;
+use census_kept::Section;
 use census_rows::{Behind, Row};
 
 // Whether a row stands behind a line behind which there are rows of this kind.
@@ -20,12 +20,12 @@ fn stands_behind(kind: Behind, row: &Row) -> bool
 }
 
 // How many rows from the first on stand behind such a line.
-fn count_behind(kind: Behind, rows: &[&Row]) -> usize
-    ensures value { result ≡ prefix_len (stands_behind kind) (rows_lent rows.now) }
+fn count_behind(kind: Behind, rows: &Section) -> usize
+    ensures value { result ≡ prefix_len (stands_behind kind) rows.now }
     ensures within { result ≤ length rows.now }
 {
-    for (index, row) in rows.iter().enumerate() {
-        if !stands_behind(kind, *row) {
+    for index in 0..rows.len() {
+        if !stands_behind(kind, &rows.row(index)) {
             return index;
         }
     }
@@ -33,10 +33,10 @@ fn count_behind(kind: Behind, rows: &[&Row]) -> usize
 }
 
 /// The rows from the first on that stand behind a line behind which there are rows of this kind.
-pub fn rows_behind<'c, 'b, 'a>(kind: Behind, rows: &'c [&'b Row<'a>]) -> &'c [&'b Row<'a>]
-    ensures { rows_lent result.now ≡ rows_behind kind (rows_lent rows.now) }
+pub fn rows_behind<'b, 'a>(kind: Behind, rows: &Section<'b, 'a>) -> Section<'b, 'a>
+    ensures { result ≡ rows_behind kind rows.now }
 {
-    &rows[..count_behind(kind, rows)]
+    rows.before(count_behind(kind, rows))
 }
 
 // Whether a row tells what an engine emits.
@@ -50,12 +50,12 @@ fn is_emits(row: &Row) -> bool
 }
 
 // How many rows from the first on tell what an engine emits.
-fn count_emits(rows: &[&Row]) -> usize
-    ensures value { result ≡ prefix_len is_emits (rows_lent rows.now) }
+fn count_emits(rows: &Section) -> usize
+    ensures value { result ≡ prefix_len is_emits rows.now }
     ensures within { result ≤ length rows.now }
 {
-    for (index, row) in rows.iter().enumerate() {
-        if !is_emits(*row) {
+    for index in 0..rows.len() {
+        if !is_emits(&rows.row(index)) {
             return index;
         }
     }
@@ -63,8 +63,8 @@ fn count_emits(rows: &[&Row]) -> usize
 }
 
 /// The rows from the first on that tell what an engine emits.
-pub fn emits_first<'c, 'b, 'a>(rows: &'c [&'b Row<'a>]) -> &'c [&'b Row<'a>]
-    ensures { rows_lent result.now ≡ take_while is_emits (rows_lent rows.now) }
+pub fn emits_first<'b, 'a>(rows: &Section<'b, 'a>) -> Section<'b, 'a>
+    ensures { result ≡ take_while is_emits rows.now }
 {
-    &rows[..count_emits(rows)]
+    rows.before(count_emits(rows))
 }

@@ -22,4 +22,4 @@ pub use following::{emits_first, rows_behind};
 pub use limits::COUNT_LIMIT;
 pub use lines::{First, behind_line, first_row};
 pub use reading::{fault_of, read_report};
-pub use sectioning::{collections, sections};
+pub use sectioning::{Sections, collections};

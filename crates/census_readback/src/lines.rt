@@ -4,20 +4,14 @@ ghost use Rattle.census_rows.specs.declared.row.Row.{Row};
 ghost use Rattle.census_rows.specs.Lines.{SameRow, line_of, text_of};
 ghost use Rattle.census_readback.specs.Texts.{AllLines, Ends, IsLine, IsStuck, SameRows};
 
+use census_kept::Rows;
 use census_rows::{Row, read_row};
-use std::alloc::{AllocError, Global};
+use std::alloc::AllocError;
 
 /// A row, and what stands after its line.
 #[derive(Clone, Copy)]
 pub struct First<'a> {
     pub row: Row<'a>,
-    pub rest: &'a [u8],
-}
-
-// Rows, and what stands after their lines.
-#[derive(Drop)]
-pub struct Front<'a> {
-    pub rows: Vec<Row<'a>>,
     pub rest: &'a [u8],
 }
 
@@ -53,21 +47,18 @@ pub fn behind_line(text: &[u8]) -> Option<&[u8]>
     Some(&behind[1..])
 }
 
-// As many rows as stand at the start of a text.
-pub fn read_rows(alloc: Global, text: &[u8]) -> Result<Front, AllocError>
-    ensures sound { IfOk result (λ front. AllLines front.rows.items
-        × (text.now ≡ text_of front.rows.items ++ front.rest.now) × IsStuck front.rest.now) }
-    ensures all { (rows : List Row) (after : List ℕ) → AllLines rows
-        → text.now ≡ text_of rows ++ after → IsStuck after
-        → IfOk result (λ front. SameRows front.rows.items rows × (front.rest.now ≡ after)) }
+// Appends as many rows as stand at the start of a text, and returns what stands behind them. Where
+// memory is refused, some rows may have been appended.
+pub fn read_rows<'a>(text: &'a [u8], rows: &mut Rows<'a>) -> Result<&'a [u8], AllocError>
+    ensures { IfOk result (λ rest. (ends : Ends text.now rest.now)
+        × (rows.new ≡ rows.old ++ ends.rows)) }
 {
-    let mut rows = Vec::new(alloc);
     let mut rest = text;
     while let Some(first) = first_row(rest) {
-        rows.push(first.row)?;
+        rows.push(&first.row)?;
         rest = first.rest;
     }
-    Ok(Front { rows, rest })
+    Ok(rest)
 }
 
 // What stands behind as many rows as stand at the start of a text.

@@ -18,7 +18,7 @@
 //! The `code` lines of a collection are what its lines count: for each rule and code that `ok` and `part`
 //! lines have, in the order of first appearance, one line with the number of these `ok` lines and the
 //! sum of the counts of these `part` lines. What follows the `_` of a code is not looked at.
-ghost use Rattle.std.specs.Prelude.{◌≡◌, ◌⊎◌, ℕ, List, None, Some, IfOk, IsFalse, IsTrue, MatchOption, MatchResult};
+ghost use Rattle.std.specs.Prelude.{◌≡◌, ◌⊎◌, ◌++◌, ℕ, List, None, Some, IfOk, IsFalse, IsTrue, MatchOption, MatchResult};
 ghost use Rattle.census_readback.specs.Steps.{reading_of, step};
 ghost use Rattle.census_readback.specs.Told.{told_after, told_of};
 ghost use Rattle.census_rows.specs.declared.row.Row.{Row};
@@ -28,6 +28,7 @@ ghost use Rattle.census_readback.specs.Texts.{Ends, SameRows};
 use crate::lines::{behind_rows, first_row, read_rows};
 use crate::progress::Progress;
 use crate::told::Told;
+use census_kept::Rows;
 use census_rows::Row;
 use std::alloc::{AllocError, Global};
 use std::mem::replace;
@@ -94,16 +95,26 @@ pub fn fault_of(alloc: Global, text: &[u8]) -> Result<Option<usize>, AllocError>
     }
 }
 
-/// The rows of a report, or of several after one another. `Err` has the line of the fault, as
-/// `fault_of` tells it.
-pub fn read_report(alloc: Global, text: &[u8]) -> Result<Result<Vec<Row>, usize>, AllocError>
+/// Appends the rows of a report, or of several after one another. `Err` has the line of the fault,
+/// as `fault_of` tells it: the rows are as they were then. Where memory is refused, some rows may
+/// have been appended.
+pub fn read_report<'a>(
+    alloc: Global,
+    text: &'a [u8],
+    rows: &mut Rows<'a>,
+) -> Result<Result<(), usize>, AllocError>
     ensures sound { IfOk result (λ read. MatchResult read
-        (λ rows. ReadsAsReports rows.items text.now) (λ line. IsFault text.now line)) }
-    ensures all { (rows : List Row) → ReadsAsReports rows text.now
-        → IfOk result (λ read. MatchResult read (λ found. SameRows found.items rows) (λ line. ⊥)) }
+        (λ _. (own : List Row) × ReadsAsReports own text.now × (rows.new ≡ rows.old ++ own))
+        (λ line. IsFault text.now line × (rows.new ≡ rows.old))) }
+    ensures all { (told : List Row) → ReadsAsReports told text.now
+        → IfOk result (λ read. MatchResult read
+        (λ _. (own : List Row) × SameRows own told × (rows.new ≡ rows.old ++ own)) (λ line. ⊥)) }
 {
     match fault_of(alloc, text)? {
         Some(line) => Ok(Err(line)),
-        None => Ok(Ok(read_rows(alloc, text)?.rows)),
+        None => {
+            read_rows(text, rows)?;
+            Ok(Ok(()))
+        }
     }
 }

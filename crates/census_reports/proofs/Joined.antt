@@ -1,14 +1,11 @@
 -- The rows of one text more.
-use Rattle.std.proofs.Common.{◌≡◌, ℕ, suc, ◌+◌, ◌<◌, ◌≤◌, List, [], ◌∷◌, ◌++◌, length, take, drop, get_or, refl, sym, ap, subst, ◌∙◌, append_assoc, append-nil, drop-cons, length-append, Option, Some, None, Result, Ok, Err, MatchResult, arith}
+use Rattle.std.proofs.Common.{◌≡◌, ℕ, suc, ◌+◌, ◌<◌, ◌≤◌, List, [], ◌∷◌, ◌++◌, length, take, drop, get_or, refl, sym, ap, subst, ◌∙◌, append_assoc, append-nil, drop-cons, length-append, Option, Some, None, Result, Err, MatchResult, arith}
 use Rattle.std.specs.Prelude.{MatchOption}
 use Rattle.std.specs.List.{AllZip}
-use Rattle.std.specs.declared.alloc.Global.{Global}
-use Rattle.std.specs.declared.vec.Vec.{Vec}
 use Rattle.std.proofs.lemmas.List.{length-take, length-take-le, take-append-drop, take_more}
 use Rattle.census_rows.specs.declared.row.Row.{Row}
 use Rattle.census_readback.specs.Reports.{IsFault, ReadsAsReports}
 use Rattle.census_readback.specs.Shapes.{AreReports, AreWhole, all_rows}
-use Rattle.census_readback.specs.Texts.{SameRows}
 use Rattle.census_reports.specs.Rows.{AreRowsOf, HasReportFault}
 
 pub rows_none : AreRowsOf [] []
@@ -80,19 +77,13 @@ module _ (texts : List (List ℕ)) (i : ℕ) (d : List ℕ) (within : i < length
   }
 
   module _ (bytes : List ℕ) (e : bytes ≡ get_or texts i d) where
-    pub report_read : (read : Result (Vec Row Global) ℕ) (own : Vec Row Global) (all : List Row) → read ≡ Ok own
-        → MatchResult read (λ own. ReadsAsReports own.items bytes) (λ line. IsFault bytes line) → all ≡ rows ++ own.items → AreRowsOf all (take (i + 1) texts)
-    report_read read own all is sound more =
-        let report : ReadsAsReports own.items bytes = subst (λ r. MatchResult r (λ own. ReadsAsReports own.items bytes) (λ line. IsFault bytes line)) is sound in
-        next_rows own.items all (subst (ReadsAsReports own.items) e report) more
+    pub report_read : (all : List Row) → (own : List Row) × ReadsAsReports own bytes × (all ≡ rows ++ own) → AreRowsOf all (take (i + 1) texts)
+    report_read all read = next_rows read.0 all (subst (ReadsAsReports read.0) e read.1) read.2
 
-    pub fault_read : (read : Result (Vec Row Global) ℕ) (line : ℕ) → read ≡ Err line → MatchResult read (λ own. ReadsAsReports own.items bytes) (λ line. IsFault bytes line)
-        → ((own : List Row) → ReadsAsReports own bytes → MatchResult read (λ found. SameRows found.items own) (λ line. ⊥)) → HasReportFault (i + 1) line texts
-    fault_read read line is sound all =
-        let fault : IsFault bytes line = subst (λ r. MatchResult r (λ own. ReadsAsReports own.items bytes) (λ line. IsFault bytes line)) is sound in
-        has_fault line
-        (λ own report. subst (λ r. MatchResult r (λ found. SameRows found.items own) (λ line. ⊥)) is (all own (subst (ReadsAsReports own) (sym e) report)))
-        (subst (λ t. IsFault t line) e fault)
+    pub fault_read : {A : Type 0} (read : Result A ℕ) (line : ℕ) → read ≡ Err line → (P : List Row → A → Type 0) → IsFault bytes line
+        → ((own : List Row) → ReadsAsReports own bytes → MatchResult read (P own) (λ line. ⊥)) → HasReportFault (i + 1) line texts
+    fault_read read line is P fault all =
+        has_fault line (λ own report. subst (λ r. MatchResult r (P own) (λ line. ⊥)) is (all own (subst (ReadsAsReports own) (sym e) report))) (subst (λ t. IsFault t line) e fault)
 
   module _ (bytes : List ℕ) (e : bytes ≡ get_or texts i d) (fault : Option ℕ) (sound : MatchOption fault ((own : List Row) × ReadsAsReports own bytes) (λ line. IsFault bytes line)) where
     pub none_found : fault ≡ None → (all : List Row) × AreRowsOf all (take (i + 1) texts)

@@ -11,9 +11,9 @@ ghost use Rattle.census_reports.specs.Forms.{names_given};
 ghost use Rattle.census_reports.specs.Written.{FailsRows, WritesRows};
 
 use crate::error::ReportsError;
+use census_kept::Rows;
 use census_names::{Names, read_names};
 use census_page::{PageOptions, put_page};
-use census_rows::Row;
 use census_same::put_same;
 use census_table::{Format, Subject, put_listing, table_of};
 use census_verify::{Claims, put_verdict, read_claims};
@@ -55,7 +55,7 @@ fn write_named<O: Write>(
     format: Format,
     text: Option<&[u8]>,
     names: Option<&Names>,
-    rows: &[Row],
+    rows: &Rows,
     output: &mut Output<O>,
 ) -> Result<bool, ReportsError>
     requires names { names_given text ≡ Ok (option_copied names) }
@@ -84,7 +84,7 @@ pub fn write_table<O: Write>(
     subject: Subject,
     format: Format,
     text: Option<&[u8]>,
-    rows: &[Row],
+    rows: &Rows,
     output: &mut Output<O>,
 ) -> Result<bool, ReportsError>
     requires { AreReports rows.now }
@@ -107,7 +107,7 @@ pub fn write_table<O: Write>(
 pub fn write_page<O: Write>(
     alloc: Global,
     options: PageOptions,
-    rows: &[Row],
+    rows: &Rows,
     output: &mut Output<O>,
 ) -> Result<bool, ReportsError>
     requires { AreReports rows.now }
@@ -132,7 +132,7 @@ pub fn write_page<O: Write>(
 pub fn write_same<O: Write>(
     alloc: Global,
     json: bool,
-    rows: &[Row],
+    rows: &Rows,
     output: &mut Output<O>,
 ) -> Result<bool, ReportsError>
     requires { AreReports rows.now }
@@ -155,7 +155,7 @@ fn write_disagreement<O: Write>(
     alloc: Global,
     text: &[u8],
     claims: &Claims,
-    rows: &[Row],
+    rows: &Rows,
     output: &mut Output<O>,
 ) -> Result<bool, ReportsError>
     requires claims { claims_in text.now ≡ Ok (claims_read claims.now.items.items) }
@@ -178,7 +178,7 @@ fn write_disagreement<O: Write>(
 pub fn write_verdict<O: Write>(
     alloc: Global,
     text: &[u8],
-    rows: &[Row],
+    rows: &Rows,
     output: &mut Output<O>,
 ) -> Result<bool, ReportsError>
     requires { AreReports rows.now }

@@ -37,19 +37,19 @@ fn write_of<O: Write>(
             names,
         } => {
             let rows = rows_of(alloc, texts)?;
-            write_table(alloc, subject, format, names, rows.as_slice(), output)
+            write_table(alloc, subject, format, names, &rows, output)
         }
         Form::Page { options } => {
             let rows = rows_of(alloc, texts)?;
-            write_page(alloc, options, rows.as_slice(), output)
+            write_page(alloc, options, &rows, output)
         }
         Form::Same { json } => {
             let rows = rows_of(alloc, texts)?;
-            write_same(alloc, json, rows.as_slice(), output)
+            write_same(alloc, json, &rows, output)
         }
         Form::Verdict { claims } => {
             let rows = rows_of(alloc, texts)?;
-            write_verdict(alloc, claims, rows.as_slice(), output)
+            write_verdict(alloc, claims, &rows, output)
         }
     }
 }

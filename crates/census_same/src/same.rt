@@ -9,8 +9,8 @@ ghost use Rattle.census_same.specs.Same.{has_bytes, same_text, IsSame};
 
 use crate::group::{group_len, put_group};
 use crate::told::{Told, all_told};
+use census_kept::Rows;
 use census_readback::collections;
-use census_rows::Row;
 use gathered::Block;
 use std::alloc::{AllocError, Global};
 use std::io::Write;
@@ -69,7 +69,7 @@ fn put_groups<W: Write>(
 pub fn put_same<W: Write>(
     alloc: Global,
     json: bool,
-    rows: &[Row],
+    rows: &Rows,
     block: &mut Block,
     writer: &mut Output<W>,
 ) -> Result<bool, AllocError>
@@ -82,7 +82,7 @@ pub fn put_same<W: Write>(
     ensures any { IfOk result (λ any. any ≡ has_bytes (same_text json (tolds_of rows.now))) }
 {
     let sections = collections(alloc, rows)?;
-    let mut tolds = all_told(alloc, sections.as_slice())?;
+    let mut tolds = all_told(alloc, &sections)?;
     put_in_order(&mut tolds)?;
     put_groups(alloc, json, tolds.as_slice(), block, writer)
 }

@@ -1,8 +1,9 @@
 //! Which patterns are objects.
 ghost use Rattle.std.specs.Prelude.{◌≡◌, ◌++◌, None, IfOk, OnOk};
-ghost use Rattle.census_readback.specs.Grouped.{rows_lent, sections_lent};
 ghost use Rattle.census_same.specs.Patterns.{all_told, collection_after, told_by, told_from, told_in};
 
+use census_kept::Section;
+use census_readback::Sections;
 use census_rows::{Label, Outcome, Row, Value};
 use std::alloc::{AllocError, Global};
 
@@ -56,14 +57,15 @@ fn told_by<'a>(collection: &Option<&'a [u8]>, row: &Row<'a>) -> Option<Told<'a>>
 }
 
 // Adds the patterns of a collection's rows that are objects, in the order of the rows.
-fn add_told<'a>(tolds: &mut Vec<Told<'a>>, rows: &[&Row<'a>]) -> Result<(), AllocError>
+fn add_told<'a>(tolds: &mut Vec<Told<'a>>, rows: &Section<'_, 'a>) -> Result<(), AllocError>
     ensures { OnOk result (tolds.new.items
-        ≡ tolds.old.items ++ told_from None (rows_lent rows.now)) }
+        ≡ tolds.old.items ++ told_from None rows.now) }
 {
     let mut collection = None;
-    for row in rows {
-        collection = collection_after(&collection, *row);
-        if let Some(told) = told_by(&collection, *row) {
+    for index in 0..rows.len() {
+        let row = rows.row(index);
+        collection = collection_after(&collection, &row);
+        if let Some(told) = told_by(&collection, &row) {
             tolds.push(told)?;
         }
     }
@@ -71,12 +73,12 @@ fn add_told<'a>(tolds: &mut Vec<Told<'a>>, rows: &[&Row<'a>]) -> Result<(), Allo
 }
 
 /// The patterns of collections that are objects, in the order of the rows. The only error is out of memory.
-pub fn all_told<'a>(alloc: Global, sections: &[Vec<&Row<'a>>]) -> Result<Vec<Told<'a>>, AllocError>
-    ensures { IfOk result (λ tolds. tolds.items ≡ all_told (sections_lent sections.now)) }
+pub fn all_told<'a>(alloc: Global, sections: &Sections<'_, 'a>) -> Result<Vec<Told<'a>>, AllocError>
+    ensures { IfOk result (λ tolds. tolds.items ≡ all_told sections.now) }
 {
     let mut tolds = Vec::new(alloc);
     for index in 0..sections.len() {
-        add_told(&mut tolds, sections[index].as_slice())?;
+        add_told(&mut tolds, &sections.section(index))?;
     }
     Ok(tolds)
 }

@@ -1,10 +1,8 @@
 -- The text of rows, of which some stand before others.
-use Rattle.std.proofs.Common.{◌≡◌, ℕ, zero, ◌+◌, ◌-◌, ◌<◌, Bool, List, [], ◌∷◌, ◌++◌, Bor, Option, Some, None, length, map, take, drop, get_or, refl, sym, ap, ◌∙◌, append_assoc, drop-cons, suc, arith, subst}
+use Rattle.std.proofs.Common.{◌≡◌, ℕ, zero, ◌+◌, ◌-◌, ◌<◌, Bool, List, [], ◌∷◌, ◌++◌, Option, Some, None, length, map, take, drop, get_or, refl, sym, ap, ◌∙◌, append_assoc, drop-cons, suc, arith, subst}
 use Rattle.std.specs.Option.{option_map}
-use Rattle.std.proofs.lemmas.List.{drop-drop, drop-map, length-drop, map-append, take-append-drop, take_all}
-use Rattle.std.specs.declared.vec.Vec.{Vec}
+use Rattle.std.proofs.lemmas.List.{drop-drop, length-drop, map-append, take-append-drop, take_all}
 use Rattle.census_rows.specs.declared.row.Row.{Row}
-use Rattle.census_readback.specs.Grouped.{sections_lent, rows_lent}
 use Rattle.census_table.specs.Lists.{told_before}
 use Rattle.census_table.specs.Patterns.{Pattern, all_patterns, first_patterns, pattern_before, pattern_of_row, patterns_under, section_patterns}
 use Rattle.csv.specs.Writing.{default_writer, row_text}
@@ -62,19 +60,19 @@ pub rest-whole : {X : Type 0} (n : ℕ) (xs : List X) → take (length xs - n) (
 rest-whole n xs = take_all (length xs - n) (drop n xs) (omega (arith, length-drop n xs))
 
 -- some rows of a collection, and those behind them
-pub rows-cut : (names : Names) → (format : Format) (number : ℕ) (heading : Row) (all : List (Bor Row)) (start count : ℕ) (from : List (Bor Row)) → from ≡ drop start all
-    → rows_text format (map (pattern_row names format) (patterns_under number heading (rows_lent (drop start all))))
-    ≡ rows_text format (map (pattern_row names format) (first_patterns count number heading (rows_lent from)))
-    ++ rows_text format (map (pattern_row names format) (patterns_under number heading (rows_lent (drop (start + count) all))))
+pub rows-cut : (names : Names) → (format : Format) (number : ℕ) (heading : Row) (all : List Row) (start count : ℕ) (from : List Row) → from ≡ drop start all
+    → rows_text format (map (pattern_row names format) (patterns_under number heading (drop start all)))
+    ≡ rows_text format (map (pattern_row names format) (first_patterns count number heading from))
+    ++ rows_text format (map (pattern_row names format) (patterns_under number heading (drop (start + count) all)))
 rows-cut names format number heading all start count from is =
-    let rows = rows_lent (drop start all) in
-    let others = patterns_under number heading (rows_lent (drop (start + count) all)) in
-    let behind : drop count rows ≡ rows_lent (drop (start + count) all) = drop-map (λ row. row.now) count (drop start all) ∙ ap rows_lent (drop-drop count start all) in
+    let rows = drop start all in
+    let others = patterns_under number heading (drop (start + count) all) in
+    let behind : drop count rows ≡ drop (start + count) all = drop-drop count start all in
     let told = ap (λ list. rows_text format (map (pattern_row names format) list)) (first-cut count number heading rows)
     ∙ mapped-append format (pattern_row names format) (first_patterns count number heading rows) (patterns_under number heading (drop count rows)) in
     told
     ∙ ap (λ rows'. rows_text format (map (pattern_row names format) (first_patterns count number heading rows)) ++ rows_text format (map (pattern_row names format) (patterns_under number heading rows'))) behind
-    ∙ ap (λ from. rows_text format (map (pattern_row names format) (first_patterns count number heading (rows_lent from))) ++ rows_text format (map (pattern_row names format) others)) (sym is)
+    ∙ ap (λ from. rows_text format (map (pattern_row names format) (first_patterns count number heading from)) ++ rows_text format (map (pattern_row names format) others)) (sym is)
 
 record-first : (names : Names) → (safe : Bool) (entry : Option Entry) (rows : List Row) (list : List Pattern) (entries : List Entry)
     → map (pattern_row names (Csv safe)) list ≡ map (entry_row names columns) entries
@@ -110,22 +108,21 @@ first-more (suc count) number heading row (r ∷ rows) rest e =
     ∙ told-append told (first_patterns count number heading rows) (told_before (pattern_of_row number heading row rest) [])
 
 -- a text with the line of one pattern more, as JSON
-pub lines-more : (names : Names) → (i number : ℕ) (heading : Row) (rows : List (Bor Row)) (d : Bor Row) (rest : List (Bor Row)) (old new : List ℕ)
+pub lines-more : (names : Names) → (i number : ℕ) (heading : Row) (rows : List Row) (d : Row) (rest : List Row) (old new : List ℕ)
     → i < length rows → rest ≡ drop (i + 1) rows
-    → old ≡ json_rows (map (pattern_row names Json) (first_patterns i number heading (rows_lent rows)))
-    → new ≡ old ++ json_rows (map (pattern_row names Json) (told_before (pattern_of_row number heading (get_or rows i d).now (rows_lent rest)) []))
-    → new ≡ json_rows (map (pattern_row names Json) (first_patterns (i + 1) number heading (rows_lent rows)))
+    → old ≡ json_rows (map (pattern_row names Json) (first_patterns i number heading rows))
+    → new ≡ old ++ json_rows (map (pattern_row names Json) (told_before (pattern_of_row number heading (get_or rows i d) rest) []))
+    → new ≡ json_rows (map (pattern_row names Json) (first_patterns (i + 1) number heading rows))
 lines-more names i number heading rows d rest old new less is so_far more =
-    let row = (get_or rows i d).now in
-    let one = told_before (pattern_of_row number heading row (rows_lent rest)) [] in
-    let some = first_patterns i number heading (rows_lent rows) in
+    let row = get_or rows i d in
+    let one = told_before (pattern_of_row number heading row rest) [] in
+    let some = first_patterns i number heading rows in
     let next : suc i ≡ i + 1 = omega arith in
     let here : drop i rows ≡ get_or rows i d ∷ rest =
     drop-cons rows i d less ∙ ap (λ k. get_or rows i d ∷ drop k rows) next ∙ ap (λ w. get_or rows i d ∷ w) (sym is) in
-    let lent : drop i (rows_lent rows) ≡ row ∷ rows_lent rest = drop-map (λ row. row.now) i rows ∙ ap rows_lent here in
     more ∙ ap (λ t. t ++ json_rows (map (pattern_row names Json) one)) so_far
     ∙ sym (ap (λ list. json_rows (map (pattern_row names Json) list))
-    (ap (λ k. first_patterns k number heading (rows_lent rows)) (sym next) ∙ first-more i number heading row (rows_lent rows) (rows_lent rest) lent)
+    (ap (λ k. first_patterns k number heading rows) (sym next) ∙ first-more i number heading row rows rest here)
     ∙ mapped-append Json (pattern_row names Json) some one)
 
 -- some objects, and those behind them
@@ -136,33 +133,33 @@ objects-cut names format columns objects some others chosen e are =
     ∙ ap (λ os. rows_text format (map (object_row names columns) os) ++ rows_text format (map (object_row names columns) others)) (sym are)
 
 -- a collection, and those behind it
-pub sections-cut : {A : Type 0} (names : Names) (format : Format) (sections : List (Vec (Bor Row) A)) (i : ℕ) (d : Vec (Bor Row) A) (rows : List (Bor Row)) → i < length sections
-    → rows ≡ (get_or sections i d).items
-    → rows_text format (map (pattern_row names format) (all_patterns (i + 1) (sections_lent (drop i sections))))
-    ≡ rows_text format (map (pattern_row names format) (section_patterns (i + 1) (rows_lent rows)))
-    ++ rows_text format (map (pattern_row names format) (all_patterns (i + 1 + 1) (sections_lent (drop (i + 1) sections))))
+pub sections-cut : (names : Names) (format : Format) (sections : List (List Row)) (i : ℕ) (d rows : List Row) → i < length sections
+    → rows ≡ get_or sections i d
+    → rows_text format (map (pattern_row names format) (all_patterns (i + 1) (drop i sections)))
+    ≡ rows_text format (map (pattern_row names format) (section_patterns (i + 1) rows))
+    ++ rows_text format (map (pattern_row names format) (all_patterns (i + 1 + 1) (drop (i + 1) sections)))
 sections-cut names format sections i d rows less are =
     let behind = drop (i + 1) sections in
     let next : drop i sections ≡ get_or sections i d ∷ behind =
     drop-cons sections i d less ∙ ap (λ k. get_or sections i d ∷ drop k sections) (let e : suc i ≡ i + 1 = omega arith in e) in
-    ap (λ s. rows_text format (map (pattern_row names format) (all_patterns (i + 1) (sections_lent s)))) next
-    ∙ mapped-append format (pattern_row names format) (section_patterns (i + 1) (rows_lent (get_or sections i d).items)) (all_patterns (i + 1 + 1) (sections_lent behind))
-    ∙ ap (λ r. rows_text format (map (pattern_row names format) (section_patterns (i + 1) (rows_lent r))) ++ rows_text format (map (pattern_row names format) (all_patterns (i + 1 + 1) (sections_lent behind)))) (sym are)
+    ap (λ s. rows_text format (map (pattern_row names format) (all_patterns (i + 1) s))) next
+    ∙ mapped-append format (pattern_row names format) (section_patterns (i + 1) (get_or sections i d)) (all_patterns (i + 1 + 1) behind)
+    ∙ ap (λ r. rows_text format (map (pattern_row names format) (section_patterns (i + 1) r)) ++ rows_text format (map (pattern_row names format) (all_patterns (i + 1 + 1) behind))) (sym are)
 
 -- a collection without rows
-pub section-empty : (names : Names) → (format : Format) (number : ℕ) (rows : List (Bor Row)) → length rows < 1 → rows_text format (map (pattern_row names format) (section_patterns number (rows_lent rows))) ≡ []
+pub section-empty : (names : Names) → (format : Format) (number : ℕ) (rows : List Row) → length rows < 1 → rows_text format (map (pattern_row names format) (section_patterns number rows)) ≡ []
 section-empty names (Csv safe) number [] none = refl
 section-empty names Json number [] none = refl
 section-empty names format number (r ∷ rows) none = absurd (omega arith)
 
 -- the objects of a collection, and those of the collections behind it
-pub section-objects : {A : Type 0} (sections : List (Vec (Bor Row) A)) (i : ℕ) (d : Vec (Bor Row) A) (rows : List (Bor Row)) → i < length sections
-    → rows ≡ (get_or sections i d).items
-    → all_objects (i + 1) (sections_lent (drop i sections))
-    ≡ section_objects (i + 1) (rows_lent rows) ++ all_objects (i + 1 + 1) (sections_lent (drop (i + 1) sections))
+pub section-objects : (sections : List (List Row)) (i : ℕ) (d rows : List Row) → i < length sections
+    → rows ≡ get_or sections i d
+    → all_objects (i + 1) (drop i sections)
+    ≡ section_objects (i + 1) rows ++ all_objects (i + 1 + 1) (drop (i + 1) sections)
 section-objects sections i d rows less are =
     let behind = drop (i + 1) sections in
     let next : drop i sections ≡ get_or sections i d ∷ behind =
     drop-cons sections i d less ∙ ap (λ k. get_or sections i d ∷ drop k sections) (let e : suc i ≡ i + 1 = omega arith in e) in
-    ap (λ s. all_objects (i + 1) (sections_lent s)) next
-    ∙ ap (λ r. section_objects (i + 1) (rows_lent r) ++ all_objects (i + 1 + 1) (sections_lent behind)) (sym are)
+    ap (λ s. all_objects (i + 1) s) next
+    ∙ ap (λ r. section_objects (i + 1) r ++ all_objects (i + 1 + 1) behind) (sym are)

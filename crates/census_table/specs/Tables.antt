@@ -6,7 +6,6 @@ use Rattle.census_facts.specs.Json.Lines.{data_line}
 use Rattle.census_rows.specs.Kinds.{said}
 use Rattle.census_rows.specs.declared.kinds.Behind.TheVariants as behind
 use Rattle.census_rows.specs.declared.row.Row.{Row}
-use Rattle.census_readback.specs.Grouped.{sections_lent}
 use Rattle.census_readback.specs.Sections.{same_behind}
 use Rattle.census_table.specs.Called.{Names}
 use Rattle.census_table.specs.Columns.{columns, name_of, pattern_row, shown}
@@ -32,7 +31,7 @@ pub data Listing : Type 0 where
   objects : List ObjectColumn → List Object → Listing
 
 abbrev pub listing_of : Table → Listing
-listing_of (table.Patterns sections) = patterns (all_patterns 1 (sections_lent sections.items))
+listing_of (table.Patterns sections) = patterns (all_patterns 1 sections)
 listing_of (table.Objects columns list) = objects columns.now list.items
 
 -- the object is one of several that a pattern has fallen apart into

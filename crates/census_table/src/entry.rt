@@ -1,8 +1,8 @@
 //! The patterns of a report.
 ghost use Rattle.std.specs.Prelude.{◌≡◌, IfOk};
-ghost use Rattle.census_readback.specs.Grouped.{rows_lent};
 ghost use Rattle.census_table.specs.Entries.{entry_of_row, lines_under};
 
+use census_kept::Section;
 use census_rows::{Outcome, Row};
 use std::alloc::{AllocError, Global};
 
@@ -49,14 +49,14 @@ pub fn entries_under<'a>(
     alloc: Global,
     number: u64,
     heading: &Row<'a>,
-    rows: &[&Row<'a>],
+    rows: &Section<'_, 'a>,
 ) -> Result<Vec<Entry<'a>>, AllocError>
     ensures { IfOk result
-        (λ entries. entries.items ≡ lines_under number heading.now (rows_lent rows.now)) }
+        (λ entries. entries.items ≡ lines_under number heading.now rows.now) }
 {
     let mut entries = Vec::new(alloc);
-    for row in rows {
-        if let Some(entry) = entry_of_row(number, heading, *row) {
+    for index in 0..rows.len() {
+        if let Some(entry) = entry_of_row(number, heading, &rows.row(index)) {
             entries.push(entry)?;
         }
     }

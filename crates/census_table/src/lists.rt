@@ -1,11 +1,11 @@
 //! What the rows behind a `line` row tell, as JSON.
 ghost use Rattle.std.specs.Prelude.{◌≡◌, IfOk, map, option_map};
 ghost use Rattle.serde_json.specs.View.{view};
-ghost use Rattle.census_readback.specs.Grouped.{rows_lent};
 ghost use Rattle.census_table.specs.Contents.{kind_data, portion_data};
 ghost use Rattle.census_table.specs.Lists.{all_engines, engines_of, portion_of, portions};
 
 use census_facts::{counted_value, engines_value};
+use census_kept::Section;
 use census_readback::emits_first;
 use census_rows::Row;
 use serde_json::Value;
@@ -36,13 +36,13 @@ fn portion_of<'a>(row: &Row<'a>) -> Option<Portion<'a>>
 }
 
 // An object for each row that tells how many objects have a code.
-pub fn portion_values(alloc: Global, rows: &[&Row]) -> Result<Vec<Value>, AllocError>
+pub fn portion_values(alloc: Global, rows: &Section) -> Result<Vec<Value>, AllocError>
     ensures { IfOk result
-        (λ values. map view values.items ≡ map portion_data (portions (rows_lent rows.now))) }
+        (λ values. map view values.items ≡ map portion_data (portions rows.now)) }
 {
     let mut values = Vec::new(alloc);
-    for row in rows {
-        if let Some(portion) = portion_of(*row) {
+    for index in 0..rows.len() {
+        if let Some(portion) = portion_of(&rows.row(index)) {
             values.push(counted_value(alloc, portion.code, portion.count, None)?)?;
         }
     }
@@ -50,9 +50,9 @@ pub fn portion_values(alloc: Global, rows: &[&Row]) -> Result<Vec<Value>, AllocE
 }
 
 // The object of the engines that a row tells of, where these rows tell what each emits.
-fn kind_value(alloc: Global, row: &Row, emits: &[&Row]) -> Result<Option<Value>, AllocError>
+fn kind_value(alloc: Global, row: &Row, emits: &Section) -> Result<Option<Value>, AllocError>
     ensures { IfOk result (λ value. option_map view value
-        ≡ option_map kind_data (engines_of row.now (rows_lent emits.now))) }
+        ≡ option_map kind_data (engines_of row.now emits.now)) }
 {
     match row {
         Row::Engine {
@@ -71,14 +71,14 @@ fn kind_value(alloc: Global, row: &Row, emits: &[&Row]) -> Result<Option<Value>,
 }
 
 // An object for each row that tells of engines.
-pub fn engine_values(alloc: Global, rows: &[&Row]) -> Result<Vec<Value>, AllocError>
+pub fn engine_values(alloc: Global, rows: &Section) -> Result<Vec<Value>, AllocError>
     ensures { IfOk result
-        (λ values. map view values.items ≡ map kind_data (all_engines (rows_lent rows.now))) }
+        (λ values. map view values.items ≡ map kind_data (all_engines rows.now)) }
 {
     let mut values = Vec::new(alloc);
     for index in 0..rows.len() {
-        let emits = emits_first(&rows[index + 1..]);
-        if let Some(value) = kind_value(alloc, rows[index], emits)? {
+        let emits = emits_first(&rows.from(index + 1));
+        if let Some(value) = kind_value(alloc, &rows.row(index), &emits)? {
             values.push(value)?;
         }
     }

@@ -1,10 +1,11 @@
 //! The objects that reports tell of.
 ghost use Rattle.std.specs.Prelude.{◌≡◌, ◌++◌, [], IfOk, OnOk, None};
 ghost use Rattle.census_rows.specs.declared.row.Row.{Row};
-ghost use Rattle.census_readback.specs.Grouped.{rows_lent, sections_lent};
 ghost use Rattle.census_table.specs.Objects.{all_objects, object_of_row, object_under, object_with, objects_under, section_objects, text_in};
 
 use crate::entry::{Entry, entry_of_row};
+use census_kept::Section;
+use census_readback::Sections;
 use census_rows::{Label, Row, Value};
 use std::alloc::{AllocError, Global};
 
@@ -68,15 +69,16 @@ fn add_objects_under<'a>(
     objects: &mut Vec<Object<'a>>,
     number: u64,
     heading: &Row<'a>,
-    rows: &[&Row<'a>],
+    rows: &Section<'_, 'a>,
 ) -> Result<(), AllocError>
     ensures { OnOk result (objects.new.items
-        ≡ objects.old.items ++ objects_under number heading.now None (rows_lent rows.now)) }
+        ≡ objects.old.items ++ objects_under number heading.now None rows.now) }
 {
     let mut last = None;
-    for row in rows {
-        last = entry_of_row(number, heading, *row).or(last);
-        if let Some(object) = object_of_row(&last, *row) {
+    for index in 0..rows.len() {
+        let row = rows.row(index);
+        last = entry_of_row(number, heading, &row).or(last);
+        if let Some(object) = object_of_row(&last, &row) {
             objects.push(object)?;
         }
     }
@@ -87,24 +89,27 @@ fn add_objects_under<'a>(
 fn add_section<'a>(
     objects: &mut Vec<Object<'a>>,
     number: u64,
-    rows: &[&Row<'a>],
+    rows: &Section<'_, 'a>,
 ) -> Result<(), AllocError>
     ensures { OnOk result (objects.new.items
-        ≡ objects.old.items ++ section_objects number (rows_lent rows.now)) }
+        ≡ objects.old.items ++ section_objects number rows.now) }
 {
-    match rows {
-        [heading, lines @ ..] => add_objects_under(objects, number, *heading, lines),
-        [] => Ok(()),
+    match rows.split_first() {
+        Some((heading, lines)) => add_objects_under(objects, number, &heading, &lines),
+        None => Ok(()),
     }
 }
 
 /// The objects of collections that are numbered from 1, pattern by pattern. The only error is out of memory.
-pub fn objects<'a>(alloc: Global, sections: &[Vec<&Row<'a>>]) -> Result<Vec<Object<'a>>, AllocError>
-    ensures { IfOk result (λ objects. objects.items ≡ all_objects 1 (sections_lent sections.now)) }
+pub fn objects<'a>(
+    alloc: Global,
+    sections: &Sections<'_, 'a>,
+) -> Result<Vec<Object<'a>>, AllocError>
+    ensures { IfOk result (λ objects. objects.items ≡ all_objects 1 sections.now) }
 {
     let mut objects = Vec::new(alloc);
     for index in 0..sections.len() {
-        add_section(&mut objects, (index + 1) as u64, sections[index].as_slice())?;
+        add_section(&mut objects, (index + 1) as u64, &sections.section(index))?;
     }
     Ok(objects)
 }

@@ -3,7 +3,6 @@ ghost use Rattle.std.specs.Prelude.{◌≡◌, ◌≤◌, ◌++◌, [], IfOk, On
 ghost use Rattle.std.specs.Option.{option_copied};
 ghost use Rattle.serde_json.specs.Data.{no_members, object};
 ghost use Rattle.serde_json.specs.View.{view};
-ghost use Rattle.census_readback.specs.Grouped.{rows_lent};
 ghost use Rattle.census_table.specs.Columns.{pattern_row};
 ghost use Rattle.census_table.specs.Contents.{content_data};
 ghost use Rattle.census_table.specs.Lists.{told_before};
@@ -16,6 +15,7 @@ use crate::entry::{Entry, entry_of_row};
 use crate::json_lines::put_row;
 use crate::lists::{engine_values, portion_values};
 use census_facts::push_value;
+use census_kept::Section;
 use census_names::Names;
 use census_readback::rows_behind;
 use census_rows::{Behind, Row};
@@ -23,13 +23,13 @@ use serde_json::{Map, Value, put};
 use std::alloc::{AllocError, Global};
 
 // The engines that the first of these rows tell of, where such rows stand behind a line.
-fn engines_behind(alloc: Global, kind: Behind, rows: &[&Row]) -> Result<Value, AllocError>
+fn engines_behind(alloc: Global, kind: Behind, rows: &Section) -> Result<Value, AllocError>
     ensures { IfOk result
-        (λ value. view value ≡ content_data (engines_behind kind (rows_lent rows.now))) }
+        (λ value. view value ≡ content_data (engines_behind kind rows.now)) }
 {
     match kind {
         Behind::Engines => {
-            let engines = engine_values(alloc, rows_behind(Behind::Engines, rows))?;
+            let engines = engine_values(alloc, &rows_behind(Behind::Engines, rows))?;
             Ok(Value::Array(engines))
         }
         _ => Ok(Value::Null),
@@ -37,13 +37,13 @@ fn engines_behind(alloc: Global, kind: Behind, rows: &[&Row]) -> Result<Value, A
 }
 
 // The parts that the first of these rows tell of, where such rows stand behind a line.
-fn parts_behind(alloc: Global, kind: Behind, rows: &[&Row]) -> Result<Value, AllocError>
+fn parts_behind(alloc: Global, kind: Behind, rows: &Section) -> Result<Value, AllocError>
     ensures { IfOk result
-        (λ value. view value ≡ content_data (parts_behind kind (rows_lent rows.now))) }
+        (λ value. view value ≡ content_data (parts_behind kind rows.now)) }
 {
     match kind {
         Behind::Parts => {
-            let parts = portion_values(alloc, rows_behind(Behind::Parts, rows))?;
+            let parts = portion_values(alloc, &rows_behind(Behind::Parts, rows))?;
             Ok(Value::Array(parts))
         }
         _ => Ok(Value::Null),
@@ -55,10 +55,10 @@ fn object_before(
     alloc: Global,
     names: Option<&Names>,
     entry: &Entry,
-    rows: &[&Row],
+    rows: &Section,
 ) -> Result<Value, AllocError>
     ensures { IfOk result (λ value. view value ≡ object
-        (with_row (pattern_row (option_copied names.entry) Json (pattern_before entry.now (rows_lent rows.now))) no_members)) }
+        (with_row (pattern_row (option_copied names.entry) Json (pattern_before entry.now rows.now)) no_members)) }
 {
     let kind = entry.outcome.behind();
     let row = entry_row(alloc, names, &Column::SINGLE, entry)?;
@@ -77,10 +77,10 @@ fn push_pattern(
     names: Option<&Names>,
     text: &mut Vec<u8>,
     entry: &Entry,
-    rows: &[&Row],
+    rows: &Section,
 ) -> Result<(), AllocError>
     ensures { OnOk result (text.new.items ≡ text.old.items
-        ++ json_line (pattern_row (option_copied names.entry) Json (pattern_before entry.now (rows_lent rows.now)))) }
+        ++ json_line (pattern_row (option_copied names.entry) Json (pattern_before entry.now rows.now))) }
 {
     let value = object_before(alloc, names, entry, rows)?;
     push_value(alloc, text, &value)
@@ -95,10 +95,10 @@ fn push_line<'a>(
     number: u64,
     heading: &Row<'a>,
     row: &Row<'a>,
-    rows: &[&Row<'a>],
+    rows: &Section<'_, 'a>,
 ) -> Result<(), AllocError>
     ensures { OnOk result (text.new.items ≡ text.old.items ++ json_rows (map (pattern_row (option_copied names.entry) Json)
-        (told_before (pattern_of_row number heading.now row.now (rows_lent rows.now)) []))) }
+        (told_before (pattern_of_row number heading.now row.now rows.now) []))) }
 {
     match entry_of_row(number, heading, row) {
         Some(entry) => push_pattern(alloc, names, text, &entry, rows),
@@ -112,25 +112,18 @@ pub fn first_lines<'a>(
     names: Option<&'a Names>,
     number: u64,
     heading: &Row<'a>,
-    rows: &[&Row<'a>],
+    rows: &Section<'_, 'a>,
     count: usize,
 ) -> Result<Vec<u8>, AllocError>
     requires { count ≤ length rows.now }
     ensures { IfOk result (λ text. text.items ≡ json_rows
-        (map (pattern_row (option_copied names.entry) Json) (first_patterns count number heading.now (rows_lent rows.now)))) }
+        (map (pattern_row (option_copied names.entry) Json) (first_patterns count number heading.now rows.now))) }
 {
     let mut text = Vec::new(alloc);
     for index in 0..count {
-        let behind = &rows[index + 1..];
-        push_line(
-            alloc,
-            names,
-            &mut text,
-            number,
-            heading,
-            rows[index],
-            behind,
-        )?;
+        let row = rows.row(index);
+        let behind = rows.from(index + 1);
+        push_line(alloc, names, &mut text, number, heading, &row, &behind)?;
     }
     Ok(text)
 }

@@ -10,9 +10,10 @@ use crate::column::Column;
 use crate::counting::kinds;
 use crate::object::{Object, objects};
 use crate::object_column::ObjectColumn;
+use census_kept::Rows;
 use census_names::Names;
-use census_readback::collections;
-use census_rows::{Behind, Row};
+use census_readback::{Sections, collections};
+use census_rows::Behind;
 use std::alloc::{AllocError, Global};
 
 /// What a table has a row for each of.
@@ -29,9 +30,9 @@ pub enum Subject {
 
 /// What stands in a table.
 #[derive(Drop)]
-pub enum Table<'a> {
+pub enum Table<'b, 'a> {
     /// The patterns of collections that are numbered from 1.
-    Patterns(Vec<Vec<&'a Row<'a>>>),
+    Patterns(Sections<'b, 'a>),
     /// These columns of objects.
     Objects {
         columns: &'static [ObjectColumn],
@@ -63,11 +64,11 @@ fn parts<'a>(alloc: Global, objects: &[Object<'a>]) -> Result<Vec<Object<'a>>, A
 }
 
 /// What stands in the table of reports that stand one after another. The only error is out of memory.
-pub fn table_of<'a>(
+pub fn table_of<'b, 'a>(
     alloc: Global,
     subject: Subject,
-    rows: &'a [Row<'a>],
-) -> Result<Table<'a>, AllocError>
+    rows: &'b Rows<'a>,
+) -> Result<Table<'b, 'a>, AllocError>
     requires { AreReports rows.now }
     ensures { IfOk result (λ table. IsListingOf subject rows.now (listing_of table)) }
 {
@@ -76,11 +77,11 @@ pub fn table_of<'a>(
         Subject::Patterns => Ok(Table::Patterns(sections)),
         Subject::Parts => Ok(Table::Objects {
             columns: &ObjectColumn::OF_PARTS,
-            objects: parts(alloc, objects(alloc, sections.as_slice())?.as_slice())?,
+            objects: parts(alloc, objects(alloc, &sections)?.as_slice())?,
         }),
         Subject::Codes => Ok(Table::Objects {
             columns: &ObjectColumn::OF_CODES,
-            objects: kinds(alloc, objects(alloc, sections.as_slice())?)?,
+            objects: kinds(alloc, objects(alloc, &sections)?)?,
         }),
     }
 }
@@ -121,7 +122,7 @@ fn pattern_names(
     Ok(titles)
 }
 
-impl Table<'_> {
+impl Table<'_, '_> {
     /// What the columns are called. Where there are names, the column behind the codes is of what these are called. The
     /// only error is out of memory.
     pub fn names(

@@ -3,7 +3,6 @@ ghost use Rattle.std.specs.Prelude.{◌≡◌, ◌≤◌, List, length, map, IfO
 ghost use Rattle.std.specs.Option.{option_copied};
 ghost use Rattle.gathered.specs.Telling.{TellsAfter, TellsFront, sheet};
 ghost use Rattle.census_rows.specs.declared.row.Row.{Row};
-ghost use Rattle.census_readback.specs.Grouped.{sections_lent, rows_lent};
 ghost use Rattle.census_readback.specs.Shapes.{AreReports, any_outcome, lines_that};
 ghost use Rattle.census_table.specs.Columns.{columns, entry_row, pattern_row};
 ghost use Rattle.census_table.specs.ObjectColumns.{object_row};
@@ -21,7 +20,9 @@ use crate::object::Object;
 use crate::object_column::{ObjectColumn, object_row};
 use crate::pattern::first_lines;
 use crate::subject::{Subject, Table, table_of};
+use census_kept::{Rows, Section};
 use census_names::Names;
+use census_readback::Sections;
 use census_rows::Row;
 use gathered::{Block, put};
 use std::alloc::{AllocError, Global};
@@ -78,14 +79,14 @@ fn first_records<'a>(
     names: Option<&'a Names>,
     number: u64,
     heading: &Row<'a>,
-    rows: &[&Row<'a>],
+    rows: &Section<'_, 'a>,
     count: usize,
 ) -> Result<Vec<u8>, AllocError>
     requires { count ≤ length rows.now }
     ensures { IfOk result (λ text. text.items ≡ rows_text (Csv safe)
-        (map (pattern_row (option_copied names.entry) (Csv safe)) (first_patterns count number heading.now (rows_lent rows.now)))) }
+        (map (pattern_row (option_copied names.entry) (Csv safe)) (first_patterns count number heading.now rows.now))) }
 {
-    let entries = entries_under(alloc, number, heading, &rows[..count])?;
+    let entries = entries_under(alloc, number, heading, &rows.before(count))?;
     let rows = entry_rows(alloc, names, entries.as_slice())?;
     records(alloc, safe, rows.as_slice())
 }
@@ -97,12 +98,12 @@ fn patterns_text<'a>(
     names: Option<&'a Names>,
     number: u64,
     heading: &Row<'a>,
-    rows: &[&Row<'a>],
+    rows: &Section<'_, 'a>,
     count: usize,
 ) -> Result<Vec<u8>, AllocError>
     requires { count ≤ length rows.now }
     ensures { IfOk result (λ text. text.items ≡ rows_text format
-        (map (pattern_row (option_copied names.entry) format) (first_patterns count number heading.now (rows_lent rows.now)))) }
+        (map (pattern_row (option_copied names.entry) format) (first_patterns count number heading.now rows.now))) }
 {
     match format {
         Format::Csv { safe } => first_records(alloc, safe, names, number, heading, rows, count),
@@ -173,16 +174,16 @@ fn put_patterns<'a, W: Write>(
     names: Option<&'a Names>,
     number: u64,
     heading: &Row<'a>,
-    rows: &[&Row<'a>],
+    rows: &Section<'_, 'a>,
     count: usize,
     block: &mut Block,
     writer: &mut Output<W>,
 ) -> Result<(), AllocError>
     requires { count ≤ length rows.now }
     ensures { MatchResult result
-        (λ _. TellsAfter (rows_text format (map (pattern_row (option_copied names.entry) format) (first_patterns count number heading.now (rows_lent rows.now))))
+        (λ _. TellsAfter (rows_text format (map (pattern_row (option_copied names.entry) format) (first_patterns count number heading.now rows.now)))
         (sheet block.old writer.old) (sheet block.new writer.new))
-        (λ _. TellsFront (rows_text format (map (pattern_row (option_copied names.entry) format) (first_patterns count number heading.now (rows_lent rows.now))))
+        (λ _. TellsFront (rows_text format (map (pattern_row (option_copied names.entry) format) (first_patterns count number heading.now rows.now)))
         (sheet block.old writer.old) (sheet block.new writer.new)) }
 {
     if writer.failed() {
@@ -256,22 +257,22 @@ fn put_lines<'a, W: Write>(
     names: Option<&'a Names>,
     number: u64,
     heading: &Row<'a>,
-    rows: &[&Row<'a>],
+    rows: &Section<'_, 'a>,
     block: &mut Block,
     writer: &mut Output<W>,
 ) -> Result<(), AllocError>
     ensures { MatchResult result
-        (λ _. TellsAfter (rows_text format (map (pattern_row (option_copied names.entry) format) (patterns_under number heading.now (rows_lent rows.now))))
+        (λ _. TellsAfter (rows_text format (map (pattern_row (option_copied names.entry) format) (patterns_under number heading.now rows.now)))
         (sheet block.old writer.old) (sheet block.new writer.new))
-        (λ _. TellsFront (rows_text format (map (pattern_row (option_copied names.entry) format) (patterns_under number heading.now (rows_lent rows.now))))
+        (λ _. TellsFront (rows_text format (map (pattern_row (option_copied names.entry) format) (patterns_under number heading.now rows.now)))
         (sheet block.old writer.old) (sheet block.new writer.new)) }
 {
     let mut start = 0;
     while start < rows.len() {
         let count = (rows.len() - start).min(SOME);
-        let from = &rows[start..];
+        let from = rows.from(start);
         put_patterns(
-            alloc, format, names, number, heading, from, count, block, writer,
+            alloc, format, names, number, heading, &from, count, block, writer,
         )?;
         start += count;
     }
@@ -284,21 +285,21 @@ fn put_section<'a, W: Write>(
     format: Format,
     names: Option<&'a Names>,
     number: u64,
-    rows: &[&Row<'a>],
+    rows: &Section<'_, 'a>,
     block: &mut Block,
     writer: &mut Output<W>,
 ) -> Result<(), AllocError>
     ensures { MatchResult result
-        (λ _. TellsAfter (rows_text format (map (pattern_row (option_copied names.entry) format) (section_patterns number (rows_lent rows.now))))
+        (λ _. TellsAfter (rows_text format (map (pattern_row (option_copied names.entry) format) (section_patterns number rows.now)))
         (sheet block.old writer.old) (sheet block.new writer.new))
-        (λ _. TellsFront (rows_text format (map (pattern_row (option_copied names.entry) format) (section_patterns number (rows_lent rows.now))))
+        (λ _. TellsFront (rows_text format (map (pattern_row (option_copied names.entry) format) (section_patterns number rows.now)))
         (sheet block.old writer.old) (sheet block.new writer.new)) }
 {
-    match rows {
-        [heading, lines @ ..] => put_lines(
-            alloc, format, names, number, *heading, lines, block, writer,
+    match rows.split_first() {
+        Some((heading, lines)) => put_lines(
+            alloc, format, names, number, &heading, &lines, block, writer,
         ),
-        [] => Ok(()),
+        None => Ok(()),
     }
 }
 
@@ -307,14 +308,14 @@ fn put_sections<W: Write>(
     alloc: Global,
     format: Format,
     names: Option<&Names>,
-    sections: &[Vec<&Row>],
+    sections: &Sections,
     block: &mut Block,
     writer: &mut Output<W>,
 ) -> Result<(), AllocError>
     ensures { MatchResult result
-        (λ _. TellsAfter (rows_text format (map (pattern_row (option_copied names.entry) format) (all_patterns 1 (sections_lent sections.now))))
+        (λ _. TellsAfter (rows_text format (map (pattern_row (option_copied names.entry) format) (all_patterns 1 sections.now)))
         (sheet block.old writer.old) (sheet block.new writer.new))
-        (λ _. TellsFront (rows_text format (map (pattern_row (option_copied names.entry) format) (all_patterns 1 (sections_lent sections.now))))
+        (λ _. TellsFront (rows_text format (map (pattern_row (option_copied names.entry) format) (all_patterns 1 sections.now)))
         (sheet block.old writer.old) (sheet block.new writer.new)) }
 {
     for index in 0..sections.len() {
@@ -324,7 +325,7 @@ fn put_sections<W: Write>(
             format,
             names,
             number,
-            sections[index].as_slice(),
+            &sections.section(index),
             block,
             writer,
         )?;
@@ -348,14 +349,7 @@ fn put_body<W: Write>(
         (sheet block.old writer.old) (sheet block.new writer.new)) }
 {
     match table {
-        Table::Patterns(sections) => put_sections(
-            alloc,
-            format,
-            names,
-            sections.as_slice(),
-            block,
-            writer,
-        ),
+        Table::Patterns(sections) => put_sections(alloc, format, names, sections, block, writer),
         Table::Objects { columns, objects } => {
             put_objects(
                 alloc,
@@ -402,7 +396,7 @@ pub fn put_listing<W: Write>(
 pub fn put_table<W: Write>(
     alloc: Global,
     format: Format,
-    rows: &[Row],
+    rows: &Rows,
     block: &mut Block,
     writer: &mut Output<W>,
 ) -> Result<(), AllocError>

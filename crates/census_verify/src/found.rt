@@ -1,6 +1,5 @@
 //! The patterns of reports, and which of them claims are of.
 ghost use Rattle.std.specs.Prelude.{◌≡◌, ◌++◌, true, IfOk, OnOk};
-ghost use Rattle.census_readback.specs.Grouped.{rows_lent, sections_lent};
 ghost use Rattle.census_readback.specs.Shapes.{AreReports};
 ghost use Rattle.census_table.specs.Entries.{all_entries, entries_of, section_entries};
 ghost use Rattle.census_verify.specs.Claims.{claim_read, claims_read};
@@ -9,8 +8,8 @@ ghost use Rattle.census_verify.specs.Patterns.{is_claimed, key_of, matched, patt
 
 use crate::claim::Claim;
 use crate::matching::{Key, Match, key_of, matches, name_key, whole_key};
-use census_readback::collections;
-use census_rows::Row;
+use census_kept::{Rows, Section};
+use census_readback::{Sections, collections};
 use census_table::{Entry, entries_under};
 use std::alloc::{AllocError, Global};
 use std::collections::BTreeMap;
@@ -27,45 +26,48 @@ pub struct Found<'a> {
 fn section_patterns<'a>(
     alloc: Global,
     number: u64,
-    rows: &[&Row<'a>],
+    rows: &Section<'_, 'a>,
 ) -> Result<Vec<Entry<'a>>, AllocError>
     ensures { IfOk result
-        (λ patterns. patterns.items ≡ section_entries number (rows_lent rows.now)) }
+        (λ patterns. patterns.items ≡ section_entries number rows.now) }
 {
-    match rows {
-        [heading, lines @ ..] => entries_under(alloc, number, *heading, lines),
-        [] => Ok(Vec::new(alloc)),
+    match rows.split_first() {
+        Some((heading, lines)) => entries_under(alloc, number, &heading, &lines),
+        None => Ok(Vec::new(alloc)),
     }
 }
 
 // The patterns of collections that are numbered from 1.
-fn all_patterns<'a>(alloc: Global, sections: &[Vec<&Row<'a>>]) -> Result<Vec<Entry<'a>>, AllocError>
+fn all_patterns<'a>(
+    alloc: Global,
+    sections: &Sections<'_, 'a>,
+) -> Result<Vec<Entry<'a>>, AllocError>
     ensures { IfOk result
-        (λ patterns. patterns.items ≡ all_entries 1 (sections_lent sections.now)) }
+        (λ patterns. patterns.items ≡ all_entries 1 sections.now) }
 {
     let mut patterns = Vec::new(alloc);
     for index in 0..sections.len() {
         let number = (index + 1) as u64;
-        let mut more = section_patterns(alloc, number, sections[index].as_slice())?;
+        let mut more = section_patterns(alloc, number, &sections.section(index))?;
         patterns.append(&mut more)?;
     }
     Ok(patterns)
 }
 
 // The patterns of reports.
-fn patterns<'a>(alloc: Global, rows: &'a [Row<'a>]) -> Result<Vec<Entry<'a>>, AllocError>
+fn patterns<'a>(alloc: Global, rows: &Rows<'a>) -> Result<Vec<Entry<'a>>, AllocError>
     requires { AreReports rows.now }
     ensures { IfOk result (λ patterns. patterns.items ≡ entries_of rows.now) }
 {
     let sections = collections(alloc, rows)?;
-    all_patterns(alloc, sections.as_slice())
+    all_patterns(alloc, &sections)
 }
 
 /// Finds what claims are of, among the patterns of reports. The only error is out of memory.
 pub fn find<'a>(
     alloc: Global,
     claims: &'a [Claim],
-    rows: &'a [Row<'a>],
+    rows: &Rows<'a>,
 ) -> Result<Found<'a>, AllocError>
     requires { AreReports rows.now }
     ensures claims { IfOk result (λ found. found.claims.now ≡ claims.now) }

@@ -1,6 +1,7 @@
 //! Tests of claims that are read, and of what is told of them.
 
 use crate::{put_verdict, read_claims};
+use census_kept::Rows;
 use census_readback::read_report;
 use gathered::{Block, send};
 use std::alloc::{AllocError, Global};
@@ -106,12 +107,13 @@ fn verdict_on(alloc: Global, text: &[u8], report: &[u8]) -> Result<(bool, Vec<u8
     let Ok(claims) = read_claims(alloc, text)? else {
         return Err(AllocError);
     };
-    let Ok(rows) = read_report(alloc, report)? else {
+    let mut rows = Rows::new(alloc);
+    if read_report(alloc, report, &mut rows)?.is_err() {
         return Err(AllocError);
-    };
+    }
     let mut block = Block::new(alloc);
     let mut writer = Output::new(Vec::new(alloc));
-    let any = put_verdict(alloc, &claims, rows.as_slice(), &mut block, &mut writer)?;
+    let any = put_verdict(alloc, &claims, &rows, &mut block, &mut writer)?;
     match send(&mut block, &mut writer) {
         Ok(()) => Ok((any, writer.into_inner())),
         Err(_) => Err(AllocError),

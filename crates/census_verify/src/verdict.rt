@@ -12,7 +12,7 @@ ghost use Rattle.census_verify.specs.Verdict.{all_unclaimed_text, claims_text, u
 use crate::found::{Found, find};
 use crate::lines::{claim_lines, unclaimed_line};
 use crate::reading::Claims;
-use census_rows::Row;
+use census_kept::Rows;
 use census_table::Entry;
 use gathered::{Block, put};
 use std::alloc::{AllocError, Global};
@@ -110,7 +110,7 @@ fn put_unclaimed<W: Write>(
 pub fn put_verdict<W: Write>(
     alloc: Global,
     claims: &Claims,
-    rows: &[Row],
+    rows: &Rows,
     block: &mut Block,
     writer: &mut Output<W>,
 ) -> Result<bool, AllocError>

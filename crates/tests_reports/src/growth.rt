@@ -1,10 +1,9 @@
 //! Reports with patterns that grow: read back, written again, merged and told as tables, and the line of a fault.
 
-use crate::lines::lines_of;
+use crate::lines::{lines_kept, rows_read};
 use crate::merging::merged;
 use crate::readback::fault;
 use crate::tables::table_by;
-use census_readback::read_report;
 use census_table::{Format, Subject};
 use std::alloc::{AllocError, Global};
 
@@ -90,10 +89,8 @@ fn reports_with_growth_are_merged(rt: HostRuntime) -> Result<(), AllocError> {
 
 #[test]
 fn growth_is_read_and_written_again(rt: HostRuntime) -> Result<(), AllocError> {
-    match read_report(rt.alloc(), GROWTH)? {
-        Ok(rows) => assert!(rt; lines_of(rt.alloc(), rows.as_slice())?.as_slice() == GROWTH),
-        Err(_) => assert!(rt; false),
-    }
+    let rows = rows_read(rt.alloc(), GROWTH)?;
+    assert!(rt; lines_kept(rt.alloc(), &rows)?.as_slice() == GROWTH);
     Ok(())
 }
 

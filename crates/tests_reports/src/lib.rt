@@ -11,6 +11,8 @@ mod gathering;
 #[cfg(test)]
 mod growth;
 #[cfg(test)]
+mod kept;
+#[cfg(test)]
 mod lines;
 #[cfg(test)]
 mod lists;

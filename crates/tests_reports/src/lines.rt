@@ -1,5 +1,7 @@
 //! Rows as a text.
 
+use census_kept::Rows;
+use census_readback::read_report;
 use census_rows::{Row, put_row};
 use gathered::{Block, put, send};
 use std::alloc::{AllocError, Global};
@@ -15,6 +17,29 @@ pub fn lines_of(alloc: Global, rows: &[Row]) -> Result<Vec<u8>, AllocError> {
     }
     match send(&mut block, &mut writer) {
         Ok(()) => Ok(writer.into_inner()),
+        Err(_) => Err(AllocError),
+    }
+}
+
+// The lines of rows that are held in little room.
+pub fn lines_kept(alloc: Global, rows: &Rows) -> Result<Vec<u8>, AllocError> {
+    let mut block = Block::new(alloc);
+    let mut writer = Output::new(Vec::new(alloc));
+    for index in 0..rows.len() {
+        put_row(&rows.row(index), &mut block, &mut writer);
+        put(b"\n", &mut block, &mut writer);
+    }
+    match send(&mut block, &mut writer) {
+        Ok(()) => Ok(writer.into_inner()),
+        Err(_) => Err(AllocError),
+    }
+}
+
+// The rows of a report; an error where it is none.
+pub fn rows_read(alloc: Global, text: &[u8]) -> Result<Rows, AllocError> {
+    let mut rows = Rows::new(alloc);
+    match read_report(alloc, text, &mut rows)? {
+        Ok(()) => Ok(rows),
         Err(_) => Err(AllocError),
     }
 }

@@ -1,7 +1,7 @@
 //! Reports as a page.
 
+use crate::lines::rows_read;
 use census_page::{PageOptions, default_options, put_page};
-use census_readback::read_report;
 use gathered::{Block, send};
 use std::alloc::{AllocError, Global};
 use watched::Output;
@@ -151,12 +151,10 @@ pub fn page_with(
     options: &PageOptions,
     report: &[u8],
 ) -> Result<Vec<u8>, AllocError> {
-    let Ok(rows) = read_report(alloc, report)? else {
-        return Err(AllocError);
-    };
+    let rows = rows_read(alloc, report)?;
     let mut block = Block::new(alloc);
     let mut writer = Output::new(Vec::new(alloc));
-    put_page(alloc, options, rows.as_slice(), &mut block, &mut writer)?;
+    put_page(alloc, options, &rows, &mut block, &mut writer)?;
     match send(&mut block, &mut writer) {
         Ok(()) => Ok(writer.into_inner()),
         Err(_) => Err(AllocError),

@@ -1,6 +1,7 @@
 //! Reports that are read back: lines, collections, and the line of a fault.
 
-use crate::lines::lines_of;
+use crate::lines::{lines_kept, rows_read};
+use census_kept::Rows;
 use census_readback::{collections, read_report};
 use census_rows::{Finding, Outcome, Row};
 use std::alloc::{AllocError, Global};
@@ -37,7 +38,8 @@ end 0 0
 
 // The line of the fault, or 0.
 pub fn fault(alloc: Global, text: &[u8]) -> Result<usize, AllocError> {
-    match read_report(alloc, text)? {
+    let mut rows = Rows::new(alloc);
+    match read_report(alloc, text, &mut rows)? {
         Ok(_) => Ok(0),
         Err(line) => Ok(line),
     }
@@ -46,10 +48,8 @@ pub fn fault(alloc: Global, text: &[u8]) -> Result<usize, AllocError> {
 #[test]
 fn reports_are_read_and_written_again(rt: HostRuntime) -> Result<(), AllocError> {
     for text in [RUN, OBJECTS] {
-        match read_report(rt.alloc(), text)? {
-            Ok(rows) => assert!(rt; lines_of(rt.alloc(), rows.as_slice())?.as_slice() == text),
-            Err(_) => assert!(rt; false),
-        }
+        let rows = rows_read(rt.alloc(), text)?;
+        assert!(rt; lines_kept(rt.alloc(), &rows)?.as_slice() == text);
     }
     Ok(())
 }
@@ -75,11 +75,8 @@ fn is_glider(row: &Row) -> bool {
 
 #[test]
 fn fields_are_told_apart(rt: HostRuntime) -> Result<(), AllocError> {
-    let told = match &read_report(rt.alloc(), RUN)? {
-        Ok(rows) => rows.len() == 10 && is_glider(&rows[2]),
-        Err(_) => false,
-    };
-    assert!(rt; told);
+    let rows = rows_read(rt.alloc(), RUN)?;
+    assert!(rt; rows.len() == 10 && is_glider(&rows.row(2)));
     Ok(())
 }
 
@@ -313,13 +310,9 @@ fn the_first_line_that_is_wrong_is_told(rt: HostRuntime) -> Result<(), AllocErro
 
 #[test]
 fn rows_come_by_their_collections(rt: HostRuntime) -> Result<(), AllocError> {
-    let told = match &read_report(rt.alloc(), OBJECTS)? {
-        Ok(rows) => {
-            let lists = collections(rt.alloc(), rows.as_slice())?;
-            lists.len() == 2 && lists[0].len() == 6 && lists[1].len() == 7
-        }
-        Err(_) => false,
-    };
-    assert!(rt; told);
+    let rows = rows_read(rt.alloc(), OBJECTS)?;
+    let lists = collections(rt.alloc(), &rows)?;
+    assert!(rt; lists.len() == 2);
+    assert!(rt; lists.section(0).len() == 6 && lists.section(1).len() == 7);
     Ok(())
 }

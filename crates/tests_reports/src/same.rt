@@ -1,6 +1,6 @@
 //! The patterns of which one object is told.
 
-use census_readback::read_report;
+use crate::lines::rows_read;
 use census_same::put_same;
 use gathered::{Block, send};
 use std::alloc::{AllocError, Global};
@@ -80,12 +80,10 @@ const TWINS_AS_JSON: &[u8] =
 
 // What is told of a report, as JSON or not, and whether that is anything.
 fn same_in(alloc: Global, json: bool, report: &[u8]) -> Result<(bool, Vec<u8>), AllocError> {
-    let Ok(rows) = read_report(alloc, report)? else {
-        return Err(AllocError);
-    };
+    let rows = rows_read(alloc, report)?;
     let mut block = Block::new(alloc);
     let mut writer = Output::new(Vec::new(alloc));
-    let any = put_same(alloc, json, rows.as_slice(), &mut block, &mut writer)?;
+    let any = put_same(alloc, json, &rows, &mut block, &mut writer)?;
     match send(&mut block, &mut writer) {
         Ok(()) => Ok((any, writer.into_inner())),
         Err(_) => Err(AllocError),

@@ -1,8 +1,8 @@
 //! Reports as tables, in CSV and as JSON lines.
 
+use crate::lines::rows_read;
 use crate::merging::{MERGED, PARTS};
 use census_names::{Names, read_names};
-use census_readback::read_report;
 use census_table::{Format, Subject, put_listing, put_table, table_of};
 use gathered::{Block, send};
 use std::alloc::{AllocError, Global};
@@ -80,10 +80,8 @@ fn named_table_by(
     names: Option<&Names>,
     report: &[u8],
 ) -> Result<Vec<u8>, AllocError> {
-    let Ok(rows) = read_report(alloc, report)? else {
-        return Err(AllocError);
-    };
-    let table = table_of(alloc, subject, rows.as_slice())?;
+    let rows = rows_read(alloc, report)?;
+    let table = table_of(alloc, subject, &rows)?;
     let mut block = Block::new(alloc);
     let mut writer = Output::new(Vec::new(alloc));
     put_listing(alloc, format, names, &table, &mut block, &mut writer)?;
@@ -95,12 +93,10 @@ fn named_table_by(
 
 // The table of the patterns of a report.
 fn table(alloc: Global, format: Format, report: &[u8]) -> Result<Vec<u8>, AllocError> {
-    let Ok(rows) = read_report(alloc, report)? else {
-        return Err(AllocError);
-    };
+    let rows = rows_read(alloc, report)?;
     let mut block = Block::new(alloc);
     let mut writer = Output::new(Vec::new(alloc));
-    put_table(alloc, format, rows.as_slice(), &mut block, &mut writer)?;
+    put_table(alloc, format, &rows, &mut block, &mut writer)?;
     match send(&mut block, &mut writer) {
         Ok(()) => Ok(writer.into_inner()),
         Err(_) => Err(AllocError),

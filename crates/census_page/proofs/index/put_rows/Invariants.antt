@@ -1,11 +1,10 @@
 use Rattle.std.proofs.Common.{◌+◌, drop}
 use Rattle.gathered.specs.Telling.{sheet}
 use Rattle.gathered.proofs.Fronts.{TellsUpTo}
-use Rattle.census_readback.specs.Grouped.{sections_lent}
 use Rattle.census_page.specs.Pages.{index_rows}
 use Rattle.census_page.proofs.index.put_rows.Given as goal
 
 abbrev pub invariant-loop-index : goal.invariant-loop-index
 invariant-loop-index g l =
-    TellsUpTo (index_rows 1 (sections_lent l.sections)) (index_rows (l.index + 1) (sections_lent (drop l.index l.sections)))
+    TellsUpTo (index_rows 1 l.sections) (index_rows (l.index + 1) (drop l.index l.sections))
     (sheet l.fn.block l.fn.writer) (sheet l.block l.writer)

@@ -2,7 +2,6 @@ use Rattle.std.proofs.Common.{◌++◌, refl}
 use Rattle.std.proofs.lemmas.Result.{err_from_is_err_and}
 use Rattle.gathered.specs.Telling.{sheet}
 use Rattle.gathered.proofs.Fronts.{front_first, told_both}
-use Rattle.census_readback.specs.Grouped.{rows_lent}
 use Rattle.census_page_pieces.specs.Links.{linking_of}
 use Rattle.census_page.specs.Options.{options_of}
 use Rattle.census_page.specs.Pages.{code_table, pattern_table}
@@ -13,7 +12,7 @@ returns-in_err-put_code_table g c =
     let p = err_from_is_err_and c.from_residual.result c.from_residual.ensures.1 in
     let links = linking_of c.args.links.now in
     let options = options_of c.args.options.now in
-    let rows = rows_lent c.args.rows.now in
+    let rows = c.args.rows.now in
     let first = code_table links options rows in
     let last = pattern_table links options.patterns rows in
     let a = sheet c.args.block.now c.args.writer.now in
@@ -24,7 +23,7 @@ pub returns : goal.returns
 returns g c =
     let links = linking_of c.args.links.now in
     let options = options_of c.args.options.now in
-    let rows = rows_lent c.args.rows.now in
+    let rows = c.args.rows.now in
     let first = code_table links options rows in
     let last = pattern_table links options.patterns rows in
     let a = sheet c.args.block.now c.args.writer.now in

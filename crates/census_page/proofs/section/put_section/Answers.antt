@@ -4,24 +4,23 @@ use Rattle.std.proofs.lemmas.Result.{err_from_is_err_and}
 use Rattle.gathered.specs.Telling.{TellsAfter, sheet}
 use Rattle.gathered.proofs.Telling.{tells_failed, tells_more}
 use Rattle.gathered.proofs.Fronts.{front_first, front_more, front_none}
-use Rattle.census_readback.specs.Grouped.{rows_lent}
 use Rattle.census_page.specs.Options.{options_of}
 use Rattle.census_page.specs.Pages.{headings, section_text, tables}
 use Rattle.census_page.proofs.section.put_section.Goals as goal
 
 pub returns-then-failed : goal.returns-then-failed
 returns-then-failed g c =
-    tells_failed (section_text (options_of c.args.options.now) c.args.number (rows_lent c.args.rows.now)) (sheet c.args.block.now c.args.writer.now) (sym c.failed.ensures ∙ c.if-failed.true)
+    tells_failed (section_text (options_of c.args.options.now) c.args.number c.args.rows.now) (sheet c.args.block.now c.args.writer.now) (sym c.failed.ensures ∙ c.if-failed.true)
 
 pub returns-in_err-front : goal.returns-in_err-front
 returns-in_err-front g c =
     let p = err_from_is_err_and c.from_residual.result c.from_residual.ensures.1 in
-    rw p.1 (front_none (section_text (options_of c.args.options.now) c.args.number (rows_lent c.args.rows.now)) (sheet c.args.block.now c.args.writer.now))
+    rw p.1 (front_none (section_text (options_of c.args.options.now) c.args.number c.args.rows.now) (sheet c.args.block.now c.args.writer.now))
 
 pub returns-in_err-put_headings : goal.returns-in_err-put_headings
 returns-in_err-put_headings g c =
     let p = err_from_is_err_and c.from_residual-in_err-put_headings.result c.from_residual-in_err-put_headings.ensures.1 in
-    let rows = rows_lent c.args.rows.now in
+    let rows = c.args.rows.now in
     let first = codes "<section id=\"c" ++ decimal c.args.number ++ codes "\">\n" in
     let two = headings rows in
     let three = tables (options_of c.args.options.now) rows ++ codes "</section>\n" in
@@ -35,7 +34,7 @@ returns-in_err-put_headings g c =
 pub returns-in_err-put_tables : goal.returns-in_err-put_tables
 returns-in_err-put_tables g c =
     let p = err_from_is_err_and c.from_residual-in_err-put_tables.result c.from_residual-in_err-put_tables.ensures.1 in
-    let rows = rows_lent c.args.rows.now in
+    let rows = c.args.rows.now in
     let first = codes "<section id=\"c" ++ decimal c.args.number ++ codes "\">\n" in
     let two = headings rows in
     let both = tables (options_of c.args.options.now) rows in
@@ -51,7 +50,7 @@ returns-in_err-put_tables g c =
 
 pub returns : goal.returns
 returns g c =
-    let rows = rows_lent c.args.rows.now in
+    let rows = c.args.rows.now in
     let first = codes "<section id=\"c" ++ decimal c.args.number ++ codes "\">\n" in
     let two = headings rows in
     let both = tables (options_of c.args.options.now) rows in

@@ -1,7 +1,6 @@
 use Rattle.std.proofs.Common.{rules, ◌∙◌, sym}
 use Rattle.std.proofs.lemmas.Fn.{always_returns_same}
 use Rattle.std.proofs.lemmas.Result.{on_ok_weaker}
-use Rattle.census_readback.specs.Grouped.{rows_lent}
 use Rattle.census_page.proofs.Ranks.{row-order, rows-sorted, sorted-other}
 use Rattle.census_page.proofs.sorting.sort_rows.Goals as goal
 
@@ -15,5 +14,5 @@ returns-in_default c =
     (λ sorted.
     rows-sorted sort holders old c.sort_by.new.self.items (sorted _ order (always_returns_same _ _ _ (λ a r f k. search rules)))
     (c.sort_by.ensures.stable _ order (always_returns_same _ _ _ (λ a r f k. search rules)))
-    ∙ sym (sorted-other sort holders (rows_lent old) c.in_default.not-Report))
+    ∙ sym (sorted-other sort holders old c.in_default.not-Report))
     c.sort_by.ensures.sorted

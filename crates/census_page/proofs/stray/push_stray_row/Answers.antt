@@ -1,6 +1,5 @@
 use Rattle.std.proofs.Common.{◌++◌, ◌∙◌, ap, ap₂, sym}
 use Rattle.std.proofs.lemmas.Result.{on_ok_weaker}
-use Rattle.census_readback.specs.Grouped.{rows_lent}
 use Rattle.census_page_pieces.specs.Fates.{fate_row}
 use Rattle.census_page_pieces.specs.Links.{linking_of}
 use Rattle.census_page.specs.Pages.{stray_row}
@@ -9,7 +8,7 @@ use Rattle.census_page.proofs.stray.push_stray_row.Goals as goal
 pub returns-in-Line : goal.returns-in-Line
 returns-in-Line c =
     let links = linking_of c.args.links.now in
-    let rows = rows_lent c.args.rows.now in
+    let rows = c.args.rows.now in
     on_ok_weaker c.push_fate_row.result
     (λ pushed.
     pushed

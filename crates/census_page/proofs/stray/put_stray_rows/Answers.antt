@@ -1,36 +1,34 @@
-use Rattle.std.proofs.Common.{◌+◌, refl}
+use Rattle.std.proofs.Common.{refl, arith}
 use Rattle.std.proofs.lemmas.Result.{err_from_is_err_and}
 use Rattle.gathered.specs.Telling.{sheet}
 use Rattle.gathered.proofs.Fronts.{up_to_start}
-use Rattle.census_readback.specs.Grouped.{rows_lent}
 use Rattle.census_page_pieces.specs.Links.{linking_of}
 use Rattle.census_page.specs.Pages.{stray_row, stray_rows}
 use Rattle.census_page.proofs.Behind.{behind_end, behind_front, behind_more}
-use Rattle.census_page.proofs.Places.{rest-whole}
 use Rattle.census_page.proofs.stray.put_stray_rows.Goals as goal
 
 pub loop-index-init : goal.loop-index-init
-loop-index-init g c = up_to_start (stray_rows (linking_of c.args.links.now) (rows_lent c.args.rows.now)) (sheet c.args.block.now c.args.writer.now)
+loop-index-init g c = up_to_start (stray_rows (linking_of c.args.links.now) c.args.rows.now) (sheet c.args.block.now c.args.writer.now)
 
 pub returns-in_err-put_stray_row : goal.returns-in_err-put_stray_row
 returns-in_err-put_stray_row g c =
     let p = err_from_is_err_and c.from_residual.result c.from_residual.ensures.1 in
     let l = c.loop-index in
     rw p.1
-    (behind_front (λ row rows. stray_row (linking_of c.args.links.now) row.now (rows_lent rows)) (λ rows. stray_rows (linking_of c.args.links.now) (rows_lent rows)) (λ x xs. refl) c.args.rows.now l.index
+    (behind_front (λ row rows. stray_row (linking_of c.args.links.now) row rows) (λ rows. stray_rows (linking_of c.args.links.now) rows) (λ x xs. refl) c.args.rows.now l.index
     (sheet c.args.block.now c.args.writer.now) (sheet l.block l.writer) l.invariant _ _
-    (sheet c.put_stray_row.new.block c.put_stray_row.new.writer) (rest-whole (l.index + 1) c.args.rows.now) c.loop-index-test.true c.in_err-put_stray_row.ensures)
+    (sheet c.put_stray_row.new.block c.put_stray_row.new.writer) c.from-behind.ensures (omega arith) c.in_err-put_stray_row.ensures)
 
 pub loop-index-preserved : goal.loop-index-preserved
 loop-index-preserved g c =
     let l = c.loop-index in
-    behind_more (λ row rows. stray_row (linking_of c.args.links.now) row.now (rows_lent rows)) (λ rows. stray_rows (linking_of c.args.links.now) (rows_lent rows)) (λ x xs. refl) c.args.rows.now l.index
+    behind_more (λ row rows. stray_row (linking_of c.args.links.now) row rows) (λ rows. stray_rows (linking_of c.args.links.now) rows) (λ x xs. refl) c.args.rows.now l.index
     (sheet c.args.block.now c.args.writer.now) (sheet l.block l.writer) l.invariant _ _
-    (sheet c.put_stray_row.new.block c.put_stray_row.new.writer) (rest-whole (l.index + 1) c.args.rows.now) c.loop-index-test.true c.in_ok-put_stray_row.ensures
+    (sheet c.put_stray_row.new.block c.put_stray_row.new.writer) c.from-behind.ensures (omega arith) c.in_ok-put_stray_row.ensures
 
 pub returns : goal.returns
 returns g c =
     let l = c.loop-index in
-    behind_end (λ row rows. stray_row (linking_of c.args.links.now) row.now (rows_lent rows)) (λ rows. stray_rows (linking_of c.args.links.now) (rows_lent rows)) (λ x xs. refl) c.args.rows.now l.index
+    behind_end (λ row rows. stray_row (linking_of c.args.links.now) row rows) (λ rows. stray_rows (linking_of c.args.links.now) rows) (λ x xs. refl) c.args.rows.now l.index
     (sheet c.args.block.now c.args.writer.now) (sheet l.block l.writer) l.invariant
-    c.loop-index-test.false refl
+    (omega arith) refl

@@ -1,12 +1,11 @@
 use Rattle.std.proofs.Common.{drop}
 use Rattle.gathered.specs.Telling.{sheet}
 use Rattle.gathered.proofs.Fronts.{TellsUpTo}
-use Rattle.census_readback.specs.Grouped.{rows_lent}
 use Rattle.census_page_pieces.specs.Links.{linking_of}
 use Rattle.census_page.specs.Pages.{stray_rows}
 use Rattle.census_page.proofs.stray.put_stray_rows.Given as goal
 
 abbrev pub invariant-loop-index : goal.invariant-loop-index
 invariant-loop-index g l =
-    TellsUpTo (stray_rows (linking_of l.links) (rows_lent l.rows)) (stray_rows (linking_of l.links) (rows_lent (drop l.index l.rows)))
+    TellsUpTo (stray_rows (linking_of l.links) l.rows) (stray_rows (linking_of l.links) (drop l.index l.rows))
     (sheet l.fn.block l.fn.writer) (sheet l.block l.writer)

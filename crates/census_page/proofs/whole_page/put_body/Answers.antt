@@ -3,7 +3,6 @@ use Rattle.std.proofs.lemmas.Result.{err_from_is_err_and}
 use Rattle.gathered.specs.Telling.{TellsAfter, sheet}
 use Rattle.gathered.proofs.Telling.{tells_more}
 use Rattle.gathered.proofs.Fronts.{front_first, front_more, front_none}
-use Rattle.census_readback.specs.Grouped.{sections_lent}
 use Rattle.census_page_pieces.specs.Markup.{index_begin, index_end, page_end}
 use Rattle.census_page.specs.Options.{options_of}
 use Rattle.census_page.specs.Pages.{choices, index_rows, sections_text}
@@ -12,7 +11,7 @@ use Rattle.census_page.proofs.whole_page.put_body.Goals as goal
 pub returns-in_err-put_rows : goal.returns-in_err-put_rows
 returns-in_err-put_rows g c =
     let p = err_from_is_err_and c.from_residual.result c.from_residual.ensures.1 in
-    let sections = sections_lent c.args.sections.now in
+    let sections = c.args.sections.now in
     let rows = index_rows 1 sections in
     let last = sections_text (options_of c.args.options.now) 1 sections ++ page_end in
     let rest = (index_end ++ choices c.args.rows.now) ++ last in
@@ -26,7 +25,7 @@ returns-in_err-put_rows g c =
 pub returns-in_err-choices : goal.returns-in_err-choices
 returns-in_err-choices g c =
     let p = err_from_is_err_and c.from_residual-in_err-choices.result c.from_residual-in_err-choices.ensures.1 in
-    let sections = sections_lent c.args.sections.now in
+    let sections = c.args.sections.now in
     let rows = index_rows 1 sections in
     let kinds = choices c.args.rows.now in
     let last = sections_text (options_of c.args.options.now) 1 sections ++ page_end in
@@ -43,7 +42,7 @@ returns-in_err-choices g c =
 pub returns-in_err-put_sections : goal.returns-in_err-put_sections
 returns-in_err-put_sections g c =
     let p = err_from_is_err_and c.from_residual-in_err-put_sections.result c.from_residual-in_err-put_sections.ensures.1 in
-    let sections = sections_lent c.args.sections.now in
+    let sections = c.args.sections.now in
     let rows = index_rows 1 sections in
     let kinds = choices c.args.rows.now in
     let all = sections_text (options_of c.args.options.now) 1 sections in
@@ -64,7 +63,7 @@ returns-in_err-put_sections g c =
 
 pub returns : goal.returns
 returns g c =
-    let sections = sections_lent c.args.sections.now in
+    let sections = c.args.sections.now in
     let rows = index_rows 1 sections in
     let kinds = choices c.args.rows.now in
     let all = sections_text (options_of c.args.options.now) 1 sections in

@@ -2,10 +2,9 @@ use Rattle.std.proofs.Common.{◌≡◌, [], ap, ◌∙◌, length, MatchResult,
 use Rattle.std.proofs.lemmas.Result.{err_from_is_err_and}
 use Rattle.gathered.specs.Telling.{TellsAfter, TellsFront, sheet}
 use Rattle.gathered.proofs.Fronts.{front_none, told_both}
-use Rattle.census_readback.specs.Grouped.{collections_of, sections_lent}
+use Rattle.census_readback.specs.Grouped.{collections_of}
 use Rattle.census_page.specs.Options.{options_of}
 use Rattle.census_page.specs.Pages.{body_text, front, page_of}
-use Rattle.census_page.proofs.Lent.{length_lent}
 use Rattle.census_page.proofs.whole_page.put_page.Goals as goal
 
 pub returns-in_err-sections : goal.returns-in_err-sections
@@ -26,12 +25,10 @@ returns g c =
     let a = sheet c.args.block.now c.args.writer.now in
     let b = sheet c.put.new.block c.put.new.writer in
     let d = sheet c.put_body.new.block c.put_body.new.writer in
-    let items = c.in_ok-sections.sections.items in
-    let count : length c.as_slice-lent.result.now ≡ length lists =
-    ap length c.as_slice-lent.ensures.value ∙ sym (length_lent items) ∙ ap length c.in_ok-sections.ensures in
+    let count : c.len.result ≡ length lists = c.len.ensures ∙ ap length c.in_ok-sections.ensures in
     let told =
     subst (λ t. TellsAfter t a b) (c.as_slice.ensures.value ∙ c.in_ok-front.ensures ∙ ap (λ n. front options n rows) count) c.put.ensures in
     let body =
     subst (λ s. MatchResult c.put_body.result (λ _. TellsAfter (body_text options rows s) b d) (λ _. TellsFront (body_text options rows s) b d))
-    (ap sections_lent c.as_slice-lent.ensures.value ∙ c.in_ok-sections.ensures) c.put_body.ensures in
+    c.in_ok-sections.ensures c.put_body.ensures in
     told_both c.put_body.result (page_of options rows) (front options (length lists) rows) (body_text options rows lists) a b d refl told body

@@ -1,15 +1,14 @@
-use Rattle.std.proofs.Common.{◌+◌, ◌∙◌, ap, refl, subst}
+use Rattle.std.proofs.Common.{◌+◌, refl, subst, arith}
 use Rattle.std.proofs.lemmas.Result.{err_from_is_err_and}
 use Rattle.gathered.specs.Telling.{TellsAfter, TellsFront, sheet}
 use Rattle.gathered.proofs.Fronts.{up_to_start}
-use Rattle.census_readback.specs.Grouped.{rows_lent, sections_lent}
 use Rattle.census_page.specs.Options.{options_of}
 use Rattle.census_page.specs.Pages.{section_text, sections_text}
 use Rattle.census_page.proofs.Numbered.{numbered_end, numbered_front, numbered_more}
 use Rattle.census_page.proofs.whole_page.put_sections.Goals as goal
 
 pub loop-index-init : goal.loop-index-init
-loop-index-init g c = up_to_start (sections_text (options_of c.args.options.now) 1 (sections_lent c.args.sections.now)) (sheet c.args.block.now c.args.writer.now)
+loop-index-init g c = up_to_start (sections_text (options_of c.args.options.now) 1 c.args.sections.now) (sheet c.args.block.now c.args.writer.now)
 
 pub returns-in_err-put_section : goal.returns-in_err-put_section
 returns-in_err-put_section g c =
@@ -18,22 +17,22 @@ returns-in_err-put_section g c =
     let b = sheet l.block l.writer in
     let d = sheet c.put_section.new.block c.put_section.new.writer in
     rw p.1
-    (numbered_front (λ n rows. section_text (options_of c.args.options.now) n (rows_lent rows.items)) (λ n sections. sections_text (options_of c.args.options.now) n (sections_lent sections)) (λ n x xs. refl) c.args.sections.now l.index
-    (sheet c.args.block.now c.args.writer.now) b l.invariant _ d c.loop-index-test.true
-    (subst (λ rows. TellsFront (section_text (options_of c.args.options.now) (l.index + 1) (rows_lent rows)) b d) (c.as_slice.ensures.value ∙ ap (λ v. v.items) c.index-sections-index.is) c.in_err-put_section.ensures))
+    (numbered_front (λ n rows. section_text (options_of c.args.options.now) n rows) (λ n sections. sections_text (options_of c.args.options.now) n sections) (λ n x xs. refl) c.args.sections.now l.index
+    (sheet c.args.block.now c.args.writer.now) b l.invariant _ d (omega arith)
+    (subst (λ rows. TellsFront (section_text (options_of c.args.options.now) (l.index + 1) rows) b d) c.section.ensures c.in_err-put_section.ensures))
 
 pub loop-index-preserved : goal.loop-index-preserved
 loop-index-preserved g c =
     let l = c.loop-index in
     let b = sheet l.block l.writer in
     let d = sheet c.put_section.new.block c.put_section.new.writer in
-    numbered_more (λ n rows. section_text (options_of c.args.options.now) n (rows_lent rows.items)) (λ n sections. sections_text (options_of c.args.options.now) n (sections_lent sections)) (λ n x xs. refl) c.args.sections.now l.index
-    (sheet c.args.block.now c.args.writer.now) b l.invariant _ d c.loop-index-test.true
-    (subst (λ rows. TellsAfter (section_text (options_of c.args.options.now) (l.index + 1) (rows_lent rows)) b d) (c.as_slice.ensures.value ∙ ap (λ v. v.items) c.index-sections-index.is) c.in_ok-put_section.ensures)
+    numbered_more (λ n rows. section_text (options_of c.args.options.now) n rows) (λ n sections. sections_text (options_of c.args.options.now) n sections) (λ n x xs. refl) c.args.sections.now l.index
+    (sheet c.args.block.now c.args.writer.now) b l.invariant _ d (omega arith)
+    (subst (λ rows. TellsAfter (section_text (options_of c.args.options.now) (l.index + 1) rows) b d) c.section.ensures c.in_ok-put_section.ensures)
 
 pub returns : goal.returns
 returns g c =
     let l = c.loop-index in
-    numbered_end (λ n rows. section_text (options_of c.args.options.now) n (rows_lent rows.items)) (λ n sections. sections_text (options_of c.args.options.now) n (sections_lent sections)) (λ n x xs. refl) c.args.sections.now l.index
+    numbered_end (λ n rows. section_text (options_of c.args.options.now) n rows) (λ n sections. sections_text (options_of c.args.options.now) n sections) (λ n x xs. refl) c.args.sections.now l.index
     (sheet c.args.block.now c.args.writer.now) (sheet l.block l.writer) l.invariant
-    c.loop-index-test.false (λ n. refl)
+    (omega arith) (λ n. refl)

@@ -1,7 +1,5 @@
 use Rattle.std.proofs.Common.{Bool, if◌then◌else◌, ap₂, ◌∙◌, sym}
 use Rattle.std.proofs.lemmas.Int.{to_z-of_z}
-use Rattle.std.proofs.lemmas.List.Folds.{list_all-map}
-use Rattle.census_page_pieces.specs.Growth.{emits_ship}
 use Rattle.census_page_pieces.specs.declared.engine.EngineKind.TheVariants.{Gun, Rake, Puffer}
 use Rattle.census_page_pieces.proofs.engine.engine_kind.Goals as goal
 
@@ -9,10 +7,10 @@ pub returns-then-emit_ships : goal.returns-then-emit_ships
 returns-then-emit_ships c =
     sym
     (ap₂ (λ (still ships : Bool). if still then Gun else (if ships then Rake else Puffer)) (sym (simp (to_z-of_z, c.ranges.dx, c.ranges.dy) at c.stays.ensures) ∙ c.if-stays.false)
-    (list_all-map emits_ship (λ row. row.now) c.args.emits.now ∙ sym c.emit_ships.ensures ∙ c.if-emit_ships.true))
+    (sym c.emit_ships.ensures ∙ c.if-emit_ships.true))
 
 pub returns-else-emit_ships : goal.returns-else-emit_ships
 returns-else-emit_ships c =
     sym
     (ap₂ (λ (still ships : Bool). if still then Gun else (if ships then Rake else Puffer)) (sym (simp (to_z-of_z, c.ranges.dx, c.ranges.dy) at c.stays.ensures) ∙ c.if-stays.false)
-    (list_all-map emits_ship (λ row. row.now) c.args.emits.now ∙ sym c.emit_ships.ensures ∙ c.if-emit_ships.false))
+    (sym c.emit_ships.ensures ∙ c.if-emit_ships.false))

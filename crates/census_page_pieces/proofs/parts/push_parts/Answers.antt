@@ -1,6 +1,5 @@
 use Rattle.std.proofs.Common.{◌++◌, ◌-◌, ◌∙◌, ap, codes, length, sym, take}
 use Rattle.std.proofs.lemmas.List.{append-nil}
-use Rattle.census_readback.specs.Grouped.{rows_lent}
 use Rattle.census_page_pieces.specs.Objects.{others_text, part_items}
 use Rattle.census_page_pieces.proofs.Appending.{four_parts}
 use Rattle.census_page_pieces.proofs.Parting.{list-is, list-none}
@@ -15,7 +14,7 @@ pub returns : goal.returns
 returns c =
     let rows = c.args.rows.now in
     let told = c.min-told.result in
-    four_parts c.args.text.now.items _ _ _ _ (codes "<ul>") (part_items c.args.linked c.args.rule.now (rows_lent (take told rows))) (codes "</ul>") (others_text (length rows - told))
+    four_parts c.args.text.now.items _ _ _ _ (codes "<ul>") (part_items c.args.linked c.args.rule.now (take told rows)) (codes "</ul>") (others_text (length rows - told))
     c.in_ok-extend_from_slice.ensures.items
     c.in_ok-push_items.ensures
     c.in_ok-extend_from_slice-2.ensures.items

@@ -1,32 +1,19 @@
-use Rattle.std.proofs.Common.{refl}
-use Rattle.census_readback.proofs.Rows.{text-more, lines-more}
-use Rattle.census_readback.proofs.Reached.{reached-start, reached-more, reached-end}
+use Rattle.std.proofs.Common.{sym, ap, ◌∙◌, ◌++◌, ◌∷◌, [], append_assoc}
+use Rattle.std.proofs.lemmas.List.{append-nil}
+use Rattle.census_readback.proofs.Walks.{passed-whole, passed-more, passed-start}
 use Rattle.census_readback.proofs.lines.read_rows.Goals as goal
 
 pub loop-first-init : goal.loop-first-init
-loop-first-init c =
-    let none = c.new-rows.ensures.items in
-    record {
-      lines = rw none tt;
-      whole = rw none refl;
-      all = λ rows after lines e stuck. rw none (reached-start rows after c.args.text.now lines e);
-    }
+loop-first-init c = (passed-start c.args.text.now, sym (append-nil c.args.rows.now))
 
 pub loop-first-preserved : goal.loop-first-preserved
 loop-first-preserved c =
-    let rows = c.loop-first.rows.items in
-    let row = c.in-Some.first.row in
-    let is = c.in-Some.ensures.sound in
-    let inv = c.loop-first.invariant in
-    let grown = c.in_ok-push.ensures.items in
-    record {
-      lines = rw grown (lines-more rows row inv.lines is.0);
-      whole = rw grown (text-more rows row c.args.text.now c.loop-first.rest.now c.in-Some.first.rest.now inv.whole is.1);
-      all = λ others after lines e stuck. rw grown
-          (reached-more others after rows c.loop-first.rest.now row c.in-Some.first.rest.now (inv.all others after lines e stuck) stuck is.0 is.1
-          c.in-Some.ensures.all);
-    }
+    let before = c.loop-first.invariant.0 in (
+      passed-more c.args.text.now c.loop-first.rest.now c.in-Some.first.row c.in-Some.first.rest.now before c.in-Some.ensures.sound.0 c.in-Some.ensures.sound.1 c.in-Some.ensures.all,
+      c.in_ok-push.ensures ∙ ap (λ w. w ++ c.in-Some.first.row ∷ []) c.loop-first.invariant.1 ∙ append_assoc c.args.rows.now before.done (c.in-Some.first.row ∷ []),
+    )
 
-pub returns-clause-all : goal.returns-clause-all
-returns-clause-all c = λ rows after lines e stuck.
-    reached-end rows after c.loop-first.rows.items c.loop-first.rest.now (c.loop-first.invariant.all rows after lines e stuck) c.in_default.ensures.all
+pub returns : goal.returns
+returns c =
+    let ends = passed-whole c.args.text.now c.loop-first.rest.now c.loop-first.invariant.0 c.in_default.ensures.all in
+    (ends.0, c.loop-first.invariant.1 ∙ ap (λ w. c.args.rows.now ++ w) (sym ends.1))

@@ -15,21 +15,24 @@ read-of : {P : Type 0} (fault : Option ℕ) (Q : ℕ → Type 0) → fault ≡ N
 read-of None Q e h = h
 read-of (Some line) Q e h = absurd (cc)
 
-pub returns-in_ok-read_rows-in-None-clause-sound :
-    goal.returns-in_ok-read_rows-in-None-clause-sound
+pub returns-in_ok-read_rows-in-None-clause-sound : goal.returns-in_ok-read_rows-in-None-clause-sound
 returns-in_ok-read_rows-in-None-clause-sound c =
     let read = c.in_ok-line.ensures.sound in
     let there : (rows : List Row) × ReadsAsReports rows c.args.text.now = read-of c.in_ok-line.field-0 _ c.in-None.is read in
     let is = there.1 in
-    let front = c.in_ok-read_rows-in-None.ensures in
-    let rows = c.in_ok-read_rows-in-None.field-0.rows.items in
-    let same = front.all there.0 [] is.lines (is.whole ∙ sym (append-nil (text_of there.0))) stuck-at-end in
-    record {
-      lines = front.sound.0;
-      whole = front.sound.1 ∙ ap (λ (t : List ℕ). text_of rows ++ t) same.1 ∙ append-nil (text_of rows);
-      shape = reports-sound rows (stray-same nothing_told initial_reading 1 rows there.0 same.0 ∙ reports-complete there.0 is.shape);
-    }
+    let front = c.in_ok-read_rows-in-None.ensures.0 in
+    let rows = front.rows in
+    let same = front.all there.0 [] is.lines (is.whole ∙ sym (append-nil (text_of there.0))) stuck-at-end in (
+      rows,
+      record {
+        lines = front.lines;
+        whole = front.whole ∙ ap (λ (t : List ℕ). text_of rows ++ t) same.1 ∙ append-nil (text_of rows);
+        shape = reports-sound rows (stray-same nothing_told initial_reading 1 rows there.0 same.0 ∙ reports-complete there.0 is.shape);
+      },
+      c.in_ok-read_rows-in-None.ensures.1,
+    )
 
 pub returns-in_ok-read_rows-in-None-clause-all : goal.returns-in_ok-read_rows-in-None-clause-all
-returns-in_ok-read_rows-in-None-clause-all c = λ rows is.
-    (c.in_ok-read_rows-in-None.ensures.all rows [] is.lines (is.whole ∙ sym (append-nil (text_of rows))) stuck-at-end).0
+returns-in_ok-read_rows-in-None-clause-all c = λ told is.
+    let front = c.in_ok-read_rows-in-None.ensures.0 in
+    (front.rows, (front.all told [] is.lines (is.whole ∙ sym (append-nil (text_of told))) stuck-at-end).0, c.in_ok-read_rows-in-None.ensures.1)

@@ -3,7 +3,6 @@ use Rattle.std.specs.Prelude.{MatchResult}
 use Rattle.std.proofs.lemmas.Result.{err_from_is_err_and, IfOk-weaker}
 use Rattle.gathered.specs.Telling.{TellsAfter, TellsFront, sheet}
 use Rattle.gathered.proofs.Fronts.{front_none}
-use Rattle.census_readback.specs.Grouped.{sections_lent}
 use Rattle.census_same.specs.Patterns.{all_told, tolds_of}
 use Rattle.census_same.specs.Same.{has_bytes, same_text}
 use Rattle.census_same.proofs.Groups.{same-sorted}
@@ -28,10 +27,10 @@ pub returns-clause-tells : goal.returns-clause-tells
 returns-clause-tells g c =
     let rows = c.args.rows.now in
     let j = c.args.json in
-    let same : same_text j c.as_slice-2.result.now ≡ same_text j (tolds_of rows) =
-    ap (same_text j) c.as_slice-2.ensures.value
+    let same : same_text j c.as_slice.result.now ≡ same_text j (tolds_of rows) =
+    ap (same_text j) c.as_slice.ensures.value
     ∙ same-sorted j c.in_ok-tolds.tolds.items c.put_in_order.new.tolds.items c.put_in_order.ensures.same
-    ∙ ap (same_text j) (c.in_ok-tolds.ensures ∙ ap all_told (ap sections_lent c.as_slice.ensures.value ∙ c.in_ok-sections.ensures)) in
+    ∙ ap (same_text j) (c.in_ok-tolds.ensures ∙ ap all_told c.in_ok-sections.ensures) in
     subst (λ t. MatchResult c.put_groups.result
     (λ _. TellsAfter t (sheet c.args.block.now c.args.writer.now) (sheet c.put_groups.new.block c.put_groups.new.writer))
     (λ _. TellsFront t (sheet c.args.block.now c.args.writer.now) (sheet c.put_groups.new.block c.put_groups.new.writer))) same
@@ -41,8 +40,8 @@ pub returns-clause-any : goal.returns-clause-any
 returns-clause-any g c =
     let rows = c.args.rows.now in
     let j = c.args.json in
-    let same : same_text j c.as_slice-2.result.now ≡ same_text j (tolds_of rows) =
-    ap (same_text j) c.as_slice-2.ensures.value
+    let same : same_text j c.as_slice.result.now ≡ same_text j (tolds_of rows) =
+    ap (same_text j) c.as_slice.ensures.value
     ∙ same-sorted j c.in_ok-tolds.tolds.items c.put_in_order.new.tolds.items c.put_in_order.ensures.same
-    ∙ ap (same_text j) (c.in_ok-tolds.ensures ∙ ap all_told (ap sections_lent c.as_slice.ensures.value ∙ c.in_ok-sections.ensures)) in
+    ∙ ap (same_text j) (c.in_ok-tolds.ensures ∙ ap all_told c.in_ok-sections.ensures) in
     IfOk-weaker c.put_groups.result _ _ (λ any is. is ∙ ap has_bytes same) c.put_groups.ensures.any

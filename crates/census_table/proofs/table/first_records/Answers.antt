@@ -1,8 +1,6 @@
-use Rattle.std.proofs.Common.{◌∙◌, ap, map, sym}
-use Rattle.std.specs.List.{take-map}
+use Rattle.std.proofs.Common.{◌∙◌, ap, map}
 use Rattle.std.proofs.lemmas.Result.{IfOk-weaker}
 use Rattle.std.specs.Option.{option_copied}
-use Rattle.census_readback.specs.Grouped.{rows_lent}
 use Rattle.census_table.specs.Columns.{columns, entry_row}
 use Rattle.census_table.specs.Entries.{lines_under}
 use Rattle.census_table.specs.Told.{rows_in}
@@ -14,10 +12,10 @@ returns c =
     let names = option_copied c.args.names in
     let rows = c.args.rows.now in
     let entries = c.as_slice.ensures.value ∙ c.in_ok-entries.ensures
-    ∙ ap (lines_under c.args.number c.args.heading.now) (sym (take-map (λ row. row.now) c.args.count rows)) in
+    ∙ ap (lines_under c.args.number c.args.heading.now) c.before-2.ensures in
     let same = ap rows_in c.as_slice-2.ensures.value ∙ c.in_ok-rows.ensures ∙ ap (map (entry_row names columns)) entries in
     IfOk-weaker c.records.result _ _
     (λ v told.
-    records-told names c.args.safe c.args.count c.args.number c.args.heading.now (rows_lent rows) (rows_in c.as_slice-2.result.now) v.items
+    records-told names c.args.safe c.args.count c.args.number c.args.heading.now rows (rows_in c.as_slice-2.result.now) v.items
     same told)
     c.records.ensures

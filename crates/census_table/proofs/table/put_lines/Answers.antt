@@ -1,20 +1,19 @@
-use Rattle.std.proofs.Common.{ℕ, ◌+◌, ◌-◌, List, Bor, arith, drop, length, map, take}
+use Rattle.std.proofs.Common.{ℕ, ◌+◌, List, arith, drop, map}
 use Rattle.std.proofs.lemmas.Result.{err_from_is_err_and}
 use Rattle.std.specs.Option.{option_copied}
 use Rattle.gathered.specs.Telling.{sheet}
 use Rattle.census_rows.specs.declared.row.Row.{Row}
-use Rattle.census_readback.specs.Grouped.{rows_lent}
 use Rattle.census_table.specs.Columns.{pattern_row}
 use Rattle.census_table.specs.Patterns.{first_patterns, patterns_under}
 use Rattle.census_table.specs.Tables.{rows_text}
-use Rattle.census_table.proofs.Texts.{rest-whole, rows-cut}
+use Rattle.census_table.proofs.Texts.{rows-cut}
 use Rattle.gathered.proofs.Fronts.{up_to_front, up_to_more, up_to_start}
 use Rattle.census_table.proofs.table.put_lines.Goals as goal
 
 pub loop-start-init : goal.loop-start-init
 loop-start-init g c = (
   omega arith,
-  up_to_start (rows_text c.args.format (map (pattern_row (option_copied c.args.names) c.args.format) (patterns_under c.args.number c.args.heading.now (rows_lent c.args.rows.now))))
+  up_to_start (rows_text c.args.format (map (pattern_row (option_copied c.args.names) c.args.format) (patterns_under c.args.number c.args.heading.now c.args.rows.now)))
       (sheet c.args.block.now c.args.writer.now),
 )
 
@@ -24,24 +23,24 @@ returns-in_err-put_patterns g c =
     let rows = c.args.rows.now in
     let l = c.loop-start in
     let m = c.min-count.result in
-    let some = first_patterns m c.args.number c.args.heading.now (rows_lent (take (length rows - l.start) (drop l.start rows))) in
-    let under : List (Bor Row) → List ℕ = λ rows. rows_text c.args.format (map (pattern_row (option_copied c.args.names) c.args.format) (patterns_under c.args.number c.args.heading.now (rows_lent rows))) in
+    let some = first_patterns m c.args.number c.args.heading.now c.from-from.result in
+    let under : List Row → List ℕ = λ rows. rows_text c.args.format (map (pattern_row (option_copied c.args.names) c.args.format) (patterns_under c.args.number c.args.heading.now rows)) in
     rw p.1
     (up_to_front (under rows) (under (drop l.start rows)) (rows_text c.args.format (map (pattern_row (option_copied c.args.names) c.args.format) some)) (under (drop (l.start + m) rows))
     (sheet c.args.block.now c.args.writer.now) (sheet l.block l.writer)
     (sheet c.put_patterns.new.block c.put_patterns.new.writer) l.invariant.1
-    (rows-cut (option_copied c.args.names) c.args.format c.args.number c.args.heading.now rows l.start m _ (rest-whole l.start rows)) c.in_err-put_patterns.ensures)
+    (rows-cut (option_copied c.args.names) c.args.format c.args.number c.args.heading.now rows l.start m _ c.from-from.ensures) c.in_err-put_patterns.ensures)
 
 pub loop-start-preserved : goal.loop-start-preserved
 loop-start-preserved g c =
     let rows = c.args.rows.now in
     let l = c.loop-start in
     let m = c.min-count.result in
-    let some = first_patterns m c.args.number c.args.heading.now (rows_lent (take (length rows - l.start) (drop l.start rows))) in
-    let under : List (Bor Row) → List ℕ = λ rows. rows_text c.args.format (map (pattern_row (option_copied c.args.names) c.args.format) (patterns_under c.args.number c.args.heading.now (rows_lent rows))) in (
+    let some = first_patterns m c.args.number c.args.heading.now c.from-from.result in
+    let under : List Row → List ℕ = λ rows. rows_text c.args.format (map (pattern_row (option_copied c.args.names) c.args.format) (patterns_under c.args.number c.args.heading.now rows)) in (
       omega (arith, c.min-count.ensures, l.invariant.0),
       up_to_more (under rows) (under (drop l.start rows)) (rows_text c.args.format (map (pattern_row (option_copied c.args.names) c.args.format) some)) (under (drop (l.start + m) rows))
           (sheet c.args.block.now c.args.writer.now) (sheet l.block l.writer)
           (sheet c.put_patterns.new.block c.put_patterns.new.writer) l.invariant.1
-          (rows-cut (option_copied c.args.names) c.args.format c.args.number c.args.heading.now rows l.start m _ (rest-whole l.start rows)) c.in_ok-put_patterns.ensures,
+          (rows-cut (option_copied c.args.names) c.args.format c.args.number c.args.heading.now rows l.start m _ c.from-from.ensures) c.in_ok-put_patterns.ensures,
     )

@@ -3,7 +3,6 @@ use Rattle.std.proofs.lemmas.Result.{err_from_is_err_and}
 use Rattle.std.specs.Option.{option_copied}
 use Rattle.gathered.specs.Telling.{sheet}
 use Rattle.gathered.proofs.Telling.{tells_failed}
-use Rattle.census_readback.specs.Grouped.{rows_lent}
 use Rattle.census_table.specs.Columns.{pattern_row}
 use Rattle.census_table.specs.Patterns.{first_patterns}
 use Rattle.census_table.specs.Tables.{rows_text}
@@ -12,12 +11,12 @@ use Rattle.census_table.proofs.table.put_patterns.Goals as goal
 
 pub returns-then-failed : goal.returns-then-failed
 returns-then-failed g c =
-    tells_failed (rows_text c.args.format (map (pattern_row (option_copied c.args.names) c.args.format) (first_patterns c.args.count c.args.number c.args.heading.now (rows_lent c.args.rows.now))))
+    tells_failed (rows_text c.args.format (map (pattern_row (option_copied c.args.names) c.args.format) (first_patterns c.args.count c.args.number c.args.heading.now c.args.rows.now)))
     (sheet c.args.block.now c.args.writer.now) (sym c.failed.ensures ∙ c.if-failed.true)
 
 pub returns-in_err-text : goal.returns-in_err-text
 returns-in_err-text g c =
     let p = err_from_is_err_and c.from_residual.result c.from_residual.ensures.1 in
     rw p.1
-    (front_none (rows_text c.args.format (map (pattern_row (option_copied c.args.names) c.args.format) (first_patterns c.args.count c.args.number c.args.heading.now (rows_lent c.args.rows.now))))
+    (front_none (rows_text c.args.format (map (pattern_row (option_copied c.args.names) c.args.format) (first_patterns c.args.count c.args.number c.args.heading.now c.args.rows.now)))
     (sheet c.args.block.now c.args.writer.now))

@@ -1,8 +1,7 @@
-use Rattle.std.proofs.Common.{ℕ, ◌+◌, List, ◌∙◌, ap, drop, map}
+use Rattle.std.proofs.Common.{ℕ, ◌+◌, List, drop, map, arith}
 use Rattle.std.proofs.lemmas.Result.{err_from_is_err_and}
 use Rattle.std.specs.Option.{option_copied}
 use Rattle.gathered.specs.Telling.{sheet}
-use Rattle.census_readback.specs.Grouped.{sections_lent, rows_lent}
 use Rattle.census_table.specs.Columns.{pattern_row}
 use Rattle.census_table.specs.Patterns.{all_patterns, section_patterns}
 use Rattle.census_table.specs.Tables.{rows_text}
@@ -12,19 +11,19 @@ use Rattle.census_table.proofs.table.put_sections.Goals as goal
 
 pub loop-index-init : goal.loop-index-init
 loop-index-init g c =
-    up_to_start (rows_text c.args.format (map (pattern_row (option_copied c.args.names) c.args.format) (all_patterns 1 (sections_lent c.args.sections.now)))) (sheet c.args.block.now c.args.writer.now)
+    up_to_start (rows_text c.args.format (map (pattern_row (option_copied c.args.names) c.args.format) (all_patterns 1 c.args.sections.now))) (sheet c.args.block.now c.args.writer.now)
 
 pub returns-in_err-put_section : goal.returns-in_err-put_section
 returns-in_err-put_section g c =
     let p = err_from_is_err_and c.from_residual.result c.from_residual.ensures.1 in
     let all = c.args.sections.now in
     let l = c.loop-index in
-    let from : ℕ → List ℕ = λ i. rows_text c.args.format (map (pattern_row (option_copied c.args.names) c.args.format) (all_patterns (i + 1) (sections_lent (drop i all)))) in
-    let cut = sections-cut (option_copied c.args.names) c.args.format all l.index _ c.as_slice.result.now c.loop-index-test.true
-    (c.as_slice.ensures.value ∙ ap (λ v. v.items) c.index-sections-index.is) in
+    let from : ℕ → List ℕ = λ i. rows_text c.args.format (map (pattern_row (option_copied c.args.names) c.args.format) (all_patterns (i + 1) (drop i all))) in
+    let cut = sections-cut (option_copied c.args.names) c.args.format all l.index _ c.section.result (omega arith)
+    c.section.ensures in
     rw p.1
-    (up_to_front (rows_text c.args.format (map (pattern_row (option_copied c.args.names) c.args.format) (all_patterns 1 (sections_lent all)))) (from l.index)
-    (rows_text c.args.format (map (pattern_row (option_copied c.args.names) c.args.format) (section_patterns (l.index + 1) (rows_lent c.as_slice.result.now)))) (from (l.index + 1))
+    (up_to_front (rows_text c.args.format (map (pattern_row (option_copied c.args.names) c.args.format) (all_patterns 1 all))) (from l.index)
+    (rows_text c.args.format (map (pattern_row (option_copied c.args.names) c.args.format) (section_patterns (l.index + 1) c.section.result))) (from (l.index + 1))
     (sheet c.args.block.now c.args.writer.now) (sheet l.block l.writer)
     (sheet c.put_section.new.block c.put_section.new.writer) l.invariant cut c.in_err-put_section.ensures)
 
@@ -32,10 +31,10 @@ pub loop-index-preserved : goal.loop-index-preserved
 loop-index-preserved g c =
     let all = c.args.sections.now in
     let l = c.loop-index in
-    let from : ℕ → List ℕ = λ i. rows_text c.args.format (map (pattern_row (option_copied c.args.names) c.args.format) (all_patterns (i + 1) (sections_lent (drop i all)))) in
-    let cut = sections-cut (option_copied c.args.names) c.args.format all l.index _ c.as_slice.result.now c.loop-index-test.true
-    (c.as_slice.ensures.value ∙ ap (λ v. v.items) c.index-sections-index.is) in
-    up_to_more (rows_text c.args.format (map (pattern_row (option_copied c.args.names) c.args.format) (all_patterns 1 (sections_lent all)))) (from l.index)
-    (rows_text c.args.format (map (pattern_row (option_copied c.args.names) c.args.format) (section_patterns (l.index + 1) (rows_lent c.as_slice.result.now)))) (from (l.index + 1))
+    let from : ℕ → List ℕ = λ i. rows_text c.args.format (map (pattern_row (option_copied c.args.names) c.args.format) (all_patterns (i + 1) (drop i all))) in
+    let cut = sections-cut (option_copied c.args.names) c.args.format all l.index _ c.section.result (omega arith)
+    c.section.ensures in
+    up_to_more (rows_text c.args.format (map (pattern_row (option_copied c.args.names) c.args.format) (all_patterns 1 all))) (from l.index)
+    (rows_text c.args.format (map (pattern_row (option_copied c.args.names) c.args.format) (section_patterns (l.index + 1) c.section.result))) (from (l.index + 1))
     (sheet c.args.block.now c.args.writer.now) (sheet l.block l.writer)
     (sheet c.put_section.new.block c.put_section.new.writer) l.invariant cut c.in_ok-put_section.ensures

@@ -1,7 +1,6 @@
 use Rattle.std.proofs.Common.{◌+◌, drop, map}
 use Rattle.std.specs.Option.{option_copied}
 use Rattle.gathered.specs.Telling.{sheet}
-use Rattle.census_readback.specs.Grouped.{sections_lent}
 use Rattle.census_table.specs.Columns.{pattern_row}
 use Rattle.census_table.specs.Patterns.{all_patterns}
 use Rattle.census_table.specs.Tables.{rows_text}
@@ -10,6 +9,6 @@ use Rattle.census_table.proofs.table.put_sections.Given as goal
 
 abbrev pub invariant-loop-index : goal.invariant-loop-index
 invariant-loop-index g l =
-    TellsUpTo (rows_text l.format (map (pattern_row (option_copied l.names) l.format) (all_patterns 1 (sections_lent l.sections))))
-    (rows_text l.format (map (pattern_row (option_copied l.names) l.format) (all_patterns (l.index + 1) (sections_lent (drop l.index l.sections)))))
+    TellsUpTo (rows_text l.format (map (pattern_row (option_copied l.names) l.format) (all_patterns 1 l.sections)))
+    (rows_text l.format (map (pattern_row (option_copied l.names) l.format) (all_patterns (l.index + 1) (drop l.index l.sections))))
     (sheet l.fn.block l.fn.writer) (sheet l.block l.writer)

@@ -1,0 +1,4 @@
+pub mod Coded
+pub mod Packing
+pub mod Settling
+pub mod Placing

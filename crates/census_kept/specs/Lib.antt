@@ -1,0 +1,4 @@
+pub mod Kept
+pub mod Numbers
+pub mod Packed
+pub mod Placed

@@ -1,0 +1,14 @@
+//! Rows of reports, held in little room: each takes its numbers' bytes, its texts' loans, and 10 to
+//! 20 bytes more.
+//!
+//! Tested in `tests_reports`.
+#![tactic(auto)]
+
+mod numbers;
+mod reading;
+mod rows;
+mod section;
+mod tags;
+
+pub use rows::Rows;
+pub use section::Section;
