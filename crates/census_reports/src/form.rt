@@ -132,13 +132,13 @@ pub fn write_page<O: Write>(
 pub fn write_same<O: Write>(
     alloc: Global,
     json: bool,
-    rows: &Rows,
+    rows: Rows,
     output: &mut Output<O>,
 ) -> Result<bool, ReportsError>
-    requires { AreReports rows.now }
+    requires { AreReports rows }
     ensures { MatchResult result
-        (λ found. WritesRows (Form.Same json) found rows.now output.old.stream output.new.stream)
-        (λ error. FailsRows error (Form.Same json) rows.now
+        (λ found. WritesRows (Form.Same json) found rows output.old.stream output.new.stream)
+        (λ error. FailsRows error (Form.Same json) rows
         output.old.stream output.new.stream) }
 {
     let mut block = Block::new(alloc);

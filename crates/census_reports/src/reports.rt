@@ -45,7 +45,7 @@ fn write_of<O: Write>(
         }
         Form::Same { json } => {
             let rows = rows_of(alloc, texts)?;
-            write_same(alloc, json, &rows, output)
+            write_same(alloc, json, rows, output)
         }
         Form::Verdict { claims } => {
             let rows = rows_of(alloc, texts)?;

@@ -16,6 +16,15 @@ use std::alloc::{AllocError, Global};
 use std::io::Write;
 use watched::Output;
 
+// The patterns of reports that are objects. The rows are dropped. The only error is out of memory.
+fn told_in_rows<'a>(alloc: Global, rows: Rows<'a>) -> Result<Vec<Told<'a>>, AllocError>
+    requires { AreReports rows }
+    ensures { IfOk result (λ tolds. tolds.items ≡ tolds_of rows) }
+{
+    let sections = collections(alloc, &rows)?;
+    all_told(alloc, &sections)
+}
+
 // Puts patterns in the order of their codes, and of their rules under one code. Those of one code
 // and rule keep their order. The only error is out of memory.
 fn put_in_order(tolds: &mut Vec<Told>) -> Result<(), AllocError>
@@ -64,25 +73,24 @@ fn put_groups<W: Write>(
 /// As `json` it tells for each of these patterns a JSON object on a line, with `rule`, `code`,
 /// `collection_name` and `name`, and with `collection_name_hex` and `name_hex` as tables have them.
 ///
-/// Returns whether there is any such code. The only error is out of memory: a prefix was told then.
-/// To a writer that has failed nothing is written.
+/// Returns whether there is any such code. The rows are dropped before the patterns are put in order. The
+/// only error is out of memory: a prefix was told then. To a writer that has failed nothing is written.
 pub fn put_same<W: Write>(
     alloc: Global,
     json: bool,
-    rows: &Rows,
+    rows: Rows,
     block: &mut Block,
     writer: &mut Output<W>,
 ) -> Result<bool, AllocError>
-    requires { AreReports rows.now }
+    requires { AreReports rows }
     ensures tells { MatchResult result
-        (λ _. TellsAfter (same_text json (tolds_of rows.now))
+        (λ _. TellsAfter (same_text json (tolds_of rows))
         (sheet block.old writer.old) (sheet block.new writer.new))
-        (λ _. TellsFront (same_text json (tolds_of rows.now))
+        (λ _. TellsFront (same_text json (tolds_of rows))
         (sheet block.old writer.old) (sheet block.new writer.new)) }
-    ensures any { IfOk result (λ any. any ≡ has_bytes (same_text json (tolds_of rows.now))) }
+    ensures any { IfOk result (λ any. any ≡ has_bytes (same_text json (tolds_of rows))) }
 {
-    let sections = collections(alloc, rows)?;
-    let mut tolds = all_told(alloc, &sections)?;
+    let mut tolds = told_in_rows(alloc, rows)?;
     put_in_order(&mut tolds)?;
     put_groups(alloc, json, tolds.as_slice(), block, writer)
 }

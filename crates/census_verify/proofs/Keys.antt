@@ -1,5 +1,5 @@
 -- Keys of claims, and the patterns that they are of.
-use Rattle.std.proofs.Common.{◌≡◌, ℕ, zero, suc, arith, ◌+◌, ◌<◌, Bool, true, false, ◌&&◌, ◌||◌, get_or, length, take, List, [], ◌∷◌, ◌++◌, refl, sym, ap, ap₂, ◌∙◌, if◌then◌else◌}
+use Rattle.std.proofs.Common.{◌≡◌, ℕ, zero, suc, arith, ◌+◌, ◌<◌, Bool, true, false, ◌&&◌, ◌||◌, get_or, length, take, List, [], ◌∷◌, ◌++◌, refl, sym, ap, ap₂, append_assoc, ◌∙◌, if◌then◌else◌}
 use Rattle.std.specs.Prelude.{cond, filter, is_some, nat_eq, Option, Some, None as Nowhere}
 use Rattle.std.specs.BTreeMap.{BTreeMap, get, get_by, Updates}
 use Rattle.std.specs.Borrow.{Bor}
@@ -105,14 +105,15 @@ pub claims-take : (claims : List ClaimRead) (i : ℕ) (d : ClaimRead) → i < le
     → claims_read (take (i + 1) claims) ≡ claims_read (take i claims) ++ claim_read (get_or claims i d) ∷ []
 claims-take claims i d less = ap claims_read (take_more claims i d less) ∙ map-append claim_read (take i claims) (get_or claims i d ∷ [])
 
-pub match-taken : (claims : List Claim) (all : List Entry) (i : ℕ) (d : Entry) (key : Key) (old new : Option Match) → i < length all
-    → old ≡ match_at claims (take i all) key
-    → new ≡ (if is_of key (get_or all i d) then option_map (with_pattern (get_or all i d)) old else old) → new ≡ match_at claims (take (i + 1) all) key
-match-taken claims all i d key old new less before step =
+pub match-taken : (claims : List Claim) (before all : List Entry) (i : ℕ) (d : Entry) (key : Key) (old new : Option Match) → i < length all
+    → old ≡ match_at claims (before ++ take i all) key
+    → new ≡ (if is_of key (get_or all i d) then option_map (with_pattern (get_or all i d)) old else old) → new ≡ match_at claims (before ++ take (i + 1) all) key
+match-taken claims before all i d key old new less first step =
+    let one = get_or all i d in
     step
-    ∙ ap (λ (o : Option Match). if is_of key (get_or all i d) then option_map (with_pattern (get_or all i d)) o else o) before
-    ∙ match-more claims (take i all) (get_or all i d) key
-    ∙ ap (λ (patterns : List Entry). match_at claims patterns key) (sym (take_more all i d less))
+    ∙ ap (λ (o : Option Match). if is_of key one then option_map (with_pattern one) o else o) first
+    ∙ match-more claims (before ++ take i all) one key
+    ∙ ap (λ (patterns : List Entry). match_at claims patterns key) (append_assoc before (take i all) (one ∷ []) ∙ ap (λ (more : List Entry). before ++ more) (sym (take_more all i d less)))
 
 -- # What is found at a key
 

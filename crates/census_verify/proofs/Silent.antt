@@ -1,6 +1,8 @@
 -- Texts of which the parts are told one after another.
-use Rattle.std.proofs.Common.{◌≡◌, ℕ, ◌+◌, ◌<◌, Bool, true, false, ◌&&◌, List, [], ◌∷◌, ◌++◌, length, drop, get_or, refl, ap, ◌∙◌}
+use Rattle.std.proofs.Common.{◌≡◌, ℕ, ◌+◌, ◌<◌, Bool, true, false, ◌&&◌, List, [], ◌∷◌, ◌++◌, length, drop, get_or, refl, sym, ap, append_assoc, ◌∙◌}
 use Rattle.std.proofs.lemmas.List.{at_drop_more}
+use Rattle.census_rows.specs.declared.row.Row.{Row}
+use Rattle.census_table.specs.Entries.{all_entries, section_entries}
 use Rattle.census_table.specs.declared.entry.Entry.{Entry}
 use Rattle.census_verify.specs.Claims.{Claim, claim_read, claims_read}
 use Rattle.census_verify.specs.Columns.{is_empty}
@@ -31,3 +33,19 @@ claims-cut patterns claims i d less = at_drop_more (λ cs. claims_text patterns 
 pub unclaimed-cut : (claims : List Claim) (patterns : List Entry) (i : ℕ) (d : Entry) → i < length patterns
     → all_unclaimed_text claims (drop i patterns) ≡ unclaimed_text claims (get_or patterns i d) ++ all_unclaimed_text claims (drop (i + 1) patterns)
 unclaimed-cut claims patterns i d less = at_drop_more (all_unclaimed_text claims) patterns i d less
+
+unclaimed-append : (claims : List Claim) (patterns others : List Entry)
+    → all_unclaimed_text claims (patterns ++ others) ≡ all_unclaimed_text claims patterns ++ all_unclaimed_text claims others
+unclaimed-append claims [] others = refl
+unclaimed-append claims (pattern ∷ patterns) others =
+    let text = unclaimed_text claims pattern in
+    ap (λ t. text ++ t) (unclaimed-append claims patterns others) ∙ sym (append_assoc text (all_unclaimed_text claims patterns) (all_unclaimed_text claims others))
+
+-- the patterns of a collection, and those of the collections behind it
+pub sections-cut : (claims : List Claim) (sections : List (List Row)) (i : ℕ) (rows : List Row) → i < length sections → rows ≡ get_or sections i rows
+    → all_unclaimed_text claims (all_entries (i + 1) (drop i sections))
+    ≡ all_unclaimed_text claims (section_entries (i + 1) rows) ++ all_unclaimed_text claims (all_entries (i + 2) (drop (i + 1) sections))
+sections-cut claims sections i rows less is =
+    at_drop_more (λ rest. all_unclaimed_text claims (all_entries (i + 1) rest)) sections i rows less
+    ∙ unclaimed-append claims (section_entries (i + 1) (get_or sections i rows)) (all_entries (i + 2) (drop (i + 1) sections))
+    ∙ ap (λ here. all_unclaimed_text claims (section_entries (i + 1) here) ++ all_unclaimed_text claims (all_entries (i + 2) (drop (i + 1) sections))) (sym is)

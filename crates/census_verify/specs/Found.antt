@@ -1,12 +1,13 @@
 -- Claims and the patterns that they are of, by keys.
 use Rattle.std.specs.Prelude.{◌≡◌, ℕ, Bool, ◌&&◌, if◌then◌else◌, Option, Some, None as Nowhere, List, filter, nat_eq}
-use Rattle.std.specs.BTreeMap.{get}
+use Rattle.std.specs.BTreeMap.{BTreeMap, get}
 use Rattle.std.specs.Borrow.{Bor}
 use Rattle.std.specs.Cmp.Lexicographic.{pointwise, slice_cmp}
 use Rattle.std.specs.List.{list_any}
 use Rattle.std.specs.Option.{option_cmp, option_eq, option_map}
 use Rattle.std.specs.Ordering.{nat_cmp, ordering_then}
 use Rattle.std.specs.declared.cmp.Ordering.{Ordering}
+use Rattle.census_table.specs.Entries.{all_entries}
 use Rattle.census_table.specs.declared.entry.Entry.{Entry}
 use Rattle.census_verify.specs.Claims.{Claim, claims_read}
 use Rattle.census_verify.specs.Patterns.{Key, is_of, key_of, matched}
@@ -49,6 +50,14 @@ with_pattern pattern Several = Several
 abbrev pub match_at : List Claim → List Entry → Key → Option Match
 match_at claims patterns key = if has_key claims key then Some (matched (filter (is_of key) patterns)) else Nowhere
 
--- the matches are those of the claims at their keys
+-- these are the matches of the claims among these patterns, at their keys
+abbrev pub AreMatches : List Claim → List Entry → BTreeMap KeyLent Match → Type 0
+AreMatches claims patterns matches = (key : KeyLent) → get key_cmp matches key ≡ match_at claims patterns (key_lent key)
+
+-- the patterns among which claims are looked for
+abbrev pub patterns_in : FoundRead → List Entry
+patterns_in found = all_entries 1 found.sections
+
+-- the matches are those of the claims among the patterns
 abbrev pub IsFound : FoundRead → Type 0
-IsFound found = (key : KeyLent) → get key_cmp found.matches key ≡ match_at (claims_read found.claims.now) found.patterns.items (key_lent key)
+IsFound found = AreMatches (claims_read found.claims.now) (patterns_in found) found.matches

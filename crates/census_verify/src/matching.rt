@@ -1,12 +1,16 @@
 //! Which patterns claims are of.
-ghost use Rattle.std.specs.Prelude.{◌≡◌, [], IfOk, None, OnOk, is_some, option_map, if◌then◌else◌};
+ghost use Rattle.std.specs.Prelude.{◌≡◌, ◌++◌, [], List, IfOk, None, OnOk, is_some, option_map, if◌then◌else◌};
 ghost use Rattle.std.specs.BTreeMap.{get};
-ghost use Rattle.census_verify.specs.Claims.{claim_read, claims_read};
-ghost use Rattle.census_verify.specs.Found.{KeyLent, key_cmp, key_lent, match_at, name_key, same_key, whole_key, with_pattern};
+ghost use Rattle.census_table.specs.Entries.{all_entries, section_entries};
+ghost use Rattle.census_table.specs.declared.entry.Entry.{Entry as EntryRead};
+ghost use Rattle.census_verify.specs.Claims.{Claim as ClaimRead, claim_read, claims_read};
+ghost use Rattle.census_verify.specs.Found.{AreMatches, KeyLent, key_cmp, key_lent, match_at, name_key, same_key, whole_key, with_pattern};
 ghost use Rattle.census_verify.specs.Patterns.{is_claimed, is_of, key_of};
 
 use crate::claim::Claim;
-use census_table::Entry;
+use census_kept::Section;
+use census_readback::Sections;
+use census_table::{Entry, entries_under};
 use std::alloc::{AllocError, Global};
 use std::collections::BTreeMap;
 
@@ -104,18 +108,64 @@ fn add_pattern<'a>(
     add_at(found, whole_key(pattern), pattern)
 }
 
-/// The matches of claims. The only error is out of memory.
+/// The patterns of a collection that has this number. The only error is out of memory.
+pub fn section_patterns<'a>(
+    alloc: Global,
+    number: u64,
+    rows: &Section<'_, 'a>,
+) -> Result<Vec<Entry<'a>>, AllocError>
+    ensures { IfOk result
+        (λ patterns. patterns.items ≡ section_entries number rows.now) }
+{
+    match rows.split_first() {
+        Some((heading, lines)) => entries_under(alloc, number, &heading, &lines),
+        None => Ok(Vec::new(alloc)),
+    }
+}
+
+// Adds these patterns.
+fn add_patterns<'a>(
+    found: &mut BTreeMap<Key<'a>, Match<'a>>,
+    patterns: &[Entry<'a>],
+) -> Result<(), AllocError>
+    ensures { OnOk result ((claims : List ClaimRead) (before : List EntryRead)
+        → AreMatches claims before found.old → AreMatches claims (before ++ patterns.now) found.new) }
+{
+    for pattern in patterns {
+        add_pattern(found, pattern)?;
+    }
+    Ok(())
+}
+
+// Adds the patterns of a collection that has this number.
+fn add_section<'a>(
+    alloc: Global,
+    number: u64,
+    rows: &Section<'_, 'a>,
+    found: &mut BTreeMap<Key<'a>, Match<'a>>,
+) -> Result<(), AllocError>
+    ensures { OnOk result ((claims : List ClaimRead) (before : List EntryRead)
+        → AreMatches claims before found.old
+        → AreMatches claims (before ++ section_entries number rows.now) found.new) }
+{
+    let patterns = section_patterns(alloc, number, rows)?;
+    add_patterns(found, patterns.as_slice())
+}
+
+/// The matches of claims among the patterns of collections that are numbered from 1. Of one collection
+/// the patterns are held at a time. The only error is out of memory.
 pub fn matches<'a>(
     alloc: Global,
     claims: &'a [Claim],
-    patterns: &[Entry<'a>],
+    sections: &Sections<'_, 'a>,
 ) -> Result<BTreeMap<Key<'a>, Match<'a>>, AllocError>
-    ensures { IfOk result (λ found. (key : KeyLent) →
-        get key_cmp found key ≡ match_at (claims_read claims.now) patterns.now (key_lent key)) }
+    ensures { IfOk result (λ found.
+        AreMatches (claims_read claims.now) (all_entries 1 sections.now) found) }
 {
     let mut found = keys(alloc, claims)?;
-    for pattern in patterns {
-        add_pattern(&mut found, pattern)?;
+    for index in 0..sections.len() {
+        let number = (index + 1) as u64;
+        add_section(alloc, number, &sections.section(index), &mut found)?;
     }
     Ok(found)
 }

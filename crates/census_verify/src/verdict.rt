@@ -2,17 +2,18 @@
 ghost use Rattle.std.specs.Prelude.{◌≡◌, ◌≢◌, ◌&&◌, ◌↔◌, [], IfOk, IsTrue, MatchResult};
 ghost use Rattle.gathered.specs.Telling.{TellsAfter, TellsFront, sheet};
 ghost use Rattle.census_readback.specs.Shapes.{AreReports};
-ghost use Rattle.census_table.specs.Entries.{entries_of};
+ghost use Rattle.census_table.specs.Entries.{entries_of, section_entries};
 ghost use Rattle.census_verify.specs.Agreement.{NothingIsToldWhereAllAgree};
 ghost use Rattle.census_verify.specs.Claims.{claims_read};
 ghost use Rattle.census_verify.specs.Columns.{is_empty};
-ghost use Rattle.census_verify.specs.Found.{IsFound};
+ghost use Rattle.census_verify.specs.Found.{IsFound, patterns_in};
 ghost use Rattle.census_verify.specs.Verdict.{all_unclaimed_text, claims_text, unclaimed_text, verdict_text};
 
 use crate::found::{Found, find};
 use crate::lines::{claim_lines, unclaimed_line};
+use crate::matching::section_patterns;
 use crate::reading::Claims;
-use census_kept::Rows;
+use census_kept::{Rows, Section};
 use census_table::Entry;
 use gathered::{Block, put};
 use std::alloc::{AllocError, Global};
@@ -35,12 +36,12 @@ fn put_claims<W: Write>(
 ) -> Result<bool, AllocError>
     requires { IsFound found.now }
     ensures tells { MatchResult result
-        (λ _. TellsAfter (claims_text found.now.patterns.items (claims_read found.now.claims.now))
+        (λ _. TellsAfter (claims_text (patterns_in found.now) (claims_read found.now.claims.now))
         (sheet block.old writer.old) (sheet block.new writer.new))
-        (λ _. TellsFront (claims_text found.now.patterns.items (claims_read found.now.claims.now))
+        (λ _. TellsFront (claims_text (patterns_in found.now) (claims_read found.now.claims.now))
         (sheet block.old writer.old) (sheet block.new writer.new)) }
     ensures silent { IfOk result (λ silent. silent
-        ≡ is_empty (claims_text found.now.patterns.items (claims_read found.now.claims.now))) }
+        ≡ is_empty (claims_text (patterns_in found.now) (claims_read found.now.claims.now))) }
 {
     let mut silent = true;
     for index in 0..found.claims.len() {
@@ -56,7 +57,7 @@ fn put_claims<W: Write>(
 // The line of a pattern, unless a claim is of it.
 fn unclaimed_text<'a>(
     alloc: Global,
-    found: &Found<'a>,
+    found: &Found<'_, 'a>,
     pattern: &Entry<'a>,
 ) -> Result<Vec<u8>, AllocError>
     requires { IsFound found.now }
@@ -70,8 +71,58 @@ fn unclaimed_text<'a>(
     }
 }
 
+// Tells each of these patterns that no claim is of. Returns whether nothing was told.
+fn put_unclaimed<'a, W: Write>(
+    alloc: Global,
+    found: &Found<'_, 'a>,
+    patterns: &[Entry<'a>],
+    block: &mut Block,
+    writer: &mut Output<W>,
+) -> Result<bool, AllocError>
+    requires { IsFound found.now }
+    ensures tells { MatchResult result
+        (λ _. TellsAfter (all_unclaimed_text (claims_read found.now.claims.now) patterns.now)
+        (sheet block.old writer.old) (sheet block.new writer.new))
+        (λ _. TellsFront (all_unclaimed_text (claims_read found.now.claims.now) patterns.now)
+        (sheet block.old writer.old) (sheet block.new writer.new)) }
+    ensures silent { IfOk result (λ silent. silent
+        ≡ is_empty (all_unclaimed_text (claims_read found.now.claims.now) patterns.now)) }
+{
+    let mut silent = true;
+    for index in 0..patterns.len() {
+        let text = unclaimed_text(alloc, found, &patterns[index])?;
+        let bytes = text.as_slice();
+        silent = is_silent(silent, bytes);
+        put(bytes, block, writer);
+    }
+    Ok(silent)
+}
+
+// Tells each pattern of a collection that has this number and that no claim is of. Returns whether
+// nothing was told.
+fn put_section<'a, W: Write>(
+    alloc: Global,
+    found: &Found<'_, 'a>,
+    number: u64,
+    rows: &Section<'_, 'a>,
+    block: &mut Block,
+    writer: &mut Output<W>,
+) -> Result<bool, AllocError>
+    requires { IsFound found.now }
+    ensures tells { MatchResult result
+        (λ _. TellsAfter (all_unclaimed_text (claims_read found.now.claims.now) (section_entries number rows.now))
+        (sheet block.old writer.old) (sheet block.new writer.new))
+        (λ _. TellsFront (all_unclaimed_text (claims_read found.now.claims.now) (section_entries number rows.now))
+        (sheet block.old writer.old) (sheet block.new writer.new)) }
+    ensures silent { IfOk result (λ silent. silent
+        ≡ is_empty (all_unclaimed_text (claims_read found.now.claims.now) (section_entries number rows.now))) }
+{
+    let patterns = section_patterns(alloc, number, rows)?;
+    put_unclaimed(alloc, found, patterns.as_slice(), block, writer)
+}
+
 // Tells each pattern that no claim is of. Returns whether nothing was told.
-fn put_unclaimed<W: Write>(
+fn put_sections<W: Write>(
     alloc: Global,
     found: &Found,
     block: &mut Block,
@@ -79,21 +130,19 @@ fn put_unclaimed<W: Write>(
 ) -> Result<bool, AllocError>
     requires { IsFound found.now }
     ensures tells { MatchResult result
-        (λ _. TellsAfter
-        (all_unclaimed_text (claims_read found.now.claims.now) found.now.patterns.items)
+        (λ _. TellsAfter (all_unclaimed_text (claims_read found.now.claims.now) (patterns_in found.now))
         (sheet block.old writer.old) (sheet block.new writer.new))
-        (λ _. TellsFront
-        (all_unclaimed_text (claims_read found.now.claims.now) found.now.patterns.items)
+        (λ _. TellsFront (all_unclaimed_text (claims_read found.now.claims.now) (patterns_in found.now))
         (sheet block.old writer.old) (sheet block.new writer.new)) }
     ensures silent { IfOk result (λ silent. silent
-        ≡ is_empty (all_unclaimed_text (claims_read found.now.claims.now) found.now.patterns.items)) }
+        ≡ is_empty (all_unclaimed_text (claims_read found.now.claims.now) (patterns_in found.now))) }
 {
     let mut silent = true;
-    for index in 0..found.patterns.len() {
-        let text = unclaimed_text(alloc, found, &found.patterns[index])?;
-        let bytes = text.as_slice();
-        silent = is_silent(silent, bytes);
-        put(bytes, block, writer);
+    for index in 0..found.sections.len() {
+        let number = (index + 1) as u64;
+        let rows = found.sections.section(index);
+        let quiet = put_section(alloc, found, number, &rows, block, writer)?;
+        silent &= quiet;
     }
     Ok(silent)
 }
@@ -125,7 +174,7 @@ pub fn put_verdict<W: Write>(
 {
     let found = find(alloc, claims.items.as_slice(), rows)?;
     let agree = put_claims(alloc, &found, block, writer)?;
-    let all_claimed = put_unclaimed(alloc, &found, block, writer)?;
+    let all_claimed = put_sections(alloc, &found, block, writer)?;
     Ok(!agree || !all_claimed)
 }
 

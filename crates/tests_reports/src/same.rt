@@ -83,7 +83,7 @@ fn same_in(alloc: Global, json: bool, report: &[u8]) -> Result<(bool, Vec<u8>), 
     let rows = rows_read(alloc, report)?;
     let mut block = Block::new(alloc);
     let mut writer = Output::new(Vec::new(alloc));
-    let any = put_same(alloc, json, &rows, &mut block, &mut writer)?;
+    let any = put_same(alloc, json, rows, &mut block, &mut writer)?;
     match send(&mut block, &mut writer) {
         Ok(()) => Ok((any, writer.into_inner())),
         Err(_) => Err(AllocError),

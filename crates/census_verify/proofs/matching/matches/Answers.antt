@@ -1,20 +1,36 @@
-use Rattle.std.proofs.Common.{List, ap, ◌∙◌}
-use Rattle.std.proofs.lemmas.List.{take_all}
-use Rattle.std.specs.BTreeMap.{get}
+use Rattle.std.proofs.Common.{◌≡◌, ◌+◌, ◌++◌, List, [], append_assoc, ap, arith, drop, refl, subst, sym, ◌∙◌}
+use Rattle.std.proofs.lemmas.List.{append-nil, at_drop_all, at_drop_more}
+use Rattle.census_table.specs.Entries.{all_entries, section_entries}
 use Rattle.census_table.specs.declared.entry.Entry.{Entry}
 use Rattle.census_verify.specs.Claims.{claims_read}
-use Rattle.census_verify.specs.Found.{key_cmp, key_lent, match_at}
-use Rattle.census_verify.proofs.Keys.{match-taken}
+use Rattle.census_verify.specs.Found.{AreMatches}
 use Rattle.census_verify.proofs.matching.matches.Goals as goal
 
-pub loop-pattern-preserved : goal.loop-pattern-preserved
-loop-pattern-preserved c = λ key.
-    let l = c.loop-pattern in
-    match-taken (claims_read c.args.claims.now) c.args.patterns.now l.pattern-index _ (key_lent key) (get key_cmp l.found key)
-    (get key_cmp c.add_pattern.new.found key) c.loop-pattern-test.true (l.invariant key) (c.in_ok-add_pattern.ensures key)
+pub loop-index-init : goal.loop-index-init
+loop-index-init c = ([], c.in_ok-found.ensures, refl)
+
+pub loop-index-preserved : goal.loop-index-preserved
+loop-index-preserved c =
+    let l = c.loop-index in
+    let sections = c.args.sections.now in
+    let before = l.invariant.0 in
+    let here = section_entries (l.index + 1) c.section.result in
+    let behind = all_entries (l.index + 2) (drop (l.index + 1) sections) in
+    let cut : all_entries (l.index + 1) (drop l.index sections) ≡ here ++ behind =
+    at_drop_more (all_entries (l.index + 1)) sections l.index c.section.result (omega arith)
+    ∙ ap (λ rows. section_entries (l.index + 1) rows ++ behind) (sym c.section.ensures) in (
+      before ++ here,
+      c.in_ok-add_section.ensures (claims_read c.args.claims.now) before l.invariant.1.0,
+      append_assoc before here behind ∙ ap (λ (more : List Entry). before ++ more) (sym cut) ∙ l.invariant.1.1,
+    )
 
 pub returns : goal.returns
-returns c = λ key.
-    c.loop-pattern.invariant key
-    ∙ ap (λ (patterns : List Entry). match_at (claims_read c.args.claims.now) patterns (key_lent key))
-    (take_all c.loop-pattern.pattern-index c.args.patterns.now c.loop-pattern-test.false)
+returns c =
+    let l = c.loop-index in
+    let sections = c.args.sections.now in
+    let before = l.invariant.0 in
+    let all : before ≡ all_entries 1 sections =
+    sym (append-nil before)
+    ∙ ap (λ (more : List Entry). before ++ more) (sym (at_drop_all (all_entries (l.index + 1)) sections l.index (omega arith)))
+    ∙ l.invariant.1.1 in
+    subst (λ patterns. AreMatches (claims_read c.args.claims.now) patterns l.found) all l.invariant.1.0

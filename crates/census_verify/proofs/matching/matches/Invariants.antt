@@ -1,9 +1,10 @@
-use Rattle.std.proofs.Common.{◌≡◌, take}
-use Rattle.std.specs.BTreeMap.{get}
+use Rattle.std.proofs.Common.{◌≡◌, ◌+◌, ◌++◌, List, drop}
+use Rattle.census_table.specs.Entries.{all_entries}
+use Rattle.census_table.specs.declared.entry.Entry.{Entry}
 use Rattle.census_verify.specs.Claims.{claims_read}
-use Rattle.census_verify.specs.Found.{KeyLent, key_cmp, key_lent, match_at}
+use Rattle.census_verify.specs.Found.{AreMatches}
 use Rattle.census_verify.proofs.matching.matches.Given as goal
 
-abbrev pub invariant-loop-pattern : goal.invariant-loop-pattern
-invariant-loop-pattern l =
-    (key : KeyLent) → get key_cmp l.found key ≡ match_at (claims_read l.claims) (take l.pattern-index l.patterns) (key_lent key)
+abbrev pub invariant-loop-index : goal.invariant-loop-index
+invariant-loop-index l =
+    (patterns : List Entry) × AreMatches (claims_read l.claims) patterns l.found × (patterns ++ all_entries (l.index + 1) (drop l.index l.sections) ≡ all_entries 1 l.sections)

@@ -3,6 +3,7 @@ use Rattle.gathered.specs.Telling.{sheet}
 use Rattle.gathered.proofs.Fronts.{up_to_more, up_to_start}
 use Rattle.census_verify.specs.Claims.{claim_read, claims_read}
 use Rattle.census_verify.specs.Columns.{is_empty}
+use Rattle.census_verify.specs.Found.{patterns_in}
 use Rattle.census_verify.specs.Verdict.{claim_text, claims_text, match_text}
 use Rattle.census_verify.proofs.Keys.{has-own}
 use Rattle.census_verify.proofs.Silent.{claims-cut, silent-more}
@@ -10,7 +11,7 @@ use Rattle.census_verify.proofs.verdict.put_claims.Goals as goal
 
 pub loop-index-init : goal.loop-index-init
 loop-index-init g c = record {
-  told = up_to_start (claims_text c.args.found.now.patterns.items (claims_read c.args.found.now.claims.now)) (sheet c.args.block.now c.args.writer.now);
+  told = up_to_start (claims_text (patterns_in c.args.found.now) (claims_read c.args.found.now.claims.now)) (sheet c.args.block.now c.args.writer.now);
   silent = refl;
 }
 
@@ -21,7 +22,7 @@ pub loop-index-preserved : goal.loop-index-preserved
 loop-index-preserved g c =
     let found = c.args.found.now in
     let l = c.loop-index in
-    let patterns = found.patterns.items in
+    let patterns = patterns_in found in
     let d = c.index-found-index.result in
     let whole = claims_text patterns (claims_read found.claims.now) in
     let others = claims_text patterns (claims_read (drop (l.index + 1) found.claims.now)) in

@@ -3,13 +3,14 @@ use Rattle.gathered.specs.Telling.{sheet}
 use Rattle.gathered.proofs.Fronts.{TellsUpTo}
 use Rattle.census_verify.specs.Claims.{claims_read}
 use Rattle.census_verify.specs.Columns.{is_empty}
+use Rattle.census_verify.specs.Found.{patterns_in}
 use Rattle.census_verify.specs.Verdict.{claims_text}
 use Rattle.census_verify.proofs.verdict.put_claims.Given as goal
 
 abbrev pub invariant-loop-index : goal.invariant-loop-index
 invariant-loop-index g l = record {
-  told : TellsUpTo (claims_text l.found.patterns.items (claims_read l.found.claims.now)) (claims_text l.found.patterns.items (claims_read (drop l.index l.found.claims.now)))
+  told : TellsUpTo (claims_text (patterns_in l.found) (claims_read l.found.claims.now)) (claims_text (patterns_in l.found) (claims_read (drop l.index l.found.claims.now)))
       (sheet l.fn.block l.fn.writer) (sheet l.block l.writer);
-  silent : is_empty (claims_text l.found.patterns.items (claims_read l.found.claims.now))
-      ≡ (l.silent && is_empty (claims_text l.found.patterns.items (claims_read (drop l.index l.found.claims.now))));
+  silent : is_empty (claims_text (patterns_in l.found) (claims_read l.found.claims.now))
+      ≡ (l.silent && is_empty (claims_text (patterns_in l.found) (claims_read (drop l.index l.found.claims.now))));
 }

@@ -9,7 +9,7 @@ use Rattle.census_verify.proofs.verdict.put_unclaimed.Goals as goal
 
 pub loop-index-init : goal.loop-index-init
 loop-index-init g c = record {
-  told = up_to_start (all_unclaimed_text (claims_read c.args.found.now.claims.now) c.args.found.now.patterns.items) (sheet c.args.block.now c.args.writer.now);
+  told = up_to_start (all_unclaimed_text (claims_read c.args.found.now.claims.now) c.args.patterns.now) (sheet c.args.block.now c.args.writer.now);
   silent = refl;
 }
 
@@ -17,7 +17,7 @@ pub loop-index-preserved : goal.loop-index-preserved
 loop-index-preserved g c =
     let l = c.loop-index in
     let claims = claims_read c.args.found.now.claims.now in
-    let patterns = c.args.found.now.patterns.items in
+    let patterns = c.args.patterns.now in
     let others = all_unclaimed_text claims (drop (l.index + 1) patterns) in
     let pattern = c.index.result.now in
     let less : l.index < length patterns = omega arith in

@@ -8,9 +8,9 @@ use Rattle.census_verify.proofs.verdict.put_unclaimed.Given as goal
 
 abbrev pub invariant-loop-index : goal.invariant-loop-index
 invariant-loop-index g l = record {
-  told : TellsUpTo (all_unclaimed_text (claims_read l.found.claims.now) l.found.patterns.items)
-      (all_unclaimed_text (claims_read l.found.claims.now) (drop l.index l.found.patterns.items))
+  told : TellsUpTo (all_unclaimed_text (claims_read l.found.claims.now) l.patterns)
+      (all_unclaimed_text (claims_read l.found.claims.now) (drop l.index l.patterns))
       (sheet l.fn.block l.fn.writer) (sheet l.block l.writer);
-  silent : is_empty (all_unclaimed_text (claims_read l.found.claims.now) l.found.patterns.items)
-      ≡ (l.silent && is_empty (all_unclaimed_text (claims_read l.found.claims.now) (drop l.index l.found.patterns.items)));
+  silent : is_empty (all_unclaimed_text (claims_read l.found.claims.now) l.patterns)
+      ≡ (l.silent && is_empty (all_unclaimed_text (claims_read l.found.claims.now) (drop l.index l.patterns)));
 }

@@ -5,6 +5,7 @@ use Rattle.gathered.proofs.Fronts.{front_first, front_more, front_none}
 use Rattle.gathered.proofs.Telling.{tells_more}
 use Rattle.census_table.specs.Entries.{entries_of}
 use Rattle.census_verify.specs.Claims.{claims_read}
+use Rattle.census_verify.specs.Found.{patterns_in}
 use Rattle.census_verify.specs.Verdict.{all_unclaimed_text, claims_text, verdict_text}
 use Rattle.census_verify.proofs.verdict.put_verdict.Goals as goal
 
@@ -19,11 +20,11 @@ returns-in_err-agree-clause-tells g c =
     let p = err_from_is_err_and c.from_residual-in_err-agree.result c.from_residual-in_err-agree.ensures.1 in
     let found = c.in_ok-found.found in
     let claims = claims_read found.claims.now in
-    let whole : verdict_text (claims_read c.args.claims.now.items.items) (entries_of c.args.rows.now) ≡ verdict_text claims found.patterns.items =
+    let whole : verdict_text (claims_read c.args.claims.now.items.items) (entries_of c.args.rows.now) ≡ verdict_text claims (patterns_in found) =
     ap₂ verdict_text (ap claims_read (sym (c.in_ok-found.ensures.claims ∙ c.as_slice.ensures.value))) (sym c.in_ok-found.ensures.patterns) in
     rw p.1
-    (front_first (verdict_text (claims_read c.args.claims.now.items.items) (entries_of c.args.rows.now)) (claims_text found.patterns.items claims)
-    (all_unclaimed_text claims found.patterns.items) (sheet c.args.block.now c.args.writer.now)
+    (front_first (verdict_text (claims_read c.args.claims.now.items.items) (entries_of c.args.rows.now)) (claims_text (patterns_in found) claims)
+    (all_unclaimed_text claims (patterns_in found)) (sheet c.args.block.now c.args.writer.now)
     (sheet c.put_claims.new.block c.put_claims.new.writer) whole c.in_err-agree.ensures.tells)
 
 pub returns-in_err-all_claimed-clause-tells : goal.returns-in_err-all_claimed-clause-tells
@@ -31,23 +32,23 @@ returns-in_err-all_claimed-clause-tells g c =
     let p = err_from_is_err_and c.from_residual-in_err-all_claimed.result c.from_residual-in_err-all_claimed.ensures.1 in
     let found = c.in_ok-found.found in
     let claims = claims_read found.claims.now in
-    let whole : verdict_text (claims_read c.args.claims.now.items.items) (entries_of c.args.rows.now) ≡ verdict_text claims found.patterns.items =
+    let whole : verdict_text (claims_read c.args.claims.now.items.items) (entries_of c.args.rows.now) ≡ verdict_text claims (patterns_in found) =
     ap₂ verdict_text (ap claims_read (sym (c.in_ok-found.ensures.claims ∙ c.as_slice.ensures.value))) (sym c.in_ok-found.ensures.patterns) in
     let before = sheet c.args.block.now c.args.writer.now in
-    let after = sheet c.put_unclaimed.new.block c.put_unclaimed.new.writer in
+    let after = sheet c.put_sections.new.block c.put_sections.new.writer in
     rw p.1
     (subst (λ t. TellsFront t before after) (sym whole)
-    (front_more (claims_text found.patterns.items claims) (all_unclaimed_text claims found.patterns.items) before
+    (front_more (claims_text (patterns_in found) claims) (all_unclaimed_text claims (patterns_in found)) before
     (sheet c.put_claims.new.block c.put_claims.new.writer) after c.in_ok-agree.ensures.tells c.in_err-all_claimed.ensures.tells))
 
 pub returns-clause-tells : goal.returns-clause-tells
 returns-clause-tells g c =
     let found = c.in_ok-found.found in
     let claims = claims_read found.claims.now in
-    let whole : verdict_text (claims_read c.args.claims.now.items.items) (entries_of c.args.rows.now) ≡ verdict_text claims found.patterns.items =
+    let whole : verdict_text (claims_read c.args.claims.now.items.items) (entries_of c.args.rows.now) ≡ verdict_text claims (patterns_in found) =
     ap₂ verdict_text (ap claims_read (sym (c.in_ok-found.ensures.claims ∙ c.as_slice.ensures.value))) (sym c.in_ok-found.ensures.patterns) in
     let before = sheet c.args.block.now c.args.writer.now in
-    let after = sheet c.put_unclaimed.new.block c.put_unclaimed.new.writer in
+    let after = sheet c.put_sections.new.block c.put_sections.new.writer in
     subst (λ t. TellsAfter t before after) (sym whole)
-    (tells_more (claims_text found.patterns.items claims) (all_unclaimed_text claims found.patterns.items) before
+    (tells_more (claims_text (patterns_in found) claims) (all_unclaimed_text claims (patterns_in found)) before
     (sheet c.put_claims.new.block c.put_claims.new.writer) after c.in_ok-agree.ensures.tells c.in_ok-all_claimed.ensures.tells)

@@ -1,7 +1,7 @@
 use Rattle.std.proofs.Common.{◌≡◌, Some, None, ◌∙◌}
 use Rattle.std.specs.BTreeMap.{get}
 use Rattle.census_verify.specs.Claims.{claim_read, claims_read}
-use Rattle.census_verify.specs.Found.{key_cmp, key_lent}
+use Rattle.census_verify.specs.Found.{key_cmp, key_lent, patterns_in}
 use Rattle.census_verify.specs.Patterns.{matched, patterns_of}
 use Rattle.census_verify.specs.declared.matching.Match.{Match}
 use Rattle.census_verify.proofs.Keys.{one-match}
@@ -17,16 +17,16 @@ pub returns-in-Some : goal.returns-in-Some
 returns-in-Some c =
     let found = c.args.self.now in
     let claim = claim_read c.args.claim.now in
-    some-same c.in-Some.found.now (matched (patterns_of claim found.patterns.items))
+    some-same c.in-Some.found.now (matched (patterns_of claim (patterns_in found)))
     (c.in-Some.ensures.value
-    ∙ one-match (claims_read found.claims.now) found.patterns.items claim (key_lent c.key_of.result) (get key_cmp found.matches c.key_of.result) c.key_of.ensures c.requires.is_one
+    ∙ one-match (claims_read found.claims.now) (patterns_in found) claim (key_lent c.key_of.result) (get key_cmp found.matches c.key_of.result) c.key_of.ensures c.requires.is_one
     (c.requires.is_found c.key_of.result))
 
 pub returns-in-None : goal.returns-in-None
 returns-in-None c =
     let found = c.args.self.now in
     let claim = claim_read c.args.claim.now in
-    none-some (matched (patterns_of claim found.patterns.items))
+    none-some (matched (patterns_of claim (patterns_in found)))
     (c.in-None.ensures.value
-    ∙ one-match (claims_read found.claims.now) found.patterns.items claim (key_lent c.key_of.result) (get key_cmp found.matches c.key_of.result) c.key_of.ensures c.requires.is_one
+    ∙ one-match (claims_read found.claims.now) (patterns_in found) claim (key_lent c.key_of.result) (get key_cmp found.matches c.key_of.result) c.key_of.ensures c.requires.is_one
     (c.requires.is_found c.key_of.result)) _

@@ -1,0 +1,36 @@
+use Rattle.std.proofs.Common.{◌≡◌, ◌+◌, ◌++◌, ◌&&◌, ap, arith, drop, refl, sym, ◌∙◌}
+use Rattle.std.proofs.lemmas.Result.{err_from_is_err_and}
+use Rattle.gathered.specs.Telling.{sheet}
+use Rattle.gathered.proofs.Fronts.{up_to_front, up_to_more, up_to_start}
+use Rattle.census_table.specs.Entries.{all_entries, section_entries}
+use Rattle.census_verify.specs.Claims.{claims_read}
+use Rattle.census_verify.specs.Columns.{is_empty}
+use Rattle.census_verify.specs.Found.{patterns_in}
+use Rattle.census_verify.specs.Verdict.{all_unclaimed_text}
+use Rattle.census_verify.proofs.Silent.{sections-cut, silent-more}
+use Rattle.census_verify.proofs.verdict.put_sections.Goals as goal
+
+pub loop-index-init : goal.loop-index-init
+loop-index-init g c = record {
+  told = up_to_start (all_unclaimed_text (claims_read c.args.found.now.claims.now) (patterns_in c.args.found.now)) (sheet c.args.block.now c.args.writer.now);
+  silent = refl;
+}
+
+pub returns-in_err-quiet : goal.returns-in_err-quiet
+returns-in_err-quiet g c = ?
+
+pub loop-index-preserved : goal.loop-index-preserved
+loop-index-preserved g c =
+    let l = c.loop-index in
+    let claims = claims_read c.args.found.now.claims.now in
+    let sections = c.args.found.now.sections in
+    let whole = all_unclaimed_text claims (patterns_in c.args.found.now) in
+    let here = all_unclaimed_text claims (section_entries (l.index + 1) c.section-rows.result) in
+    let others = all_unclaimed_text claims (all_entries (l.index + 2) (drop (l.index + 1) sections)) in
+    let cut = sections-cut claims sections l.index c.section-rows.result (omega arith) c.section-rows.ensures in
+    record {
+      told = up_to_more whole _ here others (sheet c.args.block.now c.args.writer.now)
+          (sheet l.block l.writer) (sheet c.put_section.new.block c.put_section.new.writer) l.invariant.told cut c.in_ok-quiet.ensures.tells;
+      silent = silent-more whole _ here others l.silent l.invariant.silent cut
+          ∙ ap (λ b. (l.silent && b) && is_empty others) (sym c.in_ok-quiet.ensures.silent);
+    }
