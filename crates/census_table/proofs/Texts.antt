@@ -1,7 +1,9 @@
 -- The text of rows, of which some stand before others.
 use Rattle.std.proofs.Common.{◌≡◌, ℕ, zero, ◌+◌, ◌-◌, ◌<◌, Bool, List, [], ◌∷◌, ◌++◌, Option, Some, None, length, map, take, drop, get_or, refl, sym, ap, ◌∙◌, append_assoc, drop-cons, suc, arith, subst}
 use Rattle.std.specs.Option.{option_map}
+use Rattle.std.specs.Prelude.{filter}
 use Rattle.std.proofs.lemmas.List.{drop-drop, length-drop, map-append, take-append-drop, take_all}
+use Rattle.std.proofs.lemmas.List.Elements.{filter-append}
 use Rattle.census_rows.specs.declared.row.Row.{Row}
 use Rattle.census_table.specs.Lists.{told_before}
 use Rattle.census_table.specs.Patterns.{Pattern, all_patterns, first_patterns, pattern_before, pattern_of_row, patterns_under, section_patterns}
@@ -10,14 +12,16 @@ use Rattle.census_table.specs.Called.{Names}
 use Rattle.census_table.specs.Columns.{columns, entry_row, pattern_row}
 use Rattle.census_table.specs.Entries.{entry_before, entry_of_row, lines_under}
 use Rattle.census_table.specs.Contents.{Member}
-use Rattle.census_table.specs.ObjectColumns.{object_row}
-use Rattle.census_table.specs.Objects.{all_objects, section_objects}
-use Rattle.census_table.specs.Tables.{csv_records, json_line, json_rows, row_fields, rows_text}
+use Rattle.census_table.specs.ObjectColumns.{object_row, part_columns}
+use Rattle.census_table.specs.Objects.{all_objects, entry_or, last_under, object_before, object_of_row, objects_under, section_objects}
+use Rattle.census_table.specs.Tables.{all_members, csv_records, is_part, json_line, json_rows, row_fields, rows_text, section_members}
 use Rattle.census_table.specs.declared.entry.Entry.{Entry}
 use Rattle.census_table.specs.declared.object.Object.{Object}
 use Rattle.census_table.specs.declared.object_column.ObjectColumn.{ObjectColumn}
 use Rattle.census_table.specs.declared.table.Format.{Format}
 use Rattle.census_table.specs.declared.table.Format.TheVariants.{Csv, Json}
+use Rattle.census_table.specs.declared.table.Item.{Item}
+use Rattle.census_table.specs.declared.table.Item.TheVariants as item
 
 pub rows-append : (format : Format) (xs ys : List (List Member)) → rows_text format (xs ++ ys) ≡ rows_text format xs ++ rows_text format ys
 rows-append (Csv safe) [] ys = refl
@@ -133,24 +137,85 @@ objects-cut names format columns objects some others chosen e are =
     ∙ ap (λ os. rows_text format (map (object_row names columns) os) ++ rows_text format (map (object_row names columns) others)) (sym are)
 
 -- a collection, and those behind it
-pub sections-cut : (names : Names) (format : Format) (sections : List (List Row)) (i : ℕ) (d rows : List Row) → i < length sections
+pub sections-cut : (each : Item) (names : Names) (format : Format) (sections : List (List Row)) (i : ℕ) (d rows : List Row) → i < length sections
     → rows ≡ get_or sections i d
-    → rows_text format (map (pattern_row names format) (all_patterns (i + 1) (drop i sections)))
-    ≡ rows_text format (map (pattern_row names format) (section_patterns (i + 1) rows))
-    ++ rows_text format (map (pattern_row names format) (all_patterns (i + 1 + 1) (drop (i + 1) sections)))
-sections-cut names format sections i d rows less are =
+    → rows_text format (all_members each format names (i + 1) (drop i sections))
+    ≡ rows_text format (section_members each format names (i + 1) rows)
+    ++ rows_text format (all_members each format names (i + 1 + 1) (drop (i + 1) sections))
+sections-cut each names format sections i d rows less are =
     let behind = drop (i + 1) sections in
     let next : drop i sections ≡ get_or sections i d ∷ behind =
     drop-cons sections i d less ∙ ap (λ k. get_or sections i d ∷ drop k sections) (let e : suc i ≡ i + 1 = omega arith in e) in
-    ap (λ s. rows_text format (map (pattern_row names format) (all_patterns (i + 1) s))) next
-    ∙ mapped-append format (pattern_row names format) (section_patterns (i + 1) (get_or sections i d)) (all_patterns (i + 1 + 1) behind)
-    ∙ ap (λ r. rows_text format (map (pattern_row names format) (section_patterns (i + 1) r)) ++ rows_text format (map (pattern_row names format) (all_patterns (i + 1 + 1) behind))) (sym are)
+    ap (λ s. rows_text format (all_members each format names (i + 1) s)) next
+    ∙ rows-append format (section_members each format names (i + 1) (get_or sections i d)) (all_members each format names (i + 1 + 1) behind)
+    ∙ ap (λ r. rows_text format (section_members each format names (i + 1) r) ++ rows_text format (all_members each format names (i + 1 + 1) behind)) (sym are)
 
 -- a collection without rows
-pub section-empty : (names : Names) → (format : Format) (number : ℕ) (rows : List Row) → length rows < 1 → rows_text format (map (pattern_row names format) (section_patterns number rows)) ≡ []
-section-empty names (Csv safe) number [] none = refl
-section-empty names Json number [] none = refl
-section-empty names format number (r ∷ rows) none = absurd (omega arith)
+pub section-empty : (each : Item) (names : Names) (format : Format) (number : ℕ) (rows : List Row) → length rows < 1 → rows_text format (section_members each format names number rows) ≡ []
+section-empty item.Pattern names (Csv safe) number [] none = refl
+section-empty item.Pattern names Json number [] none = refl
+section-empty item.Part names (Csv safe) number [] none = refl
+section-empty item.Part names Json number [] none = refl
+section-empty each names format number (r ∷ rows) none = absurd (omega arith)
+
+-- the rows of the patterns of collections
+pub patterns-members : (names : Names) (format : Format) (number : ℕ) (sections : List (List Row))
+    → all_members item.Pattern format names number sections ≡ map (pattern_row names format) (all_patterns number sections)
+patterns-members names format number [] = refl
+patterns-members names format number (rows ∷ sections) =
+    let row = pattern_row names format in
+    ap (λ members. map row (section_patterns number rows) ++ members) (patterns-members names format (number + 1) sections)
+    ∙ sym (map-append row (section_patterns number rows) (all_patterns (number + 1) sections))
+
+-- the rows of their parts
+pub parts-members : (names : Names) (format : Format) (number : ℕ) (sections : List (List Row))
+    → all_members item.Part format names number sections ≡ map (object_row names part_columns) (filter is_part (all_objects number sections))
+parts-members names format number [] = refl
+parts-members names format number (rows ∷ sections) =
+    let row = object_row names part_columns in
+    let here = section_objects number rows in
+    let behind = all_objects (number + 1) sections in
+    ap (λ members. map row (filter is_part here) ++ members) (parts-members names format (number + 1) sections)
+    ∙ sym (ap (map row) (filter-append is_part here behind) ∙ map-append row (filter is_part here) (filter is_part behind))
+
+-- the text of those of these objects that are parts
+abbrev pub parts_text : Names → Format → List Object → List ℕ
+parts_text names format objects = rows_text format (map (object_row names part_columns) (filter is_part objects))
+
+before-append : (told : Option Object) (xs ys : List Object) → object_before told (xs ++ ys) ≡ object_before told xs ++ ys
+before-append None xs ys = refl
+before-append (Some told) xs ys = refl
+
+-- the objects of some rows, and those of the rows behind them
+under-append : (number : ℕ) (heading : Row) (last : Option Entry) (xs ys : List Row)
+    → objects_under number heading last (xs ++ ys)
+    ≡ objects_under number heading last xs ++ objects_under number heading (last_under number heading last xs) ys
+under-append number heading last [] ys = refl
+under-append number heading last (x ∷ xs) ys =
+    let entry = entry_or (entry_of_row number heading x) last in
+    let told = object_of_row entry x in
+    ap (λ (os : List Object). object_before told os) (under-append number heading entry xs ys)
+    ∙ before-append told (objects_under number heading entry xs) (objects_under number heading (last_under number heading entry xs) ys)
+
+-- the parts of some rows of a collection, and those of the rows behind them
+pub parts-cut : (names : Names) (format : Format) (number : ℕ) (heading : Row) (last : Option Entry) (all : List Row) (start count : ℕ) (some : List Row) (next : Option Entry) (parts : List Object)
+    → some ≡ take count (drop start all) → next ≡ last_under number heading last some → parts ≡ filter is_part (objects_under number heading last some)
+    → parts_text names format (objects_under number heading last (drop start all))
+    ≡ rows_text format (map (object_row names part_columns) parts)
+    ++ parts_text names format (objects_under number heading next (drop (start + count) all))
+parts-cut names format number heading last all start count some next parts is after are =
+    let row = object_row names part_columns in
+    let under = objects_under number heading last in
+    let behind = drop (start + count) all in
+    let others = objects_under number heading (last_under number heading last some) behind in
+    let rest : drop start all ≡ some ++ behind =
+    sym (take-append-drop count (drop start all)) ∙ ap (λ t. t ++ drop count (drop start all)) (sym is) ∙ ap (λ t. some ++ t) (drop-drop count start all) in
+    ap (λ rows. parts_text names format (under rows)) rest
+    ∙ ap (parts_text names format) (under-append number heading last some behind)
+    ∙ ap (λ os. rows_text format (map row os)) (filter-append is_part (under some) others)
+    ∙ mapped-append format row (filter is_part (under some)) (filter is_part others)
+    ∙ ap (λ os. rows_text format (map row os) ++ parts_text names format others) (sym are)
+    ∙ ap (λ e. rows_text format (map row parts) ++ parts_text names format (objects_under number heading e behind)) (sym after)
 
 -- the objects of a collection, and those of the collections behind it
 pub section-objects : (sections : List (List Row)) (i : ℕ) (d rows : List Row) → i < length sections

@@ -52,6 +52,11 @@ objects_under number heading last (row ∷ rows) =
     let entry = entry_or (entry_of_row number heading row) last in
     object_before (object_of_row entry row) (objects_under number heading entry rows)
 
+-- the last pattern of these rows, where this is the one before them
+abbrev pub last_under : ℕ → Row → Option Entry → List Row → Option Entry
+last_under number heading last [] = last
+last_under number heading last (row ∷ rows) = last_under number heading (entry_or (entry_of_row number heading row) last) rows
+
 -- the objects of a collection's rows, of which the first opens it
 abbrev pub section_objects : ℕ → List Row → List Object
 section_objects number [] = []

@@ -1,5 +1,5 @@
 -- The texts of tables.
-use Rattle.std.specs.Prelude.{◌≡◌, ℕ, Bool, None, List, [], ◌∷◌, ◌++◌, filter, map}
+use Rattle.std.specs.Prelude.{◌≡◌, ℕ, ◌+◌, Bool, None, List, [], ◌∷◌, ◌++◌, filter, map}
 use Rattle.csv.specs.Writing.{default_writer, row_text}
 use Rattle.serde_json.specs.Data.{Members, no_members, object, put}
 use Rattle.census_facts.specs.Json.Lines.{data_line}
@@ -12,8 +12,8 @@ use Rattle.census_table.specs.Columns.{columns, name_of, pattern_row, shown}
 use Rattle.census_table.specs.Contents.{Member, content_bytes, content_data}
 use Rattle.census_table.specs.Kinds.{AreKinds}
 use Rattle.census_table.specs.ObjectColumns.{code_columns, object_row, part_columns, there, title_of}
-use Rattle.census_table.specs.Objects.{objects_of}
-use Rattle.census_table.specs.Patterns.{Pattern, all_patterns, patterns_of}
+use Rattle.census_table.specs.Objects.{all_objects, objects_of, section_objects}
+use Rattle.census_table.specs.Patterns.{Pattern, all_patterns, patterns_of, section_patterns}
 use Rattle.census_table.specs.declared.object.Object.{Object}
 use Rattle.census_table.specs.declared.object_column.ObjectColumn.{ObjectColumn}
 use Rattle.census_table.specs.declared.subject.Subject.{Subject}
@@ -22,6 +22,8 @@ use Rattle.census_table.specs.declared.subject.Table.{Table}
 use Rattle.census_table.specs.declared.subject.Table.TheVariants as table
 use Rattle.census_table.specs.declared.table.Format.{Format}
 use Rattle.census_table.specs.declared.table.Format.TheVariants.{Csv, Json}
+use Rattle.census_table.specs.declared.table.Item.{Item}
+use Rattle.census_table.specs.declared.table.Item.TheVariants as item
 
 -- # What stands in a table
 
@@ -30,13 +32,14 @@ pub data Listing : Type 0 where
   patterns : List Pattern → Listing
   objects : List ObjectColumn → List Object → Listing
 
-abbrev pub listing_of : Table → Listing
-listing_of (table.Patterns sections) = patterns (all_patterns 1 sections)
-listing_of (table.Objects columns list) = objects columns.now list.items
-
 -- the object is one of several that a pattern has fallen apart into
 abbrev pub is_part : Object → Bool
 is_part o = same_behind (said o.first.outcome).behind behind.Parts
+
+abbrev pub listing_of : Table → Listing
+listing_of (table.Patterns sections) = patterns (all_patterns 1 sections)
+listing_of (table.Parts sections) = objects part_columns (filter is_part (all_objects 1 sections))
+listing_of (table.Codes kinds) = objects code_columns kinds.items
 
 -- a row for each pattern, for each `part` row, or for each rule and code
 abbrev pub IsListingOf : Subject → List Row → Listing → Type 0
@@ -88,6 +91,17 @@ names_in names (objects columns list) = map title_of (there names columns)
 abbrev pub members_in : Format → Names → Listing → List (List Member)
 members_in format names (patterns list) = map (pattern_row names format) list
 members_in format names (objects columns list) = map (object_row names columns) list
+
+-- a row for each pattern, or for each part, of a collection that has this number
+abbrev pub section_members : Item → Format → Names → ℕ → List Row → List (List Member)
+section_members item.Pattern format names number rows = map (pattern_row names format) (section_patterns number rows)
+section_members item.Part format names number rows = map (object_row names part_columns) (filter is_part (section_objects number rows))
+
+-- those of each collection, numbered from this number on
+abbrev pub all_members : Item → Format → Names → ℕ → List (List Row) → List (List Member)
+all_members item format names number [] = []
+all_members item format names number (rows ∷ sections) =
+    section_members item format names number rows ++ all_members item format names (number + 1) sections
 
 -- the whole table; without names no column is of these
 abbrev pub listing_text : Format → Names → Listing → List ℕ

@@ -13,6 +13,7 @@ mod json_lines;
 mod lists;
 mod object;
 mod object_column;
+mod part;
 mod pattern;
 mod subject;
 mod table;

@@ -54,7 +54,7 @@ fn object_with<'a>(
 }
 
 // What a row tells of the pattern of the last line.
-fn object_of_row<'a>(entry: &Option<Entry<'a>>, row: &Row<'a>) -> Option<Object<'a>>
+pub fn object_of_row<'a>(entry: &Option<Entry<'a>>, row: &Row<'a>) -> Option<Object<'a>>
     ensures { result ≡ object_of_row entry.now row.now }
 {
     match row {

@@ -1,10 +1,10 @@
 //! What a table has a row for each of.
-ghost use Rattle.std.specs.Prelude.{◌≡◌, filter, map, IfOk};
+ghost use Rattle.std.specs.Prelude.{◌≡◌, map, IfOk};
 ghost use Rattle.std.specs.Option.{option_copied};
 ghost use Rattle.census_readback.specs.Shapes.{AreReports};
 ghost use Rattle.census_table.specs.Columns.{name_of, shown};
 ghost use Rattle.census_table.specs.ObjectColumns.{there, title_of};
-ghost use Rattle.census_table.specs.Tables.{IsListingOf, is_part, listing_of, names_in};
+ghost use Rattle.census_table.specs.Tables.{IsListingOf, listing_of, names_in};
 
 use crate::column::Column;
 use crate::counting::kinds;
@@ -13,7 +13,6 @@ use crate::object_column::ObjectColumn;
 use census_kept::Rows;
 use census_names::Names;
 use census_readback::{Sections, collections};
-use census_rows::Behind;
 use std::alloc::{AllocError, Global};
 
 /// What a table has a row for each of.
@@ -33,34 +32,10 @@ pub enum Subject {
 pub enum Table<'b, 'a> {
     /// The patterns of collections that are numbered from 1.
     Patterns(Sections<'b, 'a>),
-    /// These columns of objects.
-    Objects {
-        columns: &'static [ObjectColumn],
-        objects: Vec<Object<'a>>,
-    },
-}
-
-// Whether an object is one of several that a pattern has fallen apart into.
-fn is_part(object: &Object) -> bool
-    ensures { result ≡ is_part object.now }
-{
-    match object.first.outcome.behind() {
-        Behind::Parts => true,
-        _ => false,
-    }
-}
-
-// The objects that are parts.
-fn parts<'a>(alloc: Global, objects: &[Object<'a>]) -> Result<Vec<Object<'a>>, AllocError>
-    ensures { IfOk result (λ parts. parts.items ≡ filter is_part objects.now) }
-{
-    let mut parts = Vec::new(alloc);
-    for object in objects {
-        if is_part(object) {
-            parts.push(*object)?;
-        }
-    }
-    Ok(parts)
+    /// The parts of such patterns.
+    Parts(Sections<'b, 'a>),
+    /// The kinds of objects.
+    Codes(Vec<Object<'a>>),
 }
 
 /// What stands in the table of reports that stand one after another. The only error is out of memory.
@@ -75,14 +50,8 @@ pub fn table_of<'b, 'a>(
     let sections = collections(alloc, rows)?;
     match subject {
         Subject::Patterns => Ok(Table::Patterns(sections)),
-        Subject::Parts => Ok(Table::Objects {
-            columns: &ObjectColumn::OF_PARTS,
-            objects: parts(alloc, objects(alloc, &sections)?.as_slice())?,
-        }),
-        Subject::Codes => Ok(Table::Objects {
-            columns: &ObjectColumn::OF_CODES,
-            objects: kinds(alloc, objects(alloc, &sections)?)?,
-        }),
+        Subject::Parts => Ok(Table::Parts(sections)),
+        Subject::Codes => Ok(Table::Codes(kinds(alloc, objects(alloc, &sections)?)?)),
     }
 }
 
@@ -135,7 +104,8 @@ impl Table<'_, '_> {
     {
         match self {
             Table::Patterns(_) => pattern_names(alloc, names, &Column::ALL),
-            Table::Objects { columns, .. } => names_of(alloc, names, *columns),
+            Table::Parts(_) => names_of(alloc, names, &ObjectColumn::OF_PARTS),
+            Table::Codes(_) => names_of(alloc, names, &ObjectColumn::OF_CODES),
         }
     }
 }

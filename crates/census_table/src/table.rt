@@ -1,13 +1,14 @@
 //! Tables, told some rows at a time.
-ghost use Rattle.std.specs.Prelude.{◌≡◌, ◌≤◌, List, length, map, IfOk, MatchResult};
+ghost use Rattle.std.specs.Prelude.{◌≡◌, ◌≤◌, List, None, filter, length, map, IfOk, MatchResult};
 ghost use Rattle.std.specs.Option.{option_copied};
 ghost use Rattle.gathered.specs.Telling.{TellsAfter, TellsFront, sheet};
 ghost use Rattle.census_rows.specs.declared.row.Row.{Row};
 ghost use Rattle.census_readback.specs.Shapes.{AreReports, any_outcome, lines_that};
 ghost use Rattle.census_table.specs.Columns.{columns, entry_row, pattern_row};
-ghost use Rattle.census_table.specs.ObjectColumns.{object_row};
-ghost use Rattle.census_table.specs.Patterns.{all_patterns, first_patterns, patterns_of, patterns_under, section_patterns};
-ghost use Rattle.census_table.specs.Tables.{head_text, listing_of, listing_text, members_in, rows_text, table_text};
+ghost use Rattle.census_table.specs.ObjectColumns.{object_row, part_columns};
+ghost use Rattle.census_table.specs.Objects.{objects_under};
+ghost use Rattle.census_table.specs.Patterns.{first_patterns, patterns_of, patterns_under};
+ghost use Rattle.census_table.specs.Tables.{all_members, head_text, is_part, listing_of, listing_text, members_in, rows_text, section_members, table_text};
 ghost use Rattle.census_table.specs.Told.{rows_in};
 ghost use Rattle.census_table.specs.declared.table.Format.TheVariants.{Csv};
 
@@ -18,6 +19,7 @@ use crate::entry::{Entry, entries_under};
 use crate::json_lines::lines;
 use crate::object::Object;
 use crate::object_column::{ObjectColumn, object_row};
+use crate::part::parts_under;
 use crate::pattern::first_lines;
 use crate::subject::{Subject, Table, table_of};
 use census_kept::{Rows, Section};
@@ -42,6 +44,13 @@ pub enum Format {
     /// the order of their names. Each line ends with LF. Of a pattern `engines` is a list, and so is a
     /// member `parts`.
     Json,
+}
+
+/// What of a collection has a row in a table.
+#[derive(Clone, Copy, Debug, PartialEq, Eq)]
+pub enum Item {
+    Pattern,
+    Part,
 }
 
 // As many rows as are told at a time.
@@ -279,26 +288,70 @@ fn put_lines<'a, W: Write>(
     Ok(())
 }
 
+// Tells the parts of the collection that a row opens and that has this number.
+fn put_parts<'a, W: Write>(
+    alloc: Global,
+    format: Format,
+    names: Option<&'a Names>,
+    number: u64,
+    heading: &Row<'a>,
+    rows: &Section<'_, 'a>,
+    block: &mut Block,
+    writer: &mut Output<W>,
+) -> Result<(), AllocError>
+    ensures { MatchResult result
+        (λ _. TellsAfter (rows_text format (map (object_row (option_copied names.entry) part_columns) (filter is_part (objects_under number heading.now None rows.now))))
+        (sheet block.old writer.old) (sheet block.new writer.new))
+        (λ _. TellsFront (rows_text format (map (object_row (option_copied names.entry) part_columns) (filter is_part (objects_under number heading.now None rows.now))))
+        (sheet block.old writer.old) (sheet block.new writer.new)) }
+{
+    let columns = &ObjectColumn::OF_PARTS;
+    let mut last = None;
+    let mut start = 0;
+    while start < rows.len() {
+        let count = (rows.len() - start).min(SOME);
+        let some = rows.from(start).before(count);
+        let parts = parts_under(alloc, number, heading, &mut last, &some)?;
+        put_some(
+            alloc,
+            format,
+            names,
+            columns,
+            parts.as_slice(),
+            block,
+            writer,
+        )?;
+        start += count;
+    }
+    Ok(())
+}
+
 // Tells the rows of a collection that has this number.
 fn put_section<'a, W: Write>(
     alloc: Global,
     format: Format,
     names: Option<&'a Names>,
+    item: Item,
     number: u64,
     rows: &Section<'_, 'a>,
     block: &mut Block,
     writer: &mut Output<W>,
 ) -> Result<(), AllocError>
     ensures { MatchResult result
-        (λ _. TellsAfter (rows_text format (map (pattern_row (option_copied names.entry) format) (section_patterns number rows.now)))
+        (λ _. TellsAfter (rows_text format (section_members item format (option_copied names.entry) number rows.now))
         (sheet block.old writer.old) (sheet block.new writer.new))
-        (λ _. TellsFront (rows_text format (map (pattern_row (option_copied names.entry) format) (section_patterns number rows.now)))
+        (λ _. TellsFront (rows_text format (section_members item format (option_copied names.entry) number rows.now))
         (sheet block.old writer.old) (sheet block.new writer.new)) }
 {
     match rows.split_first() {
-        Some((heading, lines)) => put_lines(
-            alloc, format, names, number, &heading, &lines, block, writer,
-        ),
+        Some((heading, lines)) => match item {
+            Item::Pattern => put_lines(
+                alloc, format, names, number, &heading, &lines, block, writer,
+            ),
+            Item::Part => put_parts(
+                alloc, format, names, number, &heading, &lines, block, writer,
+            ),
+        },
         None => Ok(()),
     }
 }
@@ -308,14 +361,15 @@ fn put_sections<W: Write>(
     alloc: Global,
     format: Format,
     names: Option<&Names>,
+    item: Item,
     sections: &Sections,
     block: &mut Block,
     writer: &mut Output<W>,
 ) -> Result<(), AllocError>
     ensures { MatchResult result
-        (λ _. TellsAfter (rows_text format (map (pattern_row (option_copied names.entry) format) (all_patterns 1 sections.now)))
+        (λ _. TellsAfter (rows_text format (all_members item format (option_copied names.entry) 1 sections.now))
         (sheet block.old writer.old) (sheet block.new writer.new))
-        (λ _. TellsFront (rows_text format (map (pattern_row (option_copied names.entry) format) (all_patterns 1 sections.now)))
+        (λ _. TellsFront (rows_text format (all_members item format (option_copied names.entry) 1 sections.now))
         (sheet block.old writer.old) (sheet block.new writer.new)) }
 {
     for index in 0..sections.len() {
@@ -324,6 +378,7 @@ fn put_sections<W: Write>(
             alloc,
             format,
             names,
+            item,
             number,
             &sections.section(index),
             block,
@@ -349,18 +404,33 @@ fn put_body<W: Write>(
         (sheet block.old writer.old) (sheet block.new writer.new)) }
 {
     match table {
-        Table::Patterns(sections) => put_sections(alloc, format, names, sections, block, writer),
-        Table::Objects { columns, objects } => {
-            put_objects(
-                alloc,
-                format,
-                names,
-                *columns,
-                objects.as_slice(),
-                block,
-                writer,
-            )
-        }
+        Table::Patterns(sections) => put_sections(
+            alloc,
+            format,
+            names,
+            Item::Pattern,
+            sections,
+            block,
+            writer,
+        ),
+        Table::Parts(sections) => put_sections(
+            alloc,
+            format,
+            names,
+            Item::Part,
+            sections,
+            block,
+            writer,
+        ),
+        Table::Codes(kinds) => put_objects(
+            alloc,
+            format,
+            names,
+            &ObjectColumn::OF_CODES,
+            kinds.as_slice(),
+            block,
+            writer,
+        ),
     }
 }
 

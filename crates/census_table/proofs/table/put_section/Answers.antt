@@ -9,4 +9,4 @@ pub returns-in-None : goal.returns-in-None
 returns-in-None g c =
     let here = sheet c.args.block.now c.args.writer.now in
     let none = ap length c.in-None.ensures in
-    subst (λ t. TellsAfter t here here) (sym (section-empty (option_copied c.args.names) c.args.format c.args.number c.args.rows.now (omega (arith, none)))) (tells_none here)
+    subst (λ t. TellsAfter t here here) (sym (section-empty c.args.item (option_copied c.args.names) c.args.format c.args.number c.args.rows.now (omega (arith, none)))) (tells_none here)

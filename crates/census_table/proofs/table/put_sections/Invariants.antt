@@ -1,14 +1,12 @@
-use Rattle.std.proofs.Common.{◌+◌, drop, map}
+use Rattle.std.proofs.Common.{◌+◌, drop}
 use Rattle.std.specs.Option.{option_copied}
 use Rattle.gathered.specs.Telling.{sheet}
-use Rattle.census_table.specs.Columns.{pattern_row}
-use Rattle.census_table.specs.Patterns.{all_patterns}
-use Rattle.census_table.specs.Tables.{rows_text}
+use Rattle.census_table.specs.Tables.{all_members, rows_text}
 use Rattle.gathered.proofs.Fronts.{TellsUpTo}
 use Rattle.census_table.proofs.table.put_sections.Given as goal
 
 abbrev pub invariant-loop-index : goal.invariant-loop-index
 invariant-loop-index g l =
-    TellsUpTo (rows_text l.format (map (pattern_row (option_copied l.names) l.format) (all_patterns 1 l.sections)))
-    (rows_text l.format (map (pattern_row (option_copied l.names) l.format) (all_patterns (l.index + 1) (drop l.index l.sections))))
+    TellsUpTo (rows_text l.format (all_members l.item l.format (option_copied l.names) 1 l.sections))
+    (rows_text l.format (all_members l.item l.format (option_copied l.names) (l.index + 1) (drop l.index l.sections)))
     (sheet l.fn.block l.fn.writer) (sheet l.block l.writer)
