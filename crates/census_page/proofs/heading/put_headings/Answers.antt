@@ -1,6 +1,6 @@
-use Rattle.std.proofs.Common.{refl, arith}
+use Rattle.std.proofs.Common.{refl, subst, arith}
 use Rattle.std.proofs.lemmas.Result.{err_from_is_err_and}
-use Rattle.gathered.specs.Telling.{sheet}
+use Rattle.gathered.specs.Telling.{TellsAfter, TellsFront, sheet}
 use Rattle.gathered.proofs.Fronts.{each_end, each_front, each_more, up_to_start}
 use Rattle.census_page.specs.Pages.{heading, headings}
 use Rattle.census_page.proofs.heading.put_headings.Goals as goal
@@ -15,14 +15,16 @@ returns-in_err-put_heading g c =
     rw p.1
     (each_front heading (λ rows. headings rows) (λ x xs. refl) c.args.rows.now l.index
     (sheet c.args.block.now c.args.writer.now) (sheet l.block l.writer) l.invariant _
-    (sheet c.put_heading.new.block c.put_heading.new.writer) (omega arith) c.in_err-put_heading.ensures)
+    (sheet c.put_heading.new.block c.put_heading.new.writer) (omega arith)
+    (subst (λ row. TellsFront (heading row) (sheet l.block l.writer) (sheet c.put_heading.new.block c.put_heading.new.writer)) c.row.ensures c.in_err-put_heading.ensures))
 
 pub loop-index-preserved : goal.loop-index-preserved
 loop-index-preserved g c =
     let l = c.loop-index in
     each_more heading (λ rows. headings rows) (λ x xs. refl) c.args.rows.now l.index
     (sheet c.args.block.now c.args.writer.now) (sheet l.block l.writer) l.invariant _
-    (sheet c.put_heading.new.block c.put_heading.new.writer) (omega arith) c.in_ok-put_heading.ensures
+    (sheet c.put_heading.new.block c.put_heading.new.writer) (omega arith)
+    (subst (λ row. TellsAfter (heading row) (sheet l.block l.writer) (sheet c.put_heading.new.block c.put_heading.new.writer)) c.row.ensures c.in_ok-put_heading.ensures)
 
 pub returns : goal.returns
 returns g c =

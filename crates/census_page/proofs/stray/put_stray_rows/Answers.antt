@@ -1,6 +1,6 @@
-use Rattle.std.proofs.Common.{refl, arith}
+use Rattle.std.proofs.Common.{refl, subst, arith}
 use Rattle.std.proofs.lemmas.Result.{err_from_is_err_and}
-use Rattle.gathered.specs.Telling.{sheet}
+use Rattle.gathered.specs.Telling.{TellsAfter, TellsFront, sheet}
 use Rattle.gathered.proofs.Fronts.{up_to_start}
 use Rattle.census_page_pieces.specs.Links.{linking_of}
 use Rattle.census_page.specs.Pages.{stray_row, stray_rows}
@@ -17,14 +17,18 @@ returns-in_err-put_stray_row g c =
     rw p.1
     (behind_front (λ row rows. stray_row (linking_of c.args.links.now) row rows) (λ rows. stray_rows (linking_of c.args.links.now) rows) (λ x xs. refl) c.args.rows.now l.index
     (sheet c.args.block.now c.args.writer.now) (sheet l.block l.writer) l.invariant _ _
-    (sheet c.put_stray_row.new.block c.put_stray_row.new.writer) c.from-behind.ensures (omega arith) c.in_err-put_stray_row.ensures)
+    (sheet c.put_stray_row.new.block c.put_stray_row.new.writer) c.from-behind.ensures (omega arith)
+    (subst (λ row. TellsFront (stray_row (linking_of c.args.links.now) row c.from-behind.result) (sheet l.block l.writer) (sheet c.put_stray_row.new.block c.put_stray_row.new.writer)) c.row-row.ensures
+    c.in_err-put_stray_row.ensures))
 
 pub loop-index-preserved : goal.loop-index-preserved
 loop-index-preserved g c =
     let l = c.loop-index in
     behind_more (λ row rows. stray_row (linking_of c.args.links.now) row rows) (λ rows. stray_rows (linking_of c.args.links.now) rows) (λ x xs. refl) c.args.rows.now l.index
     (sheet c.args.block.now c.args.writer.now) (sheet l.block l.writer) l.invariant _ _
-    (sheet c.put_stray_row.new.block c.put_stray_row.new.writer) c.from-behind.ensures (omega arith) c.in_ok-put_stray_row.ensures
+    (sheet c.put_stray_row.new.block c.put_stray_row.new.writer) c.from-behind.ensures (omega arith)
+    (subst (λ row. TellsAfter (stray_row (linking_of c.args.links.now) row c.from-behind.result) (sheet l.block l.writer) (sheet c.put_stray_row.new.block c.put_stray_row.new.writer)) c.row-row.ensures
+    c.in_ok-put_stray_row.ensures)
 
 pub returns : goal.returns
 returns g c =
