@@ -1,5 +1,6 @@
 pub mod Behind
 pub mod Counts
+pub mod Held
 pub mod Listing
 pub mod Numbered
 pub mod Places

@@ -33,6 +33,11 @@ not-equal Less h = refl
 not-equal Equal h = absurd (true≢false (sym h))
 not-equal Greater h = refl
 
+equal : (r : Ordering) → is_eq r ≡ true → r ≡ Equal
+equal Less h = absurd (true≢false (sym h))
+equal Equal h = refl
+equal Greater h = absurd (true≢false (sym h))
+
 -- neither before nor there: behind
 behind : (r : Ordering) → is_lt r ≡ false → is_eq r ≡ false → r ≡ Greater
 behind Less h k = absurd (true≢false h)
@@ -61,7 +66,7 @@ having-more rule code h hs e = ap (λ (b : Bool). cond b (h ∷ having rule code
 having-less : (rule code : List ℕ) (h : Holder) (hs : List Holder) → has_code rule code h ≡ false → having rule code (h ∷ hs) ≡ having rule code hs
 having-less rule code h hs e = ap (λ (b : Bool). cond b (h ∷ having rule code hs) (having rule code hs)) e
 
-having-none : (rule code : List ℕ) (hs : List Holder) → All (λ h. has_code rule code h ≡ false) hs → having rule code hs ≡ []
+pub having-none : (rule code : List ℕ) (hs : List Holder) → All (λ h. has_code rule code h ≡ false) hs → having rule code hs ≡ []
 having-none rule code [] none = refl
 having-none rule code (h ∷ hs) none =
     having-less rule code h hs (none 0 h (omega arith)) ∙ having-none rule code hs (All-tail (λ h. has_code rule code h ≡ false) h hs none)
@@ -118,10 +123,6 @@ order-drop n hs order k d low small =
     ∙ ap (λ i. is_lt (key_cmp (holder_key i) (holder_key (get_or hs (n + k) d)))) (one ∙ ap (λ i. get_or hs i d) (let e : n + (k + 1) ≡ n + k + 1 = omega arith in e))
     ∙ order (n + k) d (omega arith) within
 
--- the rest of a list is taken whole
-pub rest-whole : {X : Type 0} (n : ℕ) (xs : List X) → take (length xs - n) (drop n xs) ≡ drop n xs
-rest-whole n xs = take_all (length xs - n) (drop n xs) (omega (arith, length-drop n xs))
-
 -- what `partition_point` asks
 pub before-parted : (rule code : List ℕ) (hs : List Holder) → AreInOrder hs → IsPartitionedBy (is_before rule code) hs
 before-parted rule code hs order i j d low small before =
@@ -145,12 +146,8 @@ before-parted rule code hs order i j d low small before =
 
 -- # Patterns that are put in order
 
-filter-alike : (p q : Holder → Bool) (hs : List Holder) → ((h : Holder) → p h ≡ q h) → filter p hs ≡ filter q hs
-filter-alike p q [] same = refl
-filter-alike p q (h ∷ hs) same = ap₂ (λ (b : Bool) (ks : List Holder). cond b (h ∷ ks) ks) (same h) (filter-alike p q hs same)
-
 -- a pattern with this code under this rule
-abbrev pub at_key : List ℕ → List ℕ → Holder
+abbrev at_key : List ℕ → List ℕ → Holder
 at_key rule code = record {
   rule = record { ref_ptr = (0, 0); now = rule };
   code = record { ref_ptr = (0, 0); now = code };
@@ -168,12 +165,10 @@ tied rule code h =
     ap (λ r. not (is_lt r) && not (is_lt (key_cmp (holder_key h) (code, rule)))) (key_total.antisymm (code, rule) (holder_key h))
     ∙ level (key_cmp (holder_key h) (code, rule)) ∙ sym (has_is rule code h)
 
-pub same-having : (rule code : List ℕ) (old new : List Holder)
-    → filter (ties (λ one two. is_lt (key_cmp (holder_key one) (holder_key two))) (at_key rule code)) new
-    ≡ filter (ties (λ one two. is_lt (key_cmp (holder_key one) (holder_key two))) (at_key rule code)) old
-    → having rule code new ≡ having rule code old
-same-having rule code old new stable =
-    let lt : Holder → Holder → Bool = λ one two. is_lt (key_cmp (holder_key one) (holder_key two)) in
-    let here : (hs : List Holder) → filter (ties lt (at_key rule code)) hs ≡ having rule code hs =
-    λ hs. filter-alike (ties lt (at_key rule code)) (has_code rule code) hs (tied rule code) in
-    sym (here new) ∙ stable ∙ here old
+-- patterns tie with one that has a code where they have it
+pub tied-with : (rule code : List ℕ) (one h : Holder) → has_code rule code one ≡ true → ties (λ one two. is_lt (key_cmp (holder_key one) (holder_key two))) one h ≡ has_code rule code h
+tied-with rule code one h has =
+    let here = equal (key_cmp (holder_key one) (code, rule)) (sym (has_is rule code one) ∙ has) in
+    let there = key_total.congr (holder_key one) (code, rule) (holder_key h) here in
+    let back = key_total.antisymm (holder_key h) (holder_key one) ∙ ap ordering_reverse there ∙ sym (key_total.antisymm (holder_key h) (code, rule)) in
+    ap₂ (λ r s. not (is_lt r) && not (is_lt s)) there back ∙ tied rule code h

@@ -1,3 +1,5 @@
+pub mod Counted
+pub mod Held
 pub mod Holders
 pub mod Linking
 pub mod Lists
@@ -5,4 +7,3 @@ pub mod Options
 pub mod Order
 pub mod Pages
 pub mod Sorting
-pub mod Counted

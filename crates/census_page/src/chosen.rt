@@ -4,7 +4,7 @@ ghost use Rattle.census_page.specs.Options.{options_of};
 ghost use Rattle.census_page.specs.Order.{AreInOrder};
 ghost use Rattle.census_page.specs.Pages.{at_most, chosen, is_code};
 
-use crate::holder::Holder;
+use crate::holders::Holders;
 use crate::options::PageOptions;
 use crate::sorting::sort_rows;
 use census_kept::Section;
@@ -50,7 +50,7 @@ fn cut(top: Option<u64>, rows: &mut Vec<Row>)
 pub fn chosen<'a>(
     alloc: Global,
     options: &PageOptions,
-    holders: &[Holder],
+    holders: &Holders,
     rows: &Section<'_, 'a>,
 ) -> Result<Vec<Row<'a>>, AllocError>
     requires { AreInOrder holders.now }

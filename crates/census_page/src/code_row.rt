@@ -7,7 +7,7 @@ ghost use Rattle.census_page.specs.Holders.{having};
 ghost use Rattle.census_page.specs.Order.{AreInOrder};
 ghost use Rattle.census_page.specs.Pages.{code_cells, code_row, code_rows, front_cells, name_cell, object_cells, picture_cell, rule_cells};
 
-use crate::holder::{Holder, having, way_of};
+use crate::holders::{Holders, having, way_of};
 use crate::list::put_list;
 use census_page_pieces::{
     Links, Way, class_of, kind_of, push_cell_count, push_code, push_grouped, push_object_words,
@@ -126,7 +126,7 @@ fn front_cells(
 fn put_code<W: Write>(
     alloc: Global,
     links: &Links,
-    holders: &[Holder],
+    holders: &Holders,
     rule: &[u8],
     code: &[u8],
     count: u64,
@@ -154,7 +154,7 @@ fn put_code<W: Write>(
 fn put_having<W: Write>(
     alloc: Global,
     links: &Links,
-    holders: &[Holder],
+    holders: &Holders,
     rule: &[u8],
     code: &[u8],
     count: u64,
@@ -169,14 +169,14 @@ fn put_having<W: Write>(
         (sheet block.old writer.old) (sheet block.new writer.new)) }
 {
     let here = having(holders, rule, code);
-    put_code(alloc, links, here, rule, code, count, block, writer)
+    put_code(alloc, links, &here, rule, code, count, block, writer)
 }
 
 // Tells the row of a table that tells of a code, or nothing where the report's row tells of none.
 fn put_code_row<W: Write>(
     alloc: Global,
     links: &Links,
-    holders: &[Holder],
+    holders: &Holders,
     row: &Row,
     block: &mut Block,
     writer: &mut Output<W>,
@@ -205,7 +205,7 @@ fn put_code_row<W: Write>(
 pub fn put_code_rows<W: Write>(
     alloc: Global,
     links: &Links,
-    holders: &[Holder],
+    holders: &Holders,
     rows: &[Row],
     block: &mut Block,
     writer: &mut Output<W>,

@@ -6,6 +6,7 @@ ghost use Rattle.census_page_pieces.specs.Numbers.{grouped, labelled};
 ghost use Rattle.census_page.specs.Lists.{holder_list, item, items, more_items, share_words};
 
 use crate::holder::{Holder, Share};
+use crate::holders::Holders;
 use census_page_pieces::{Links, push_grouped, push_labelled, push_name};
 use gathered::{Block, put};
 use std::alloc::{AllocError, Global};
@@ -56,7 +57,7 @@ fn item(alloc: Global, links: &Links, holder: &Holder) -> Result<Vec<u8>, AllocE
 fn put_items<W: Write>(
     alloc: Global,
     links: &Links,
-    holders: &[Holder],
+    holders: &Holders,
     block: &mut Block,
     writer: &mut Output<W>,
 ) -> Result<(), AllocError>
@@ -66,8 +67,8 @@ fn put_items<W: Write>(
         (λ _. TellsFront (items (linking_of links.now) holders.now)
         (sheet block.old writer.old) (sheet block.new writer.new)) }
 {
-    for holder in holders {
-        let text = item(alloc, links, holder)?;
+    for index in 0..holders.len() {
+        let text = item(alloc, links, &holders.holder(index))?;
         put(text.as_slice(), block, writer);
     }
     Ok(())
@@ -89,7 +90,7 @@ fn more_front(alloc: Global, count: usize) -> Result<Vec<u8>, AllocError>
 fn put_more<W: Write>(
     alloc: Global,
     links: &Links,
-    holders: &[Holder],
+    holders: &Holders,
     block: &mut Block,
     writer: &mut Output<W>,
 ) -> Result<(), AllocError>
@@ -114,7 +115,7 @@ fn put_more<W: Write>(
 pub fn put_list<W: Write>(
     alloc: Global,
     links: &Links,
-    holders: &[Holder],
+    holders: &Holders,
     block: &mut Block,
     writer: &mut Output<W>,
 ) -> Result<(), AllocError>
@@ -124,9 +125,9 @@ pub fn put_list<W: Write>(
         (λ _. TellsFront (holder_list (linking_of links.now) holders.now)
         (sheet block.old writer.old) (sheet block.new writer.new)) }
 {
-    let (shown, others) = holders.split_at(holders.len().min(SHOWN));
+    let shown = holders.len().min(SHOWN);
     put(b"<ul>", block, writer);
-    put_items(alloc, links, shown, block, writer)?;
+    put_items(alloc, links, &holders.before(shown), block, writer)?;
     put(b"</ul>", block, writer);
-    put_more(alloc, links, others, block, writer)
+    put_more(alloc, links, &holders.from(shown), block, writer)
 }

@@ -10,9 +10,10 @@ ghost use Rattle.census_page.specs.Pages.{chosen, code_table, is_code, is_stray,
 use crate::chosen::{chosen, is_code};
 use crate::code_row::put_code_rows;
 use crate::heading::put_headings;
-use crate::holder::{Holder, holders, put_in_order};
+use crate::holders::Holders;
 use crate::linking::{address_in, links_in};
 use crate::options::PageOptions;
+use crate::place::{places, put_in_order};
 use crate::stray::put_stray_rows;
 use census_kept::Section;
 use census_page_pieces::{Links, list_begin, push_number, recurs, table_begin, table_end};
@@ -56,7 +57,7 @@ fn put_chosen<W: Write>(
     alloc: Global,
     links: &Links,
     options: &PageOptions,
-    holders: &[Holder],
+    holders: &Holders,
     rows: &Section,
     block: &mut Block,
     writer: &mut Output<W>,
@@ -94,17 +95,10 @@ fn put_code_table<W: Write>(
         (λ _. TellsFront (code_table (linking_of links.now) (options_of options.now) rows.now)
         (sheet block.old writer.old) (sheet block.new writer.new)) }
 {
-    let mut holders = holders(alloc, rows)?;
-    put_in_order(&mut holders)?;
-    put_chosen(
-        alloc,
-        links,
-        options,
-        holders.as_slice(),
-        rows,
-        block,
-        writer,
-    )
+    let mut places = places(alloc, rows)?;
+    put_in_order(rows, &mut places)?;
+    let holders = Holders::new(rows, places.as_slice());
+    put_chosen(alloc, links, options, &holders, rows, block, writer)
 }
 
 // Tells the table of a collection's patterns that do not recur, where there are any.

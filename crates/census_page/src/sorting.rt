@@ -3,7 +3,7 @@ ghost use Rattle.std.specs.Prelude.{◌≡◌, OnOk};
 ghost use Rattle.census_page.specs.Order.{AreInOrder};
 ghost use Rattle.census_page.specs.Sorting.{code_in, count_in, name_in, row_cmp, rule_in, shorter_cmp, sorted_rows};
 
-use crate::holder::{Holder, having};
+use crate::holders::{Holders, having};
 use crate::options::Sort;
 use census_page_pieces::period_told;
 use census_rows::Row;
@@ -41,7 +41,7 @@ fn code_in<'a>(row: &Row<'a>) -> &'a [u8]
 }
 
 // The name of the first pattern that has the code of a row.
-fn name_in<'a>(holders: &[Holder<'a>], row: &Row) -> &'a [u8]
+fn name_in<'a>(holders: &Holders<'_, '_, 'a>, row: &Row) -> &'a [u8]
     requires { AreInOrder holders.now }
     ensures { result.now ≡ name_in holders.now row.now }
 {
@@ -59,7 +59,7 @@ fn shorter(one: &[u8], other: &[u8]) -> Ordering
 }
 
 // Which of two rows comes first.
-fn compared(sort: Sort, holders: &[Holder], one: &Row, other: &Row) -> Ordering
+fn compared(sort: Sort, holders: &Holders, one: &Row, other: &Row) -> Ordering
     requires { AreInOrder holders.now }
     ensures { result ≡ row_cmp sort holders.now one.now other.now }
 {
@@ -74,7 +74,7 @@ fn compared(sort: Sort, holders: &[Holder], one: &Row, other: &Row) -> Ordering
 
 /// Puts rows in an order, where these patterns have their codes. Rows that it does not tell apart stand
 /// as they stood. The only error is out of memory.
-pub fn sort_rows(sort: Sort, holders: &[Holder], rows: &mut Vec<Row>) -> Result<(), AllocError>
+pub fn sort_rows(sort: Sort, holders: &Holders, rows: &mut Vec<Row>) -> Result<(), AllocError>
     requires { AreInOrder holders.now }
     ensures { OnOk result (rows.new.items
         ≡ sorted_rows sort holders.now rows.old.items) }

@@ -5,7 +5,7 @@ use Rattle.census_page_pieces.specs.Links.{linking_of}
 use Rattle.census_page.specs.Lists.{items}
 use Rattle.census_page.proofs.list.put_items.Given as goal
 
-abbrev pub invariant-loop-holder : goal.invariant-loop-holder
-invariant-loop-holder g l =
-    TellsUpTo (items (linking_of l.links) l.holders) (items (linking_of l.links) (drop l.holder-index l.holders))
+abbrev pub invariant-loop-index : goal.invariant-loop-index
+invariant-loop-index g l =
+    TellsUpTo (items (linking_of l.links) l.holders) (items (linking_of l.links) (drop l.index l.holders))
     (sheet l.fn.block l.fn.writer) (sheet l.block l.writer)

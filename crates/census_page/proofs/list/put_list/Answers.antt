@@ -20,7 +20,7 @@ returns-in_err-put_items g c =
     rw p.1
     (subst (λ t. TellsFront t a d) (sym (list-is (linking_of c.args.links.now) hs c.min.result c.min.ensures))
     (front_more (codes "<ul>") (shown ++ rest) a b d c.put.ensures
-    (front_first (shown ++ rest) shown rest b d refl (subst (λ xs. TellsFront (items (linking_of c.args.links.now) xs) b d) c.split_at.ensures.front c.in_err-put_items.ensures))))
+    (front_first (shown ++ rest) shown rest b d refl (subst (λ xs. TellsFront (items (linking_of c.args.links.now) xs) b d) c.before.ensures c.in_err-put_items.ensures))))
 
 joined : (shown others : List ℕ) → codes "<ul>" ++ (shown ++ (codes "</ul>" ++ others)) ≡ codes "<ul>" ++ shown ++ codes "</ul>" ++ others
 joined shown others = sym (append_assoc (codes "<ul>" ++ shown) (codes "</ul>") others ∙ append_assoc (codes "<ul>") shown (codes "</ul>" ++ others))
@@ -37,8 +37,8 @@ returns g c =
     let e = sheet c.put-2.new.block c.put-2.new.writer in
     let f = sheet c.put_more.new.block c.put_more.new.writer in
     let told =
-    tells_more (codes "<ul>") shown a b d c.put.ensures (subst (λ xs. TellsAfter (items (linking_of c.args.links.now) xs) b d) c.split_at.ensures.front c.in_ok-put_items.ensures) in
+    tells_more (codes "<ul>") shown a b d c.put.ensures (subst (λ xs. TellsAfter (items (linking_of c.args.links.now) xs) b d) c.before.ensures c.in_ok-put_items.ensures) in
     let before = tells_more (codes "<ul>" ++ shown) (codes "</ul>") a d e told c.put-2.ensures in
-    let last = subst (λ xs. MatchResult c.put_more.result (λ _. TellsAfter (more_items (linking_of c.args.links.now) xs) e f) (λ _. TellsFront (more_items (linking_of c.args.links.now) xs) e f)) c.split_at.ensures.back c.put_more.ensures in
+    let last = subst (λ xs. MatchResult c.put_more.result (λ _. TellsAfter (more_items (linking_of c.args.links.now) xs) e f) (λ _. TellsFront (more_items (linking_of c.args.links.now) xs) e f)) c.from.ensures c.put_more.ensures in
     told_both c.put_more.result _ (codes "<ul>" ++ shown ++ codes "</ul>") others a e f
     (list-is (linking_of c.args.links.now) hs c.min.result c.min.ensures ∙ joined shown others) before last
