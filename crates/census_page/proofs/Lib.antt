@@ -3,6 +3,7 @@ pub mod Counts
 pub mod Held
 pub mod Listing
 pub mod Numbered
+pub mod Numbers
 pub mod Places
 pub mod Ranks
 pub mod Stable

@@ -1,12 +1,10 @@
 -- The rows of a table of codes in order.
 use Rattle.std.proofs.Common.{◌≡◌, ℕ, zero, suc, Bool, true, false, Option, if◌then◌else◌, Bor, List, [], ◌∷◌, length, take, refl, ap, ◌∙◌}
 use Rattle.std.specs.Prelude.{cond, filter, Some, None as Nothing}
-use Rattle.std.specs.Cmp.{IsStrictWeakOrder, IsTotalOrder}
+use Rattle.std.specs.Cmp.{IsTotalOrder}
 use Rattle.std.specs.Cmp.Lexicographic.{on_texts, slice_cmp}
-use Rattle.std.specs.List.Sorted.{IsSortedBy, IsStableBy}
 use Rattle.std.specs.Ordering.{is_lt, nat_cmp}
 use Rattle.std.proofs.lemmas.Cmp.{back_total, nat_cmp_total, nat_list_cmp_total, on_total, then_total}
-use Rattle.std.proofs.lemmas.List.Sorted.{ranks_by}
 use Rattle.census_rows.specs.declared.row.Row.{Row}
 use Rattle.census_page_pieces.specs.Kinds.{period_told}
 use Rattle.census_page.specs.Holders.{having}
@@ -16,22 +14,18 @@ use Rattle.census_page.specs.Sorting.{code_in, count_in, first_name, name_in, pu
 use Rattle.census_page.specs.declared.holder.Holder.{Holder}
 use Rattle.census_page.specs.declared.options.Sort.{Sort}
 use Rattle.census_page.specs.declared.options.Sort.TheVariants as by
-use Rattle.census_page.proofs.Stable.{sorted-is}
 
 -- # Each is an order
 
 shorter_total : IsTotalOrder shorter_cmp
 shorter_total = then_total (on_total (λ (text : List ℕ). length text) nat_cmp_total) nat_list_cmp_total
 
-row_total : (sort : Sort) (holders : List Holder) → IsTotalOrder (row_cmp sort holders)
+pub row_total : (sort : Sort) (holders : List Holder) → IsTotalOrder (row_cmp sort holders)
 row_total by.Report holders = record { antisymm = λ x y. refl; trans = λ x y z one other. one; congr = λ x y z alike. refl }
 row_total by.Count holders = back_total (on_total count_in nat_cmp_total)
 row_total by.Code holders = then_total (on_total code_in shorter_total) (on_texts rule_in)
 row_total by.Period holders = back_total (on_total (λ (row : Row). period_told (code_in row)) shorter_total)
 row_total by.Name holders = on_texts (name_in holders)
-
-pub row-order : (sort : Sort) (holders : List Holder) → IsStrictWeakOrder (λ (one other : Row). is_lt (row_cmp sort holders one other))
-row-order sort holders = ranks_by (row_total sort holders) (λ (row : Row). row)
 
 -- where an order is asked for
 pub sorted-other : (sort : Sort) (holders : List Holder) (rows : List Row) → (sort ≡ by.Report → ⊥)
@@ -41,13 +35,6 @@ sorted-other by.Count holders rows other = refl
 sorted-other by.Code holders rows other = refl
 sorted-other by.Period holders rows other = refl
 sorted-other by.Name holders rows other = refl
-
--- what a stable sort makes of rows
-pub rows-sorted : (sort : Sort) (holders : List Holder) (old new : List Row)
-    → IsSortedBy (λ one other. is_lt (row_cmp sort holders one other)) new → IsStableBy (λ one other. is_lt (row_cmp sort holders one other)) old new
-    → new ≡ sorted_by (λ one other. is_lt (row_cmp sort holders one other)) old
-rows-sorted sort holders old new up stable =
-    sorted-is (λ (one other : Row). is_lt (row_cmp sort holders one other)) (row-order sort holders) old new up stable
 
 -- # Patterns that are put in order
 

@@ -1,5 +1,7 @@
 //! Which of a collection's codes its table has.
 ghost use Rattle.std.specs.Prelude.{◌≡◌, filter, IfOk};
+ghost use Rattle.std.specs.List.{count_by};
+ghost use Rattle.census_kept.specs.Placed.{AreWithin, rows_numbered};
 ghost use Rattle.census_page.specs.Options.{options_of};
 ghost use Rattle.census_page.specs.Order.{AreInOrder};
 ghost use Rattle.census_page.specs.Pages.{at_most, chosen, is_code};
@@ -21,44 +23,59 @@ pub fn is_code(row: &Row) -> bool
     }
 }
 
-// The rows that tell of codes.
-fn told_codes<'a>(alloc: Global, rows: &Section<'_, 'a>) -> Result<Vec<Row<'a>>, AllocError>
-    ensures { IfOk result (λ list. list.items ≡ filter is_code rows.now) }
+// How many rows tell of codes.
+fn count_codes(rows: &Section) -> usize
+    ensures { result ≡ count_by is_code rows.now }
 {
-    let mut list = Vec::new(alloc);
+    let mut count = 0;
     for index in 0..rows.len() {
-        let row = rows.row(index);
-        if is_code(&row) {
-            list.push(row)?;
+        if is_code(&rows.row(index)) {
+            count += 1;
         }
     }
-    Ok(list)
+    count
 }
 
-// Keeps the first rows, at most so many.
-fn cut(top: Option<u64>, rows: &mut Vec<Row>)
-    ensures { rows.new.items ≡ at_most top rows.old.items }
+// The numbers of the rows that tell of codes.
+fn told_codes(alloc: Global, rows: &Section) -> Result<Vec<usize>, AllocError>
+    ensures within { IfOk result (λ numbers. AreWithin rows.now numbers.items) }
+    ensures all { IfOk result (λ numbers. rows_numbered rows.now numbers.items
+        ≡ filter is_code rows.now) }
+{
+    let mut numbers = Vec::with_capacity(alloc, count_codes(rows))?;
+    for index in 0..rows.len() {
+        if is_code(&rows.row(index)) {
+            numbers.push(index)?;
+        }
+    }
+    Ok(numbers)
+}
+
+// Keeps the first numbers, at most so many.
+fn cut(top: Option<u64>, numbers: &mut Vec<usize>)
+    ensures { numbers.new.items ≡ at_most top numbers.old.items }
 {
     match top {
-        Some(count) => rows.truncate(count as usize),
+        Some(count) => numbers.truncate(count as usize),
         None => {}
     }
 }
 
-/// The rows that tell of codes, in the order that is asked for, where these patterns have the codes, and
-/// no more rows than are asked for. The only error is out of memory.
-pub fn chosen<'a>(
+/// The numbers of the rows that tell of codes, in the order that is asked for, where these patterns have
+/// the codes, and no more rows than are asked for. The only error is out of memory.
+pub fn chosen(
     alloc: Global,
     options: &PageOptions,
     holders: &Holders,
-    rows: &Section<'_, 'a>,
-) -> Result<Vec<Row<'a>>, AllocError>
+    rows: &Section,
+) -> Result<Vec<usize>, AllocError>
     requires { AreInOrder holders.now }
-    ensures { IfOk result (λ list. list.items
+    ensures within { IfOk result (λ numbers. AreWithin rows.now numbers.items) }
+    ensures all { IfOk result (λ numbers. rows_numbered rows.now numbers.items
         ≡ chosen (options_of options.now) holders.now rows.now) }
 {
-    let mut list = told_codes(alloc, rows)?;
-    sort_rows(options.sort, holders, &mut list)?;
-    cut(options.top, &mut list);
-    Ok(list)
+    let mut numbers = told_codes(alloc, rows)?;
+    sort_rows(options.sort, holders, rows, &mut numbers)?;
+    cut(options.top, &mut numbers);
+    Ok(numbers)
 }

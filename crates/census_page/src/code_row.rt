@@ -9,6 +9,7 @@ ghost use Rattle.census_page.specs.Pages.{code_cells, code_row, code_rows, front
 
 use crate::holders::{Holders, having, way_of};
 use crate::list::put_list;
+use crate::picked::Picked;
 use census_page_pieces::{
     Links, Way, class_of, kind_of, push_cell_count, push_code, push_grouped, push_object_words,
     push_picture, push_rle, push_text, spelled,
@@ -206,7 +207,7 @@ pub fn put_code_rows<W: Write>(
     alloc: Global,
     links: &Links,
     holders: &Holders,
-    rows: &[Row],
+    rows: &Picked,
     block: &mut Block,
     writer: &mut Output<W>,
 ) -> Result<(), AllocError>
@@ -217,8 +218,8 @@ pub fn put_code_rows<W: Write>(
         (λ _. TellsFront (code_rows (linking_of links.now) holders.now rows.now)
         (sheet block.old writer.old) (sheet block.new writer.new)) }
 {
-    for row in rows {
-        put_code_row(alloc, links, holders, row, block, writer)?;
+    for index in 0..rows.len() {
+        put_code_row(alloc, links, holders, &rows.row(index), block, writer)?;
     }
     Ok(())
 }

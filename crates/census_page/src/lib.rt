@@ -13,6 +13,7 @@ mod index;
 mod linking;
 mod list;
 mod options;
+mod picked;
 mod place;
 mod section;
 mod sorting;

@@ -20,9 +20,9 @@ pub struct Place {
     pub row: usize,
 }
 
-// The row with this number, or the end of a report where there is none.
+/// The row with this number, or the end of a report where there is none.
 #[tactic(auto, using(crate::proofs::Held::row_there, crate::proofs::Held::row_past))]
-fn row_or_end<'a>(rows: &Section<'_, 'a>, number: usize) -> Row<'a>
+pub fn row_or_end<'a>(rows: &Section<'_, 'a>, number: usize) -> Row<'a>
     ensures { result ≡ row_numbered rows.now number }
 {
     if number < rows.len() {

@@ -13,6 +13,7 @@ use crate::heading::put_headings;
 use crate::holders::Holders;
 use crate::linking::{address_in, links_in};
 use crate::options::PageOptions;
+use crate::picked::Picked;
 use crate::place::{places, put_in_order};
 use crate::stray::put_stray_rows;
 use census_kept::Section;
@@ -34,10 +35,15 @@ fn is_stray(row: &Row) -> bool
 }
 
 // Whether any row tells of a code.
-fn have_codes(rows: &[Row]) -> bool
+fn have_codes(rows: &Picked) -> bool
     ensures { result ≡ list_any is_code rows.now }
 {
-    rows.iter().any(|row| is_code(row))
+    for index in 0..rows.len() {
+        if is_code(&rows.row(index)) {
+            return true;
+        }
+    }
+    false
 }
 
 // Whether any row tells of a pattern that does not recur.
@@ -69,13 +75,13 @@ fn put_chosen<W: Write>(
         (λ _. TellsFront (table_of (linking_of links.now) holders.now (chosen (options_of options.now) holders.now rows.now))
         (sheet block.old writer.old) (sheet block.new writer.new)) }
 {
-    let chosen = chosen(alloc, options, holders, rows)?;
-    let lent = chosen.as_slice();
-    if !have_codes(lent) {
+    let numbers = chosen(alloc, options, holders, rows)?;
+    let lent = Picked::new(rows, numbers.as_slice());
+    if !have_codes(&lent) {
         return Ok(());
     }
     put(table_begin(), block, writer);
-    put_code_rows(alloc, links, holders, lent, block, writer)?;
+    put_code_rows(alloc, links, holders, &lent, block, writer)?;
     put(table_end(), block, writer);
     Ok(())
 }

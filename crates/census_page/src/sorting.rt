@@ -1,10 +1,13 @@
 //! The order of the rows of a table of codes.
 ghost use Rattle.std.specs.Prelude.{◌≡◌, OnOk};
+ghost use Rattle.census_kept.specs.Placed.{AreWithin, row_numbered, rows_numbered};
 ghost use Rattle.census_page.specs.Order.{AreInOrder};
 ghost use Rattle.census_page.specs.Sorting.{code_in, count_in, name_in, row_cmp, rule_in, shorter_cmp, sorted_rows};
 
 use crate::holders::{Holders, having};
 use crate::options::Sort;
+use crate::place::row_or_end;
+use census_kept::Section;
 use census_page_pieces::period_told;
 use census_rows::Row;
 use std::alloc::AllocError;
@@ -72,15 +75,35 @@ fn compared(sort: Sort, holders: &Holders, one: &Row, other: &Row) -> Ordering
     }
 }
 
-/// Puts rows in an order, where these patterns have their codes. Rows that it does not tell apart stand
-/// as they stood. The only error is out of memory.
-pub fn sort_rows(sort: Sort, holders: &Holders, rows: &mut Vec<Row>) -> Result<(), AllocError>
+// Which of the rows with two numbers comes first.
+fn compared_at(sort: Sort, holders: &Holders, rows: &Section, one: usize, other: usize) -> Ordering
     requires { AreInOrder holders.now }
-    ensures { OnOk result (rows.new.items
-        ≡ sorted_rows sort holders.now rows.old.items) }
+    ensures { result ≡ row_cmp sort holders.now (row_numbered rows.now one)
+        (row_numbered rows.now other) }
+{
+    compared(
+        sort,
+        holders,
+        &row_or_end(rows, one),
+        &row_or_end(rows, other),
+    )
+}
+
+/// Puts the numbers of rows in an order of the rows, where these patterns have their codes. Rows that
+/// it does not tell apart stand as they stood. The only error is out of memory.
+pub fn sort_rows(
+    sort: Sort,
+    holders: &Holders,
+    rows: &Section,
+    numbers: &mut Vec<usize>,
+) -> Result<(), AllocError>
+    requires { AreInOrder holders.now }
+    ensures within { AreWithin rows.now numbers.old.items → AreWithin rows.now numbers.new.items }
+    ensures sorted { OnOk result (rows_numbered rows.now numbers.new.items
+        ≡ sorted_rows sort holders.now (rows_numbered rows.now numbers.old.items)) }
 {
     match sort {
         Sort::Report => Ok(()),
-        _ => rows.sort_by(|one, other| compared(sort, holders, one, other)),
+        _ => numbers.sort_by(|one, other| compared_at(sort, holders, rows, *one, *other)),
     }
 }

@@ -5,7 +5,7 @@ use Rattle.census_page_pieces.specs.Links.{linking_of}
 use Rattle.census_page.specs.Pages.{code_rows}
 use Rattle.census_page.proofs.code_row.put_code_rows.Given as goal
 
-abbrev pub invariant-loop-row : goal.invariant-loop-row
-invariant-loop-row g l =
-    TellsUpTo (code_rows (linking_of l.links) l.holders l.rows) (code_rows (linking_of l.links) l.holders (drop l.row-index l.rows))
+abbrev pub invariant-loop-index : goal.invariant-loop-index
+invariant-loop-index g l =
+    TellsUpTo (code_rows (linking_of l.links) l.holders l.rows) (code_rows (linking_of l.links) l.holders (drop l.index l.rows))
     (sheet l.fn.block l.fn.writer) (sheet l.block l.writer)

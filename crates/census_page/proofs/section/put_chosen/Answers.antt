@@ -5,23 +5,27 @@ use Rattle.gathered.proofs.Telling.{tells_more, tells_none}
 use Rattle.gathered.proofs.Fronts.{front_first, front_more, front_none}
 use Rattle.census_page_pieces.specs.Links.{linking_of}
 use Rattle.census_page_pieces.specs.Markup.{table_begin, table_end}
+use Rattle.census_kept.specs.Placed.{rows_numbered}
 use Rattle.census_page.specs.Options.{options_of}
 use Rattle.census_page.specs.Pages.{chosen, code_rows, is_code, table_of}
 use Rattle.census_page.proofs.Tables.{table-is, table-none}
 use Rattle.census_page.proofs.section.put_chosen.Goals as goal
 
-pub returns-in_err-chosen : goal.returns-in_err-chosen
-returns-in_err-chosen g c =
+pub returns-in_err-numbers : goal.returns-in_err-numbers
+returns-in_err-numbers g c =
     let p = err_from_is_err_and c.from_residual.result c.from_residual.ensures.1 in
     rw p.1
     (front_none (table_of (linking_of c.args.links.now) c.args.holders.now (chosen (options_of c.args.options.now) c.args.holders.now c.args.rows.now))
     (sheet c.args.block.now c.args.writer.now))
 
+pub new-lent-requires : goal.new-lent-requires
+new-lent-requires g c = rw c.as_slice.ensures.value c.in_ok-numbers.ensures.within
+
 pub returns-then-not-have_codes : goal.returns-then-not-have_codes
 returns-then-not-have_codes g c =
     let here = sheet c.args.block.now c.args.writer.now in
-    let lent = c.as_slice-lent.result.now in
-    let is = c.as_slice-lent.ensures.value ∙ c.in_ok-chosen.ensures in
+    let lent = c.new-lent.result in
+    let is = c.new-lent.ensures ∙ ap (rows_numbered c.args.rows.now) c.as_slice.ensures.value ∙ c.in_ok-numbers.ensures.all in
     subst (λ t. TellsAfter t here here)
     (sym (sym (ap (table_of (linking_of c.args.links.now) c.args.holders.now) is) ∙ table-none (linking_of c.args.links.now) c.args.holders.now lent (sym c.have_codes.ensures ∙ c.if-not-have_codes.true)))
     (tells_none here)
@@ -30,8 +34,8 @@ pub returns-in_err-put_code_rows : goal.returns-in_err-put_code_rows
 returns-in_err-put_code_rows g c =
     let p = err_from_is_err_and c.from_residual-in_err-put_code_rows.result c.from_residual-in_err-put_code_rows.ensures.1 in
     let holders = c.args.holders.now in
-    let lent = c.as_slice-lent.result.now in
-    let is = c.as_slice-lent.ensures.value ∙ c.in_ok-chosen.ensures in
+    let lent = c.new-lent.result in
+    let is = c.new-lent.ensures ∙ ap (rows_numbered c.args.rows.now) c.as_slice.ensures.value ∙ c.in_ok-numbers.ensures.all in
     let all = code_rows (linking_of c.args.links.now) holders lent in
     let a = sheet c.args.block.now c.args.writer.now in
     let b = sheet c.put.new.block c.put.new.writer in
@@ -45,8 +49,8 @@ returns-in_err-put_code_rows g c =
 pub returns : goal.returns
 returns g c =
     let holders = c.args.holders.now in
-    let lent = c.as_slice-lent.result.now in
-    let is = c.as_slice-lent.ensures.value ∙ c.in_ok-chosen.ensures in
+    let lent = c.new-lent.result in
+    let is = c.new-lent.ensures ∙ ap (rows_numbered c.args.rows.now) c.as_slice.ensures.value ∙ c.in_ok-numbers.ensures.all in
     let all = code_rows (linking_of c.args.links.now) holders lent in
     let a = sheet c.args.block.now c.args.writer.now in
     let b = sheet c.put.new.block c.put.new.writer in
