@@ -16,8 +16,19 @@ loop-index-init g c = record {
   silent = refl;
 }
 
-pub returns-in_err-quiet : goal.returns-in_err-quiet
-returns-in_err-quiet g c = ?
+pub returns-in_err-quiet-clause-tells : goal.returns-in_err-quiet-clause-tells
+returns-in_err-quiet-clause-tells g c =
+    let p = err_from_is_err_and c.from_residual.result c.from_residual.ensures.1 in
+    let l = c.loop-index in
+    let claims = claims_read c.args.found.now.claims.now in
+    let sections = c.args.found.now.sections in
+    let whole = all_unclaimed_text claims (patterns_in c.args.found.now) in
+    let here = all_unclaimed_text claims (section_entries (l.index + 1) c.section-rows.result) in
+    let others = all_unclaimed_text claims (all_entries (l.index + 2) (drop (l.index + 1) sections)) in
+    let cut = sections-cut claims sections l.index c.section-rows.result (omega arith) c.section-rows.ensures in
+    rw p.1
+    (up_to_front whole _ here others (sheet c.args.block.now c.args.writer.now)
+    (sheet l.block l.writer) (sheet c.put_section.new.block c.put_section.new.writer) l.invariant.told cut c.in_err-quiet.ensures.tells)
 
 pub loop-index-preserved : goal.loop-index-preserved
 loop-index-preserved g c =
