@@ -17,7 +17,7 @@ use life_ash::{Ash, Fate, Found, Known, fate_past, walk_on};
 use life_cells::{CellList, Rule};
 use life_orbit::BOUND_LIMIT;
 use life_plane::{Observer, Plane, Unobserved};
-use life_strays::never_grow;
+use life_strays::{never_grow, one_never_grows};
 use life_tally::Pace;
 use life_things::WAY_LIMIT;
 use std::alloc::{AllocError, Global};
@@ -33,7 +33,7 @@ const LATER: u32 = 8;
 /// What has more cells than this is not looked at after the bound.
 const MANY: u64 = 20_000;
 
-/// What has fewer cells than this costs little to look at after the bound, and is looked at there first.
+/// Of what has fewer cells than this one island alone is followed before it is looked at after the bound.
 const FEW: u64 = 4_000;
 
 /// Walks on to an age up to the bound. What becomes of the pattern, where that is found before: then the trail is spent.
@@ -122,7 +122,8 @@ fn ends_late<P: Plane>(
 }
 
 /// Whether it is seen of a plane's cells, of the age of the bound, that they are no ash within it and do not grow within the
-/// horizon. Of few cells, and where the horizon is shorter, it is looked at later.
+/// horizon. What has fewer cells than generations, and where the horizon is shorter, is looked at after the bound first: that
+/// costs little.
 fn are_refused<P: Plane>(
     alloc: Global,
     plane: &P,
@@ -136,8 +137,12 @@ fn are_refused<P: Plane>(
         (NeverGrows rule.now (min horizon (P.steps_made plane.now)) (P.members plane.now))) }
 {
     let age = plane.age();
-    if horizon < age || plane.population() < FEW {
+    let population = plane.population();
+    if horizon < age || population < u64::from(age) {
         return Ok(false);
+    }
+    if population < FEW {
+        return one_never_grows(alloc, plane, rule, age);
     }
     never_grow(alloc, plane, rule, age)
 }

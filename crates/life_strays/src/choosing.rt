@@ -16,9 +16,6 @@ pub const LOOK: u32 = 64;
 /// An island that stands where it is within so few generations is not followed.
 const SOON: u32 = 2;
 
-/// How many islands are followed to tell that there is no growth.
-const SOME: u32 = 2;
-
 /// How many islands of each of two kinds are followed to tell that there is no ash.
 const FEW: u32 = 2;
 
@@ -118,7 +115,7 @@ fn take_largest(
     Ok(())
 }
 
-/// A few of the islands: the largest that stand where they are in none of the next generations. It is looked no further than
+/// So many of the islands: the largest that stand where they are in none of the next generations. It is looked no further than
 /// to the bound.
 pub fn chosen<P: Plane>(
     alloc: Global,
@@ -126,6 +123,7 @@ pub fn chosen<P: Plane>(
     rule: &Rule,
     islands: Vec<Class>,
     bound: u32,
+    count: u32,
 ) -> Result<Vec<Class>, AllocError>
     requires young { P.steps_made plane.now + bound ≤ AGE_LIMIT }
     ensures { IfOk result (λ some. (R : ModelRule) (G : Generation) →
@@ -134,8 +132,20 @@ pub fn chosen<P: Plane>(
     let mut standing = Vec::new(alloc);
     let mut rest = unsettled(alloc, plane, rule, islands, bound, &mut standing)?;
     let mut some = Vec::new(alloc);
-    take_largest(&mut rest, SOME, &mut some)?;
+    take_largest(&mut rest, count, &mut some)?;
     Ok(some)
+}
+
+/// Takes the first of the islands, and puts it behind others.
+pub fn take_first(islands: &mut Vec<Class>, some: &mut Vec<Class>) -> Result<(), AllocError>
+    requires { 0 < length islands.now.items }
+    ensures left { OnOk result ((R : ModelRule) (G : Generation) →
+        All (IsIslandNow R G) islands.old.items → All (IsIslandNow R G) islands.new.items) }
+    ensures some { OnOk result ((R : ModelRule) (G : Generation) → All (IsIslandNow R G) islands.old.items →
+        All (IsIslandNow R G) some.old.items → All (IsIslandNow R G) some.new.items) }
+{
+    some.push(islands.remove(0))?;
+    Ok(())
 }
 
 /// A few of the islands: the largest that stand where they are in none of the next generations, and the largest of the others.

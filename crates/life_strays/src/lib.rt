@@ -24,4 +24,4 @@ mod straying;
 mod trail;
 mod trailing;
 
-pub use refusing::{are_no_ash, never_grow};
+pub use refusing::{are_no_ash, never_grow, one_never_grows};

@@ -10,7 +10,7 @@ ghost use Rattle.life_objects.specs.Ash.{IsAsh};
 ghost use Rattle.life_strays.specs.Strays.{IsIslandNow, LeavesStrays};
 ghost use Rattle.life_strays.specs.declared.stray.Stray.{Stray};
 
-use crate::choosing::{LOOK, chosen, chosen_for_ash};
+use crate::choosing::{LOOK, chosen, chosen_for_ash, take_first};
 use crate::islands::islands_of;
 use crate::stray::Stray;
 use crate::straying::strays_of;
@@ -20,9 +20,19 @@ use life_classes::{Class, reaches};
 use life_plane::{AGE_LIMIT, Plane};
 use std::alloc::{AllocError, Global};
 
+/// How many islands are followed to tell that there is no growth, where one does not tell it.
+const SOME: u32 = 2;
+
+/// Next to how many of their cells it is looked for what hangs on them. What hangs on the others is left out.
+const MANY: u32 = 64;
+
+/// Next to how many cells of one island it is looked for what hangs on it.
+const FEW: u32 = 8;
+
 /// Whether it is seen that a plane's cells are no ash within the bound. Each time that an island of theirs comes back, moved,
 /// some of what hangs on it then is, moved back, not among these cells. That need not be so in all generations: only in those
-/// of the later half of the bound, or in those from twice the bound to three times.
+/// of the later half of the bound, or in those from twice the bound to three times. One island is followed first, which mostly
+/// tells it of disorder, and then some more.
 pub fn are_no_ash<P: Plane>(
     alloc: Global,
     plane: &P,
@@ -34,18 +44,26 @@ pub fn are_no_ash<P: Plane>(
         IsAsh rule.now bound (P.members plane.now) parts → ⊥)) }
 {
     let islands = islands_of(alloc, plane, rule)?;
-    let some = chosen_for_ash(alloc, plane, rule, islands, bound)?;
-    if some.is_empty() {
+    let mut others = chosen_for_ash(alloc, plane, rule, islands, bound)?;
+    if others.is_empty() {
         return Ok(false);
     }
+    let mut first = Vec::new(alloc);
+    take_first(&mut others, &mut first)?;
     let mut later = plane.copy()?;
-    let trails = first_told(alloc, plane, &mut later, rule, some, bound)?;
+    let mut trails = first_told(alloc, plane, &mut later, rule, first, bound)?;
     if some_tell(trails.as_slice()) {
+        return Ok(true);
+    }
+    later = plane.copy()?;
+    let mut more = first_told(alloc, plane, &mut later, rule, others, bound)?;
+    if some_tell(more.as_slice()) {
         return Ok(true);
     }
     if AGE_LIMIT < plane.age() + 3 * bound {
         return Ok(false);
     }
+    trails.append(&mut more)?;
     let told = later_told(alloc, plane, &mut later, rule, trails, bound)?;
     if !told {
         return Ok(false);
@@ -107,7 +125,64 @@ fn some_hang(strays: &[Stray], laters: &[Stray]) -> bool
 }
 
 /// Whether it is seen that a plane's cells do not grow within the bound, nor are ash: an island of theirs comes back nowhere
-/// within it, and one that hangs on it so many generations later does so neither.
+/// within it, and one that hangs on it so many generations later does so neither. So many islands are followed, none that
+/// stands where it is within the next `look` generations. What hangs on them is looked for next to about so many cells.
+fn some_never_grow<P: Plane>(
+    alloc: Global,
+    plane: &P,
+    rule: &Rule,
+    bound: u32,
+    count: u32,
+    look: u32,
+    many: u32,
+) -> Result<bool, AllocError>
+    requires young { P.steps_made plane.now + 2 * bound ≤ AGE_LIMIT }
+    requires many { 1 ≤ many }
+    ensures growth { IfOk result (λ no. OnTrue no ((Es : List Generation) (S : Generation) →
+        IsGrowth rule.now bound (P.members plane.now) Es S → ⊥)) }
+    ensures ash { IfOk result (λ no. OnTrue no ((parts : List Generation) →
+        IsAsh rule.now bound (P.members plane.now) parts → ⊥)) }
+{
+    let islands = islands_of(alloc, plane, rule)?;
+    let some = chosen(alloc, plane, rule, islands, bound.min(look), count)?;
+    if some.is_empty() {
+        return Ok(false);
+    }
+    let mut later = plane.copy()?;
+    let strays = strays_of(alloc, &mut later, rule, some, bound, true, many)?;
+    if strays.is_empty() {
+        return Ok(false);
+    }
+    let islands = hanging(alloc, islands_of(alloc, &later, rule)?, strays.as_slice())?;
+    let some = chosen(alloc, &later, rule, islands, bound.min(LOOK), count)?;
+    if some.is_empty() {
+        return Ok(false);
+    }
+    let laters = strays_of(alloc, &mut later, rule, some, bound, false, many)?;
+    if !some_hang(strays.as_slice(), laters.as_slice()) {
+        return Ok(false);
+    }
+    Ok(true)
+}
+
+/// Whether one island shows that a plane's cells do not grow within the bound, nor are ash. That costs little more than to step
+/// them to three times the bound.
+pub fn one_never_grows<P: Plane>(
+    alloc: Global,
+    plane: &P,
+    rule: &Rule,
+    bound: u32,
+) -> Result<bool, AllocError>
+    requires young { P.steps_made plane.now + 2 * bound ≤ AGE_LIMIT }
+    ensures growth { IfOk result (λ no. OnTrue no ((Es : List Generation) (S : Generation) →
+        IsGrowth rule.now bound (P.members plane.now) Es S → ⊥)) }
+    ensures ash { IfOk result (λ no. OnTrue no ((parts : List Generation) →
+        IsAsh rule.now bound (P.members plane.now) parts → ⊥)) }
+{
+    some_never_grow(alloc, plane, rule, bound, 1, LOOK, FEW)
+}
+
+/// Whether it is seen that a plane's cells do not grow within the bound, nor are ash: by one island, or by some.
 pub fn never_grow<P: Plane>(
     alloc: Global,
     plane: &P,
@@ -120,24 +195,8 @@ pub fn never_grow<P: Plane>(
     ensures ash { IfOk result (λ no. OnTrue no ((parts : List Generation) →
         IsAsh rule.now bound (P.members plane.now) parts → ⊥)) }
 {
-    let islands = islands_of(alloc, plane, rule)?;
-    let some = chosen(alloc, plane, rule, islands, bound)?;
-    if some.is_empty() {
-        return Ok(false);
+    if one_never_grows(alloc, plane, rule, bound)? {
+        return Ok(true);
     }
-    let mut later = plane.copy()?;
-    let strays = strays_of(alloc, &mut later, rule, some, bound, true)?;
-    if strays.is_empty() {
-        return Ok(false);
-    }
-    let islands = hanging(alloc, islands_of(alloc, &later, rule)?, strays.as_slice())?;
-    let some = chosen(alloc, &later, rule, islands, bound.min(LOOK))?;
-    if some.is_empty() {
-        return Ok(false);
-    }
-    let laters = strays_of(alloc, &mut later, rule, some, bound, false)?;
-    if !some_hang(strays.as_slice(), laters.as_slice()) {
-        return Ok(false);
-    }
-    Ok(true)
+    some_never_grow(alloc, plane, rule, bound, SOME, bound, MANY)
 }

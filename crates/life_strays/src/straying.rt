@@ -12,9 +12,6 @@ use life_classes::Class;
 use life_plane::{AGE_LIMIT, Plane};
 use std::alloc::{AllocError, Global};
 
-/// Next to how many cells it is looked for what hangs on them. What hangs on the others is left out.
-const MANY: u32 = 64;
-
 /// The islands as strays, on which their own cells hang where that is asked for, and else none.
 fn first_strays(
     alloc: Global,
@@ -42,15 +39,18 @@ fn first_strays(
     Ok(strays)
 }
 
-/// Those of the strays that have not come back in the next generation, in which the plane is: the one of this number.
+/// Those of the strays that have not come back in the next generation, in which the plane is: the one of this number. What hangs
+/// on them is looked for next to about so many cells.
 fn still_strays<P: Plane>(
     alloc: Global,
     plane: &P,
     strays: Vec<Stray>,
     number: u32,
     bound: u32,
+    many: u32,
 ) -> Result<Vec<Stray>, AllocError>
     requires number { number ≤ AGE_LIMIT }
+    requires many { 1 ≤ many }
     ensures { IfOk result (λ left. (R : ModelRule) (n : ℕ) (G : Generation) → number ≡ n + 1 →
         P.members plane.now ≡ generation R G (n + 1) →
         All (IsStray R bound n G) strays.items → All (IsStray R bound (n + 1) G) left.items) }
@@ -59,7 +59,7 @@ fn still_strays<P: Plane>(
     let mut left = Vec::new(alloc);
     for stray in strays {
         if !is_late || !plane.may_have_moved(&stray.set, number) {
-            let heirs = heirs_of(alloc, plane, &stray.heirs, MANY)?;
+            let heirs = heirs_of(alloc, plane, &stray.heirs, many)?;
             left.push(Stray {
                 set: stray.set,
                 heirs,
@@ -70,7 +70,7 @@ fn still_strays<P: Plane>(
 }
 
 /// Those of the islands of a plane that come back nowhere within the bound, with what hangs on them then, where that is asked
-/// for. The plane is so many generations later.
+/// for: it is looked for next to about so many cells in each generation. The plane is so many generations later.
 pub fn strays_of<P: Plane>(
     alloc: Global,
     plane: &mut P,
@@ -78,7 +78,9 @@ pub fn strays_of<P: Plane>(
     islands: Vec<Class>,
     bound: u32,
     with_heirs: bool,
+    many: u32,
 ) -> Result<Vec<Stray>, AllocError>
+    requires many { 1 ≤ many }
     requires young { P.steps_made plane.old + bound ≤ AGE_LIMIT }
     requires islands { All (IsIslandNow rule.now (P.members plane.old)) islands.items }
     ensures later { OnOk result
@@ -90,7 +92,7 @@ pub fn strays_of<P: Plane>(
     let mut strays = first_strays(alloc, islands, with_heirs)?;
     for n in 0..bound {
         plane.step(rule)?;
-        strays = still_strays(alloc, plane, strays, n + 1, bound)?;
+        strays = still_strays(alloc, plane, strays, n + 1, bound, many)?;
     }
     Ok(strays)
 }

@@ -8,7 +8,7 @@ use Rattle.life_model.specs.Generation.{contains}
 use Rattle.life_strays.specs.Strays.{IsIslandNow, IsStray, LeavesStrays}
 use Rattle.life_strays.specs.declared.stray.Stray.{Stray}
 use Rattle.life_strays.proofs.Telling.{no_ash, no_growth}
-use Rattle.life_strays.proofs.refusing.never_grow.Goals as goal
+use Rattle.life_strays.proofs.refusing.some_never_grow.Goals as goal
 
 pub strays_of-requires-clause-islands : goal.strays_of-requires-clause-islands
 strays_of-requires-clause-islands g c =
