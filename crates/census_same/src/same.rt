@@ -19,7 +19,7 @@ use watched::Output;
 // The patterns of reports that are objects. The rows are dropped. The only error is out of memory.
 fn told_in_rows<'a>(alloc: Global, rows: Rows<'a>) -> Result<Vec<Told<'a>>, AllocError>
     requires { AreReports rows }
-    ensures { IfOk result (λ tolds. tolds.items ≡ tolds_of rows) }
+    ensures { IfOk result (λ tolds. tolds.items ≡ tolds_of rows.entry) }
 {
     let sections = collections(alloc, &rows)?;
     all_told(alloc, &sections)
@@ -84,11 +84,11 @@ pub fn put_same<W: Write>(
 ) -> Result<bool, AllocError>
     requires { AreReports rows }
     ensures tells { MatchResult result
-        (λ _. TellsAfter (same_text json (tolds_of rows))
+        (λ _. TellsAfter (same_text json (tolds_of rows.entry))
         (sheet block.old writer.old) (sheet block.new writer.new))
-        (λ _. TellsFront (same_text json (tolds_of rows))
+        (λ _. TellsFront (same_text json (tolds_of rows.entry))
         (sheet block.old writer.old) (sheet block.new writer.new)) }
-    ensures any { IfOk result (λ any. any ≡ has_bytes (same_text json (tolds_of rows))) }
+    ensures any { IfOk result (λ any. any ≡ has_bytes (same_text json (tolds_of rows.entry))) }
 {
     let mut tolds = told_in_rows(alloc, rows)?;
     put_in_order(&mut tolds)?;

@@ -44,8 +44,8 @@ unclaimed-append claims (pattern ∷ patterns) others =
 -- the patterns of a collection, and those of the collections behind it
 pub sections-cut : (claims : List Claim) (sections : List (List Row)) (i : ℕ) (rows : List Row) → i < length sections → rows ≡ get_or sections i rows
     → all_unclaimed_text claims (all_entries (i + 1) (drop i sections))
-    ≡ all_unclaimed_text claims (section_entries (i + 1) rows) ++ all_unclaimed_text claims (all_entries (i + 2) (drop (i + 1) sections))
+    ≡ all_unclaimed_text claims (section_entries (i + 1) rows) ++ all_unclaimed_text claims (all_entries (i + 1 + 1) (drop (i + 1) sections))
 sections-cut claims sections i rows less is =
     at_drop_more (λ rest. all_unclaimed_text claims (all_entries (i + 1) rest)) sections i rows less
-    ∙ unclaimed-append claims (section_entries (i + 1) (get_or sections i rows)) (all_entries (i + 2) (drop (i + 1) sections))
-    ∙ ap (λ here. all_unclaimed_text claims (section_entries (i + 1) here) ++ all_unclaimed_text claims (all_entries (i + 2) (drop (i + 1) sections))) (sym is)
+    ∙ unclaimed-append claims (section_entries (i + 1) (get_or sections i rows)) (all_entries (i + 1 + 1) (drop (i + 1) sections))
+    ∙ ap (λ here. all_unclaimed_text claims (section_entries (i + 1) here) ++ all_unclaimed_text claims (all_entries (i + 1 + 1) (drop (i + 1) sections))) (sym is)

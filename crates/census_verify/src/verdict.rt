@@ -89,8 +89,8 @@ fn put_unclaimed<'a, W: Write>(
         ≡ is_empty (all_unclaimed_text (claims_read found.now.claims.now) patterns.now)) }
 {
     let mut silent = true;
-    for index in 0..patterns.len() {
-        let text = unclaimed_text(alloc, found, &patterns[index])?;
+    for pattern in patterns {
+        let text = unclaimed_text(alloc, found, pattern)?;
         let bytes = text.as_slice();
         silent = is_silent(silent, bytes);
         put(bytes, block, writer);

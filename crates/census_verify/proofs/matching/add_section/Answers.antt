@@ -1,4 +1,4 @@
-use Rattle.std.proofs.Common.{List, ◌++◌, OnOk, subst}
+use Rattle.std.proofs.Common.{List, ◌++◌, OnOk, subst, ◌∙◌}
 use Rattle.census_table.specs.declared.entry.Entry.{Entry}
 use Rattle.census_verify.specs.Claims.{Claim}
 use Rattle.census_verify.specs.Found.{AreMatches}
@@ -8,4 +8,4 @@ pub returns : goal.returns
 returns c =
     subst (λ (entries : List Entry). OnOk c.add_patterns.result ((claims : List Claim) (before : List Entry)
     → AreMatches claims before c.args.found.now → AreMatches claims (before ++ entries) c.add_patterns.new.found))
-    c.in_ok-patterns.ensures c.add_patterns.ensures
+    (c.as_slice.ensures.value ∙ c.in_ok-patterns.ensures) c.add_patterns.ensures

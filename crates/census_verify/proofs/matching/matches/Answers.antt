@@ -15,13 +15,13 @@ loop-index-preserved c =
     let sections = c.args.sections.now in
     let before = l.invariant.0 in
     let here = section_entries (l.index + 1) c.section.result in
-    let behind = all_entries (l.index + 2) (drop (l.index + 1) sections) in
+    let behind = all_entries (l.index + 1 + 1) (drop (l.index + 1) sections) in
     let cut : all_entries (l.index + 1) (drop l.index sections) ≡ here ++ behind =
     at_drop_more (all_entries (l.index + 1)) sections l.index c.section.result (omega arith)
     ∙ ap (λ rows. section_entries (l.index + 1) rows ++ behind) (sym c.section.ensures) in (
       before ++ here,
-      c.in_ok-add_section.ensures (claims_read c.args.claims.now) before l.invariant.1.0,
-      append_assoc before here behind ∙ ap (λ (more : List Entry). before ++ more) (sym cut) ∙ l.invariant.1.1,
+      c.in_ok-add_section.ensures (claims_read c.args.claims.now) before l.invariant.1,
+      append_assoc before here behind ∙ ap (λ (more : List Entry). before ++ more) (sym cut) ∙ l.invariant.2,
     )
 
 pub returns : goal.returns
@@ -32,5 +32,5 @@ returns c =
     let all : before ≡ all_entries 1 sections =
     sym (append-nil before)
     ∙ ap (λ (more : List Entry). before ++ more) (sym (at_drop_all (all_entries (l.index + 1)) sections l.index (omega arith)))
-    ∙ l.invariant.1.1 in
-    subst (λ patterns. AreMatches (claims_read c.args.claims.now) patterns l.found) all l.invariant.1.0
+    ∙ l.invariant.2 in
+    subst (λ patterns. AreMatches (claims_read c.args.claims.now) patterns l.found) all l.invariant.1

@@ -1,4 +1,4 @@
-use Rattle.std.proofs.Common.{◌≡◌, ◌+◌, ◌++◌, ◌&&◌, ap, arith, drop, refl, sym, ◌∙◌}
+use Rattle.std.proofs.Common.{◌+◌, ◌&&◌, ap, arith, drop, refl, sym, ◌∙◌}
 use Rattle.std.proofs.lemmas.Result.{err_from_is_err_and}
 use Rattle.gathered.specs.Telling.{sheet}
 use Rattle.gathered.proofs.Fronts.{up_to_front, up_to_more, up_to_start}
@@ -24,7 +24,7 @@ returns-in_err-quiet-clause-tells g c =
     let sections = c.args.found.now.sections in
     let whole = all_unclaimed_text claims (patterns_in c.args.found.now) in
     let here = all_unclaimed_text claims (section_entries (l.index + 1) c.section-rows.result) in
-    let others = all_unclaimed_text claims (all_entries (l.index + 2) (drop (l.index + 1) sections)) in
+    let others = all_unclaimed_text claims (all_entries (l.index + 1 + 1) (drop (l.index + 1) sections)) in
     let cut = sections-cut claims sections l.index c.section-rows.result (omega arith) c.section-rows.ensures in
     rw p.1
     (up_to_front whole _ here others (sheet c.args.block.now c.args.writer.now)
@@ -37,7 +37,7 @@ loop-index-preserved g c =
     let sections = c.args.found.now.sections in
     let whole = all_unclaimed_text claims (patterns_in c.args.found.now) in
     let here = all_unclaimed_text claims (section_entries (l.index + 1) c.section-rows.result) in
-    let others = all_unclaimed_text claims (all_entries (l.index + 2) (drop (l.index + 1) sections)) in
+    let others = all_unclaimed_text claims (all_entries (l.index + 1 + 1) (drop (l.index + 1) sections)) in
     let cut = sections-cut claims sections l.index c.section-rows.result (omega arith) c.section-rows.ensures in
     record {
       told = up_to_more whole _ here others (sheet c.args.block.now c.args.writer.now)

@@ -6,11 +6,11 @@ use Rattle.census_verify.specs.Columns.{is_empty}
 use Rattle.census_verify.specs.Verdict.{all_unclaimed_text}
 use Rattle.census_verify.proofs.verdict.put_unclaimed.Given as goal
 
-abbrev pub invariant-loop-index : goal.invariant-loop-index
-invariant-loop-index g l = record {
+abbrev pub invariant-loop-pattern : goal.invariant-loop-pattern
+invariant-loop-pattern g l = record {
   told : TellsUpTo (all_unclaimed_text (claims_read l.found.claims.now) l.patterns)
-      (all_unclaimed_text (claims_read l.found.claims.now) (drop l.index l.patterns))
+      (all_unclaimed_text (claims_read l.found.claims.now) (drop l.pattern-index l.patterns))
       (sheet l.fn.block l.fn.writer) (sheet l.block l.writer);
   silent : is_empty (all_unclaimed_text (claims_read l.found.claims.now) l.patterns)
-      ≡ (l.silent && is_empty (all_unclaimed_text (claims_read l.found.claims.now) (drop l.index l.patterns)));
+      ≡ (l.silent && is_empty (all_unclaimed_text (claims_read l.found.claims.now) (drop l.pattern-index l.patterns)));
 }

@@ -1,0 +1,13 @@
+use Rattle.std.proofs.lemmas.Result.{err_from_is_err_and}
+use Rattle.gathered.specs.Telling.{sheet}
+use Rattle.gathered.proofs.Fronts.{front_none}
+use Rattle.census_table.specs.Entries.{section_entries}
+use Rattle.census_verify.specs.Claims.{claims_read}
+use Rattle.census_verify.specs.Verdict.{all_unclaimed_text}
+use Rattle.census_verify.proofs.verdict.put_section.Goals as goal
+
+pub returns-in_err-patterns-clause-tells : goal.returns-in_err-patterns-clause-tells
+returns-in_err-patterns-clause-tells g c =
+    let p = err_from_is_err_and c.from_residual.result c.from_residual.ensures.1 in
+    rw p.1
+    (front_none (all_unclaimed_text (claims_read c.args.found.now.claims.now) (section_entries c.args.number c.args.rows.now)) (sheet c.args.block.now c.args.writer.now))
