@@ -26,8 +26,11 @@ const SOME: u32 = 2;
 /// Next to how many of their cells it is looked for what hangs on them. What hangs on the others is left out.
 const MANY: u32 = 64;
 
-/// Next to how many cells of one island it is looked for what hangs on it.
-const FEW: u32 = 8;
+/// Next to how many cells of one island that is followed alone it is looked for what hangs on it.
+const FEW: u32 = 32;
+
+/// For how many generations it is looked whether that one stands where it is.
+const SHORT: u32 = 16;
 
 /// Whether it is seen that a plane's cells are no ash within the bound. Each time that an island of theirs comes back, moved,
 /// some of what hangs on it then is, moved back, not among these cells. That need not be so in all generations: only in those
@@ -126,7 +129,7 @@ fn some_hang(strays: &[Stray], laters: &[Stray]) -> bool
 
 /// Whether it is seen that a plane's cells do not grow within the bound, nor are ash: an island of theirs comes back nowhere
 /// within it, and one that hangs on it so many generations later does so neither. So many islands are followed, none that
-/// stands where it is within the next `look` generations. What hangs on them is looked for next to about so many cells.
+/// stands where it is within `look` generations. What hangs on them is looked for next to about `many` cells.
 fn some_never_grow<P: Plane>(
     alloc: Global,
     plane: &P,
@@ -154,7 +157,14 @@ fn some_never_grow<P: Plane>(
         return Ok(false);
     }
     let islands = hanging(alloc, islands_of(alloc, &later, rule)?, strays.as_slice())?;
-    let some = chosen(alloc, &later, rule, islands, bound.min(LOOK), count)?;
+    let some = chosen(
+        alloc,
+        &later,
+        rule,
+        islands,
+        bound.min(look).min(LOOK),
+        count,
+    )?;
     if some.is_empty() {
         return Ok(false);
     }
@@ -179,7 +189,7 @@ pub fn one_never_grows<P: Plane>(
     ensures ash { IfOk result (λ no. OnTrue no ((parts : List Generation) →
         IsAsh rule.now bound (P.members plane.now) parts → ⊥)) }
 {
-    some_never_grow(alloc, plane, rule, bound, 1, LOOK, FEW)
+    some_never_grow(alloc, plane, rule, bound, 1, SHORT, FEW)
 }
 
 /// Whether it is seen that a plane's cells do not grow within the bound, nor are ash: by one island, or by some.
