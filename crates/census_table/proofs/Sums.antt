@@ -1,17 +1,18 @@
 -- Objects that stand in the order of their kinds, counted kind by kind.
-use Rattle.std.proofs.Common.{◌≡◌, ℕ, ◌+◌, ◌<◌, ◌≤◌, zero, suc, Bool, true, false, not, ◌&&◌, ◌||◌, eqb, if◌then◌else◌, List, [], ◌∷◌, length, refl, sym, ap, ap₂, ◌∙◌, subst, arith, true≢false}
+use Rattle.std.proofs.Common.{◌≡◌, ℕ, ◌+◌, ◌<◌, ◌≤◌, zero, suc, Bool, true, false, not, ◌&&◌, ◌||◌, eqb, if◌then◌else◌, List, [], ◌∷◌, length, refl, sym, ap, ap₂, ◌∙◌, subst, arith, true≢false, map, ◌⊎◌, inl, inr}
 use Rattle.std.specs.Prelude.{filter, count_by, nat_eq, cond, reverse, slice_index_or}
 use Rattle.std.specs.Cmp.Lexicographic.{as_long, on_texts, pointwise, slice_cmp, texts_ties}
-use Rattle.std.specs.Cmp.{both_tied, unsigned_tied, IsTotalOrder, IsEquivalence}
+use Rattle.std.specs.Cmp.{both_tied, unsigned_tied, IsTotalOrder, IsEquivalence, IsStrictWeakOrder}
 use Rattle.std.specs.List.{All, list_any, sum_by}
-use Rattle.std.specs.List.Sorted.{ties, IsPermutation, IsSorted, IsSortedBy}
+use Rattle.std.specs.List.Sorted.{ties, IsPermutation, IsSorted, IsSortedBy, IsStableBy}
 use Rattle.std.specs.Ordering.{eq_by_cmp, is_eq, is_gt, is_lt, nat_cmp, ordering_reverse, ordering_then}
 use Rattle.std.specs.declared.cmp.Ordering.{Ordering}
 use Rattle.std.specs.declared.cmp.Ordering.TheVariants.{Less, Equal, Greater}
 use Rattle.std.proofs.lemmas.Cmp.{eq_by_cmp_equiv, nat_cmp_total, on_total, then_total}
 use Rattle.std.proofs.lemmas.List.Elements.{All-cons, All-nil, All-tail}
-use Rattle.std.proofs.lemmas.List.Sorted.{All-permutation, IsPermutation-reverse, IsPermutation-sym, IsPermutation-trans, ranks_by, sorted_far, sum_by-IsPermutation}
+use Rattle.std.proofs.lemmas.List.Sorted.{All-permutation, IsPermutation-map, IsPermutation-reverse, IsPermutation-sym, IsPermutation-trans, ranks_by, sorted_far, sum_by-IsPermutation}
 use Rattle.std.proofs.lemmas.List.Sums.{sum_by-cons}
+use Rattle.std.proofs.lemmas.List.{get_or-map, length-map}
 use Rattle.census_table.specs.Kinds.{capped, count_cmp, counted, kind_cmp, patterns_told, same_kind, same_pattern, AreKinds, IsCounted}
 use Rattle.census_table.specs.Grouping.{alone, grouped, joined, with_told, AreInKinds}
 use Rattle.census_table.specs.declared.object.Object.{Object}
@@ -207,9 +208,9 @@ once-grouped os h = λ k d small.
 
 -- ---- what is counted
 
-filter-alike : (p q : Object → Bool) (xs : List Object) → ((x : Object) → p x ≡ q x) → filter p xs ≡ filter q xs
+filter-alike : {X : Type 0} (p q : X → Bool) (xs : List X) → ((x : X) → p x ≡ q x) → filter p xs ≡ filter q xs
 filter-alike p q [] h = refl
-filter-alike p q (x ∷ xs) h = ap₂ (λ (b : Bool) (ys : List Object). cond b (x ∷ ys) ys) (h x) (filter-alike p q xs h)
+filter-alike {X} p q (x ∷ xs) h = ap₂ (λ (b : Bool) (ys : List X). cond b (x ∷ ys) ys) (h x) (filter-alike p q xs h)
 
 filter-none : (p : Object → Bool) (xs : List Object) → All (λ x. p x ≡ false) xs → filter p xs ≡ []
 filter-none p [] h = refl
@@ -308,23 +309,61 @@ lt_back Less = refl
 lt_back Equal = refl
 lt_back Greater = refl
 
--- what a sort by kinds gives
-pub in-kinds : (os : List Object) → IsSortedBy (λ a b. is_lt (kind_cmp a b)) os → AreInKinds os
-in-kinds os up = go os (λ i j d less small. sorted_far (λ a b. is_lt (kind_cmp a b)) (ranks_by kind_total (λ o. o)) os up i j d less small)
-  where
-    go : (os : List Object) → ((i j : ℕ) (d : Object) → i ≤ j → j < length os → is_lt (kind_cmp (slice_index_or os j d) (slice_index_or os i d)) ≡ false) → AreInKinds os
-    go [] h = tt
-    go (o ∷ os) h = (
-      λ k d small. sym (lt_back (kind_cmp o (slice_index_or os k d))) ∙ ap is_lt (sym (kind_total.antisymm (slice_index_or os k d) o)) ∙ h zero (suc k) d (omega arith) (omega (arith, small)),
-      go os (λ i j d less small. h (suc i) (suc j) d (omega (arith, less)) (omega (arith, small))),
-    )
+-- what a sort by the kinds of objects gives, where each stands at a place
+module _ {P : Type 0} (told : P → Object) where
+  abbrev pub place-less : P → P → Bool
+  place-less one other = is_lt (kind_cmp (told one) (told other))
 
-pub stable-kinds : (xs ys : List Object) (kind : Object) → filter (ties (λ a b. is_lt (kind_cmp a b)) kind) ys ≡ filter (ties (λ a b. is_lt (kind_cmp a b)) kind) xs
-    → filter (same_kind kind) ys ≡ filter (same_kind kind) xs
-stable-kinds xs ys kind stable =
-    let lt : Object → Object → Bool = λ a b. is_lt (kind_cmp a b) in
-    filter-alike (same_kind kind) (ties lt kind) ys (λ x. sym (tied-same kind x)) ∙ stable
-    ∙ filter-alike (ties lt kind) (same_kind kind) xs (tied-same kind)
+  pub places-order : IsStrictWeakOrder place-less
+  places-order = ranks_by kind_total told
+
+  pub places-in-kinds : (ps : List P) → IsSortedBy place-less ps → AreInKinds (map told ps)
+  places-in-kinds ps up = go ps (λ i j d less small. sorted_far place-less places-order ps up i j d less small)
+    where
+      go : (ps : List P) → ((i j : ℕ) (d : P) → i ≤ j → j < length ps → place-less (slice_index_or ps j d) (slice_index_or ps i d) ≡ false) → AreInKinds (map told ps)
+      go [] h = tt
+      go (p ∷ ps) h = (
+        λ k d small.
+            let less : k < length ps = omega (arith, small, length-map ps told) in
+            let x = slice_index_or ps k p in
+            ap (λ o. is_gt (kind_cmp (told p) o)) (get_or-map told ps k p d less)
+            ∙ sym (lt_back (kind_cmp (told p) (told x))) ∙ ap is_lt (sym (kind_total.antisymm (told x) (told p))) ∙ h zero (suc k) p (omega arith) (omega (arith, less)),
+        go ps (λ i j d less small. h (suc i) (suc j) d (omega (arith, less)) (omega (arith, small))),
+      )
+
+  filter-at : (test : Object → Bool) (ps : List P) → filter test (map told ps) ≡ map told (filter (λ p. test (told p)) ps)
+  filter-at test [] = refl
+  filter-at test (p ∷ ps) = go (test (told p)) (filter-at test ps)
+    where
+      go : (b : Bool) → filter test (map told ps) ≡ map told (filter (λ p. test (told p)) ps)
+          → cond b (told p ∷ filter test (map told ps)) (filter test (map told ps)) ≡ map told (cond b (p ∷ filter (λ p. test (told p)) ps) (filter (λ p. test (told p)) ps))
+      go true e = ap (λ os. told p ∷ os) e
+      go false e = e
+
+  -- none is of a kind, or one is
+  some-at : (kind : Object) (ps : List P) → All (λ o. same_kind kind o ≡ false) (map told ps) ⊎ ((p : P) × (same_kind kind (told p) ≡ true))
+  some-at kind [] = inl (All-nil (λ o. same_kind kind o ≡ false))
+  some-at kind (p ∷ ps) = go (same_kind kind (told p)) refl (some-at kind ps)
+    where
+      go : (b : Bool) → same_kind kind (told p) ≡ b → All (λ o. same_kind kind o ≡ false) (map told ps) ⊎ ((p : P) × (same_kind kind (told p) ≡ true))
+          → All (λ o. same_kind kind o ≡ false) (map told (p ∷ ps)) ⊎ ((p : P) × (same_kind kind (told p) ≡ true))
+      go true e rest = inr (p, e)
+      go false e (inl none) = inl (All-cons (λ o. same_kind kind o ≡ false) (told p) (map told ps) e none)
+      go false e (inr some) = inr some
+
+  kind-kept : (kind : Object) (p : P) (ps : List P) → same_kind kind (told p) ≡ true → filter (same_kind kind) (map told ps) ≡ map told (filter (ties place-less p) ps)
+  kind-kept kind p ps same =
+      filter-at (same_kind kind) ps
+      ∙ ap (map told) (filter-alike (λ q. same_kind kind (told q)) (ties place-less p) ps (λ q. same-alike kind (told p) (told q) same ∙ sym (tied-same (told p) (told q))))
+
+  pub places-stable : (ps qs : List P) → IsPermutation ps qs → IsStableBy place-less ps qs → (kind : Object) → filter (same_kind kind) (map told qs) ≡ filter (same_kind kind) (map told ps)
+  places-stable ps qs moved stable kind = go (some-at kind ps)
+    where
+      go : All (λ o. same_kind kind o ≡ false) (map told ps) ⊎ ((p : P) × (same_kind kind (told p) ≡ true)) → filter (same_kind kind) (map told qs) ≡ filter (same_kind kind) (map told ps)
+      go (inl none) =
+          filter-none (same_kind kind) (map told qs) (All-permutation (λ o. same_kind kind o ≡ false) (map told ps) (map told qs) (IsPermutation-map told ps qs moved) none)
+          ∙ sym (filter-none (same_kind kind) (map told ps) none)
+      go (inr some) = kind-kept kind some.0 qs some.1 ∙ ap (map told) (stable some.0) ∙ sym (kind-kept kind some.0 ps some.1)
 
 -- what two sorts and what is between them give
 pub are-kinds : (objects sorted stack kinds : List Object) → IsPermutation objects sorted

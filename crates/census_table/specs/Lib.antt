@@ -7,6 +7,7 @@ pub mod Kinds
 pub mod Lists
 pub mod ObjectColumns
 pub mod Objects
+pub mod Places
 pub mod Patterns
 pub mod Tables
 pub mod Told

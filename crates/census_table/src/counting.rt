@@ -1,12 +1,11 @@
 //! The kinds of objects: each code under a rule is one.
-ghost use Rattle.std.specs.Prelude.{◌≡◌, filter, reverse, IfOk, OnOk};
-ghost use Rattle.std.specs.List.Sorted.{IsPermutation};
-ghost use Rattle.census_table.specs.declared.object.Object.{Object};
+ghost use Rattle.std.specs.Prelude.{◌≡◌, reverse, IfOk, OnOk};
 ghost use Rattle.census_table.specs.Kinds.{AreKinds, same_kind, same_pattern};
-ghost use Rattle.census_table.specs.Grouping.{AreInKinds, alone, before, grouped, joined, step_of, with_told};
+ghost use Rattle.census_table.specs.Grouping.{alone, before, grouped, joined, step_of, with_told};
 
 use crate::entry::Entry;
 use crate::object::Object;
+use crate::objects::Objects;
 use std::alloc::{AllocError, Global};
 use std::cmp::Reverse;
 
@@ -22,16 +21,6 @@ fn same_pattern(entry: &Entry, other: &Entry) -> bool
     ensures { result ≡ same_pattern entry.now other.now }
 {
     entry.collection == other.collection && entry.pattern == other.pattern
-}
-
-// Puts objects in the order of their kinds. Those of one kind keep their order.
-fn put_in_kinds(objects: &mut Vec<Object>) -> Result<(), AllocError>
-    ensures permutation { IsPermutation objects.old.items objects.new.items }
-    ensures stable { (kind : Object) →
-        filter (same_kind kind) objects.new.items ≡ filter (same_kind kind) objects.old.items }
-    ensures sorted { OnOk result (AreInKinds objects.new.items) }
-{
-    objects.sort_by_key(|object| (object.code.len(), (object.code, object.rule)))
 }
 
 // One that stands before so many others of its kind, and with them is told of so many patterns.
@@ -88,25 +77,25 @@ fn take_in<'a>(kinds: &mut Vec<Object<'a>>, object: &Object<'a>) -> Result<(), A
 }
 
 // The kinds of objects that stand in their order, from the last on.
-fn grouped<'a>(alloc: Global, objects: &[Object<'a>]) -> Result<Vec<Object<'a>>, AllocError>
+fn grouped<'a>(alloc: Global, objects: &Objects<'_, 'a>) -> Result<Vec<Object<'a>>, AllocError>
     ensures { IfOk result (λ kinds. reverse kinds.items ≡ grouped objects.now) }
 {
     let mut kinds = Vec::new(alloc);
     let mut left = objects.len();
     while left > 0 {
         left -= 1;
-        take_in(&mut kinds, &objects[left])?;
+        take_in(&mut kinds, &objects.object(left))?;
     }
     Ok(kinds)
 }
 
 /// The kinds of objects, each with how many there are and of how many patterns it is told, by falling count and then in
 /// the order of kinds. The only error is out of memory.
-pub fn kinds<'a>(alloc: Global, mut objects: Vec<Object<'a>>) -> Result<Vec<Object<'a>>, AllocError>
-    ensures { IfOk result (λ kinds. AreKinds objects.entry.items kinds.items) }
+pub fn kinds<'a>(alloc: Global, mut objects: Objects<'_, 'a>) -> Result<Vec<Object<'a>>, AllocError>
+    ensures { IfOk result (λ kinds. AreKinds objects.entry kinds.items) }
 {
-    put_in_kinds(&mut objects)?;
-    let mut kinds = grouped(alloc, objects.as_slice())?;
+    objects.put_in_kinds()?;
+    let mut kinds = grouped(alloc, &objects)?;
     kinds.sort_by_key(|kind| (
         Reverse(kind.count),
         (kind.code.len(), (kind.code, kind.rule)),

@@ -8,8 +8,9 @@ ghost use Rattle.census_table.specs.Tables.{IsListingOf, listing_of, names_in};
 
 use crate::column::Column;
 use crate::counting::kinds;
-use crate::object::{Object, objects};
+use crate::object::Object;
 use crate::object_column::ObjectColumn;
+use crate::objects::objects_in;
 use census_kept::Rows;
 use census_names::Names;
 use census_readback::{Sections, collections};
@@ -51,7 +52,7 @@ pub fn table_of<'b, 'a>(
     match subject {
         Subject::Patterns => Ok(Table::Patterns(sections)),
         Subject::Parts => Ok(Table::Parts(sections)),
-        Subject::Codes => Ok(Table::Codes(kinds(alloc, objects(alloc, &sections)?)?)),
+        Subject::Codes => Ok(Table::Codes(kinds(alloc, objects_in(alloc, sections)?)?)),
     }
 }
 

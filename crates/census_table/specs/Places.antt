@@ -1,0 +1,30 @@
+-- Objects by where they are told.
+use Rattle.std.specs.Prelude.{ℕ, ◌+◌, Option, List, [], slice_index_or}
+use Rattle.std.specs.Option.{unwrap_or}
+use Rattle.census_rows.specs.declared.row.Row.{Row}
+use Rattle.census_rows.specs.declared.row.Row.TheVariants.{End}
+use Rattle.census_table.specs.Entries.{entry_of_row}
+use Rattle.census_table.specs.Objects.{object_of_row}
+use Rattle.census_table.specs.declared.entry.Entry.{Entry}
+use Rattle.census_table.specs.declared.object.Object.{Object}
+use Rattle.census_table.specs.declared.objects.Place.{Place}
+
+-- the row at an index; behind the last one there are `end` rows
+abbrev pub row_in : List Row → ℕ → Row
+row_in rows index = slice_index_or rows index (End 0 0)
+
+-- the pattern of the line at an index, in a collection that has this number
+abbrev pub entry_at : ℕ → List Row → ℕ → Option Entry
+entry_at number rows index = entry_of_row number (row_in rows 0) (row_in rows index)
+
+-- the object of that pattern that the row at another index tells of
+abbrev pub told_in : ℕ → List Row → ℕ → ℕ → Option Object
+told_in number rows line row = object_of_row (entry_at number rows line) (row_in rows row)
+
+-- the object that is told at a place of collections that are numbered from 1
+abbrev pub told_at : List (List Row) → Place → Option Object
+told_at sections place = told_in (place.collection + 1) (slice_index_or sections place.collection []) place.line place.row
+
+-- that object, or this one where there is none
+abbrev pub object_at : Object → List (List Row) → Place → Object
+object_at nothing sections place = unwrap_or (told_at sections place) nothing

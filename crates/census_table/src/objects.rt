@@ -1,0 +1,291 @@
+//! The objects that reports tell of, held by where they are told.
+ghost use Rattle.std.specs.Prelude.{◌≡◌, ◌<◌, ◌≤◌, ◌+◌, ◌^◌, ◌++◌, [], filter, length, map, slice_index_or, IfOk, OnOk};
+ghost use Rattle.std.specs.List.Sorted.{IsPermutation};
+ghost use Rattle.census_table.specs.Grouping.{AreInKinds};
+ghost use Rattle.census_table.specs.Kinds.{capped, kind_cmp, same_kind};
+ghost use Rattle.census_table.specs.Objects.{all_objects, entry_or, object_before, section_objects};
+ghost use Rattle.census_table.specs.Places.{entry_at, object_at, row_in, told_at};
+ghost use Rattle.census_table.specs.declared.object.Object.{Object};
+
+use crate::entry::{Entry, entry_of_row};
+use crate::object::{Object, object_of_row};
+use census_kept::Section;
+use census_readback::Sections;
+use census_rows::{Outcome, Row};
+use std::alloc::{AllocError, Global};
+use std::cmp::Ordering;
+use std::marker::Model;
+
+/// Where an object is told. Each index counts from 0.
+#[derive(Clone, Copy)]
+pub struct Place {
+    /// The index of the collection.
+    pub collection: usize,
+    /// In the collection, that of the line of the pattern of which the object is told.
+    pub line: usize,
+    /// That of the row that tells of it, which may be the line.
+    pub row: usize,
+}
+
+/// The objects that reports tell of, in an order of their own. Of each its place is held, in 24 bytes.
+#[derive(Drop)]
+pub struct Objects<'b, 'a> {
+    sections: Sections<'b, 'a>,
+    places: Vec<Place>,
+    // What stands where nothing is told; that is at none of the places.
+    nothing: Object<'a>,
+}
+
+impl<'b, 'a> Model for Objects<'b, 'a> {
+    ghost use Rattle.std.specs.Prelude.{List, map};
+    ghost use Rattle.census_table.specs.declared.object.Object.{Object};
+
+    ghost Value = { List Object };
+
+    ghost use Rattle.census_table.specs.Places.{object_at};
+
+    ghost view = { λ s. map (object_at s.nothing s.sections) s.places.items };
+}
+
+// The row at this index. Behind the last one there are `end` rows.
+fn row_in<'a>(rows: &Section<'_, 'a>, index: usize) -> Row<'a>
+    ensures { result ≡ row_in rows.now index }
+{
+    if index < rows.len() {
+        rows.row(index)
+    } else {
+        Row::End {
+            collections: 0,
+            patterns: 0,
+        }
+    }
+}
+
+// The pattern of the line at this index, in a collection that has this number.
+fn entry_at<'a>(number: u64, rows: &Section<'_, 'a>, index: usize) -> Option<Entry<'a>>
+    ensures { result ≡ entry_at number rows.now index }
+{
+    entry_of_row(number, &row_in(rows, 0), &row_in(rows, index))
+}
+
+// The object that is told at a place of collections that are numbered from 1.
+fn told_at<'a>(sections: &Sections<'_, 'a>, place: Place) -> Option<Object<'a>>
+    ensures { result ≡ told_at sections.now place }
+{
+    if place.collection >= sections.len() {
+        return None;
+    }
+    let rows = sections.section(place.collection);
+    let number = (place.collection + 1) as u64;
+    let entry = entry_at(number, &rows, place.line);
+    object_of_row(&entry, &row_in(&rows, place.row))
+}
+
+// That object, or this one where there is none.
+fn object_at<'a>(nothing: &Object<'a>, sections: &Sections<'_, 'a>, place: Place) -> Object<'a>
+    ensures { result ≡ object_at nothing.now sections.now place }
+{
+    told_at(sections, place).unwrap_or(*nothing)
+}
+
+// Which of the kinds of two objects stands first.
+fn kind_order(object: &Object, other: &Object) -> Ordering
+    ensures { result ≡ kind_cmp object.now other.now }
+{
+    let codes = object.code.cmp(other.code);
+    let rules = object.rule.cmp(other.rule);
+    let lengths = object.code.len().cmp(&other.code.len());
+    lengths.then(codes.then(rules))
+}
+
+// Which of the kinds of the objects at two places stands first.
+fn place_order(nothing: &Object, sections: &Sections, one: &Place, other: &Place) -> Ordering
+    ensures { result ≡ kind_cmp (object_at nothing.now sections.now one.now)
+        (object_at nothing.now sections.now other.now) }
+{
+    let object = object_at(nothing, sections, *one);
+    kind_order(&object, &object_at(nothing, sections, *other))
+}
+
+// Puts the places of objects in the order of their kinds. Those of one kind keep their order.
+fn sort_places(
+    nothing: &Object,
+    sections: &Sections,
+    places: &mut Vec<Place>,
+) -> Result<(), AllocError>
+    ensures permutation { IsPermutation (map (object_at nothing.now sections.now) places.old.items)
+        (map (object_at nothing.now sections.now) places.new.items) }
+    ensures stable { (kind : Object) →
+        filter (same_kind kind) (map (object_at nothing.now sections.now) places.new.items)
+        ≡ filter (same_kind kind) (map (object_at nothing.now sections.now) places.old.items) }
+    ensures sorted { OnOk result
+        (AreInKinds (map (object_at nothing.now sections.now) places.new.items)) }
+{
+    places.sort_by(|one, other| place_order(nothing, sections, one, other))
+}
+
+impl<'b, 'a> Objects<'b, 'a> {
+    /// How many there are.
+    pub fn len(&self) -> usize
+        ensures { result ≡ length self.now }
+    {
+        self.places.len()
+    }
+
+    /// The object at this index.
+    pub fn object(&self, index: usize) -> Object<'a>
+        requires { index < length self.now }
+        ensures { result ≡ slice_index_or self.now index result }
+    {
+        object_at(&self.nothing, &self.sections, self.places[index])
+    }
+
+    /// Puts them in the order of their kinds. Those of one kind keep their order.
+    pub fn put_in_kinds(&mut self) -> Result<(), AllocError>
+        ensures permutation { IsPermutation self.old self.new }
+        ensures stable { (kind : Object) →
+            filter (same_kind kind) self.new ≡ filter (same_kind kind) self.old }
+        ensures sorted { OnOk result (AreInKinds self.new) }
+    {
+        sort_places(&self.nothing, &self.sections, &mut self.places)
+    }
+}
+
+// The index of the line of the pattern of which the row at an index tells, where this is that of the row before it.
+fn line_at(number: u64, rows: &Section, row: usize, line: usize) -> usize
+    ensures { entry_at number rows.now result
+        ≡ entry_or (entry_at number rows.now row) (entry_at number rows.now line) }
+{
+    match entry_at(number, rows, row) {
+        Some(_) => row,
+        None => line,
+    }
+}
+
+// How many objects are told at a place.
+fn count_at(sections: &Sections, place: Place) -> usize
+    ensures count { result ≡ length (object_before (told_at sections.now place) []) }
+    ensures few { result ≤ 1 }
+{
+    match told_at(sections, place) {
+        Some(_) => 1,
+        None => 0,
+    }
+}
+
+// How many objects the collection at this index has.
+fn count_section(sections: &Sections, collection: usize) -> usize
+    requires within { collection < length sections.now }
+    requires few { collection + 1 < 2 ^ 64 }
+    ensures { result
+        ≡ length (section_objects (collection + 1) (slice_index_or sections.now collection [])) }
+{
+    let rows = sections.section(collection);
+    let number = (collection + 1) as u64;
+    let mut count = 0;
+    let mut line = 0;
+    for row in 1..rows.len() {
+        line = line_at(number, &rows, row, line);
+        let place = Place {
+            collection,
+            line,
+            row,
+        };
+        let more = count_at(sections, place);
+        count += more;
+    }
+    count
+}
+
+// How many objects collections have, at most 2^64 - 1.
+fn count_objects(sections: &Sections) -> usize
+    ensures { result ≡ capped (length (all_objects 1 sections.now)) }
+{
+    let mut count: usize = 0;
+    for collection in 0..sections.len() {
+        count = count.saturating_add(count_section(sections, collection));
+    }
+    count
+}
+
+// Adds a place if there is an object.
+fn push_place(
+    nothing: &Object,
+    sections: &Sections,
+    place: Place,
+    places: &mut Vec<Place>,
+) -> Result<(), AllocError>
+    ensures { OnOk result (map (object_at nothing.now sections.now) places.new.items
+        ≡ map (object_at nothing.now sections.now) places.old.items
+        ++ object_before (told_at sections.now place) []) }
+{
+    if told_at(sections, place).is_some() {
+        places.push(place)?;
+    }
+    Ok(())
+}
+
+// Adds the places of the objects of the collection at this index.
+fn add_section(
+    nothing: &Object,
+    sections: &Sections,
+    collection: usize,
+    places: &mut Vec<Place>,
+) -> Result<(), AllocError>
+    requires within { collection < length sections.now }
+    requires few { collection + 1 < 2 ^ 64 }
+    ensures { OnOk result (map (object_at nothing.now sections.now) places.new.items
+        ≡ map (object_at nothing.now sections.now) places.old.items
+        ++ section_objects (collection + 1) (slice_index_or sections.now collection [])) }
+{
+    let rows = sections.section(collection);
+    let number = (collection + 1) as u64;
+    let mut line = 0;
+    for row in 1..rows.len() {
+        line = line_at(number, &rows, row, line);
+        let place = Place {
+            collection,
+            line,
+            row,
+        };
+        push_place(nothing, sections, place, places)?;
+    }
+    Ok(())
+}
+
+// An object of no pattern.
+fn no_object<'a>() -> Object<'a> {
+    let first = Entry {
+        collection: 0,
+        collection_name: &[],
+        pattern: 0,
+        name: &[],
+        outcome: Outcome::Bad { fault: 0 },
+    };
+    Object {
+        first,
+        rule: &[],
+        code: &[],
+        count: 0,
+        patterns: 0,
+    }
+}
+
+/// The objects of collections that are numbered from 1, pattern by pattern. The only error is out of memory.
+pub fn objects_in<'b, 'a>(
+    alloc: Global,
+    sections: Sections<'b, 'a>,
+) -> Result<Objects<'b, 'a>, AllocError>
+    ensures { IfOk result (λ objects. objects ≡ all_objects 1 sections.entry) }
+{
+    let nothing = no_object();
+    let mut places = Vec::with_capacity(alloc, count_objects(&sections))?;
+    for collection in 0..sections.len() {
+        add_section(&nothing, &sections, collection, &mut places)?;
+    }
+    Ok(Objects {
+        sections,
+        places,
+        nothing,
+    })
+}
