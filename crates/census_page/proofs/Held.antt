@@ -1,5 +1,5 @@
 -- Patterns that have codes, by the places of their rows.
-use Rattle.std.proofs.Common.{◌≡◌, ℕ, suc, ◌+◌, ◌<◌, ◌≤◌, Bool, true, false, not, ◌&&◌, if◌then◌else◌, Option, List, [], ◌∷◌, ◌++◌, length, get_or, take, drop, map, refl, sym, ap, ap₂, ◌∙◌, subst, arith, inl, inr, true≢false, drop-cons, append_assoc}
+use Rattle.std.proofs.Common.{◌≡◌, ℕ, suc, ◌+◌, ◌<◌, ◌≤◌, Bool, true, false, if◌then◌else◌, Option, List, [], ◌∷◌, ◌++◌, length, get_or, drop, map, refl, sym, ap, ap₂, ◌∙◌, subst, arith, inl, inr, true≢false, drop-cons, append_assoc}
 use Rattle.std.specs.Prelude.{cond, filter, Some, None as Nothing, is_some, ◌⊎◌}
 use Rattle.std.specs.Cmp.{IsStrictWeakOrder}
 use Rattle.std.specs.List.{All}
@@ -17,9 +17,9 @@ use Rattle.census_rows.specs.declared.row.Row.TheVariants.{Open, Line, Part, Eng
 use Rattle.census_rows.specs.Kinds.{said_of}
 use Rattle.census_readback.specs.Sections.{same_behind}
 use Rattle.census_kept.specs.Placed.{row_numbered}
-use Rattle.census_page.specs.Held.{AreHeld, IsHeld, held_at, holder_at, holders_at, line_after, naming_at, nobody}
+use Rattle.census_page.specs.Held.{held_at, holder_at, holders_at, line_after, naming_at, nobody}
 use Rattle.census_page.specs.Holders.{has_code, having, holder_before, holder_of, holders_from, naming_after}
-use Rattle.census_page.specs.Order.{AreInOrder, holder_key, is_before, key_cmp}
+use Rattle.census_page.specs.Order.{AreInOrder, holder_key, key_cmp}
 use Rattle.census_page.specs.declared.holder.Holder.{Holder}
 use Rattle.census_page.specs.declared.holder.Naming.{Naming}
 use Rattle.census_page.specs.declared.place.Place.{Place}

@@ -1,6 +1,6 @@
 -- The rows of a table of codes in order.
-use Rattle.std.proofs.Common.{◌≡◌, ℕ, zero, suc, Bool, true, false, Option, if◌then◌else◌, Bor, List, [], ◌∷◌, length, take, refl, ap, ◌∙◌}
-use Rattle.std.specs.Prelude.{cond, filter, Some, None as Nothing}
+use Rattle.std.proofs.Common.{◌≡◌, ℕ, List, length, refl, ap}
+use Rattle.std.specs.Prelude.{filter}
 use Rattle.std.specs.Cmp.{IsTotalOrder}
 use Rattle.std.specs.Cmp.Lexicographic.{on_texts, slice_cmp}
 use Rattle.std.specs.Ordering.{is_lt, nat_cmp}
@@ -10,7 +10,7 @@ use Rattle.census_page_pieces.specs.Kinds.{period_told}
 use Rattle.census_page.specs.Holders.{having}
 use Rattle.census_page.specs.Options.{Options}
 use Rattle.census_page.specs.Pages.{at_most, chosen, is_code}
-use Rattle.census_page.specs.Sorting.{code_in, count_in, first_name, name_in, put_by, row_cmp, rule_in, shorter_cmp, sorted_by, sorted_rows}
+use Rattle.census_page.specs.Sorting.{code_in, count_in, first_name, name_in, row_cmp, rule_in, shorter_cmp, sorted_by, sorted_rows}
 use Rattle.census_page.specs.declared.holder.Holder.{Holder}
 use Rattle.census_page.specs.declared.options.Sort.{Sort}
 use Rattle.census_page.specs.declared.options.Sort.TheVariants as by

@@ -2,11 +2,9 @@
 use Rattle.std.specs.Prelude.{ℕ, if◌then◌else◌, Option, None as Nothing, is_some, List, [], map, IsSome}
 use Rattle.std.specs.List.{All}
 use Rattle.std.specs.Option.{unwrap_or}
-use Rattle.std.specs.Ordering.{is_lt}
 use Rattle.census_rows.specs.declared.row.Row.{Row}
 use Rattle.census_kept.specs.Placed.{row_numbered}
 use Rattle.census_page.specs.Holders.{holder_of, naming_after}
-use Rattle.census_page.specs.Order.{holder_key, key_cmp}
 use Rattle.census_page.specs.declared.holder.Holder.{Holder}
 use Rattle.census_page.specs.declared.holder.Naming.{Naming}
 use Rattle.census_page.specs.declared.holder.Share.TheVariants.{Parts}

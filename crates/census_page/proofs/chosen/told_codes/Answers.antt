@@ -1,4 +1,4 @@
-use Rattle.std.proofs.Common.{◌≡◌, ◌<◌, ◌++◌, [], ◌∷◌, true, false, ap, ◌∙◌, sym, length, arith}
+use Rattle.std.proofs.Common.{◌≡◌, ◌<◌, ◌++◌, [], ◌∷◌, ap, ◌∙◌, sym, length, arith}
 use Rattle.census_kept.specs.Placed.{row_numbered}
 use Rattle.census_page.specs.Pages.{is_code}
 use Rattle.census_page.proofs.Held.{row_there}

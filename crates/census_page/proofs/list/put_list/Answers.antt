@@ -1,4 +1,4 @@
-use Rattle.std.proofs.Common.{◌≡◌, ℕ, List, MatchResult, append_assoc, codes, drop, take, ◌++◌, ◌∙◌, refl, subst, sym}
+use Rattle.std.proofs.Common.{◌≡◌, ℕ, List, MatchResult, ap, min, append_assoc, codes, drop, take, ◌++◌, ◌∙◌, refl, subst, sym}
 use Rattle.std.proofs.lemmas.Result.{err_from_is_err_and}
 use Rattle.gathered.specs.Telling.{TellsAfter, TellsFront, sheet}
 use Rattle.gathered.proofs.Telling.{tells_more}
@@ -12,15 +12,15 @@ pub returns-in_err-put_items : goal.returns-in_err-put_items
 returns-in_err-put_items g c =
     let p = err_from_is_err_and c.from_residual.result c.from_residual.ensures.1 in
     let hs = c.args.holders.now in
-    let shown = items (linking_of c.args.links.now) (take c.min.result hs) in
-    let rest = codes "</ul>" ++ more_items (linking_of c.args.links.now) (drop c.min.result hs) in
+    let shown = items (linking_of c.args.links.now) (take c.min-shown.result hs) in
+    let rest = codes "</ul>" ++ more_items (linking_of c.args.links.now) (drop c.min-shown.result hs) in
     let a = sheet c.args.block.now c.args.writer.now in
     let b = sheet c.put.new.block c.put.new.writer in
     let d = sheet c.put_items.new.block c.put_items.new.writer in
     rw p.1
-    (subst (λ t. TellsFront t a d) (sym (list-is (linking_of c.args.links.now) hs c.min.result c.min.ensures))
+    (subst (λ t. TellsFront t a d) (sym (list-is (linking_of c.args.links.now) hs c.min-shown.result (c.min-shown.ensures ∙ ap (λ (n : ℕ). min n 10) c.len.ensures)))
     (front_more (codes "<ul>") (shown ++ rest) a b d c.put.ensures
-    (front_first (shown ++ rest) shown rest b d refl (subst (λ xs. TellsFront (items (linking_of c.args.links.now) xs) b d) c.before.ensures c.in_err-put_items.ensures))))
+    (front_first (shown ++ rest) shown rest b d refl (subst (λ xs. TellsFront (items (linking_of c.args.links.now) xs) b d) c.before-2.ensures c.in_err-put_items.ensures))))
 
 joined : (shown others : List ℕ) → codes "<ul>" ++ (shown ++ (codes "</ul>" ++ others)) ≡ codes "<ul>" ++ shown ++ codes "</ul>" ++ others
 joined shown others = sym (append_assoc (codes "<ul>" ++ shown) (codes "</ul>") others ∙ append_assoc (codes "<ul>") shown (codes "</ul>" ++ others))
@@ -28,8 +28,8 @@ joined shown others = sym (append_assoc (codes "<ul>" ++ shown) (codes "</ul>") 
 pub returns : goal.returns
 returns g c =
     let hs = c.args.holders.now in
-    let shown = items (linking_of c.args.links.now) (take c.min.result hs) in
-    let others = more_items (linking_of c.args.links.now) (drop c.min.result hs) in
+    let shown = items (linking_of c.args.links.now) (take c.min-shown.result hs) in
+    let others = more_items (linking_of c.args.links.now) (drop c.min-shown.result hs) in
     let rest = codes "</ul>" ++ others in
     let a = sheet c.args.block.now c.args.writer.now in
     let b = sheet c.put.new.block c.put.new.writer in
@@ -37,8 +37,8 @@ returns g c =
     let e = sheet c.put-2.new.block c.put-2.new.writer in
     let f = sheet c.put_more.new.block c.put_more.new.writer in
     let told =
-    tells_more (codes "<ul>") shown a b d c.put.ensures (subst (λ xs. TellsAfter (items (linking_of c.args.links.now) xs) b d) c.before.ensures c.in_ok-put_items.ensures) in
+    tells_more (codes "<ul>") shown a b d c.put.ensures (subst (λ xs. TellsAfter (items (linking_of c.args.links.now) xs) b d) c.before-2.ensures c.in_ok-put_items.ensures) in
     let before = tells_more (codes "<ul>" ++ shown) (codes "</ul>") a d e told c.put-2.ensures in
     let last = subst (λ xs. MatchResult c.put_more.result (λ _. TellsAfter (more_items (linking_of c.args.links.now) xs) e f) (λ _. TellsFront (more_items (linking_of c.args.links.now) xs) e f)) c.from.ensures c.put_more.ensures in
     told_both c.put_more.result _ (codes "<ul>" ++ shown ++ codes "</ul>") others a e f
-    (list-is (linking_of c.args.links.now) hs c.min.result c.min.ensures ∙ joined shown others) before last
+    (list-is (linking_of c.args.links.now) hs c.min-shown.result (c.min-shown.ensures ∙ ap (λ (n : ℕ). min n 10) c.len.ensures) ∙ joined shown others) before last

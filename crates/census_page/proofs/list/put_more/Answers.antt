@@ -1,4 +1,4 @@
-use Rattle.std.proofs.Common.{codes, length, ◌++◌, ◌∙◌, refl, subst, sym}
+use Rattle.std.proofs.Common.{ℕ, ap, codes, length, ◌++◌, ◌∙◌, refl, subst, sym}
 use Rattle.std.proofs.lemmas.Result.{err_from_is_err_and}
 use Rattle.gathered.specs.Telling.{TellsAfter, TellsFront, sheet}
 use Rattle.gathered.proofs.Telling.{tells_more, tells_none}
@@ -28,7 +28,8 @@ returns-in_err-put_items g c =
     let a = sheet c.args.block.now c.args.writer.now in
     let b = sheet c.put.new.block c.put.new.writer in
     let d = sheet c.put_items.new.block c.put_items.new.writer in
-    let told = subst (λ t. TellsAfter t a b) (c.as_slice.ensures.value ∙ c.in_ok-front.ensures) c.put.ensures in
+    let told = subst (λ t. TellsAfter t a b) (c.as_slice.ensures.value ∙ c.in_ok-front.ensures
+    ∙ ap (λ (n : ℕ). codes "<details><summary>" ++ grouped n ++ codes " more</summary><ul>") c.len.ensures) c.put.ensures in
     rw p.1
     (subst (λ t. TellsFront t a d) (sym (more-is (linking_of c.args.links.now) c.args.holders.now (sym c.is_empty.ensures ∙ c.if-is_empty.false)))
     (front_more first (all ++ last) a b d told (front_first (all ++ last) all last b d refl c.in_err-put_items.ensures)))
@@ -42,6 +43,7 @@ returns g c =
     let b = sheet c.put.new.block c.put.new.writer in
     let d = sheet c.put_items.new.block c.put_items.new.writer in
     let e = sheet c.put-2.new.block c.put-2.new.writer in
-    let told = subst (λ t. TellsAfter t a b) (c.as_slice.ensures.value ∙ c.in_ok-front.ensures) c.put.ensures in
+    let told = subst (λ t. TellsAfter t a b) (c.as_slice.ensures.value ∙ c.in_ok-front.ensures
+    ∙ ap (λ (n : ℕ). codes "<details><summary>" ++ grouped n ++ codes " more</summary><ul>") c.len.ensures) c.put.ensures in
     subst (λ t. TellsAfter t a e) (sym (more-is (linking_of c.args.links.now) c.args.holders.now (sym c.is_empty.ensures ∙ c.if-is_empty.false)))
     (tells_more first (all ++ last) a b e told (tells_more all last b d e c.in_ok-put_items.ensures c.put-2.ensures))

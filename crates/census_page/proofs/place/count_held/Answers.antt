@@ -1,4 +1,4 @@
-use Rattle.std.proofs.Common.{◌≡◌, ◌+◌, ◌<◌, ap, ◌∙◌, sym, length, arith}
+use Rattle.std.proofs.Common.{◌≡◌, ◌<◌, ap, ◌∙◌, sym, length, arith}
 use Rattle.std.specs.Prelude.{is_some}
 use Rattle.census_page.specs.Held.{holder_at}
 use Rattle.census_page.specs.Holders.{holders_from}

@@ -7,7 +7,7 @@ use Rattle.census_page_pieces.specs.Links.{linking_of}
 use Rattle.census_page_pieces.specs.Markup.{table_begin, table_end}
 use Rattle.census_kept.specs.Placed.{rows_numbered}
 use Rattle.census_page.specs.Options.{options_of}
-use Rattle.census_page.specs.Pages.{chosen, code_rows, is_code, table_of}
+use Rattle.census_page.specs.Pages.{chosen, code_rows, table_of}
 use Rattle.census_page.proofs.Tables.{table-is, table-none}
 use Rattle.census_page.proofs.section.put_chosen.Goals as goal
 

@@ -5,7 +5,7 @@ use Rattle.gathered.proofs.Telling.{tells_more, tells_none}
 use Rattle.gathered.proofs.Fronts.{front_first, front_more}
 use Rattle.census_page_pieces.specs.Links.{linking_of}
 use Rattle.census_page_pieces.specs.Markup.{list_begin, table_end}
-use Rattle.census_page.specs.Pages.{is_stray, stray_rows}
+use Rattle.census_page.specs.Pages.{stray_rows}
 use Rattle.census_page.proofs.Tables.{list-is, list-none}
 use Rattle.census_page.proofs.section.put_stray_list.Goals as goal
 

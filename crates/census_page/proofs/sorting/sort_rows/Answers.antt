@@ -16,10 +16,10 @@ returns-in_default c =
     record {
       within = λ are. within-moved rows old c.sort_by.new.self.items c.sort_by.ensures.permutation are;
       sorted =
-        on_ok_weaker c.sort_by.result
-        (λ sorted.
-        numbers-sorted sort holders rows old c.sort_by.new.self.items (sorted _ order (always_returns_same _ _ _ (λ a r f k. search rules)))
-        (c.sort_by.ensures.stable _ order (always_returns_same _ _ _ (λ a r f k. search rules)))
-        ∙ sym (sorted-other sort holders (rows_numbered rows old) c.in_default.not-Report))
-        c.sort_by.ensures.sorted;
+          on_ok_weaker c.sort_by.result
+          (λ sorted.
+          numbers-sorted sort holders rows old c.sort_by.new.self.items (sorted _ order (always_returns_same _ _ _ (λ a r f k. search rules)))
+          (c.sort_by.ensures.stable _ order (always_returns_same _ _ _ (λ a r f k. search rules)))
+          ∙ sym (sorted-other sort holders (rows_numbered rows old) c.in_default.not-Report))
+          c.sort_by.ensures.sorted;
     }

@@ -1,4 +1,4 @@
-use Rattle.std.proofs.Common.{◌≡◌, [], ap, ◌∙◌, length, MatchResult, refl, subst, sym}
+use Rattle.std.proofs.Common.{◌≡◌, [], ap, ◌∙◌, length, MatchResult, refl, subst}
 use Rattle.std.proofs.lemmas.Result.{err_from_is_err_and}
 use Rattle.gathered.specs.Telling.{TellsAfter, TellsFront, sheet}
 use Rattle.gathered.proofs.Fronts.{front_none, told_both}
