@@ -365,6 +365,33 @@ module _ {P : Type 0} (told : P → Object) where
           ∙ sym (filter-none (same_kind kind) (map told ps) none)
       go (inr some) = kind-kept kind some.0 qs some.1 ∙ ap (map told) (stable some.0) ∙ sym (kind-kept kind some.0 ps some.1)
 
+-- ---- the order of kinds by how many objects they have
+
+turned : IsTotalOrder (λ (a b : ℕ). nat_cmp b a)
+turned = record {
+  antisymm = λ x y. nat_cmp_total.antisymm y x;
+  trans = λ x y z e f. nat_cmp_total.trans z y x f e;
+  congr = λ x y z e. nat_cmp_total.antisymm z x ∙ ap ordering_reverse (sym (nat_cmp_total.congr y x z e)) ∙ sym (nat_cmp_total.antisymm z y);
+}
+
+count_total : IsTotalOrder count_cmp
+count_total = then_total (on_total (λ (o : Object). o.count) turned) kind_total
+
+-- what a sort by how many there are gives, where each kind is held so
+module _ {P : Type 0} (told : P → Object) where
+  abbrev pub count-less : P → P → Bool
+  count-less one other = is_lt (count_cmp (told one) (told other))
+
+  pub counts-order : IsStrictWeakOrder count-less
+  counts-order = ranks_by count_total told
+
+  pub counts-sorted : (ps : List P) → IsSortedBy count-less ps → IsSorted count_cmp (map told ps)
+  counts-sorted [] up = λ k d low small. absurd (omega (arith, small))
+  counts-sorted (p ∷ ps) up = λ k d low small.
+      let all = p ∷ ps in
+      let more : k + 1 < length all = omega (arith, small, length-map all told) in
+      ap₂ (λ a b. is_lt (count_cmp a b)) (get_or-map told all (k + 1) p d more) (get_or-map told all k p d (omega (arith, more))) ∙ up k p low more
+
 -- what two sorts and what is between them give
 pub are-kinds : (objects sorted stack kinds : List Object) → IsPermutation objects sorted
     → ((kind : Object) → filter (same_kind kind) sorted ≡ filter (same_kind kind) objects) → AreInKinds sorted → reverse stack ≡ grouped sorted

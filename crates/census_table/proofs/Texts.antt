@@ -39,11 +39,9 @@ mapped-append : {X : Type 0} (format : Format) (row : X → List Member) (xs ys 
 mapped-append format row xs ys = ap (rows_text format) (map-append row xs ys) ∙ rows-append format (map row xs) (map row ys)
 
 -- some elements from a place on, and those behind them
-pub drop-cut : {X : Type 0} (xs : List X) (start count : ℕ) → drop start xs ≡ take (start + count - start) (drop start xs) ++ drop (start + count) xs
+pub drop-cut : {X : Type 0} (xs : List X) (start count : ℕ) → drop start xs ≡ take count (drop start xs) ++ drop (start + count) xs
 drop-cut xs start count =
-    let k = start + count - start in
-    sym (take-append-drop k (drop start xs))
-    ∙ ap (λ t. take k (drop start xs) ++ t) (drop-drop k start xs ∙ ap (λ n. drop n xs) (let e : start + k ≡ start + count = omega arith in e))
+    sym (take-append-drop count (drop start xs)) ∙ ap (λ t. take count (drop start xs) ++ t) (drop-drop count start xs)
 
 told-append : (told : Option Pattern) (xs ys : List Pattern) → told_before told (xs ++ ys) ≡ told_before told xs ++ ys
 told-append None xs ys = refl

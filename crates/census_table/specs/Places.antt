@@ -5,6 +5,7 @@ use Rattle.census_rows.specs.declared.row.Row.{Row}
 use Rattle.census_rows.specs.declared.row.Row.TheVariants.{End}
 use Rattle.census_table.specs.Entries.{entry_of_row}
 use Rattle.census_table.specs.Objects.{object_of_row}
+use Rattle.census_table.specs.declared.counting.Kind.{Kind}
 use Rattle.census_table.specs.declared.entry.Entry.{Entry}
 use Rattle.census_table.specs.declared.object.Object.{Object}
 use Rattle.census_table.specs.declared.objects.Place.{Place}
@@ -28,3 +29,11 @@ told_at sections place = told_in (place.collection + 1) (slice_index_or sections
 -- that object, or this one where there is none
 abbrev pub object_at : Object → List (List Row) → Place → Object
 object_at nothing sections place = unwrap_or (told_at sections place) nothing
+
+-- an object, counted so
+abbrev pub with_counts : Object → ℕ → ℕ → Object
+with_counts o count patterns = record o { count = count; patterns = patterns }
+
+-- the first object of a kind, counted
+abbrev pub kind_at : Object → List Object → Kind → Object
+kind_at nothing objects kind = with_counts (slice_index_or objects kind.first nothing) kind.count kind.patterns

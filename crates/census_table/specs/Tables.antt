@@ -39,7 +39,7 @@ is_part o = same_behind (said o.first.outcome).behind behind.Parts
 abbrev pub listing_of : Table → Listing
 listing_of (table.Patterns sections) = patterns (all_patterns 1 sections)
 listing_of (table.Parts sections) = objects part_columns (filter is_part (all_objects 1 sections))
-listing_of (table.Codes kinds) = objects code_columns kinds.items
+listing_of (table.Codes kinds) = objects code_columns kinds
 
 -- a row for each pattern, for each `part` row, or for each rule and code
 abbrev pub IsListingOf : Subject → List Row → Listing → Type 0

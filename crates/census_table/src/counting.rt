@@ -1,13 +1,47 @@
 //! The kinds of objects: each code under a rule is one.
-ghost use Rattle.std.specs.Prelude.{◌≡◌, reverse, IfOk, OnOk};
-ghost use Rattle.census_table.specs.Kinds.{AreKinds, same_kind, same_pattern};
+ghost use Rattle.std.specs.Prelude.{◌≡◌, ◌+◌, ◌<◌, ◌≤◌, drop, length, map, reverse, slice_index_or, take, IfOk, OnOk};
+ghost use Rattle.std.specs.List.Sorted.{IsPermutation, IsSorted};
+ghost use Rattle.census_table.specs.Kinds.{AreKinds, count_cmp, same_kind, same_pattern};
 ghost use Rattle.census_table.specs.Grouping.{alone, before, grouped, joined, step_of, with_told};
+ghost use Rattle.census_table.specs.Places.{kind_at};
 
 use crate::entry::Entry;
 use crate::object::Object;
-use crate::objects::Objects;
+use crate::objects::{Objects, kind_order, no_object};
 use std::alloc::{AllocError, Global};
-use std::cmp::Reverse;
+use std::cmp::Ordering;
+use std::marker::Model;
+
+/// A kind of objects, in 24 bytes.
+#[derive(Clone, Copy)]
+pub struct Kind {
+    /// The index of its first object.
+    pub first: usize,
+    /// How many there are, at most 2^64 - 1.
+    pub count: u64,
+    /// Of how many patterns it is told, at most 2^64 - 1.
+    pub patterns: u64,
+}
+
+/// Kinds of objects, in an order of their own, each seen as the first of its objects, counted.
+#[derive(Drop)]
+pub struct Kinds<'b, 'a> {
+    objects: Objects<'b, 'a>,
+    kinds: Vec<Kind>,
+    // What stands where there is no object; no kind has it.
+    nothing: Object<'a>,
+}
+
+impl<'b, 'a> Model for Kinds<'b, 'a> {
+    ghost use Rattle.std.specs.Prelude.{List, map};
+    ghost use Rattle.census_table.specs.declared.object.Object.{Object};
+
+    ghost Value = { List Object };
+
+    ghost use Rattle.census_table.specs.Places.{kind_at};
+
+    ghost view = { λ s. map (kind_at s.nothing s.objects) s.kinds.items };
+}
 
 // Whether two objects have the same code under the same rule.
 fn same_kind(object: &Object, other: &Object) -> bool
@@ -60,45 +94,138 @@ fn joined<'a>(object: &Object<'a>, kind: &Object<'a>) -> Object<'a>
     before(object, kind.count, patterns)
 }
 
-// Counts one more object, which stands before those that were counted, from the last kind on.
-fn take_in<'a>(kinds: &mut Vec<Object<'a>>, object: &Object<'a>) -> Result<(), AllocError>
-    ensures { OnOk result
-        (reverse kinds.new.items ≡ with_told object.now (reverse kinds.old.items)) }
+// A kind of which this is the first object, at this index, counted.
+fn kind_of(index: usize, object: &Object) -> Kind
+    ensures first { result.first ≡ index }
+    ensures count { result.count ≡ object.now.count }
+    ensures patterns { result.patterns ≡ object.now.patterns }
 {
-    match kinds.pop() {
-        Some(kind) if same_kind(object, &kind) => kinds.push(joined(object, &kind))?,
-        Some(kind) => {
-            kinds.push(kind)?;
-            kinds.push(alone(object))?;
-        }
-        None => kinds.push(alone(object))?,
+    Kind {
+        first: index,
+        count: object.count,
+        patterns: object.patterns,
     }
+}
+
+// The first object of a kind, counted.
+fn kind_at<'a>(nothing: &Object<'a>, objects: &Objects<'_, 'a>, kind: Kind) -> Object<'a>
+    ensures { result ≡ kind_at nothing.now objects.now kind }
+{
+    let object = objects.object_or(nothing, kind.first);
+    Object {
+        count: kind.count,
+        patterns: kind.patterns,
+        ..object
+    }
+}
+
+// Counts the object at an index, which stands before those that were counted, from the last kind on.
+fn take_in(
+    nothing: &Object,
+    objects: &Objects,
+    kinds: &mut Vec<Kind>,
+    index: usize,
+) -> Result<(), AllocError>
+    ensures { OnOk result (reverse (map (kind_at nothing.now objects.now) kinds.new.items)
+        ≡ with_told (slice_index_or objects.now index nothing.now)
+        (reverse (map (kind_at nothing.now objects.now) kinds.old.items))) }
+{
+    let object = objects.object_or(nothing, index);
+    if let Some(kind) = kinds.pop() {
+        let last = kind_at(nothing, objects, kind);
+        if same_kind(&object, &last) {
+            kinds.push(kind_of(index, &joined(&object, &last)))?;
+            return Ok(());
+        }
+        kinds.push(kind)?;
+    }
+    kinds.push(kind_of(index, &alone(&object)))?;
     Ok(())
 }
 
 // The kinds of objects that stand in their order, from the last on.
-fn grouped<'a>(alloc: Global, objects: &Objects<'_, 'a>) -> Result<Vec<Object<'a>>, AllocError>
-    ensures { IfOk result (λ kinds. reverse kinds.items ≡ grouped objects.now) }
+fn grouped(alloc: Global, nothing: &Object, objects: &Objects) -> Result<Vec<Kind>, AllocError>
+    ensures { IfOk result (λ kinds.
+        reverse (map (kind_at nothing.now objects.now) kinds.items) ≡ grouped objects.now) }
 {
     let mut kinds = Vec::new(alloc);
     let mut left = objects.len();
     while left > 0 {
         left -= 1;
-        take_in(&mut kinds, &objects.object(left))?;
+        take_in(nothing, objects, &mut kinds, left)?;
     }
     Ok(kinds)
 }
 
+// Which of two kinds stands first: the one that has more objects, and then the first in the order of kinds.
+fn count_order(nothing: &Object, objects: &Objects, one: &Kind, other: &Kind) -> Ordering
+    ensures { result ≡ count_cmp (kind_at nothing.now objects.now one.now)
+        (kind_at nothing.now objects.now other.now) }
+{
+    let object = kind_at(nothing, objects, *one);
+    let kinds = kind_order(&object, &kind_at(nothing, objects, *other));
+    other.count.cmp(&one.count).then(kinds)
+}
+
+// Puts kinds in their order: by falling count and then in the order of kinds.
+fn sort_kinds(nothing: &Object, objects: &Objects, kinds: &mut Vec<Kind>) -> Result<(), AllocError>
+    ensures permutation { IsPermutation (map (kind_at nothing.now objects.now) kinds.old.items)
+        (map (kind_at nothing.now objects.now) kinds.new.items) }
+    ensures sorted { OnOk result
+        (IsSorted count_cmp (map (kind_at nothing.now objects.now) kinds.new.items)) }
+{
+    kinds.sort_by(|one, other| count_order(nothing, objects, one, other))
+}
+
+impl<'b, 'a> Kinds<'b, 'a> {
+    /// How many there are.
+    pub fn len(&self) -> usize
+        ensures { result ≡ length self.now }
+    {
+        self.kinds.len()
+    }
+
+    // The first object of the kind at this index, counted.
+    fn kind(&self, index: usize) -> Object<'a>
+        requires { index < length self.now }
+        ensures { result ≡ slice_index_or self.now index result }
+    {
+        kind_at(&self.nothing, &self.objects, self.kinds[index])
+    }
+
+    /// So many of them, from this index on. The only error is out of memory.
+    pub fn some(
+        &self,
+        alloc: Global,
+        start: usize,
+        count: usize,
+    ) -> Result<Vec<Object<'a>>, AllocError>
+        requires { start + count ≤ length self.now }
+        ensures { IfOk result (λ some. some.items ≡ take count (drop start self.now)) }
+    {
+        let mut some = Vec::with_capacity(alloc, count)?;
+        for offset in 0..count.min(self.len() - start) {
+            some.push(self.kind(start + offset))?;
+        }
+        Ok(some)
+    }
+}
+
 /// The kinds of objects, each with how many there are and of how many patterns it is told, by falling count and then in
 /// the order of kinds. The only error is out of memory.
-pub fn kinds<'a>(alloc: Global, mut objects: Objects<'_, 'a>) -> Result<Vec<Object<'a>>, AllocError>
-    ensures { IfOk result (λ kinds. AreKinds objects.entry kinds.items) }
+pub fn kinds_of<'b, 'a>(
+    alloc: Global,
+    mut objects: Objects<'b, 'a>,
+) -> Result<Kinds<'b, 'a>, AllocError>
+    ensures { IfOk result (λ kinds. AreKinds objects.entry kinds) }
 {
     objects.put_in_kinds()?;
-    let mut kinds = grouped(alloc, &objects)?;
-    kinds.sort_by_key(|kind| (
-        Reverse(kind.count),
-        (kind.code.len(), (kind.code, kind.rule)),
-    ))?;
-    Ok(kinds)
+    let nothing = no_object();
+    let mut kinds = grouped(alloc, &nothing, &objects)?;
+    sort_kinds(&nothing, &objects, &mut kinds)?;
+    Ok(Kinds {
+        objects,
+        kinds,
+        nothing,
+    })
 }

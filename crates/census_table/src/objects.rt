@@ -88,8 +88,8 @@ fn object_at<'a>(nothing: &Object<'a>, sections: &Sections<'_, 'a>, place: Place
     told_at(sections, place).unwrap_or(*nothing)
 }
 
-// Which of the kinds of two objects stands first.
-fn kind_order(object: &Object, other: &Object) -> Ordering
+/// Which of the kinds of two objects stands first.
+pub fn kind_order(object: &Object, other: &Object) -> Ordering
     ensures { result ≡ kind_cmp object.now other.now }
 {
     let codes = object.code.cmp(other.code);
@@ -138,6 +138,17 @@ impl<'b, 'a> Objects<'b, 'a> {
         ensures { result ≡ slice_index_or self.now index result }
     {
         object_at(&self.nothing, &self.sections, self.places[index])
+    }
+
+    /// The object at this index, or another one where there is none.
+    pub fn object_or(&self, nothing: &Object<'a>, index: usize) -> Object<'a>
+        ensures { result ≡ slice_index_or self.now index nothing.now }
+    {
+        if index < self.len() {
+            self.object(index)
+        } else {
+            *nothing
+        }
     }
 
     /// Puts them in the order of their kinds. Those of one kind keep their order.
@@ -253,8 +264,8 @@ fn add_section(
     Ok(())
 }
 
-// An object of no pattern.
-fn no_object<'a>() -> Object<'a> {
+/// An object of no pattern.
+pub fn no_object<'a>() -> Object<'a> {
     let first = Entry {
         collection: 0,
         collection_name: &[],

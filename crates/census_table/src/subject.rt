@@ -7,8 +7,7 @@ ghost use Rattle.census_table.specs.ObjectColumns.{there, title_of};
 ghost use Rattle.census_table.specs.Tables.{IsListingOf, listing_of, names_in};
 
 use crate::column::Column;
-use crate::counting::kinds;
-use crate::object::Object;
+use crate::counting::{Kinds, kinds_of};
 use crate::object_column::ObjectColumn;
 use crate::objects::objects_in;
 use census_kept::Rows;
@@ -36,7 +35,7 @@ pub enum Table<'b, 'a> {
     /// The parts of such patterns.
     Parts(Sections<'b, 'a>),
     /// The kinds of objects.
-    Codes(Vec<Object<'a>>),
+    Codes(Kinds<'b, 'a>),
 }
 
 /// What stands in the table of reports that stand one after another. The only error is out of memory.
@@ -52,7 +51,7 @@ pub fn table_of<'b, 'a>(
     match subject {
         Subject::Patterns => Ok(Table::Patterns(sections)),
         Subject::Parts => Ok(Table::Parts(sections)),
-        Subject::Codes => Ok(Table::Codes(kinds(alloc, objects_in(alloc, sections)?)?)),
+        Subject::Codes => Ok(Table::Codes(kinds_of(alloc, objects_in(alloc, sections)?)?)),
     }
 }
 

@@ -5,7 +5,7 @@ ghost use Rattle.gathered.specs.Telling.{TellsAfter, TellsFront, sheet};
 ghost use Rattle.census_rows.specs.declared.row.Row.{Row};
 ghost use Rattle.census_readback.specs.Shapes.{AreReports, any_outcome, lines_that};
 ghost use Rattle.census_table.specs.Columns.{columns, entry_row, pattern_row};
-ghost use Rattle.census_table.specs.ObjectColumns.{object_row, part_columns};
+ghost use Rattle.census_table.specs.ObjectColumns.{code_columns, object_row, part_columns};
 ghost use Rattle.census_table.specs.Objects.{objects_under};
 ghost use Rattle.census_table.specs.Patterns.{first_patterns, patterns_of, patterns_under};
 ghost use Rattle.census_table.specs.Tables.{all_members, head_text, is_part, listing_of, listing_text, members_in, rows_text, section_members, table_text};
@@ -15,6 +15,7 @@ ghost use Rattle.census_table.specs.declared.table.Format.TheVariants.{Csv};
 use crate::cell::Field;
 use crate::column::{Column, entry_row};
 use crate::comma::{header, records};
+use crate::counting::Kinds;
 use crate::entry::{Entry, entries_under};
 use crate::json_lines::lines;
 use crate::object::Object;
@@ -226,35 +227,36 @@ fn put_some<W: Write>(
     put_rows(alloc, format, rows.as_slice(), block, writer)
 }
 
-// Tells the rows of these objects, some at a time.
-fn put_objects<W: Write>(
+// Tells the rows of kinds of objects, some at a time.
+fn put_kinds<W: Write>(
     alloc: Global,
     format: Format,
     names: Option<&Names>,
-    columns: &[ObjectColumn],
-    objects: &[Object],
+    kinds: &Kinds,
     block: &mut Block,
     writer: &mut Output<W>,
 ) -> Result<(), AllocError>
     ensures { MatchResult result
-        (λ _. TellsAfter (rows_text format (map (object_row (option_copied names.entry) columns.now) objects.now))
+        (λ _. TellsAfter (rows_text format (map (object_row (option_copied names.entry) code_columns) kinds.now))
         (sheet block.old writer.old) (sheet block.new writer.new))
-        (λ _. TellsFront (rows_text format (map (object_row (option_copied names.entry) columns.now) objects.now))
+        (λ _. TellsFront (rows_text format (map (object_row (option_copied names.entry) code_columns) kinds.now))
         (sheet block.old writer.old) (sheet block.new writer.new)) }
 {
+    let columns = &ObjectColumn::OF_CODES;
     let mut start = 0;
-    while start < objects.len() {
-        let end = start + (objects.len() - start).min(SOME);
+    while start < kinds.len() {
+        let count = (kinds.len() - start).min(SOME);
+        let some = kinds.some(alloc, start, count)?;
         put_some(
             alloc,
             format,
             names,
             columns,
-            &objects[start..end],
+            some.as_slice(),
             block,
             writer,
         )?;
-        start = end;
+        start += count;
     }
     Ok(())
 }
@@ -422,15 +424,7 @@ fn put_body<W: Write>(
             block,
             writer,
         ),
-        Table::Codes(kinds) => put_objects(
-            alloc,
-            format,
-            names,
-            &ObjectColumn::OF_CODES,
-            kinds.as_slice(),
-            block,
-            writer,
-        ),
+        Table::Codes(kinds) => put_kinds(alloc, format, names, kinds, block, writer),
     }
 }
 

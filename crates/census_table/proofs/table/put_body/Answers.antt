@@ -1,7 +1,6 @@
-use Rattle.std.proofs.Common.{◌∙◌, MatchResult, ap, map, subst, sym}
+use Rattle.std.proofs.Common.{◌∙◌, MatchResult, ap, subst, sym}
 use Rattle.std.specs.Option.{option_copied}
 use Rattle.gathered.specs.Telling.{TellsAfter, TellsFront, sheet}
-use Rattle.census_table.specs.ObjectColumns.{code_columns, object_row}
 use Rattle.census_table.specs.Tables.{listing_of, members_in, rows_text}
 use Rattle.census_table.proofs.Texts.{parts-members, patterns-members}
 use Rattle.census_table.proofs.table.put_body.Goals as goal
@@ -31,7 +30,7 @@ returns-in-Codes g c =
     let format = c.args.format in
     let names = option_copied c.args.names in
     let before = sheet c.args.block.now c.args.writer.now in
-    let after = sheet c.put_objects.new.block c.put_objects.new.writer in
-    subst (λ rows. MatchResult c.put_objects.result (λ _. TellsAfter (rows_text format rows) before after) (λ _. TellsFront (rows_text format rows) before after))
-    (ap (map (object_row names code_columns)) c.as_slice.ensures.value ∙ sym (ap (λ table. members_in format names (listing_of table)) c.in-Codes.is))
-    c.put_objects.ensures
+    let after = sheet c.put_kinds.new.block c.put_kinds.new.writer in
+    subst (λ rows. MatchResult c.put_kinds.result (λ _. TellsAfter (rows_text format rows) before after) (λ _. TellsFront (rows_text format rows) before after))
+    (sym (ap (λ table. members_in format names (listing_of table)) c.in-Codes.is))
+    c.put_kinds.ensures
