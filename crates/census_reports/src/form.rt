@@ -137,8 +137,8 @@ pub fn write_same<O: Write>(
 ) -> Result<bool, ReportsError>
     requires { AreReports rows }
     ensures { MatchResult result
-        (λ found. WritesRows (Form.Same json) found rows output.old.stream output.new.stream)
-        (λ error. FailsRows error (Form.Same json) rows
+        (λ found. WritesRows (Form.Same json) found rows.entry output.old.stream output.new.stream)
+        (λ error. FailsRows error (Form.Same json) rows.entry
         output.old.stream output.new.stream) }
 {
     let mut block = Block::new(alloc);
