@@ -115,7 +115,7 @@ fn rows_come_back_as_they_were_put_in(rt: HostRuntime) -> Result<(), AllocError>
     assert!(rt; rows.len() == 260);
     let once = lines_of(rt.alloc(), &each)?;
     let all = lines_kept(rt.alloc(), &rows)?;
-    for part in all.as_slice().chunks(once.len()) {
+    for part in all.as_slice().chunks(once.len().max(1)) {
         assert!(rt; part == once.as_slice());
     }
     Ok(())

@@ -1,4 +1,6 @@
 //! Rows as a text.
+ghost use Rattle.std.specs.Prelude.{IfOk};
+ghost use Rattle.census_readback.specs.Shapes.{AreReports};
 
 use census_kept::Rows;
 use census_readback::read_report;
@@ -36,7 +38,9 @@ pub fn lines_kept(alloc: Global, rows: &Rows) -> Result<Vec<u8>, AllocError> {
 }
 
 // The rows of a report; an error where it is none.
-pub fn rows_read(alloc: Global, text: &[u8]) -> Result<Rows, AllocError> {
+pub fn rows_read(alloc: Global, text: &[u8]) -> Result<Rows, AllocError>
+    ensures { IfOk result (λ rows. AreReports rows) }
+{
     let mut rows = Rows::new(alloc);
     match read_report(alloc, text, &mut rows)? {
         Ok(()) => Ok(rows),
