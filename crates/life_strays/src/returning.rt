@@ -1,14 +1,17 @@
 //! Whether a move leads an island to later cells, and what hangs on it back to the first.
-ghost use Rattle.std.specs.Prelude.{◌≡◌, ◌<◌, ◌≤◌, false, IfOk, IfSome, IsTrue, OnOk, true};
+ghost use Rattle.std.specs.Prelude.{◌≡◌, ◌<◌, ◌≤◌, false, IfOk, IfSome, IsTrue, OnOk, T, true};
 ghost use Rattle.std.specs.Bool.{OnTrue};
 ghost use Rattle.life_model.specs.Cell.{opposite};
+ghost use Rattle.life_model.specs.Generation as generation;
+ghost use Rattle.life_model.specs.Generation.{contains, is_rising};
+ghost use Rattle.life_cells.specs.Limits.{IsPlace};
 ghost use Rattle.life_plane.specs.Offsets.{IsMovedInto, IsMoveWithin};
 ghost use Rattle.life_strays.specs.Strays.{IsNoReturn, LacksSome};
 
 use crate::heirs::is_place;
 use crate::trail::Trail;
 use life_cells::CellList;
-use life_plane::{AGE_LIMIT, Plane, move_between};
+use life_plane::{AGE_LIMIT, Plane, is_live, move_between};
 use std::alloc::AllocError;
 
 /// Whether a move goes no further to any side than this.
@@ -67,6 +70,36 @@ fn may_return<P: Plane>(
     may_lead(start, heirs, back(by))
 }
 
+/// Whether a move may lead a set to live cells of a later plane, as `may_return` tells. It is looked first whether it leads one
+/// cell of the set to one of these, which are the later plane's, in order: the cursor says where one was found last.
+fn may_return_by<P: Plane>(
+    start: &P,
+    later: &P,
+    cells: &[(i32, i32)],
+    cursor: &mut usize,
+    set: &CellList,
+    heirs: &CellList,
+    number: u32,
+    one: (i32, i32),
+    by: (i32, i32),
+) -> bool
+    requires number { number ≤ AGE_LIMIT }
+    requires rising { T (is_rising cells.now) }
+    requires cells { cells.now ≡ generation.cells (P.members later.now) }
+    requires placed { IsPlace one }
+    requires one { contains set.now one ≡ true }
+    ensures { result ≡ false →
+        IsNoReturn number (P.members start.now) (P.members later.now) set.now heirs.now by }
+{
+    if !is_move_within(by, number) {
+        return false;
+    }
+    if !is_live(cells, cursor, (one.0 + by.0, one.1 + by.1)) {
+        return false;
+    }
+    may_return(start, later, set, heirs, number, by)
+}
+
 /// Whether some move may lead a set to live cells of a later plane, and back its heirs to those of the first. The cells are
 /// those of the later plane.
 fn some_may_return<P: Plane>(
@@ -87,8 +120,22 @@ fn some_may_return<P: Plane>(
         return true;
     }
     let first = all[0];
-    for cell in cells.as_slice() {
-        if may_return(start, later, set, heirs, number, move_between(first, *cell)) {
+    let last = all[all.len() - 1];
+    let listed = cells.as_slice();
+    let mut cursor = 0;
+    for cell in listed {
+        let by = move_between(first, *cell);
+        if may_return_by(
+            start,
+            later,
+            listed,
+            &mut cursor,
+            set,
+            heirs,
+            number,
+            last,
+            by,
+        ) {
             return true;
         }
     }

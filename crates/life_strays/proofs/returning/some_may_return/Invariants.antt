@@ -7,4 +7,4 @@ abbrev pub invariant-loop-cell : goal.invariant-loop-cell
 invariant-loop-cell g l =
     (k : ℕ) → k < l.cell-index →
     IsNoReturn l.number (g.P.Plane.members l.start) (g.P.Plane.members l.later) l.set l.heirs
-    (plus (get_or l.cell-items k (pos 0, pos 0)) (opposite l.first))
+    (plus (get_or l.listed k (pos 0, pos 0)) (opposite l.first))
