@@ -8,8 +8,8 @@
 //!
 //! An engine comes again too, and what is neither in an engine nor leaves one falls apart, so that after the horizon its
 //! islands are parts of ash. So an island that comes back nowhere within the horizon, and that becomes one which does so
-//! neither, belongs to nothing that a growth is made of. This costs little more than to step the pattern and to look for a few
-//! sets in it, since nothing else of it is followed.
+//! neither, belongs to nothing that a growth is made of. Nothing else is followed: the rest of the pattern is stepped, and a few
+//! sets are looked for in it.
 //!
 //! Tested in `tests_growth`.
 #![tactic(auto)]

@@ -34,8 +34,8 @@ const SHORT: u32 = 16;
 
 /// Whether it is seen that a plane's cells are no ash within the bound. Each time that an island of theirs comes back, moved,
 /// some of what hangs on it then is, moved back, not among these cells. That need not be so in all generations: only in those
-/// of the later half of the bound, or in those from twice the bound to three times. One island is followed first, which mostly
-/// tells it of disorder, and then some more.
+/// of the later half of the bound, or in those from twice the bound to three times. One island is followed first, and then
+/// some more.
 pub fn are_no_ash<P: Plane>(
     alloc: Global,
     plane: &P,
@@ -175,8 +175,8 @@ fn some_never_grow<P: Plane>(
     Ok(true)
 }
 
-/// Whether one island shows that a plane's cells do not grow within the bound, nor are ash. That costs little more than to step
-/// them to three times the bound.
+/// Whether one island shows that a plane's cells do not grow within the bound, nor are ash. One island alone is followed, and
+/// the rest is stepped.
 pub fn one_never_grows<P: Plane>(
     alloc: Global,
     plane: &P,
