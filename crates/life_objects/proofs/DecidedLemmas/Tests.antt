@@ -79,11 +79,30 @@ small_abs : (x : ℤ) (r : ℕ) → neg_ℤ (pos r) ≤ℤ x → x ≤ℤ pos r 
 small_abs (pos n) r h k = omega (arith, ints)
 small_abs (negsuc n) r h k = omega (arith, ints)
 
+-- the test whether two cells are at most r apart, across and along
+abbrev pub within : ℕ → Cell → Cell → Bool
+within r c d = nat_le (unsigned_abs (c.0 -ℤ d.0)) r && nat_le (unsigned_abs (c.1 -ℤ d.1)) r
+
+pub within_tells : (r : ℕ) (c d : Cell) → within r c d ≡ true →
+    ((neg_ℤ (pos r) ≤ℤ (c.0 -ℤ d.0)) × ((c.0 -ℤ d.0) ≤ℤ pos r)) ×
+    ((neg_ℤ (pos r) ≤ℤ (c.1 -ℤ d.1)) × ((c.1 -ℤ d.1) ≤ℤ pos r))
+within_tells r c d h =
+    let parts = both (nat_le (unsigned_abs (c.0 -ℤ d.0)) r) (nat_le (unsigned_abs (c.1 -ℤ d.1)) r) h in
+    (abs_small (c.0 -ℤ d.0) r (leb-true (unsigned_abs (c.0 -ℤ d.0)) r parts.0), abs_small (c.1 -ℤ d.1) r (leb-true (unsigned_abs (c.1 -ℤ d.1)) r parts.1))
+
+pub within_by : (r : ℕ) (c d : Cell) →
+    neg_ℤ (pos r) ≤ℤ (c.0 -ℤ d.0) → (c.0 -ℤ d.0) ≤ℤ pos r → neg_ℤ (pos r) ≤ℤ (c.1 -ℤ d.1) → (c.1 -ℤ d.1) ≤ℤ pos r →
+    within r c d ≡ true
+within_by r c d left right above below =
+    and_from (nat_le (unsigned_abs (c.0 -ℤ d.0)) r) (nat_le (unsigned_abs (c.1 -ℤ d.1)) r)
+    (le-leb (unsigned_abs (c.0 -ℤ d.0)) r (small_abs (c.0 -ℤ d.0) r left right))
+    (le-leb (unsigned_abs (c.1 -ℤ d.1)) r (small_abs (c.1 -ℤ d.1) r above below))
+
 near_by_test : (c d : Cell) → are_near c d ≡ true → AreNear c d
 near_by_test c d h =
-    let parts = both (nat_le (unsigned_abs (c.0 -ℤ d.0)) 2) (nat_le (unsigned_abs (c.1 -ℤ d.1)) 2) h in
-    let across = abs_small (c.0 -ℤ d.0) 2 (leb-true (unsigned_abs (c.0 -ℤ d.0)) 2 parts.0) in
-    let along = abs_small (c.1 -ℤ d.1) 2 (leb-true (unsigned_abs (c.1 -ℤ d.1)) 2 parts.1) in
+    let small = within_tells 2 c d h in
+    let across = small.0 in
+    let along = small.1 in
     record {
       left = omega (arith, ints);
       right = omega (arith, ints);
@@ -93,9 +112,7 @@ near_by_test c d h =
 
 test_by_near : (c d : Cell) → AreNear c d → are_near c d ≡ true
 test_by_near c d h =
-    and_from (nat_le (unsigned_abs (c.0 -ℤ d.0)) 2) (nat_le (unsigned_abs (c.1 -ℤ d.1)) 2)
-    (le-leb (unsigned_abs (c.0 -ℤ d.0)) 2 (small_abs (c.0 -ℤ d.0) 2 (omega (arith, ints)) (omega (arith, ints))))
-    (le-leb (unsigned_abs (c.1 -ℤ d.1)) 2 (small_abs (c.1 -ℤ d.1) 2 (omega (arith, ints)) (omega (arith, ints))))
+    within_by 2 c d (omega (arith, ints)) (omega (arith, ints)) (omega (arith, ints)) (omega (arith, ints))
 
 passing_member : (p : Cell → Bool) (P : Generation) → list_any p (cells P) ≡ true →
     (c : Cell) × (contains P c ≡ true) × (p c ≡ true)

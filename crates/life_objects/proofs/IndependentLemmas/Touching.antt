@@ -1,28 +1,22 @@
 -- What the tests of cells and sets that touch tell.
-use Rattle.std.proofs.Common.{◌≡◌, ℕ, ◌≤◌, ℤ, pos, negsuc, neg_ℤ, ◌-ℤ◌, ◌≤ℤ◌, Bool, true, not, List, get_or, sym, subst, ◌∙◌, arith}
-use Rattle.std.specs.Prelude.{nat_le, unsigned_abs}
+use Rattle.std.proofs.Common.{◌≡◌, Bool, true, not, List, get_or, sym, subst, ◌∙◌, arith}
 use Rattle.std.specs.List.{AllPairs, Contains, list_any}
 use Rattle.std.proofs.lemmas.Int.{ints}
-use Rattle.std.proofs.lemmas.Bool.{and_from, and_parts, leb-true, le-leb}
 use Rattle.life_model.specs.Cell.{Cell, IsNear, same_cell}
 use Rattle.life_model.specs.Generation.{Generation, cells, contains}
 use Rattle.life_model.proofs.Cells.{same_cell-is}
 use Rattle.life_model.proofs.Generations.{contains-cells}
 use Rattle.life_model.proofs.Moves.{same_cell_itself}
-use Rattle.life_objects.proofs.DecidedLemmas.Tests.{abs_small, each_pair_by, each_pair_tells, not_true, true_not}
+use Rattle.life_objects.proofs.DecidedLemmas.Tests.{each_pair_by, each_pair_tells, not_true, true_not, within_by, within_tells}
 use Rattle.life_objects.specs.Parts.Splittings.{AreUntouching}
 use Rattle.life_objects.specs.Independent.Groupings.{are_untouching, touch, touches}
 use Rattle.life_objects.proofs.IndependentLemmas.Found.{any_passes, some_passes}
 
-small_abs : (x : ℤ) (r : ℕ) → neg_ℤ (pos r) ≤ℤ x → x ≤ℤ pos r → unsigned_abs x ≤ r
-small_abs (pos n) r h k = omega (arith, ints)
-small_abs (negsuc n) r h k = omega (arith, ints)
-
 near_by_touch : (c d : Cell) → touch c d ≡ true → IsNear c d
 near_by_touch c d h =
-    let parts = and_parts (nat_le (unsigned_abs (c.0 -ℤ d.0)) 1) (nat_le (unsigned_abs (c.1 -ℤ d.1)) 1) h in
-    let across = abs_small (c.0 -ℤ d.0) 1 (leb-true (unsigned_abs (c.0 -ℤ d.0)) 1 parts.0) in
-    let along = abs_small (c.1 -ℤ d.1) 1 (leb-true (unsigned_abs (c.1 -ℤ d.1)) 1 parts.1) in
+    let small = within_tells 1 c d h in
+    let across = small.0 in
+    let along = small.1 in
     record {
       left = omega (arith, ints);
       right = omega (arith, ints);
@@ -32,9 +26,7 @@ near_by_touch c d h =
 
 touch_by_near : (c d : Cell) → IsNear c d → touch c d ≡ true
 touch_by_near c d h =
-    and_from (nat_le (unsigned_abs (c.0 -ℤ d.0)) 1) (nat_le (unsigned_abs (c.1 -ℤ d.1)) 1)
-    (le-leb (unsigned_abs (c.0 -ℤ d.0)) 1 (small_abs (c.0 -ℤ d.0) 1 (omega (arith, ints)) (omega (arith, ints))))
-    (le-leb (unsigned_abs (c.1 -ℤ d.1)) 1 (small_abs (c.1 -ℤ d.1) 1 (omega (arith, ints)) (omega (arith, ints))))
+    within_by 1 c d (omega (arith, ints)) (omega (arith, ints)) (omega (arith, ints)) (omega (arith, ints))
 
 module _ (H : Generation) where
   pub listed_cell : (c : Cell) → Contains (cells H) c → contains H c ≡ true
