@@ -1,64 +1,33 @@
 -- The texts of grids are those of the sets whose cells fill them.
-use Rattle.std.proofs.Common.{◌≡◌, ℕ, zero, suc, ◌+◌, ◌-◌, ◌*◌, ◌/◌, ◌%◌, ◌^◌, ◌<◌, ◌≤◌, ℤ, pos, neg_ℤ, ◌+ℤ◌, ◌-ℤ◌, ◌≤ℤ◌, Bool, true, false, ◌||◌, T, List, [], ◌∷◌, map, length, get_or, drop, reverse, if◌then◌else◌, sym, refl, ap, subst, ◌∙◌, arith, add-zero, mod-lt, div-add-mod'}
+use Rattle.std.proofs.Common.{◌≡◌, ℕ, zero, suc, ◌+◌, ◌-◌, ◌*◌, ◌/◌, ◌%◌, ◌<◌, ◌≤◌, ℤ, pos, neg_ℤ, ◌+ℤ◌, ◌-ℤ◌, ◌≤ℤ◌, Bool, true, false, T, List, [], ◌∷◌, map, length, get_or, drop, reverse, sym, refl, ap, subst, ◌∙◌, arith, mod-lt, div-add-mod'}
 use Rattle.std.specs.Prelude.{All, nat_abs}
-use Rattle.std.specs.List.{list_any, range_with_len, sum_by, join_with_byte}
-use Rattle.std.specs.Ordering.{is_lt, is_eq}
-use Rattle.std.specs.declared.cmp.Ordering.{Ordering}
-use Rattle.std.specs.declared.cmp.Ordering.TheVariants.{Less, Equal, Greater}
+use Rattle.std.specs.List.{list_any, range_with_len, join_with_byte}
 use Rattle.std.proofs.lemmas.Int.{ints}
 use Rattle.std.proofs.lemmas.Grind.{same_number_lists, get_or_default_zero}
 use Rattle.std.proofs.lemmas.List.{get_or-take, get_or-drop, get_or-reverse, length-reverse, length-take, length-drop}
 use Rattle.std.proofs.lemmas.List.Elements.{All-from_recursion}
 use Rattle.std.proofs.lemmas.List.FromFn.{get_or-map-range_with_len, length-map-range_with_len}
-use Rattle.std.proofs.lemmas.List.Sums.{sum_by-cons}
 use Rattle.std.proofs.Math.Nat.{mul-le-mul_right, div-lt_iff_lt-mul}
-use Rattle.life_model.specs.Cell.{Cell, cell_cmp, same_cell, plus, opposite}
+use Rattle.life_model.specs.Cell.{Cell, same_cell, plus, opposite}
 use Rattle.life_model.specs.Generation.{Generation, contains, from_list, below_all, is_rising}
 use Rattle.life_model.specs.Symmetry.{translate_of, normal, Orientation, FlipX, turn, image_under}
 use Rattle.life_model.specs.Box.{height}
-use Rattle.life_model.proofs.Cells.{same_cell-is, plus-opposite, plus-opposite_first}
+use Rattle.life_model.proofs.Cells.{plus-opposite, plus-opposite_first}
 use Rattle.life_model.proofs.Generations.{contains-from_list}
 use Rattle.life_model.proofs.Symmetries.{AreInverse, same_cell-forth, undone, turn_keeps, turn-undone, contains-moved, contains-turned}
 use Rattle.life_model.proofs.Tests.{list_any-map, list_any-alike}
 use Rattle.life_cells.proofs.Sorted.{first_holds, second_holds}
-use Rattle.life_shape.specs.Dots.{weight, weights}
+use Rattle.life_shape.specs.Dots.{weights}
 use Rattle.life_shape.specs.Wechsler.{column_value, columns_text, strip_text, strips_text, body}
 use Rattle.life_shape.proofs.Boxes.{contains-normal}
 use Rattle.life_shape.proofs.Members.{all_from}
-use Rattle.life_shape.proofs.Weights.{live_value, live_value-lt}
+use Rattle.life_shape.proofs.Weights.{among, live_value, live_value-lt, none_below, one_cell_more}
 use Rattle.life_lengths.specs.declared.frame.Frame.{Frame}
 use Rattle.life_lengths.specs.Frames.{IsInFrame, frame_of, turned_frame, cell_in_frame, wide_of, strips_of}
 use Rattle.life_lengths.specs.Grids.{HoldsWeights, strip_of, grid_text}
 use Rattle.life_lengths.proofs.Framed.{Framed, framed_of, framed_turned, in_frame, corner_framed, width_framed, height_framed, range_ordered}
 
 -- ---- cells that rise stand in their list once, wherever a map without loss takes them
-
-unlike : (r : Ordering) → T (is_lt r) → is_eq r ≡ false
-unlike Less h = refl
-unlike Equal h = absurd h
-unlike Greater h = absurd h
-
-none_below : (c : Cell) (cs : List Cell) → T (below_all c cs) → list_any (same_cell c) cs ≡ false
-none_below c [] h = refl
-none_below c (d ∷ ds) h = λ i. unlike (cell_cmp c d) (first_holds _ _ h) i || none_below c ds (second_holds (is_lt (cell_cmp c d)) _ h) i
-
-apart : (a b : Bool) (w : ℕ) → (a ≡ true → b ≡ false) → (if a || b then w else 0) ≡ (if a then w else 0) + (if b then w else 0)
-apart true b w h = sym (add-zero w) ∙ ap (λ t. w + (if t then w else 0)) (sym (h refl))
-apart false b w h = omega arith
-
-both_parts : (f g h : ℕ → ℕ) (xs : List ℕ) → ((x : ℕ) → f x ≡ g x + h x) → sum_by f xs ≡ sum_by g xs + sum_by h xs
-both_parts f g h [] e = refl
-both_parts f g h (x ∷ xs) e =
-    let a = sum_by-cons f x xs in
-    let b = sum_by-cons g x xs in
-    let c = sum_by-cons h x xs in
-    let here = e x in
-    let rest = both_parts f g h xs e in
-    omega arith
-
--- row j of a column, among some cells
-abbrev among : List Cell → ℕ → ℕ → ℕ → Bool
-among cs k x j = list_any (same_cell (pos x, pos (5 * k + j))) cs
 
 module _ (forth back : Cell → Cell) (undo : AreInverse forth back) where
   not_again : (c : Cell) (cs : List Cell) → T (below_all c cs) → list_any (same_cell (forth c)) (map forth cs) ≡ false
@@ -70,12 +39,7 @@ module _ (forth back : Cell → Cell) (undo : AreInverse forth back) where
   weights_once : (k x : ℕ) (cs : List Cell) → T (is_rising cs) → live_value (among (map forth cs) k x) ≡ weights k (map forth cs) x
   weights_once k x [] h = refl
   weights_once k x (c ∷ cs) h =
-      let rest = map forth cs in
-      both_parts (λ j. if among (forth c ∷ rest) k x j then 2 ^ j else 0) (λ j. if same_cell (pos x, pos (5 * k + j)) (forth c) then 2 ^ j else 0) (λ j. if among rest k x j then 2 ^ j else 0) (range_with_len 0 5)
-      (λ j. apart (same_cell (pos x, pos (5 * k + j)) (forth c)) (among rest k x j) (2 ^ j) (λ e.
-      ap (λ b. list_any (same_cell b) rest) ((same_cell-is (pos x, pos (5 * k + j)) (forth c)).0 e) ∙ not_again c cs (first_holds _ _ h)))
-      ∙ ap (λ n. weight k x (forth c) + n) (weights_once k x cs (second_holds (below_all c cs) _ h))
-      ∙ sym (sum_by-cons (weight k x) (forth c) rest)
+      one_cell_more k x (forth c) (map forth cs) (not_again c cs (first_holds _ _ h)) (weights_once k x cs (second_holds (below_all c cs) _ h))
 
   pub weights_once-lt : (k x : ℕ) (cs : List Cell) → T (is_rising cs) → weights k (map forth cs) x < 32
   weights_once-lt k x cs h =

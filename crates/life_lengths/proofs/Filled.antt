@@ -1,46 +1,17 @@
 -- A grid as cells are added to it one after another.
-use Rattle.std.proofs.Common.{◌≡◌, ◌≢◌, ℕ, zero, suc, ◌+◌, ◌-◌, ◌*◌, ◌/◌, ◌%◌, ◌^◌, ◌<◌, ◌≤◌, pos, Bool, true, false, ◌&&◌, List, [], ◌∷◌, ◌++◌, map, length, get_or, set, take, drop, inl, inr, if◌then◌else◌, sym, refl, ap, ◌∙◌, arith}
+use Rattle.std.proofs.Common.{◌≡◌, ◌≢◌, ℕ, zero, suc, ◌+◌, ◌-◌, ◌*◌, ◌/◌, ◌%◌, ◌^◌, ◌<◌, ◌≤◌, pos, true, false, List, [], ◌∷◌, ◌++◌, map, length, get_or, set, take, drop, inl, inr, if◌then◌else◌, sym, refl, ap, ◌∙◌, arith}
 use Rattle.std.specs.Prelude.{◌==◌, All}
 use Rattle.std.proofs.Math.Nat.{mul-le-mul_right}
 use Rattle.std.proofs.lemmas.Int.{ints}
-use Rattle.std.proofs.lemmas.Bool.Decides.{nat_tests, eqb_tells, same_from_decides, Decides-like, Decides-and, Decides-eqb}
+use Rattle.std.proofs.lemmas.Bool.Decides.{nat_tests, eqb_tells}
 use Rattle.std.proofs.lemmas.List.{take_more, map-append, get_or-set_other, get_or-set_same, take-append-drop}
 use Rattle.std.proofs.lemmas.List.Sums.{sum_by-append, sum_by-cons}
-use Rattle.life_model.specs.Cell.{Cell, same_cell, origin}
-use Rattle.life_model.proofs.Cells.{same_cell-is}
+use Rattle.life_model.specs.Cell.{Cell, origin}
 use Rattle.life_shape.specs.Dots.{weight, weights}
-use Rattle.life_shape.proofs.Weights.{live_value, weight_above, weight_below}
+use Rattle.life_shape.proofs.Weights.{weight_above, weight_at, weight_below}
 use Rattle.life_lengths.specs.Grids.{HoldsWeights}
 
 -- ---- what one cell weighs
-
-same_places : (a b c d : ℕ) → same_cell (pos a, pos b) (pos c, pos d) ≡ ((c == a) && (b == d))
-same_places a b c d =
-    same_from_decides _ _ (same_cell-is (pos a, pos b) (pos c, pos d))
-    (Decides-like {P = (c ≡ a) × (b ≡ d)} {Q = ◌≡◌ {A = Cell} (pos a, pos b) (pos c, pos d)} _
-    (λ e. λ i. (pos (sym e.0 i), pos (e.1 i))) (λ e. (omega (arith, ints, ap (λ q. q.0) e), omega (arith, ints, ap (λ q. q.1) e)))
-    (Decides-and _ _ (Decides-eqb c a) (Decides-eqb b d)))
-
-same_rows : (k j i : ℕ) → (5 * k + j == 5 * k + i) ≡ (j == i)
-same_rows k j i = grind (arith, nat_tests)
-
-row_weight : (i : ℕ) → i < 5 → live_value (λ j. j == i) ≡ 2 ^ i
-row_weight zero h = refl
-row_weight (suc zero) h = refl
-row_weight (suc (suc zero)) h = refl
-row_weight (suc (suc (suc zero))) h = refl
-row_weight (suc (suc (suc (suc zero)))) h = refl
-row_weight (suc (suc (suc (suc (suc i))))) h = absurd (omega arith)
-
-when : (b : Bool) (test : ℕ → Bool) → live_value (λ j. b && test j) ≡ (if b then live_value test else 0)
-when true test = refl
-when false test = refl
-
--- in its own strip
-weight_at : (k x p i : ℕ) → i < 5 → weight k x (pos p, pos (5 * k + i)) ≡ (if p == x then 2 ^ i else 0)
-weight_at k x p i h =
-    ap (λ (live : ℕ → Bool). live_value live) (λ t j. (same_places x (5 * k + j) p (5 * k + i) ∙ ap (λ b. (p == x) && b) (same_rows k j i)) t)
-    ∙ when (p == x) (λ j. j == i) ∙ ap (λ n. if p == x then n else 0) (row_weight i h)
 
 pub weight_here : (p r : ℕ) → weight (r / 5) p (pos p, pos r) ≡ 2 ^ (r % 5)
 weight_here p r =

@@ -23,7 +23,7 @@ unlike Less h = refl
 unlike Equal h = absurd h
 unlike Greater h = absurd h
 
-none_below : (c : Cell) (cs : List Cell) → T (below_all c cs) → list_any (same_cell c) cs ≡ false
+pub none_below : (c : Cell) (cs : List Cell) → T (below_all c cs) → list_any (same_cell c) cs ≡ false
 none_below c [] h = refl
 none_below c (d ∷ ds) h = λ i. unlike (cell_cmp c d) (first_holds _ _ h) i || none_below c ds (second_holds (is_lt (cell_cmp c d)) _ h) i
 
@@ -45,17 +45,24 @@ one_part f g h (x ∷ xs) e =
 abbrev pub live_value : (ℕ → Bool) → ℕ
 live_value live = sum_by (λ j. if live j then 2 ^ j else 0) (range_with_len 0 5)
 
-abbrev among : List Cell → ℕ → ℕ → ℕ → Bool
+-- row j of a column, among some cells
+abbrev pub among : List Cell → ℕ → ℕ → ℕ → Bool
 among cs k x j = list_any (same_cell (pos x, pos (5 * k + j))) cs
+
+-- a cell more, that is none of those that are there
+pub one_cell_more : (k x : ℕ) (c : Cell) (cs : List Cell) → list_any (same_cell c) cs ≡ false →
+    live_value (among cs k x) ≡ weights k cs x → live_value (among (c ∷ cs) k x) ≡ weights k (c ∷ cs) x
+one_cell_more k x c cs new so_far =
+    one_part (λ j. if among (c ∷ cs) k x j then 2 ^ j else 0) (λ j. if same_cell (pos x, pos (5 * k + j)) c then 2 ^ j else 0) (λ j. if among cs k x j then 2 ^ j else 0) (range_with_len 0 5)
+    (λ j. apart (same_cell (pos x, pos (5 * k + j)) c) (among cs k x j) (2 ^ j) (λ e.
+    ap (λ b. list_any (same_cell b) cs) ((same_cell-is (pos x, pos (5 * k + j)) c).0 e) ∙ new))
+    ∙ ap (λ n. weight k x c + n) so_far
+    ∙ sym (sum_by-cons (weight k x) c cs)
 
 pub weights_is : (k x : ℕ) (cs : List Cell) → T (is_rising cs) → live_value (among cs k x) ≡ weights k cs x
 weights_is k x [] h = refl
 weights_is k x (c ∷ cs) h =
-    one_part (λ j. if among (c ∷ cs) k x j then 2 ^ j else 0) (λ j. if same_cell (pos x, pos (5 * k + j)) c then 2 ^ j else 0) (λ j. if among cs k x j then 2 ^ j else 0) (range_with_len 0 5)
-    (λ j. apart (same_cell (pos x, pos (5 * k + j)) c) (among cs k x j) (2 ^ j) (λ e.
-    ap (λ b. list_any (same_cell b) cs) ((same_cell-is (pos x, pos (5 * k + j)) c).0 e) ∙ none_below c cs (first_holds _ _ h)))
-    ∙ ap (λ n. weight k x c + n) (weights_is k x cs (second_holds (below_all c cs) _ h))
-    ∙ sym (sum_by-cons (weight k x) c cs)
+    one_cell_more k x c cs (none_below c cs (first_holds _ _ h)) (weights_is k x cs (second_holds (below_all c cs) _ h))
 
 pub live_value-lt : (live : ℕ → Bool) → live_value live < 32
 live_value-lt live =
@@ -100,7 +107,8 @@ when : (b : Bool) (test : ℕ → Bool) → live_value (λ j. b && test j) ≡ (
 when true test = refl
 when false test = refl
 
-weight_at : (k x p i : ℕ) → i < 5 → weight k x (pos p, pos (5 * k + i)) ≡ (if p == x then 2 ^ i else 0)
+-- in its own strip
+pub weight_at : (k x p i : ℕ) → i < 5 → weight k x (pos p, pos (5 * k + i)) ≡ (if p == x then 2 ^ i else 0)
 weight_at k x p i h =
     ap (λ (live : ℕ → Bool). live_value live) (λ t j. (same_places x (5 * k + j) p (5 * k + i) ∙ ap (λ b. (p == x) && b) (same_rows k j i)) t)
     ∙ when (p == x) (λ j. j == i) ∙ ap (λ n. if p == x then n else 0) (row_weight i h)
