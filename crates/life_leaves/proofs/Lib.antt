@@ -1,4 +1,3 @@
-pub mod OneCell
 pub mod Bits
 pub mod Local
 pub mod Bands

@@ -9,7 +9,7 @@ last_bit bits fits = omega arith
 
 pub middle_set : (bits side : ℕ) → side ≡ 1 → bits < 2 ^ 64 → bits ≢ 0 → ((x : ℕ) → x < 64 → IsEdge side x → bit_at bits x ≡ 0) → ⊥
 middle_set bits side is fits some none =
-    some (zero_from_bits bits fits (λ x small. none x small (record { first = λ never. absurd (omega arith); last = λ never. absurd (omega arith) })))
+    some (zero_from_bits 64 bits fits (λ x small. none x small (record { first = λ never. absurd (omega arith); last = λ never. absurd (omega arith) })))
 
 pub last_set : (bits side : ℕ) → side ≡ 2 → bits < 2 ^ 64 → bits / 9223372036854775808 ≡ 1 → ((x : ℕ) → x < 64 → IsEdge side x → bit_at bits x ≡ 0) → ⊥
 last_set bits side is fits set none =

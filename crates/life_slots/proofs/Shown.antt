@@ -22,7 +22,7 @@ use Rattle.life_slots.proofs.Splits.{same_quotient, not_one, Split, split, same_
 use Rattle.life_slots.specs.Slots.{Index, slot_at, tile_of, empty_tile, placed_tiles, generation_shown}
 
 pub empty_cell : (x y : ℕ) → tile_cell empty_tile x y ≡ 0
-empty_cell x y = no_cell x y
+empty_cell x y = no_cell 64 x y
 
 shown_lookup : (test : ℤ × ℤ → Bool) (es : List ((ℤ × ℤ) × ℕ)) (tiles : List Tile) → lookup test (placed_tiles es tiles) ≡ option_map (tile_of tiles) (lookup test es)
 shown_lookup test [] tiles = refl

@@ -13,7 +13,7 @@ pub returns-clause-elsewhere : goal.returns-clause-elsewhere
 returns-clause-elsewhere c =
     let room : c.args.y < length c.args.tile.now.rows = omega arith in
     λ p q column apart.
-    put_other c.args.tile.now.rows c.args.x c.args.y _ p q room column apart
+    put_other 64 c.args.tile.now.rows c.args.x c.args.y _ p q room column apart
     (λ i below other. bit_at_set_other w64 (slice_index c.args.tile.now.rows c.args.y) c.args.x c.requires.column i other)
 
 pub returns-clause-others : goal.returns-clause-others

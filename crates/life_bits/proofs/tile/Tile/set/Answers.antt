@@ -19,7 +19,7 @@ pub returns-clause-elsewhere : goal.returns-clause-elsewhere
 returns-clause-elsewhere c =
     let room : c.args.y < length c.args.self.now.rows = omega arith in
     λ p q column apart.
-    put_other c.args.self.now.rows c.args.x c.args.y _ p q room column apart
+    put_other 64 c.args.self.now.rows c.args.x c.args.y _ p q room column apart
     (λ i below other.
     elim c.if-live.branch [
       | then-live w ↦ ap (λ v. bit_at v i) w.self-is ∙ bit_at_set_other w64 (slice_index c.args.self.now.rows c.args.y) c.args.x c.requires.column i other

@@ -1,5 +1,5 @@
-use Rattle.life_leaves.proofs.OneCell.{no_cell}
+use Rattle.life_bits.proofs.OneCell.{no_cell}
 use Rattle.life_leaves.proofs.leaf.Leaf.empty.Goals as goal
 
 pub returns : goal.returns
-returns c = no_cell
+returns c = no_cell 32
