@@ -1,4 +1,3 @@
-pub mod Orders
 pub mod Reached
 pub mod RowsRise
 pub mod Kept

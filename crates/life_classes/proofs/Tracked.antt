@@ -18,7 +18,7 @@ use Rattle.life_objects.proofs.Times.{generation-union}
 use Rattle.life_objects.proofs.Unions.{contains-union}
 use Rattle.life_classes.specs.declared.class.Class.{Class}
 use Rattle.life_classes.specs.Tracking.{AreTracked, first_sets}
-use Rattle.life_classes.proofs.Orders.{All-to_front, All-from_front, pairs_to_front, pairs_from_front}
+use Rattle.life_objects.proofs.DecidedLemmas.Orders.{All-to_front, All-from_front, pairs_to_front, pairs_from_front}
 
 or-swap : (a b c : Bool) → (a || (b || c)) ≡ (b || (a || c))
 or-swap true true c = refl

@@ -10,7 +10,7 @@ use Rattle.life_objects.specs.Apart.{AreApartFor}
 use Rattle.life_objects.specs.Union.{union}
 use Rattle.life_classes.specs.declared.class.Class.{Class}
 use Rattle.life_classes.specs.Tracking.{first_sets}
-use Rattle.life_classes.proofs.Orders.{pairs_to_front}
+use Rattle.life_objects.proofs.DecidedLemmas.Orders.{pairs_to_front}
 use Rattle.life_objects.proofs.Dividing.{AreApartFor-swap}
 use Rattle.life_objects.proofs.Lists.{AllPairs-append, AllPairs-head, AllPairs-nil, Contains-head, head_or_later}
 use Rattle.life_objects.proofs.Sides.{split_disjoint}
