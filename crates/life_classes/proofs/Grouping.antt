@@ -33,7 +33,7 @@ one_cell_put (l ∷ lists) (suc i) x v c h is grown =
 
 -- ---- by roots
 
-none_of_any : (g : ℕ → List Cell) → ((k : ℕ) → g k ≡ []) → (a n : ℕ) → map g (range_with_len a n) ≡ replicate n []
+pub none_of_any : (g : ℕ → List Cell) → ((k : ℕ) → g k ≡ []) → (a n : ℕ) → map g (range_with_len a n) ≡ replicate n []
 none_of_any g none a zero = refl
 none_of_any g none a (suc n) = λ i. none a i ∷ none_of_any g none (a + 1) n i
 

@@ -1,10 +1,10 @@
 -- Sets of joined cells as lists.
-use Rattle.std.proofs.Common.{◌≡◌, ◌≢◌, ℕ, zero, suc, ◌+◌, ◌<◌, ◌≤◌, ◌==◌, Bool, true, false, cond, T, List, [], ◌∷◌, ◌++◌, length, length-set, get_or, map, set, take, replicate, filter, inl, inr, sym, refl, ap, subst, ◌∙◌, arith, eqb-true, eq-eqb, true≢false}
+use Rattle.std.proofs.Common.{◌≡◌, ◌≢◌, ℕ, ◌+◌, ◌<◌, ◌≤◌, ◌==◌, Bool, true, false, cond, T, List, [], ◌∷◌, ◌++◌, length, length-set, get_or, map, set, take, replicate, filter, inl, inr, sym, refl, ap, subst, ◌∙◌, arith, eqb-true, eq-eqb, true≢false}
 use Rattle.std.specs.List.{All, AllPairs, Contains, list_any, range_with_len}
 use Rattle.std.specs.declared.vec.Vec.{Vec}
 use Rattle.std.proofs.lemmas.Bool.{cases_eq, false_from_ne_true, or_left}
 use Rattle.std.proofs.lemmas.Grind.{get_or-set_at}
-use Rattle.std.proofs.lemmas.List.{append-nil, get_or-map, get_or-set_other, length-map, map-append, replicate-append-replicate, same_lists}
+use Rattle.std.proofs.lemmas.List.{append-nil, get_or-map, get_or-set_other, length-map, map-append, same_lists}
 use Rattle.std.proofs.lemmas.List.Elements.{All-cons, All-contains, All-filter, All-nil, Contains-get_or, filter_more}
 use Rattle.std.proofs.lemmas.List.FromFn.{get_or-map-range_with_len, get_or-range_with_len, length-map-range_with_len, length-range_with_len}
 use Rattle.std.proofs.lemmas.List.Kept.{AllPairs-cons, IsStrictlySortedBy-filter}
@@ -18,36 +18,15 @@ use Rattle.life_objects.specs.Apart.{AreDisjoint}
 use Rattle.life_objects.specs.Union.{union, union_of}
 use Rattle.life_objects.proofs.Lists.{AllPairs-head, AllPairs-nil, AllPairs-tail, Contains-head, Contains-later, head_or_later}
 use Rattle.life_objects.proofs.Unions.{in_empty, union-comm, union-empty}
+use Rattle.life_classes.specs.Grouped.{lists_of}
+use Rattle.life_classes.proofs.Grouping.{none_of_any}
 use Rattle.life_classes.proofs.Kept.{from_list-filter}
 use Rattle.life_classes.specs.Forest.{root}
-use Rattle.life_islands.specs.Collected.{by_roots, lists_of, of_root, some_of}
+use Rattle.life_islands.specs.Collected.{by_roots, of_root, some_of}
 use Rattle.life_islands.specs.Labels.{AreThoseWithCells, joined_sets, label_of}
 use Rattle.life_islands.proofs.Labelled.{label-at, length-sets, of_set, set_at}
 
--- ---- lists that grow
-
--- one empty list more
-pub one_empty_more : {A : Type 0} (lists : List (Vec Cell A)) (v : Vec Cell A) (n : ℕ) → lists_of lists ≡ replicate n [] →
-    v.items ≡ [] → lists_of (lists ++ (v ∷ [])) ≡ replicate (n + 1) []
-one_empty_more lists v n are none =
-    map-append (λ list. list.items) lists (v ∷ []) ∙ ap (λ w. w ++ (v.items ∷ [])) are
-    ∙ ap (λ w. replicate n [] ++ (w ∷ [])) none ∙ replicate-append-replicate n 1 []
-
--- one cell more in one list
-pub one_cell_put : {A : Type 0} (lists : List (Vec Cell A)) (i : ℕ) (x v : Vec Cell A) (c : Cell) → i < length lists →
-    x ≡ get_or lists i x → v.items ≡ x.items ++ (c ∷ []) →
-    lists_of (set lists i v) ≡ set (lists_of lists) i (get_or (lists_of lists) i [] ++ (c ∷ []))
-one_cell_put [] i x v c h is grown = absurd (omega arith)
-one_cell_put (l ∷ lists) zero x v c h is grown =
-    ap (λ (w : List Cell). w ∷ lists_of lists) (grown ∙ ap (λ w. w.items ++ (c ∷ [])) is)
-one_cell_put (l ∷ lists) (suc i) x v c h is grown =
-    ap (λ (w : List (List Cell)). l.items ∷ w) (one_cell_put lists i x v c (omega arith) is grown)
-
 -- ---- by roots
-
-none_of_any : (f : ℕ → List Cell) → ((k : ℕ) → f k ≡ []) → (a n : ℕ) → map f (range_with_len a n) ≡ replicate n []
-none_of_any f none a zero = refl
-none_of_any f none a (suc n) = λ i. none a i ∷ none_of_any f none (a + 1) n i
 
 pub none_by_roots : (cs : List Cell) (forest : List ℕ) → replicate (length cs) [] ≡ by_roots cs forest []
 none_by_roots cs forest = sym (none_of_any (λ k. of_root cs forest k []) (λ k. refl) 0 (length cs))

@@ -1,15 +1,10 @@
 -- Cells in lists, by the roots of their places.
 use Rattle.std.specs.Prelude.{ℕ, ◌==◌, List, [], ◌∷◌, filter, length, map}
 use Rattle.std.specs.List.{range_with_len}
-use Rattle.std.specs.declared.vec.Vec.{Vec}
 use Rattle.life_model.specs.Cell.{Cell}
 use Rattle.life_model.specs.Generation.{Generation, from_list}
 use Rattle.life_classes.specs.Forest.{root}
 use Rattle.life_islands.specs.Labels.{label_of}
-
--- the cells of each list
-abbrev pub lists_of : {A : Type 0} → List (Vec Cell A) → List (List Cell)
-lists_of lists = map (λ list. list.items) lists
 
 -- those of ds whose places among the cells cs have the root k
 abbrev pub of_root : List Cell → List ℕ → ℕ → List Cell → List Cell

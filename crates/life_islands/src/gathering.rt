@@ -2,7 +2,8 @@
 ghost use Rattle.std.specs.Prelude.{◌≡◌, ◌<◌, ◌++◌, ◌∷◌, [], All, IfOk, OnOk, T, get_or, length, map, replicate, set, vec_len};
 ghost use Rattle.life_model.specs.Generation.{cells, is_rising};
 ghost use Rattle.life_cells.specs.Limits.{IsPlace};
-ghost use Rattle.life_islands.specs.Collected.{by_roots, lists_of, some_of};
+ghost use Rattle.life_classes.specs.Grouped.{lists_of};
+ghost use Rattle.life_islands.specs.Collected.{by_roots, some_of};
 ghost use Rattle.life_islands.specs.Labels.{AreThoseWithCells, joined_sets};
 
 use life_cells::CellList;

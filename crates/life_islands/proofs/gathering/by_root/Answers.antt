@@ -1,5 +1,5 @@
 use Rattle.std.proofs.Common.{take, ◌∙◌, arith}
-use Rattle.life_islands.specs.Collected.{lists_of}
+use Rattle.life_classes.specs.Grouped.{lists_of}
 use Rattle.life_islands.proofs.Collected.{as_many_lists, none_by_roots, one_more_by_root}
 use Rattle.life_islands.proofs.gathering.by_root.Goals as goal
 

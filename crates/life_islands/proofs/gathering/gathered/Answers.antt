@@ -1,6 +1,7 @@
 use Rattle.std.proofs.Common.{◌≡◌, ap, ◌∙◌}
 use Rattle.std.proofs.lemmas.Result.{IfOk-weaker}
-use Rattle.life_islands.specs.Collected.{by_roots, lists_of, some_of}
+use Rattle.life_classes.specs.Grouped.{lists_of}
+use Rattle.life_islands.specs.Collected.{by_roots, some_of}
 use Rattle.life_islands.specs.Labels.{AreThoseWithCells, joined_sets}
 use Rattle.life_islands.proofs.Collected.{all_gathered, each_in_place, each_rises}
 use Rattle.life_islands.proofs.gathering.gathered.Goals as goal

@@ -1,5 +1,5 @@
 use Rattle.std.proofs.Common.{arith}
-use Rattle.life_islands.proofs.Collected.{one_cell_put}
+use Rattle.life_classes.proofs.Grouping.{one_cell_put}
 use Rattle.life_islands.proofs.gathering.put.Goals as goal
 
 pub returns : goal.returns

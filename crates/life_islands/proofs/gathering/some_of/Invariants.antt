@@ -1,5 +1,6 @@
 use Rattle.std.proofs.Common.{◌≡◌}
-use Rattle.life_islands.specs.Collected.{lists_of, some_of}
+use Rattle.life_classes.specs.Grouped.{lists_of}
+use Rattle.life_islands.specs.Collected.{some_of}
 use Rattle.life_islands.proofs.gathering.some_of.Given as goal
 
 abbrev pub invariant-loop-cells : goal.invariant-loop-cells
