@@ -3,5 +3,7 @@ pub mod Hex
 pub mod Counts
 pub mod Patterned
 pub mod Placed
+pub mod Ties
+pub mod Rising
 pub mod Floatless
 pub mod Texts

@@ -1,21 +1,25 @@
 -- Objects that stand in the order of their kinds, counted kind by kind.
-use Rattle.std.proofs.Common.{◌≡◌, ℕ, ◌+◌, ◌<◌, ◌≤◌, zero, suc, Bool, true, false, not, ◌&&◌, ◌||◌, eqb, if◌then◌else◌, List, [], ◌∷◌, length, refl, sym, ap, ap₂, ◌∙◌, subst, arith, true≢false, map, ◌⊎◌, inl, inr}
+use Rattle.std.proofs.Common.{◌≡◌, ℕ, ◌+◌, ◌<◌, zero, suc, Bool, true, false, not, ◌&&◌, ◌||◌, eqb, if◌then◌else◌, List, [], ◌∷◌, length, refl, sym, ap, ap₂, ◌∙◌, subst, arith, true≢false, map}
 use Rattle.std.specs.Prelude.{filter, count_by, nat_eq, cond, reverse, slice_index_or}
 use Rattle.std.specs.Cmp.Lexicographic.{as_long, on_texts, pointwise, slice_cmp, texts_ties}
 use Rattle.std.specs.Cmp.{both_tied, unsigned_tied, IsTotalOrder, IsEquivalence, IsStrictWeakOrder}
-use Rattle.std.specs.List.{All, list_any, sum_by}
-use Rattle.std.specs.List.Sorted.{ties, IsPermutation, IsSorted, IsSortedBy, IsStableBy}
+use Rattle.std.specs.List.{All, AllByRecursion, list_any, sum_by}
+use Rattle.std.specs.List.Sorted.{ties, IsPermutation, IsSorted, IsSortedBy}
 use Rattle.std.specs.Ordering.{eq_by_cmp, is_eq, is_gt, is_lt, nat_cmp, ordering_reverse, ordering_then}
 use Rattle.std.specs.declared.cmp.Ordering.{Ordering}
 use Rattle.std.specs.declared.cmp.Ordering.TheVariants.{Less, Equal, Greater}
 use Rattle.std.proofs.lemmas.Cmp.{eq_by_cmp_equiv, nat_cmp_total, on_total, then_total}
-use Rattle.std.proofs.lemmas.List.Elements.{All-cons, All-nil, All-tail}
-use Rattle.std.proofs.lemmas.List.Sorted.{All-permutation, IsPermutation-map, IsPermutation-reverse, IsPermutation-sym, IsPermutation-trans, ranks_by, sorted_far, sum_by-IsPermutation}
+use Rattle.std.proofs.lemmas.List.Elements.{All-cons, All-from_recursion, All-nil, All-tail}
+use Rattle.std.proofs.lemmas.List.Sorted.{All-permutation, IsPermutation-reverse, IsPermutation-sym, IsPermutation-trans, ranks_by, sum_by-IsPermutation}
 use Rattle.std.proofs.lemmas.List.Sums.{sum_by-cons}
 use Rattle.std.proofs.lemmas.List.{get_or-map, length-map}
 use Rattle.census_table.specs.Kinds.{capped, count_cmp, counted, kind_cmp, patterns_told, same_kind, same_pattern, AreKinds, IsCounted}
 use Rattle.census_table.specs.Grouping.{alone, grouped, joined, with_told, AreInKinds}
+use Rattle.census_table.specs.Places.{place_cmp, AreRising, Rises}
 use Rattle.census_table.specs.declared.object.Object.{Object}
+use Rattle.census_table.specs.declared.place.Place.{Place}
+use Rattle.census_table.proofs.Rising.{place_total}
+use Rattle.census_table.proofs.Ties.{before-order, first-not-falling, level-kept, stands-before}
 
 -- ---- the order
 
@@ -309,29 +313,32 @@ lt_back Less = refl
 lt_back Equal = refl
 lt_back Greater = refl
 
--- what a sort by the kinds of objects gives, where each stands at a place
-module _ {P : Type 0} (told : P → Object) where
-  abbrev pub place-less : P → P → Bool
-  place-less one other = is_lt (kind_cmp (told one) (told other))
+-- what a sort by the kinds of objects and by their places gives
+module _ (told : Place → Object) where
+  abbrev pub kinds-at : Place → Place → Ordering
+  kinds-at one other = kind_cmp (told one) (told other)
+
+  pub kinds-total : IsTotalOrder kinds-at
+  kinds-total = on_total told kind_total
+
+  abbrev pub place-less : Place → Place → Bool
+  place-less = stands-before kinds-at place_cmp kinds-total place_total
 
   pub places-order : IsStrictWeakOrder place-less
-  places-order = ranks_by kind_total told
+  places-order = before-order kinds-at place_cmp kinds-total place_total
 
-  pub places-in-kinds : (ps : List P) → IsSortedBy place-less ps → AreInKinds (map told ps)
-  places-in-kinds ps up = go ps (λ i j d less small. sorted_far place-less places-order ps up i j d less small)
+  pub places-in-kinds : (ps : List Place) → IsSortedBy place-less ps → AreInKinds (map told ps)
+  places-in-kinds ps up = go ps (first-not-falling kinds-at place_cmp kinds-total place_total ps up)
     where
-      go : (ps : List P) → ((i j : ℕ) (d : P) → i ≤ j → j < length ps → place-less (slice_index_or ps j d) (slice_index_or ps i d) ≡ false) → AreInKinds (map told ps)
-      go [] h = tt
-      go (p ∷ ps) h = (
-        λ k d small.
-            let less : k < length ps = omega (arith, small, length-map ps told) in
-            let x = slice_index_or ps k p in
-            ap (λ o. is_gt (kind_cmp (told p) o)) (get_or-map told ps k p d less)
-            ∙ sym (lt_back (kind_cmp (told p) (told x))) ∙ ap is_lt (sym (kind_total.antisymm (told x) (told p))) ∙ h zero (suc k) p (omega arith) (omega (arith, less)),
-        go ps (λ i j d less small. h (suc i) (suc j) d (omega (arith, less)) (omega (arith, small))),
-      )
+      behind : (p : Place) (ps : List Place) → AllByRecursion (λ q. is_gt (kinds-at p q) ≡ false) ps → AllByRecursion (λ o. is_gt (kind_cmp (told p) o) ≡ false) (map told ps)
+      behind p [] h = tt
+      behind p (q ∷ qs) h = (h.0, behind p qs h.1)
 
-  filter-at : (test : Object → Bool) (ps : List P) → filter test (map told ps) ≡ map told (filter (λ p. test (told p)) ps)
+      go : (ps : List Place) → Rises (λ p q. is_gt (kinds-at p q) ≡ false) ps → AreInKinds (map told ps)
+      go [] h = tt
+      go (p ∷ ps) h = (All-from_recursion (λ o. is_gt (kind_cmp (told p) o) ≡ false) (map told ps) (behind p ps h.0), go ps h.1)
+
+  filter-at : (test : Object → Bool) (ps : List Place) → filter test (map told ps) ≡ map told (filter (λ p. test (told p)) ps)
   filter-at test [] = refl
   filter-at test (p ∷ ps) = go (test (told p)) (filter-at test ps)
     where
@@ -340,30 +347,19 @@ module _ {P : Type 0} (told : P → Object) where
       go true e = ap (λ os. told p ∷ os) e
       go false e = e
 
-  -- none is of a kind, or one is
-  some-at : (kind : Object) (ps : List P) → All (λ o. same_kind kind o ≡ false) (map told ps) ⊎ ((p : P) × (same_kind kind (told p) ≡ true))
-  some-at kind [] = inl (All-nil (λ o. same_kind kind o ≡ false))
-  some-at kind (p ∷ ps) = go (same_kind kind (told p)) refl (some-at kind ps)
+  one-kind : (kind o p : Object) → same_kind kind o ≡ true → same_kind kind p ≡ true → kind_cmp o p ≡ Equal
+  one-kind kind o p a b = equal (kind_cmp o p) (sym (same_is o p) ∙ sym (same-alike kind o p a) ∙ b)
     where
-      go : (b : Bool) → same_kind kind (told p) ≡ b → All (λ o. same_kind kind o ≡ false) (map told ps) ⊎ ((p : P) × (same_kind kind (told p) ≡ true))
-          → All (λ o. same_kind kind o ≡ false) (map told (p ∷ ps)) ⊎ ((p : P) × (same_kind kind (told p) ≡ true))
-      go true e rest = inr (p, e)
-      go false e (inl none) = inl (All-cons (λ o. same_kind kind o ≡ false) (told p) (map told ps) e none)
-      go false e (inr some) = inr some
+      equal : (r : Ordering) → is_eq r ≡ true → r ≡ Equal
+      equal Less h = absurd (true≢false (sym h))
+      equal Equal h = refl
+      equal Greater h = absurd (true≢false (sym h))
 
-  kind-kept : (kind : Object) (p : P) (ps : List P) → same_kind kind (told p) ≡ true → filter (same_kind kind) (map told ps) ≡ map told (filter (ties place-less p) ps)
-  kind-kept kind p ps same =
-      filter-at (same_kind kind) ps
-      ∙ ap (map told) (filter-alike (λ q. same_kind kind (told q)) (ties place-less p) ps (λ q. same-alike kind (told p) (told q) same ∙ sym (tied-same (told p) (told q))))
-
-  pub places-stable : (ps qs : List P) → IsPermutation ps qs → IsStableBy place-less ps qs → (kind : Object) → filter (same_kind kind) (map told qs) ≡ filter (same_kind kind) (map told ps)
-  places-stable ps qs moved stable kind = go (some-at kind ps)
-    where
-      go : All (λ o. same_kind kind o ≡ false) (map told ps) ⊎ ((p : P) × (same_kind kind (told p) ≡ true)) → filter (same_kind kind) (map told qs) ≡ filter (same_kind kind) (map told ps)
-      go (inl none) =
-          filter-none (same_kind kind) (map told qs) (All-permutation (λ o. same_kind kind o ≡ false) (map told ps) (map told qs) (IsPermutation-map told ps qs moved) none)
-          ∙ sym (filter-none (same_kind kind) (map told ps) none)
-      go (inr some) = kind-kept kind some.0 qs some.1 ∙ ap (map told) (stable some.0) ∙ sym (kind-kept kind some.0 ps some.1)
+  pub places-stable : (ps qs : List Place) → AreRising ps → IsPermutation ps qs → IsSortedBy place-less qs → (kind : Object) → filter (same_kind kind) (map told qs) ≡ filter (same_kind kind) (map told ps)
+  places-stable ps qs rising moved up kind =
+      filter-at (same_kind kind) qs
+      ∙ ap (map told) (level-kept kinds-at place_cmp kinds-total place_total (λ p. same_kind kind (told p)) (λ p q. one-kind kind (told p) (told q)) ps qs rising moved up)
+      ∙ sym (filter-at (same_kind kind) ps)
 
 -- ---- the order of kinds by how many objects they have
 

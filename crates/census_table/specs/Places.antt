@@ -1,6 +1,10 @@
 -- Objects by where they are told.
-use Rattle.std.specs.Prelude.{ℕ, ◌+◌, Option, List, [], slice_index_or}
+use Rattle.std.specs.Prelude.{◌≡◌, ℕ, ◌+◌, Option, List, [], ◌∷◌, ⊤, slice_index_or}
+use Rattle.std.specs.List.{AllByRecursion}
 use Rattle.std.specs.Option.{unwrap_or}
+use Rattle.std.specs.Ordering.{nat_cmp, ordering_then}
+use Rattle.std.specs.declared.cmp.Ordering.{Ordering}
+use Rattle.std.specs.declared.cmp.Ordering.TheVariants.{Less}
 use Rattle.census_rows.specs.declared.row.Row.{Row}
 use Rattle.census_rows.specs.declared.row.Row.TheVariants.{End}
 use Rattle.census_table.specs.Entries.{entry_of_row}
@@ -8,7 +12,7 @@ use Rattle.census_table.specs.Objects.{object_of_row}
 use Rattle.census_table.specs.declared.counting.Kind.{Kind}
 use Rattle.census_table.specs.declared.entry.Entry.{Entry}
 use Rattle.census_table.specs.declared.object.Object.{Object}
-use Rattle.census_table.specs.declared.objects.Place.{Place}
+use Rattle.census_table.specs.declared.place.Place.{Place}
 
 -- the row at an index; behind the last one there are `end` rows
 abbrev pub row_in : List Row → ℕ → Row
@@ -24,7 +28,7 @@ told_in number rows line row = object_of_row (entry_at number rows line) (row_in
 
 -- the object that is told at a place of collections that are numbered from 1
 abbrev pub told_at : List (List Row) → Place → Option Object
-told_at sections place = told_in (place.collection + 1) (slice_index_or sections place.collection []) place.line place.row
+told_at sections place = told_in (place.collection + 1) (slice_index_or sections place.collection []) place.under place.row
 
 -- that object, or this one where there is none
 abbrev pub object_at : Object → List (List Row) → Place → Object
@@ -37,3 +41,21 @@ with_counts o count patterns = record o { count = count; patterns = patterns }
 -- the first object of a kind, counted
 abbrev pub kind_at : Object → List Object → Kind → Object
 kind_at nothing objects kind = with_counts (slice_index_or objects kind.first nothing) kind.count kind.patterns
+
+-- each stands so to all behind it
+abbrev pub Rises : {X : Type 0} → (X → X → Type 0) → List X → Type 0
+Rises R [] = ⊤
+Rises R (x ∷ xs) = AllByRecursion (R x) xs × Rises R xs
+
+-- the order of places: by collections, and then by rows
+abbrev pub place_cmp : Place → Place → Ordering
+place_cmp p q = ordering_then (nat_cmp p.collection q.collection) (nat_cmp p.row q.row)
+
+-- each place stands before all behind it
+abbrev pub AreRising : List Place → Type 0
+AreRising places = Rises (λ p q. place_cmp p q ≡ Less) places
+
+-- such places, all of which are before this row of a collection
+abbrev pub AreBefore : ℕ → ℕ → List Place → Type 0
+AreBefore collection row places =
+    AreRising places × AllByRecursion (λ p. place_cmp p (record { collection = collection; under = 0; row = row }) ≡ Less) places

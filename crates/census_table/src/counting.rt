@@ -3,11 +3,13 @@ ghost use Rattle.std.specs.Prelude.{◌≡◌, ◌+◌, ◌<◌, ◌≤◌, drop
 ghost use Rattle.std.specs.List.Sorted.{IsPermutation, IsSorted};
 ghost use Rattle.census_table.specs.Kinds.{AreKinds, count_cmp, same_kind, same_pattern};
 ghost use Rattle.census_table.specs.Grouping.{alone, before, grouped, joined, step_of, with_told};
+ghost use Rattle.census_table.specs.Objects.{all_objects};
 ghost use Rattle.census_table.specs.Places.{kind_at};
 
 use crate::entry::Entry;
 use crate::object::Object;
-use crate::objects::{Objects, kind_order, no_object};
+use crate::objects::{Objects, kind_order, no_object, objects_in_kinds};
+use census_readback::Sections;
 use std::alloc::{AllocError, Global};
 use std::cmp::Ordering;
 use std::marker::Model;
@@ -168,13 +170,12 @@ fn count_order(nothing: &Object, objects: &Objects, one: &Kind, other: &Kind) ->
 }
 
 // Puts kinds in their order: by falling count and then in the order of kinds.
-fn sort_kinds(nothing: &Object, objects: &Objects, kinds: &mut Vec<Kind>) -> Result<(), AllocError>
+fn sort_kinds(nothing: &Object, objects: &Objects, kinds: &mut Vec<Kind>)
     ensures permutation { IsPermutation (map (kind_at nothing.now objects.now) kinds.old.items)
         (map (kind_at nothing.now objects.now) kinds.new.items) }
-    ensures sorted { OnOk result
-        (IsSorted count_cmp (map (kind_at nothing.now objects.now) kinds.new.items)) }
+    ensures sorted { IsSorted count_cmp (map (kind_at nothing.now objects.now) kinds.new.items) }
 {
-    kinds.sort_by(|one, other| count_order(nothing, objects, one, other))
+    kinds.sort_unstable_by(|one, other| count_order(nothing, objects, one, other));
 }
 
 impl<'b, 'a> Kinds<'b, 'a> {
@@ -211,18 +212,18 @@ impl<'b, 'a> Kinds<'b, 'a> {
     }
 }
 
-/// The kinds of objects, each with how many there are and of how many patterns it is told, by falling count and then in
-/// the order of kinds. The only error is out of memory.
+/// The kinds of the objects of collections that are numbered from 1, each with how many there are and of how many patterns
+/// it is told, by falling count and then in the order of kinds. The only error is out of memory.
 pub fn kinds_of<'b, 'a>(
     alloc: Global,
-    mut objects: Objects<'b, 'a>,
+    sections: Sections<'b, 'a>,
 ) -> Result<Kinds<'b, 'a>, AllocError>
-    ensures { IfOk result (λ kinds. AreKinds objects.entry kinds) }
+    ensures { IfOk result (λ kinds. AreKinds (all_objects 1 sections.entry) kinds) }
 {
-    objects.put_in_kinds()?;
+    let objects = objects_in_kinds(alloc, sections)?;
     let nothing = no_object();
     let mut kinds = grouped(alloc, &nothing, &objects)?;
-    sort_kinds(&nothing, &objects, &mut kinds)?;
+    sort_kinds(&nothing, &objects, &mut kinds);
     Ok(Kinds {
         objects,
         kinds,

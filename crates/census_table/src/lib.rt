@@ -16,6 +16,7 @@ mod object_column;
 mod objects;
 mod part;
 mod pattern;
+mod place;
 mod subject;
 mod table;
 
@@ -26,6 +27,7 @@ pub use entry::{Entry, entries_under};
 pub use json_lines::push_object;
 pub use object::Object;
 pub use object_column::ObjectColumn;
-pub use objects::{Objects, objects_in};
+pub use objects::Objects;
+pub use place::{Place, place_order};
 pub use subject::{Subject, Table, table_of};
 pub use table::{Format, each_line_has_a_row, put_listing, put_table};

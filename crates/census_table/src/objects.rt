@@ -1,31 +1,22 @@
 //! The objects that reports tell of, held by where they are told.
 ghost use Rattle.std.specs.Prelude.{◌≡◌, ◌<◌, ◌≤◌, ◌+◌, ◌^◌, ◌++◌, [], filter, length, map, slice_index_or, IfOk, OnOk};
 ghost use Rattle.std.specs.List.Sorted.{IsPermutation};
+ghost use Rattle.std.specs.Ordering.{ordering_then};
 ghost use Rattle.census_table.specs.Grouping.{AreInKinds};
 ghost use Rattle.census_table.specs.Kinds.{capped, kind_cmp, same_kind};
 ghost use Rattle.census_table.specs.Objects.{all_objects, entry_or, object_before, section_objects};
-ghost use Rattle.census_table.specs.Places.{entry_at, object_at, row_in, told_at};
+ghost use Rattle.census_table.specs.Places.{entry_at, object_at, place_cmp, row_in, told_at, AreBefore, AreRising};
 ghost use Rattle.census_table.specs.declared.object.Object.{Object};
 
 use crate::entry::{Entry, entry_of_row};
 use crate::object::{Object, object_of_row};
+use crate::place::{Place, place_order};
 use census_kept::Section;
 use census_readback::Sections;
 use census_rows::{Outcome, Row};
 use std::alloc::{AllocError, Global};
 use std::cmp::Ordering;
 use std::marker::Model;
-
-/// Where an object is told. Each index counts from 0.
-#[derive(Clone, Copy)]
-pub struct Place {
-    /// The index of the collection.
-    pub collection: usize,
-    /// In the collection, that of the line of the pattern of which the object is told.
-    pub line: usize,
-    /// That of the row that tells of it, which may be the line.
-    pub row: usize,
-}
 
 /// The objects that reports tell of, in an order of their own. Of each its place is held, in 24 bytes.
 #[derive(Drop)]
@@ -77,7 +68,7 @@ fn told_at<'a>(sections: &Sections<'_, 'a>, place: Place) -> Option<Object<'a>>
     }
     let rows = sections.section(place.collection);
     let number = (place.collection + 1) as u64;
-    let entry = entry_at(number, &rows, place.line);
+    let entry = entry_at(number, &rows, place.under);
     object_of_row(&entry, &row_in(&rows, place.row))
 }
 
@@ -98,30 +89,27 @@ pub fn kind_order(object: &Object, other: &Object) -> Ordering
     lengths.then(codes.then(rules))
 }
 
-// Which of the kinds of the objects at two places stands first.
-fn place_order(nothing: &Object, sections: &Sections, one: &Place, other: &Place) -> Ordering
-    ensures { result ≡ kind_cmp (object_at nothing.now sections.now one.now)
-        (object_at nothing.now sections.now other.now) }
+// Which of the objects at two places stands first: by their kinds, and those of one kind by their places.
+fn told_order(nothing: &Object, sections: &Sections, one: &Place, other: &Place) -> Ordering
+    ensures { result ≡ ordering_then (kind_cmp (object_at nothing.now sections.now one.now)
+        (object_at nothing.now sections.now other.now)) (place_cmp one.now other.now) }
 {
     let object = object_at(nothing, sections, *one);
-    kind_order(&object, &object_at(nothing, sections, *other))
+    kind_order(&object, &object_at(nothing, sections, *other)).then(place_order(one, other))
 }
 
-// Puts the places of objects in the order of their kinds. Those of one kind keep their order.
-fn sort_places(
-    nothing: &Object,
-    sections: &Sections,
-    places: &mut Vec<Place>,
-) -> Result<(), AllocError>
+// Puts places that rise in the order of the kinds of their objects. Those of one kind keep their order: they are sorted by
+// their places too, so that no second list is needed.
+fn sort_places(nothing: &Object, sections: &Sections, places: &mut Vec<Place>)
+    requires { AreRising places.old.items }
     ensures permutation { IsPermutation (map (object_at nothing.now sections.now) places.old.items)
         (map (object_at nothing.now sections.now) places.new.items) }
     ensures stable { (kind : Object) →
         filter (same_kind kind) (map (object_at nothing.now sections.now) places.new.items)
         ≡ filter (same_kind kind) (map (object_at nothing.now sections.now) places.old.items) }
-    ensures sorted { OnOk result
-        (AreInKinds (map (object_at nothing.now sections.now) places.new.items)) }
+    ensures sorted { AreInKinds (map (object_at nothing.now sections.now) places.new.items) }
 {
-    places.sort_by(|one, other| place_order(nothing, sections, one, other))
+    places.sort_unstable_by(|one, other| told_order(nothing, sections, one, other));
 }
 
 impl<'b, 'a> Objects<'b, 'a> {
@@ -149,16 +137,6 @@ impl<'b, 'a> Objects<'b, 'a> {
         } else {
             *nothing
         }
-    }
-
-    /// Puts them in the order of their kinds. Those of one kind keep their order.
-    pub fn put_in_kinds(&mut self) -> Result<(), AllocError>
-        ensures permutation { IsPermutation self.old self.new }
-        ensures stable { (kind : Object) →
-            filter (same_kind kind) self.new ≡ filter (same_kind kind) self.old }
-        ensures sorted { OnOk result (AreInKinds self.new) }
-    {
-        sort_places(&self.nothing, &self.sections, &mut self.places)
     }
 }
 
@@ -199,7 +177,7 @@ fn count_section(sections: &Sections, collection: usize) -> usize
         line = line_at(number, &rows, row, line);
         let place = Place {
             collection,
-            line,
+            under: line,
             row,
         };
         let more = count_at(sections, place);
@@ -226,9 +204,11 @@ fn push_place(
     place: Place,
     places: &mut Vec<Place>,
 ) -> Result<(), AllocError>
-    ensures { OnOk result (map (object_at nothing.now sections.now) places.new.items
+    ensures told { OnOk result (map (object_at nothing.now sections.now) places.new.items
         ≡ map (object_at nothing.now sections.now) places.old.items
         ++ object_before (told_at sections.now place) []) }
+    ensures placed { OnOk result (AreBefore place.collection place.row places.old.items
+        → AreBefore place.collection (place.row + 1) places.new.items) }
 {
     if told_at(sections, place).is_some() {
         places.push(place)?;
@@ -245,9 +225,11 @@ fn add_section(
 ) -> Result<(), AllocError>
     requires within { collection < length sections.now }
     requires few { collection + 1 < 2 ^ 64 }
-    ensures { OnOk result (map (object_at nothing.now sections.now) places.new.items
+    ensures told { OnOk result (map (object_at nothing.now sections.now) places.new.items
         ≡ map (object_at nothing.now sections.now) places.old.items
         ++ section_objects (collection + 1) (slice_index_or sections.now collection [])) }
+    ensures placed { OnOk result (AreBefore collection 0 places.old.items
+        → AreBefore (collection + 1) 0 places.new.items) }
 {
     let rows = sections.section(collection);
     let number = (collection + 1) as u64;
@@ -256,7 +238,7 @@ fn add_section(
         line = line_at(number, &rows, row, line);
         let place = Place {
             collection,
-            line,
+            under: line,
             row,
         };
         push_place(nothing, sections, place, places)?;
@@ -282,18 +264,33 @@ pub fn no_object<'a>() -> Object<'a> {
     }
 }
 
-/// The objects of collections that are numbered from 1, pattern by pattern. The only error is out of memory.
-pub fn objects_in<'b, 'a>(
+// The places of the objects of collections that are numbered from 1, pattern by pattern.
+fn places_in(alloc: Global, nothing: &Object, sections: &Sections) -> Result<Vec<Place>, AllocError>
+    ensures told { IfOk result (λ places. map (object_at nothing.now sections.now) places.items
+        ≡ all_objects 1 sections.now) }
+    ensures rising { IfOk result (λ places. AreRising places.items) }
+{
+    let mut places = Vec::with_capacity(alloc, count_objects(sections))?;
+    for collection in 0..sections.len() {
+        add_section(nothing, sections, collection, &mut places)?;
+    }
+    Ok(places)
+}
+
+/// The objects of collections that are numbered from 1, in the order of their kinds. Those of one kind stand pattern by
+/// pattern. The only error is out of memory.
+pub fn objects_in_kinds<'b, 'a>(
     alloc: Global,
     sections: Sections<'b, 'a>,
 ) -> Result<Objects<'b, 'a>, AllocError>
-    ensures { IfOk result (λ objects. objects ≡ all_objects 1 sections.entry) }
+    ensures permutation { IfOk result (λ objects. IsPermutation (all_objects 1 sections.entry) objects) }
+    ensures stable { IfOk result (λ objects. (kind : Object) →
+        filter (same_kind kind) objects ≡ filter (same_kind kind) (all_objects 1 sections.entry)) }
+    ensures sorted { IfOk result (λ objects. AreInKinds objects) }
 {
     let nothing = no_object();
-    let mut places = Vec::with_capacity(alloc, count_objects(&sections))?;
-    for collection in 0..sections.len() {
-        add_section(&nothing, &sections, collection, &mut places)?;
-    }
+    let mut places = places_in(alloc, &nothing, &sections)?;
+    sort_places(&nothing, &sections, &mut places);
     Ok(Objects {
         sections,
         places,

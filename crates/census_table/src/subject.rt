@@ -9,7 +9,6 @@ ghost use Rattle.census_table.specs.Tables.{IsListingOf, listing_of, names_in};
 use crate::column::Column;
 use crate::counting::{Kinds, kinds_of};
 use crate::object_column::ObjectColumn;
-use crate::objects::objects_in;
 use census_kept::Rows;
 use census_names::Names;
 use census_readback::{Sections, collections};
@@ -51,7 +50,7 @@ pub fn table_of<'b, 'a>(
     match subject {
         Subject::Patterns => Ok(Table::Patterns(sections)),
         Subject::Parts => Ok(Table::Parts(sections)),
-        Subject::Codes => Ok(Table::Codes(kinds_of(alloc, objects_in(alloc, sections)?)?)),
+        Subject::Codes => Ok(Table::Codes(kinds_of(alloc, sections)?)),
     }
 }
 

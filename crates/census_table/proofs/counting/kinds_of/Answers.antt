@@ -3,6 +3,6 @@ use Rattle.census_table.proofs.counting.kinds_of.Goals as goal
 
 pub returns : goal.returns
 returns c =
-    are-kinds c.args.objects c.put_in_kinds.new.self _ _
-    c.put_in_kinds.ensures.permutation c.put_in_kinds.ensures.stable c.in_ok-put_in_kinds.ensures.sorted
-    c.in_ok-kinds.ensures c.sort_kinds.ensures.permutation c.in_ok-sort_kinds.ensures.sorted
+    are-kinds _ c.in_ok-objects.objects _ _
+    c.in_ok-objects.ensures.permutation c.in_ok-objects.ensures.stable c.in_ok-objects.ensures.sorted
+    c.in_ok-kinds.ensures c.sort_kinds.ensures.permutation c.sort_kinds.ensures.sorted

@@ -1,18 +1,16 @@
 use Rattle.std.proofs.Common.{rules}
 use Rattle.std.proofs.lemmas.Fn.{always_returns_same}
 use Rattle.std.proofs.lemmas.List.Sorted.{IsPermutation-map}
-use Rattle.std.proofs.lemmas.Result.{IfOk-weaker}
 use Rattle.census_table.specs.Places.{kind_at}
 use Rattle.census_table.proofs.Sums.{count-less, counts-order, counts-sorted}
 use Rattle.census_table.proofs.counting.sort_kinds.Goals as goal
 
 pub returns-clause-permutation : goal.returns-clause-permutation
 returns-clause-permutation c =
-    IsPermutation-map (kind_at c.args.nothing.now c.args.objects.now) c.args.kinds.now.items c.sort_by.new.self.items c.sort_by.ensures.permutation
+    IsPermutation-map (kind_at c.args.nothing.now c.args.objects.now) c.args.kinds.now.items c.sort_unstable_by.new.self.items c.sort_unstable_by.ensures.permutation
 
 pub returns-clause-sorted : goal.returns-clause-sorted
 returns-clause-sorted c =
     let told = kind_at c.args.nothing.now c.args.objects.now in
-    IfOk-weaker c.sort_by.result _ _
-    (λ v sorted. counts-sorted told c.sort_by.new.self.items (sorted (count-less told) (counts-order told) (always_returns_same _ _ _ (λ a r f k. search rules))))
-    c.sort_by.ensures.sorted
+    counts-sorted told c.sort_unstable_by.new.self.items
+    (c.sort_unstable_by.ensures.sorted (count-less told) (counts-order told) (always_returns_same _ _ _ (λ a r f k. search rules)))

@@ -7,4 +7,4 @@ pub returns : goal.returns
 returns c =
     c.object_of_row.ensures
     ∙ ap₂ (λ entry row. object_of_row entry row) c.entry_at-entry.ensures c.row_in.ensures
-    ∙ sym (told-here c.args.sections.now c.args.place.collection c.args.place.line c.args.place.row _ c.section-rows.result (omega arith) c.section-rows.ensures)
+    ∙ sym (told-here c.args.sections.now c.args.place.collection c.args.place.under c.args.place.row _ c.section-rows.result (omega arith) c.section-rows.ensures)
