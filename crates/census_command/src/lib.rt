@@ -16,11 +16,8 @@ mod remaking;
 mod reporting;
 mod running;
 
-pub use advancing::advance;
-pub use dispatching::{answer, dispatch, stop};
-pub use drawing::draw;
+pub use dispatching::dispatch;
 pub use entry_point::program;
-pub use forms::{Beside, reading_of};
-pub use keeping::keep_going;
+pub use forms::Beside;
 pub use laws::statuses_say_what_happened;
 pub use watched::Streams;

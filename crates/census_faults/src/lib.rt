@@ -21,8 +21,8 @@ pub use printing::{is_name_byte, printable_text, shown_names};
 pub use refusal::refusal_line;
 pub use refusals::refusal_lines;
 pub use rle::{
-    FileKind, Place, RleFault, RuleKind, fault_line, fault_name, fault_words, line_and_column,
-    place_of, refused_rules_are_told, rule_kind, sentence_line, sentences_differ,
+    FileKind, Place, RuleKind, fault_line, fault_name, fault_words, line_and_column, place_of,
+    refused_rules_are_told, rule_kind, sentence_line, sentences_differ,
 };
 pub use sentences::{faults_differ, sentence};
 pub use spot::{Spot, spot_of_bundle, spot_of_code, spot_of_text};

@@ -19,4 +19,4 @@ pub use error::IdentifyError;
 pub use heard::{Heard, is_input, read_file};
 pub use identifying::identify;
 pub use onlooker::{Onlooker, Unseen};
-pub use told::{Told, told_of};
+pub use told::Told;

@@ -22,7 +22,7 @@ mod table;
 
 pub use cell::{Cell, Field, safe_texts_are_no_formulas};
 pub use column::Column;
-pub use counting::{Kinds, kinds_of};
+pub use counting::Kinds;
 pub use entry::{Entry, entries_under};
 pub use json_lines::push_object;
 pub use object::Object;

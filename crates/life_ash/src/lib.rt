@@ -24,7 +24,7 @@ mod told;
 mod whole;
 
 pub use ahead::walk_on;
-pub use ash_orbits::{Ash, ash_of, is_ash};
+pub use ash_orbits::{Ash, ash_of};
 pub use found::Found;
 pub use guess::guessed_parts;
 pub use known::Known;

@@ -15,7 +15,7 @@ mod strand;
 mod tile;
 mod window;
 
-pub use adders::{Sum, choose, full_adder, half_adder};
+pub use adders::{Sum, full_adder};
 pub use answers::next_row;
 pub use eights::{end_of_eights, first_eight, has_cells};
 pub use kernel::{Change, band};

@@ -22,8 +22,5 @@ mod walk;
 
 pub use answering::answer;
 pub use code::code_of;
-pub use growing::growth_within;
-pub use parts::parts_of;
 pub use pattern::census;
-pub use telling::told;
 pub use trend::rises_steadily;

@@ -22,7 +22,7 @@ mod search;
 mod soon;
 
 pub use answering::answer;
-pub use finding::{find, find_cells, find_limited};
+pub use finding::{find, find_limited};
 pub use laws::fingerprints_follow_moves;
 pub use limit::BOUND_LIMIT;
 pub use sameness::same_object;

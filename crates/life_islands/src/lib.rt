@@ -15,9 +15,6 @@ mod seating;
 mod split;
 mod touching;
 
-pub use ends::join_ends;
 pub use gathering::gathered;
-pub use inheriting::heirs;
-pub use labels::{Labels, index_near, numbers};
-pub use places::join_in;
+pub use labels::{index_near, numbers};
 pub use split::{independent_parts, part_orbits};

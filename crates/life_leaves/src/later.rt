@@ -11,14 +11,6 @@ use crate::area::{advance, area_of, middle};
 use crate::leaf::{FourLeaves, Leaf};
 use life_bits::{Logic, Tile};
 
-/// The middle of four leaves: the 32 by 32 cells from column 16 and row 16 on.
-pub fn centre(four: &FourLeaves) -> Leaf
-    ensures { (G : Generation) → (place : Cell) → ShowsFour four.now G place →
-        ShowsLeaf result G (plus place (pos 16, pos 16)) }
-{
-    middle(&area_of(four))
-}
-
 /// The middle of four leaves so many generations later, at most sixteen: the 32 by 32 cells from column 16 and row 16 on. It is
 /// that of every set that has these cells there, whatever cells it has elsewhere.
 pub fn middle_later(logic: &Logic, four: &FourLeaves, generations: u32) -> Leaf

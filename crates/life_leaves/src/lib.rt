@@ -14,5 +14,5 @@ pub use kernels::{
     each_row_is_of_a_set, strands_tell_the_next_generation, tiles_tell_the_next_generation,
     windows_tell_the_next_generation,
 };
-pub use later::{centre, middle_later};
+pub use later::middle_later;
 pub use leaf::{FourLeaves, Leaf};

@@ -12,7 +12,7 @@ mod plane;
 mod row;
 mod span;
 
-pub use evolve::{is_live, next_cells};
+pub use evolve::is_live;
 pub use list_plane::ListPlane;
 pub use observer::{Observer, Unobserved};
 pub use offset::offset_between;

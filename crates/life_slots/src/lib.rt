@@ -17,7 +17,7 @@ mod stepping;
 mod touched;
 
 pub use bands::Bands;
-pub use counting::{count_cells, count_tile};
+pub use counting::count_cells;
 pub use ends::{Ends, ends_of, is_before, is_void};
 pub use grid::{corner_of, split};
 pub use listing::{push_row, push_seats, tile_in};

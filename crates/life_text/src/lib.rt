@@ -13,10 +13,9 @@ mod rle;
 mod token;
 mod write;
 
-pub use bytes::{is_blank, is_digit, is_letter, is_space};
-pub use header::{after_rule_name, after_sizes, drop_blanks, line_rule, skip_blanks};
-pub use life_cells::{CellFault, CellList, Rule, RuleFault};
-pub use lines::put_token;
+pub use bytes::{is_blank, is_digit, is_letter};
+pub use header::{after_rule_name, after_sizes, drop_blanks, skip_blanks};
+pub use life_cells::RuleFault;
 pub use pattern::Pattern;
 pub use rle::{RleFault, line_end, read_rle, rises, rule_number};
 pub use token::skip_spaces;

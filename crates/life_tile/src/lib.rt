@@ -10,6 +10,4 @@ mod sameness;
 mod standing;
 mod tile_store;
 
-pub use life_bits::{Around, Strand, Tile, count_planes, next_row};
-pub use life_plane::{ListPlane, Plane};
 pub use plane::TilePlane;

@@ -11,7 +11,10 @@ ghost use Rattle.life_islands.specs.Heirs.{AreHeirs};
 ghost use Rattle.life_islands.specs.Labels.{Fits, sets_of};
 ghost use Rattle.life_islands.specs.Split.Rounds.{AreJoinedTied, AreParted, HaveWalked};
 
-use crate::{Labels, heirs, join_ends, join_in, numbers};
+use crate::ends::join_ends;
+use crate::inheriting::heirs;
+use crate::labels::{Labels, numbers};
+use crate::places::join_in;
 use life_classes::root;
 use life_orbit::Orbit;
 use std::alloc::{AllocError, Global};
