@@ -1,7 +1,7 @@
 -- The lines of texts that were cut.
 use Rattle.std.proofs.Common.{List, [], ◌∷◌, ◌++◌, refl, subst}
 use Rattle.watched.specs.Streams.{PutsMoreBytes, Sink}
-use Rattle.census_cut.specs.declared.mending.Cut.{Cut}
+use Rattle.census_merge.specs.declared.mending.Cut.{Cut}
 use Rattle.census_errors.specs.Cuts.{cut_line}
 use Rattle.census_command.specs.Remakes.{TellsCuts}
 

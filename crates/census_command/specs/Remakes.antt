@@ -14,7 +14,7 @@ use Rattle.census_reports.specs.declared.form.Form.TheVariants as form
 use Rattle.census_reports.specs.Lawful.Lawful.{MergesLawfully}
 use Rattle.census_reports.specs.declared.reading.Reading.{Reading}
 use Rattle.census_reports.specs.declared.reading.Written.{Written}
-use Rattle.census_cut.specs.declared.mending.Cut.{Cut}
+use Rattle.census_merge.specs.declared.mending.Cut.{Cut}
 use Rattle.census_errors.specs.Cuts.{cut_line}
 use Rattle.census_errors.specs.Messages.{error_line}
 use Rattle.census_errors.specs.Places.{IsReportsPlace}

@@ -9,7 +9,7 @@ ghost use Rattle.census_command.specs.Streams.{HasSoundStreams};
 
 use crate::forms::{Beside, form_beside, reading_of};
 use census_cli::Reports;
-use census_cut::Cut;
+use census_merge::Cut;
 use census_errors::{CommandError, cut_line, reports_place_if, reports_saying, stop_saying};
 use census_folders::Shelf;
 use census_reports::{

@@ -1,6 +1,6 @@
 -- The line on standard error for a text that was cut.
 use Rattle.std.specs.Prelude.{ℕ, List, ◌++◌, codes, decimal}
-use Rattle.census_cut.specs.declared.mending.Cut.{Cut}
+use Rattle.census_merge.specs.declared.mending.Cut.{Cut}
 
 -- behind which line it was cut, how many collections are kept, and how many are left out
 abbrev pub cut_line : Cut → List ℕ

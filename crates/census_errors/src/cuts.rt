@@ -3,7 +3,7 @@ ghost use Rattle.std.specs.Prelude.{◌≡◌};
 ghost use Rattle.census_errors.specs.Cuts.{cut_line};
 
 use arrayvec::ArrayString;
-use census_cut::Cut;
+use census_merge::Cut;
 use itoa::Buffer;
 
 // The most bytes that the line has: three numbers of 20 digits, and the words.

@@ -1,3 +1,12 @@
 pub mod Few
 pub mod Same
 pub mod Steps
+pub mod Ranks
+pub mod Placed
+pub mod Tellings
+pub mod Standing
+pub mod Mirrored
+pub mod Counting
+pub mod Spelled
+pub mod Flat
+pub mod Whole

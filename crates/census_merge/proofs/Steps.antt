@@ -1,7 +1,7 @@
 -- What is known of rows that are read from a text and merged one by one.
 use Rattle.std.proofs.Common.{◌≡◌, ℕ, ◌+◌, ◌-◌, ◌^◌, ◌<◌, ◌≤◌, Bool, true, false, ◌&&◌, codes, nat_eq, nat_le, if◌then◌else◌, List, [], ◌∷◌, ◌++◌, ap, subst, sym, refl, ◌∙◌, length, length-append, arith, Some, None as Nothing, Option}
-use Rattle.gathered.specs.Telling.{Sheet, TellsAfter}
-use Rattle.gathered.proofs.Telling.{tells_failed, tells_more, tells_none}
+use Rattle.watched.specs.Telling.{Sheet, TellsAfter}
+use Rattle.watched.proofs.Telling.{tells_failed, tells_more, tells_none}
 use Rattle.std.specs.List.{starts_with}
 use Rattle.census_rows.specs.declared.row.Row.{Row}
 use Rattle.census_rows.specs.declared.row.Row.TheVariants.{Open, Line, Part, Engine, Emits, Code, Close, End}

@@ -1,6 +1,6 @@
 -- Rows that are told, numbered on.
 use Rattle.std.specs.Prelude.{◌≡◌, ◌≤◌, true, Some, None as Nothing, Option, List, [], MatchOption}
-use Rattle.gathered.specs.Telling.{Sheet, TellsAfter}
+use Rattle.watched.specs.Telling.{Sheet, TellsAfter}
 use Rattle.census_readback.specs.Limits.{count_limit}
 use Rattle.census_readback.specs.Steps.{collection_of}
 use Rattle.census_rows.specs.declared.row.Row.{Row}

@@ -6,7 +6,7 @@
 //! counts what is in one collection, none of these are added up. The rows are read from their text
 //! one by one, and none is kept.
 ghost use Rattle.std.specs.Prelude.{◌≡◌, ◌+◌, ◌<◌, ◌≤◌, ◌^◌, ◌++◌, ℕ, List, length, IfOk, IfSome, MatchOption, MatchResult, Some, None};
-ghost use Rattle.gathered.specs.Telling.{TellsAfter, sheet};
+ghost use Rattle.watched.specs.Telling.{TellsAfter, sheet};
 ghost use Rattle.census_readback.specs.Limits.{count_limit};
 ghost use Rattle.census_readback.specs.Texts.{AllLines, IsLine};
 ghost use Rattle.census_rows.specs.Lines.{line_of, text_of};
@@ -21,9 +21,8 @@ use crate::renumber::renumbered_row;
 use crate::report_sums::{Sums, sums_at_end};
 use census_readback::{behind_line, first_row};
 use census_rows::{Row, put_row};
-use gathered::{Block, put};
 use std::io::Write;
-use watched::Output;
+use watched::{Block, Output, put};
 
 /// How many collections and patterns the reports have that are counted, and the number, from 1, of
 /// the next.

@@ -1,8 +1,8 @@
 -- Texts of elements one after another, each told with the elements behind it.
 use Rattle.std.proofs.Common.{◌≡◌, ℕ, suc, ◌+◌, ◌<◌, ◌≤◌, List, [], ◌∷◌, ◌++◌, length, drop, get_or, ap, ◌∙◌, sym, drop-cons, arith}
 use Rattle.std.proofs.lemmas.List.{drop_all}
-use Rattle.gathered.specs.Telling.{Sheet, TellsAfter, TellsFront}
-use Rattle.gathered.proofs.Fronts.{TellsUpTo, up_to_end, up_to_front, up_to_more}
+use Rattle.watched.specs.Telling.{Sheet, TellsAfter, TellsFront}
+use Rattle.watched.proofs.Prefixes.{TellsUpTo, up_to_end, up_to_front, up_to_more}
 
 module _ {X : Type 0} (one : X → List X → List ℕ) (all : List X → List ℕ) (cons : (x : X) (xs : List X) → all (x ∷ xs) ≡ one x xs ++ all xs)
     (xs : List X) (i : ℕ) (a b : Sheet) (upto : TellsUpTo (all xs) (all (drop i xs)) a b) where

@@ -1,8 +1,8 @@
 -- Texts of elements one after another, each told with its number.
 use Rattle.std.proofs.Common.{◌≡◌, ℕ, suc, ◌+◌, ◌<◌, ◌≤◌, List, [], ◌∷◌, ◌++◌, length, drop, get_or, ap, ◌∙◌, drop-cons, arith}
 use Rattle.std.proofs.lemmas.List.{drop_all}
-use Rattle.gathered.specs.Telling.{Sheet, TellsAfter, TellsFront}
-use Rattle.gathered.proofs.Fronts.{TellsUpTo, up_to_end, up_to_front, up_to_more, up_to_stop}
+use Rattle.watched.specs.Telling.{Sheet, TellsAfter, TellsFront}
+use Rattle.watched.proofs.Prefixes.{TellsUpTo, up_to_end, up_to_front, up_to_more, up_to_stop}
 
 module _ {X : Type 0} (one : ℕ → X → List ℕ) (all : ℕ → List X → List ℕ) (cons : (n : ℕ) (x : X) (xs : List X) → all n (x ∷ xs) ≡ one n x ++ all (n + 1) xs)
     (xs : List X) (i : ℕ) (a b : Sheet) (upto : TellsUpTo (all 1 xs) (all (i + 1) (drop i xs)) a b) where

@@ -1,6 +1,6 @@
 //! Rows of a table of codes.
 ghost use Rattle.std.specs.Prelude.{◌≡◌, ◌++◌, codes, IfOk, MatchResult, OnOk};
-ghost use Rattle.gathered.specs.Telling.{TellsAfter, TellsFront, sheet};
+ghost use Rattle.watched.specs.Telling.{TellsAfter, TellsFront, sheet};
 ghost use Rattle.census_page_pieces.specs.Links.{linking_of};
 ghost use Rattle.census_page_pieces.specs.Numbers.{grouped};
 ghost use Rattle.census_page.specs.Holders.{having};
@@ -15,11 +15,10 @@ use census_page_pieces::{
     push_picture, push_rle, push_text, spelled,
 };
 use census_rows::Row;
-use gathered::{Block, put};
+use watched::{Block, Output, put};
 use life_shape::Shape;
 use std::alloc::{AllocError, Global};
 use std::io::Write;
-use watched::Output;
 
 // Adds the picture of a code.
 fn push_picture_cell(

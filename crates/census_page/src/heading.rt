@@ -1,15 +1,14 @@
 //! What is told of a collection as a whole.
 ghost use Rattle.std.specs.Prelude.{◌≡◌, ◌++◌, MatchResult, OnOk};
-ghost use Rattle.gathered.specs.Telling.{TellsAfter, TellsFront, sheet};
+ghost use Rattle.watched.specs.Telling.{TellsAfter, TellsFront, sheet};
 ghost use Rattle.census_page.specs.Pages.{collection_name, counts_text, heading, headings};
 
 use census_kept::Section;
 use census_page_pieces::{push_labelled, push_told};
 use census_rows::Row;
-use gathered::{Block, put};
+use watched::{Block, Output, put};
 use std::alloc::{AllocError, Global};
 use std::io::Write;
-use watched::Output;
 
 // Adds the name of a collection.
 fn push_name(alloc: Global, text: &mut Vec<u8>, name: &[u8]) -> Result<(), AllocError>

@@ -1,6 +1,6 @@
 //! The table of all collections.
 ghost use Rattle.std.specs.Prelude.{◌≡◌, ◌++◌, IfOk, MatchResult, OnOk};
-ghost use Rattle.gathered.specs.Telling.{TellsAfter, TellsFront, sheet};
+ghost use Rattle.watched.specs.Telling.{TellsAfter, TellsFront, sheet};
 ghost use Rattle.census_page.specs.Pages.{all_index_cells, index_cells, index_row, index_rows, link_cell, number_cell};
 
 use crate::tally::count_lent;
@@ -8,10 +8,9 @@ use census_kept::Section;
 use census_page_pieces::{Kind, push_grouped, push_number, push_told};
 use census_readback::Sections;
 use census_rows::Row;
-use gathered::{Block, put};
+use watched::{Block, Output, put};
 use std::alloc::{AllocError, Global};
 use std::io::Write;
-use watched::Output;
 
 // Adds a cell with a number.
 #[tactic(auto, unfolding(crate::specs::Pages::number_cell))]

@@ -1,6 +1,6 @@
 //! Lists of the patterns that have a code.
 ghost use Rattle.std.specs.Prelude.{◌≡◌, ◌++◌, IfOk, MatchResult, OnOk, codes};
-ghost use Rattle.gathered.specs.Telling.{TellsAfter, TellsFront, sheet};
+ghost use Rattle.watched.specs.Telling.{TellsAfter, TellsFront, sheet};
 ghost use Rattle.census_page_pieces.specs.Links.{linking_of};
 ghost use Rattle.census_page_pieces.specs.Numbers.{grouped, labelled};
 ghost use Rattle.census_page.specs.Lists.{holder_list, item, items, more_items, share_words};
@@ -8,10 +8,9 @@ ghost use Rattle.census_page.specs.Lists.{holder_list, item, items, more_items, 
 use crate::holder::{Holder, Share};
 use crate::holders::Holders;
 use census_page_pieces::{Links, push_grouped, push_labelled, push_name};
-use gathered::{Block, put};
+use watched::{Block, Output, put};
 use std::alloc::{AllocError, Global};
 use std::io::Write;
-use watched::Output;
 
 // So many patterns of a list are shown at first.
 const SHOWN: usize = 10;

@@ -1,7 +1,7 @@
 //! A collection.
 ghost use Rattle.std.specs.Prelude.{◌≡◌, ◌++◌, IfOk, MatchResult, codes, decimal};
 ghost use Rattle.std.specs.List.{list_any};
-ghost use Rattle.gathered.specs.Telling.{TellsAfter, TellsFront, sheet};
+ghost use Rattle.watched.specs.Telling.{TellsAfter, TellsFront, sheet};
 ghost use Rattle.census_page_pieces.specs.Links.{linking_of};
 ghost use Rattle.census_page.specs.Options.{options_of};
 ghost use Rattle.census_page.specs.Order.{AreInOrder};
@@ -19,10 +19,9 @@ use crate::stray::put_stray_rows;
 use census_kept::Section;
 use census_page_pieces::{Links, list_begin, push_number, recurs, table_begin, table_end};
 use census_rows::Row;
-use gathered::{Block, put};
+use watched::{Block, Output, put};
 use std::alloc::{AllocError, Global};
 use std::io::Write;
-use watched::Output;
 
 // Whether a row tells of a pattern that does not recur.
 fn is_stray(row: &Row) -> bool

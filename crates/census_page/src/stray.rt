@@ -1,6 +1,6 @@
 //! Rows of the table of the patterns that do not recur.
 ghost use Rattle.std.specs.Prelude.{◌≡◌, ◌++◌, MatchResult, OnOk};
-ghost use Rattle.gathered.specs.Telling.{TellsAfter, TellsFront, sheet};
+ghost use Rattle.watched.specs.Telling.{TellsAfter, TellsFront, sheet};
 ghost use Rattle.census_page_pieces.specs.Links.{linking_of};
 ghost use Rattle.census_page.specs.Pages.{stray_row, stray_rows};
 
@@ -8,10 +8,9 @@ use census_kept::Section;
 use census_page_pieces::{Links, push_fate_row};
 use census_readback::rows_behind;
 use census_rows::{Behind, Row};
-use gathered::{Block, put};
+use watched::{Block, Output, put};
 use std::alloc::{AllocError, Global};
 use std::io::Write;
-use watched::Output;
 
 // Adds the table row for a row that tells of a pattern that does not recur, and stands before these.
 fn push_stray_row(

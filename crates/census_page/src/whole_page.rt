@@ -1,6 +1,6 @@
 //! The page.
 ghost use Rattle.std.specs.Prelude.{◌≡◌, [], List, MatchResult};
-ghost use Rattle.gathered.specs.Telling.{TellsAfter, TellsFront, sheet};
+ghost use Rattle.watched.specs.Telling.{TellsAfter, TellsFront, sheet};
 ghost use Rattle.census_rows.specs.declared.row.Row.{Row};
 ghost use Rattle.census_readback.specs.Grouped.{collections_of};
 ghost use Rattle.census_readback.specs.Shapes.{AreReports};
@@ -14,10 +14,9 @@ use crate::section::put_section;
 use census_kept::Rows;
 use census_page_pieces::{index_begin, index_end, page_end};
 use census_readback::{Sections, collections};
-use gathered::{Block, put};
+use watched::{Block, Output, put};
 use std::alloc::{AllocError, Global};
 use std::io::Write;
-use watched::Output;
 
 // Tells each collection.
 fn put_sections<W: Write>(

@@ -3,8 +3,8 @@ use Rattle.std.proofs.Common.{◌≡◌, ◌≢◌, ◌↔◌, ◌∙◌, ℕ, �
 use Rattle.std.proofs.lemmas.List.{take-append-le, take_all}
 use Rattle.std.specs.Io.KnownBytes.{Appends}
 use Rattle.watched.specs.Watching.{AppendsFront}
-use Rattle.gathered.specs.Telling.{Sheet, TellsAfter, TellsFront}
-use Rattle.gathered.proofs.Telling.{all_told, tells_more}
+use Rattle.watched.specs.Telling.{Sheet, TellsAfter, TellsFront}
+use Rattle.watched.proofs.Telling.{all_told, tells_more}
 use Rattle.census_rows.specs.declared.row.Row.{Row}
 use Rattle.census_same.specs.Same.{has_bytes}
 use Rattle.census_reports.specs.Forms.{IsInPieces, IsMade, is_found}

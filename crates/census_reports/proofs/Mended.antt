@@ -5,10 +5,10 @@ use Rattle.std.specs.List.{AllZip}
 use Rattle.std.proofs.lemmas.List.{length-take-le, map-append, take-append-drop, take_more}
 use Rattle.census_rows.specs.declared.row.Row.{Row}
 use Rattle.census_readback.specs.Reports.{ReadsAsReports}
-use Rattle.census_cut.specs.Kept.{kept_rows}
-use Rattle.census_cut.specs.Mended.{IsBroken, IsCutTo, IsMended, IsWholeText}
-use Rattle.census_cut.specs.declared.mending.Cut.{Cut}
-use Rattle.census_cut.specs.declared.mending.Mended.{Mended}
+use Rattle.census_merge.specs.Kept.{kept_rows}
+use Rattle.census_merge.specs.Mended.{IsBroken, IsCutTo, IsMended, IsWholeText}
+use Rattle.census_merge.specs.declared.mending.Cut.{Cut}
+use Rattle.census_merge.specs.declared.mending.Mended.{Mended}
 use Rattle.census_reports.specs.Mending.{AreMended, HasBrokenText, as_list, cuts_of}
 use Rattle.census_reports.specs.Rows.{HasReportFault}
 

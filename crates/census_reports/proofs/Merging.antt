@@ -3,8 +3,8 @@ use Rattle.std.proofs.Common.{◌≡◌, ℕ, suc, ◌+◌, ◌<◌, ◌≤◌, 
 use Rattle.std.specs.Prelude.{MatchOption}
 use Rattle.std.specs.List.{AllZip}
 use Rattle.std.proofs.lemmas.List.{drop_all}
-use Rattle.gathered.specs.Telling.{Sheet, TellsAfter}
-use Rattle.gathered.proofs.Telling.{tells_failed, tells_more, tells_none}
+use Rattle.watched.specs.Telling.{Sheet, TellsAfter}
+use Rattle.watched.proofs.Telling.{tells_failed, tells_more, tells_none}
 use Rattle.census_rows.specs.declared.row.Row.{Row}
 use Rattle.census_rows.specs.declared.row.Row.TheVariants.{End}
 use Rattle.census_rows.specs.Lines.{line_of, text_of}

@@ -2,8 +2,8 @@
 use Rattle.std.proofs.Common.{◌≡◌, ℕ, true, false, List, [], Result, Ok, Err, MatchBool, MatchResult, subst, append-nil}
 use Rattle.std.specs.Io.KnownBytes.{Appends}
 use Rattle.watched.specs.Watching.{AppendsFront}
-use Rattle.gathered.specs.Telling.{Sheet, TellsAfter}
-use Rattle.gathered.proofs.Telling.{all_told, tells_more}
+use Rattle.watched.specs.Telling.{Sheet, TellsAfter}
+use Rattle.watched.proofs.Telling.{all_told, tells_more}
 use Rattle.watched.specs.Streams.{PutsPrefix, Sink, Writes}
 
 -- a writer without its block

@@ -1,6 +1,6 @@
 -- What is written of texts that are looked at as they were read, or mended.
 use Rattle.std.specs.Prelude.{◌≡◌, ◌⊎◌, ℕ, Bool, true, List}
-use Rattle.census_cut.specs.declared.mending.Cut.{Cut}
+use Rattle.census_merge.specs.declared.mending.Cut.{Cut}
 use Rattle.watched.specs.Streams.{Sink, Writes}
 use Rattle.census_reports.specs.Forms.{IsMadeOf, RefusesTexts, is_found}
 use Rattle.census_reports.specs.Mending.{AreLookedAt, HasBrokenText}

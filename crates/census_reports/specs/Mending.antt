@@ -1,9 +1,9 @@
 -- Texts as they are looked at: as they were read, or mended.
 use Rattle.std.specs.Prelude.{◌≡◌, ℕ, ◌+◌, Bool, true, false, Option, Some, None, List, [], ◌∷◌, ◌++◌, length, map}
 use Rattle.std.specs.List.{AllZip}
-use Rattle.census_cut.specs.Mended.{IsBroken, IsMended}
-use Rattle.census_cut.specs.declared.mending.Cut.{Cut}
-use Rattle.census_cut.specs.declared.mending.Mended.{Mended}
+use Rattle.census_merge.specs.Mended.{IsBroken, IsMended}
+use Rattle.census_merge.specs.declared.mending.Cut.{Cut}
+use Rattle.census_merge.specs.declared.mending.Mended.{Mended}
 use Rattle.census_reports.specs.declared.error.ReportsError.{ReportsError}
 use Rattle.census_reports.specs.declared.error.ReportsError.TheVariants.{Fault, Memory}
 

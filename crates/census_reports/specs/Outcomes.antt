@@ -1,6 +1,6 @@
 -- What is read and written of reports, and what each error says.
 use Rattle.std.specs.Prelude.{◌≡◌, ◌⊎◌, ℕ, false, Option, List}
-use Rattle.census_cut.specs.declared.mending.Cut.{Cut}
+use Rattle.census_merge.specs.declared.mending.Cut.{Cut}
 use Rattle.census_folders.specs.Told.{Told}
 use Rattle.census_identify.specs.Identifies.{words_or_input}
 use Rattle.watched.specs.Streams.{PutsPrefix, Writes}

@@ -1,6 +1,6 @@
 //! `census merge`: one report of those that texts have. No row is kept.
 ghost use Rattle.std.specs.Prelude.{◌≡◌, ◌<◌, List, None, length, MatchResult};
-ghost use Rattle.gathered.specs.Telling.{TellsAfter, sheet};
+ghost use Rattle.watched.specs.Telling.{TellsAfter, sheet};
 ghost use Rattle.census_rows.specs.declared.row.Row.{Row};
 ghost use Rattle.census_rows.specs.Lines.{text_of};
 ghost use Rattle.watched.specs.Streams.{PutsPrefix, Writes};
@@ -15,10 +15,9 @@ use crate::form::Form;
 use census_identify::Bytes;
 use census_merge::{Counted, Sums, count, put_end, put_rows};
 use census_readback::fault_of;
-use gathered::{Block, send};
+use watched::{Block, Failed, Output, send};
 use std::alloc::Global;
 use std::io::Write;
-use watched::{Failed, Output};
 
 // Looks whether each of these texts is a report, or several.
 fn look_at(alloc: Global, texts: &[Bytes]) -> Result<(), ReportsError>

@@ -1,5 +1,5 @@
 //! How texts are read, and what is told of what was written.
-use census_cut::Cut;
+use census_merge::Cut;
 
 /// How texts are read.
 #[derive(Clone, Copy, Debug, PartialEq, Eq)]

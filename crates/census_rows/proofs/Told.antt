@@ -1,8 +1,8 @@
 -- Fields told one after another.
 use Rattle.std.proofs.Common.{◌≡◌, ℕ, Option, Some, None, refl, arith, suc, ◌+◌, ◌<◌, ◌≤◌, drop, drop-cons, get_or, length, List, [], ◌∷◌, ◌++◌, ap, append_assoc, ◌∙◌, subst, sym}
 use Rattle.std.proofs.lemmas.List.{drop_all}
-use Rattle.gathered.specs.Telling.{Sheet, TellsAfter}
-use Rattle.gathered.proofs.Telling.{tells_more, tells_none}
+use Rattle.watched.specs.Telling.{Sheet, TellsAfter}
+use Rattle.watched.proofs.Telling.{tells_more, tells_none}
 use Rattle.census_rows.specs.declared.kinds.Field.{Field}
 use Rattle.census_rows.specs.Kinds.{present, texts_of, value_text}
 use Rattle.census_rows.specs.Lines.{fields_text}

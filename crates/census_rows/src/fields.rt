@@ -1,11 +1,10 @@
 //! Fields, each after a blank.
 ghost use Rattle.std.specs.Prelude.{◌∷◌};
-ghost use Rattle.gathered.specs.Telling.{TellsAfter, sheet};
+ghost use Rattle.watched.specs.Telling.{TellsAfter, sheet};
 
-use gathered::{Block, put, put_number as put_digits};
+use watched::{Block, Output, put, put_number as put_digits};
 use itoa::Integer;
 use std::io::Write;
-use watched::Output;
 
 /// Tells a blank and these bytes.
 pub fn put_field<W: Write>(field: &[u8], block: &mut Block, writer: &mut Output<W>)

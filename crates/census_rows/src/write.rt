@@ -1,16 +1,15 @@
 //! Lines written.
 ghost use Rattle.std.specs.Prelude.{◌≡◌, ◌∷◌, ◌++◌, [], decimal, if◌then◌else◌};
 ghost use Rattle.std.specs.Fmt.{signed_decimal};
-ghost use Rattle.gathered.specs.Telling.{TellsAfter, sheet};
+ghost use Rattle.watched.specs.Telling.{TellsAfter, sheet};
 ghost use Rattle.census_rows.specs.Kinds.{present, said_of, texts_of, value_text};
 ghost use Rattle.census_rows.specs.Lines.{describes_collection, describes_growth, fields_text, outcome_fields, row_text};
 
 use crate::fields::{put_field, put_number};
 use crate::kinds::{Field, Value};
 use crate::row::{Finding, Outcome, Row};
-use gathered::{Block, put};
+use watched::{Block, Output, put};
 use std::io::Write;
-use watched::Output;
 
 // A signed number.
 fn put_signed<W: Write>(number: &i64, block: &mut Block, writer: &mut Output<W>)

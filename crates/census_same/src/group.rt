@@ -1,7 +1,7 @@
 //! Patterns of which one object is told.
 ghost use Rattle.std.specs.Prelude.{◌≡◌, IfOk, MatchResult};
 ghost use Rattle.std.specs.List.{prefix_len};
-ghost use Rattle.gathered.specs.Telling.{TellsAfter, TellsFront, sheet};
+ghost use Rattle.watched.specs.Telling.{TellsAfter, TellsFront, sheet};
 ghost use Rattle.census_table.specs.Contents.{row_of};
 ghost use Rattle.census_table.specs.Tables.{json_line};
 ghost use Rattle.census_same.specs.Order.{has_key, key_of};
@@ -9,10 +9,9 @@ ghost use Rattle.census_same.specs.Same.{group_len, group_text, has_bytes, headi
 
 use crate::told::Told;
 use census_table::{Cell, Field, push_object};
-use gathered::{Block, put};
+use watched::{Block, Output, put};
 use std::alloc::{AllocError, Global};
 use std::io::Write;
-use watched::Output;
 
 // Whether a pattern has the code of another under its rule.
 fn is_same(told: &Told, first: &Told) -> bool

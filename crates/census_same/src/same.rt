@@ -1,6 +1,6 @@
 //! The patterns of which one object is told.
 ghost use Rattle.std.specs.Prelude.{◌≡◌, Bool, List, filter, IfOk, MatchResult, OnOk};
-ghost use Rattle.gathered.specs.Telling.{TellsAfter, TellsFront, sheet};
+ghost use Rattle.watched.specs.Telling.{TellsAfter, TellsFront, sheet};
 ghost use Rattle.census_readback.specs.Shapes.{AreReports};
 ghost use Rattle.census_same.specs.declared.told.Told.{Told};
 ghost use Rattle.census_same.specs.Order.{AreInOrder, Key, has_key};
@@ -11,10 +11,9 @@ use crate::group::{group_len, put_group};
 use crate::told::{Told, all_told};
 use census_kept::Rows;
 use census_readback::collections;
-use gathered::Block;
+use watched::{Block, Output};
 use std::alloc::{AllocError, Global};
 use std::io::Write;
-use watched::Output;
 
 // The patterns of reports that are objects. The rows are dropped. The only error is out of memory.
 fn told_in_rows<'a>(alloc: Global, rows: Rows<'a>) -> Result<Vec<Told<'a>>, AllocError>

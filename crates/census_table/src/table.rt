@@ -1,7 +1,7 @@
 //! Tables, told some rows at a time.
 ghost use Rattle.std.specs.Prelude.{◌≡◌, ◌≤◌, List, None, filter, length, map, IfOk, MatchResult};
 ghost use Rattle.std.specs.Option.{option_copied};
-ghost use Rattle.gathered.specs.Telling.{TellsAfter, TellsFront, sheet};
+ghost use Rattle.watched.specs.Telling.{TellsAfter, TellsFront, sheet};
 ghost use Rattle.census_rows.specs.declared.row.Row.{Row};
 ghost use Rattle.census_readback.specs.Shapes.{AreReports, any_outcome, lines_that};
 ghost use Rattle.census_table.specs.Columns.{columns, entry_row, pattern_row};
@@ -27,10 +27,9 @@ use census_kept::{Rows, Section};
 use census_names::Names;
 use census_readback::Sections;
 use census_rows::Row;
-use gathered::{Block, put};
+use watched::{Block, Output, put};
 use std::alloc::{AllocError, Global};
 use std::io::Write;
-use watched::Output;
 
 /// How a table is written.
 #[derive(Clone, Copy, Debug, PartialEq, Eq)]

@@ -1,6 +1,6 @@
 //! What is told of claims.
 ghost use Rattle.std.specs.Prelude.{◌≡◌, ◌≢◌, ◌&&◌, ◌↔◌, [], IfOk, IsTrue, MatchResult};
-ghost use Rattle.gathered.specs.Telling.{TellsAfter, TellsFront, sheet};
+ghost use Rattle.watched.specs.Telling.{TellsAfter, TellsFront, sheet};
 ghost use Rattle.census_readback.specs.Shapes.{AreReports};
 ghost use Rattle.census_table.specs.Entries.{entries_of, section_entries};
 ghost use Rattle.census_verify.specs.Agreement.{NothingIsToldWhereAllAgree};
@@ -15,10 +15,9 @@ use crate::matching::section_patterns;
 use crate::reading::Claims;
 use census_kept::{Rows, Section};
 use census_table::Entry;
-use gathered::{Block, put};
+use watched::{Block, Output, put};
 use std::alloc::{AllocError, Global};
 use std::io::Write;
-use watched::Output;
 
 // Whether nothing is told with this text, if this is so before it.
 fn is_silent(before: bool, text: &[u8]) -> bool

@@ -2,9 +2,9 @@
 
 ghost use Rattle.std.specs.Prelude.{◌≡◌, ◌<◌, ◌++◌, ℕ, List, length};
 ghost use Rattle.census_bundle.specs.declared.bundle.Folder.{Folder};
-ghost use Rattle.census_cut.specs.Kept.{report_of, whole_count};
-ghost use Rattle.census_cut.specs.Mended.{IsCutTo};
-ghost use Rattle.census_cut.specs.declared.mending.Cut.{Cut};
+ghost use Rattle.census_merge.specs.Kept.{report_of, whole_count};
+ghost use Rattle.census_merge.specs.Mended.{IsCutTo};
+ghost use Rattle.census_merge.specs.declared.mending.Cut.{Cut};
 ghost use Rattle.census_format.specs.Reports.{IsReport};
 ghost use Rattle.census_readback.specs.Texts.{AllLines};
 ghost use Rattle.census_rows.specs.Lines.{text_of};

@@ -1,6 +1,6 @@
 //! Reports that were cut: at each of their bytes, behind other reports, and where a line is wrong.
 
-use census_cut::{Cut, mend};
+use census_merge::{Cut, mend};
 use census_readback::fault_of;
 use std::alloc::{AllocError, Global};
 use std::test::Fail;

@@ -1,7 +1,7 @@
 //! Reports that files and standard input have, written as one report or as a table.
 
 use crate::lines::lines_of;
-use census_cut::Cut;
+use census_merge::Cut;
 use census_reports::{Form, Reading, ReportsError, write_reports};
 use census_rows::Row;
 use census_table::{Format, Subject};

@@ -1,2 +1,4 @@
 pub mod Fronts
 pub mod Pieces
+pub mod Prefixes
+pub mod Telling

@@ -1,23 +1,27 @@
-//! Readers and writers that remember that they failed.
+//! Readers and writers that remember that they failed, and blocks of bytes that go to a writer together.
 //!
 //! An `Input` holds a reader and a flag, an `Output` a writer and a flag. The flag is raised by the first call that fails,
 //! stays from then on, and no call reaches the reader or writer while it stands. So whoever holds one can tell a failure of
 //! the reader or writer from every other cause of an error. A call that a signal interrupts has not failed: it is made again.
 //!
-//! Tested in `tests_inputs`.
+//! Tested in `tests_inputs` and `tests_reports`.
 #![tactic(auto)]
 
+mod block;
 mod failed;
 mod input;
 mod interrupted;
 mod output;
+mod putting;
 mod reading;
 mod streams;
 mod writing;
 
+pub use block::Block;
 pub use failed::Failed;
 pub use input::Input;
 pub use output::Output;
+pub use putting::{put, put_number, send};
 pub use reading::{ReadFault, read_all};
 pub use streams::Streams;
 pub use writing::put_all;

@@ -5,8 +5,8 @@ use Rattle.std.specs.List.{AllByRecursion as Each}
 use Rattle.std.proofs.lemmas.Bool.{eq-eqb, eqb-true}
 use Rattle.census_bundle.specs.declared.bundle.Folder.{Folder}
 use Rattle.census_bundle.specs.Tickets.{element_at}
-use Rattle.census_cut.specs.Kept.{closed_to, closes, is_close, is_closed, kept_of, numbered}
-use Rattle.census_cut.proofs.Placed.{closes-other}
+use Rattle.census_merge.specs.Kept.{closed_to, closes, is_close, is_closed, kept_of, numbered}
+use Rattle.census_merge.proofs.Placed.{closes-other}
 use Rattle.census_format.specs.Lines.{Group, answers, pattern_lines}
 use Rattle.census_format.specs.Reports.{folder_section, section, section_of}
 use Rattle.census_readback.specs.Shapes.{all_rows, rows_of}

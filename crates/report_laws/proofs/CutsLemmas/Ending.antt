@@ -3,8 +3,8 @@ use Rattle.std.proofs.Common.{◌≡◌, ℕ, ◌+◌, ◌<◌, ◌^◌, false, 
 use Rattle.std.specs.List.{AllByRecursion as Each}
 use Rattle.census_bundle.specs.declared.bundle.Folder.{Folder}
 use Rattle.census_bundle.specs.Tickets.{element_at}
-use Rattle.census_cut.specs.Kept.{is_end, whole_count}
-use Rattle.census_cut.proofs.Ranks.{one}
+use Rattle.census_merge.specs.Kept.{is_end, whole_count}
+use Rattle.census_merge.proofs.Ranks.{one}
 use Rattle.census_format.specs.Lines.{end_line, pattern_count}
 use Rattle.census_format.specs.Reports.{IsReport}
 use Rattle.census_readback.specs.Texts.{AllLines}

@@ -1,8 +1,8 @@
 -- The collections that are closed, by their numbers.
 use Rattle.std.proofs.Common.{◌≡◌, ℕ, zero, suc, ◌+◌, ◌-◌, ◌<◌, true, false, cond, List, [], ◌∷◌, length, slice_get, ap, ◌∙◌, sym, refl, arith}
 use Rattle.census_bundle.specs.declared.bundle.Folder.{Folder}
-use Rattle.census_cut.specs.Kept.{closed_to, is_closed}
-use Rattle.census_cut.proofs.Ranks.{number-rises, one}
+use Rattle.census_merge.specs.Kept.{closed_to, is_closed}
+use Rattle.census_merge.proofs.Ranks.{number-rises, one}
 use Rattle.census_rows.specs.declared.row.Row.{Row}
 use Rattle.report_laws.specs.Cuts.Closed.{closed_folders}
 

@@ -1,7 +1,7 @@
 -- Rows whose lines stand at the start of a report are spelled as its first rows.
 use Rattle.std.proofs.Common.{◌≡◌, ℕ, ◌<◌, ◌^◌, true, false, List, [], ◌∷◌, ◌++◌, map, ap, ◌∙◌, sym, refl, append_assoc}
 use Rattle.std.specs.List.{AllByRecursion as Each}
-use Rattle.census_cut.specs.Kept.{is_end}
+use Rattle.census_merge.specs.Kept.{is_end}
 use Rattle.census_readback.specs.Steps.{patterns_opened}
 use Rattle.census_readback.specs.Texts.{AllLines, HasNoFeed}
 use Rattle.census_rows.specs.declared.row.Row.{Row}

@@ -2,8 +2,8 @@
 use Rattle.std.proofs.Common.{◌≡◌, ◌≢◌, ℕ, true, false, cond, eqb, ltb, List, [], ◌∷◌, ◌++◌, map, ap, ◌∙◌, sym, refl, arith, subst}
 use Rattle.std.specs.List.{AllByRecursion as Each}
 use Rattle.std.proofs.lemmas.Bool.{eq-eqb, eqb-false, eqb-true, ltb-false, ltb-true, ne_eqb}
-use Rattle.census_cut.specs.Kept.{closed_to, is_closed, kept_of, numbered}
-use Rattle.census_cut.proofs.Ranks.{number-less}
+use Rattle.census_merge.specs.Kept.{closed_to, is_closed, kept_of, numbered}
+use Rattle.census_merge.proofs.Ranks.{number-less}
 use Rattle.census_format.specs.Lines.{Group}
 use Rattle.census_format.specs.Reports.{Owned, lines_of}
 use Rattle.census_readback.specs.Steps.{collection_of}

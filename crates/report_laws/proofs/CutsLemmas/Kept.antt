@@ -4,8 +4,8 @@ use Rattle.std.specs.List.{AllByRecursion as Each}
 use Rattle.std.proofs.lemmas.Bool.{ltb-false, ltb-true}
 use Rattle.std.proofs.lemmas.Option.{slice_get_past}
 use Rattle.census_bundle.specs.declared.bundle.Folder.{Folder}
-use Rattle.census_cut.specs.Kept.{closed_to, is_closed, is_end, kept_of, most, numbered, report_of, whole_count}
-use Rattle.census_cut.proofs.Ranks.{most-is, number-least, number-of, number-rises, one}
+use Rattle.census_merge.specs.Kept.{closed_to, is_closed, is_end, kept_of, most, numbered, report_of, whole_count}
+use Rattle.census_merge.proofs.Ranks.{most-is, number-least, number-of, number-rises, one}
 use Rattle.census_format.specs.Lines.{end_line, pattern_count}
 use Rattle.census_format.specs.Reports.{IsReport, Owned, lines_of, section, section_of}
 use Rattle.census_readback.specs.Shapes.{patterns_in, rows_of}

@@ -1,9 +1,9 @@
 -- What a report that was cut is mended to.
 use Rattle.std.proofs.Common.{◌≡◌, ℕ, ◌<◌, List, ◌++◌, length, length-append, take, drop, ap, ◌∙◌, sym, subst, arith, append_assoc}
 use Rattle.census_bundle.specs.declared.bundle.Folder.{Folder}
-use Rattle.census_cut.specs.Kept.{kept_rows, report_of, whole_count}
-use Rattle.census_cut.specs.Mended.{IsCutTo}
-use Rattle.census_cut.specs.declared.mending.Cut.{Cut}
+use Rattle.census_merge.specs.Kept.{kept_rows, report_of, whole_count}
+use Rattle.census_merge.specs.Mended.{IsCutTo}
+use Rattle.census_merge.specs.declared.mending.Cut.{Cut}
 use Rattle.census_format.specs.Reports.{IsReport}
 use Rattle.census_rows.specs.declared.row.Row.{Row}
 use Rattle.census_rows.specs.Lines.{text_of}

@@ -3,7 +3,7 @@ use Rattle.std.proofs.Common.{◌≡◌, ℕ, suc, Some, None as Nothing, Option
 use Rattle.std.proofs.lemmas.List.{map-append}
 use Rattle.census_bundle.specs.declared.bundle.Entry.{Entry}
 use Rattle.census_bundle.specs.declared.bundle.Folder.{Folder}
-use Rattle.census_cut.specs.Kept.{numbered}
+use Rattle.census_merge.specs.Kept.{numbered}
 use Rattle.census_format.specs.Lines.{answer_to_entry, answers, emits_row, engine_row, engine_rows, outcome_rows, part_row, pattern_lines, pattern_row, pattern_rows, rows_behind, rows_of_engines}
 use Rattle.census_format.specs.Objects.{Object, code_line}
 use Rattle.census_format.specs.Reports.{section_of}

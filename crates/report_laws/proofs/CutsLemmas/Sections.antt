@@ -5,7 +5,7 @@ use Rattle.std.proofs.lemmas.Option.{slice_get_past}
 use Rattle.census_bundle.specs.declared.bundle.Entry.{Entry}
 use Rattle.census_bundle.specs.declared.bundle.Folder.{Folder}
 use Rattle.census_bundle.specs.Sizes.{IsWithinCounts, count_limit}
-use Rattle.census_cut.specs.Kept.{is_close}
+use Rattle.census_merge.specs.Kept.{is_close}
 use Rattle.census_format.specs.Lines.{Group, answer_to_entry, answers, emits_row, engine_rows, outcome_rows, part_row, pattern_lines, pattern_rows, rows_behind, rows_of_engines}
 use Rattle.census_format.specs.Objects.{Object, code_line}
 use Rattle.census_format.specs.Reports.{folder_section, section, section_of}

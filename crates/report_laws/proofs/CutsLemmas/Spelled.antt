@@ -1,8 +1,8 @@
 -- What is kept of rows is said by how they are spelled.
 use Rattle.std.proofs.Common.{◌≡◌, ℕ, ◌+◌, ◌<◌, ◌^◌, Bool, true, false, ◌||◌, cond, eqb, List, [], ◌∷◌, map, codes, decimal, bytes_eq, ap, ◌∙◌, sym, refl, arith}
 use Rattle.std.proofs.lemmas.Fmt.{decimal_injective}
-use Rattle.census_cut.specs.Kept.{closed_to, closes, is_closed, is_end, kept_of, numbered}
-use Rattle.census_cut.proofs.Placed.{opened-numbered}
+use Rattle.census_merge.specs.Kept.{closed_to, closes, is_closed, is_end, kept_of, numbered}
+use Rattle.census_merge.proofs.Placed.{opened-numbered}
 use Rattle.census_readback.specs.Shapes.{patterns_in}
 use Rattle.census_readback.specs.Steps.{collection_of, patterns_opened}
 use Rattle.census_rows.specs.declared.row.Row.{Row}

@@ -1,7 +1,7 @@
 -- The collections of a bundle that rows close.
 use Rattle.std.specs.Prelude.{ℕ, suc, if◌then◌else◌, List, [], ◌∷◌}
 use Rattle.census_bundle.specs.declared.bundle.Folder.{Folder}
-use Rattle.census_cut.specs.Kept.{is_closed}
+use Rattle.census_merge.specs.Kept.{is_closed}
 use Rattle.census_rows.specs.declared.row.Row.{Row}
 
 -- of these collections, the first of which has the number c, those that the rows close, in their order

@@ -2,7 +2,7 @@ use Rattle.std.proofs.Common.{List, ℕ, ap, inl, inr, map, subst, sym, ◌∙�
 use Rattle.watched.specs.Streams.{Sink, Streams}
 use Rattle.census_command.specs.Forms.{reading_of}
 use Rattle.census_reports.specs.declared.reading.Reading.{Reading}
-use Rattle.census_cut.specs.declared.mending.Cut.{Cut}
+use Rattle.census_merge.specs.declared.mending.Cut.{Cut}
 use Rattle.census_reports.specs.Outcomes.{ReportsFail, WritesReports}
 use Rattle.census_command.specs.Remakes.{KeepsLaw, TellsCuts, TellsOfReports}
 use Rattle.census_command.specs.Streams.{untold}

@@ -1,6 +1,6 @@
 use Rattle.std.proofs.Common.{ℕ, ◌∙◌, List, arith, subst, sym}
 use Rattle.std.proofs.lemmas.List.{take_more}
-use Rattle.census_cut.specs.declared.mending.Cut.{Cut}
+use Rattle.census_merge.specs.declared.mending.Cut.{Cut}
 use Rattle.watched.specs.Streams.{PutsMoreBytes}
 use Rattle.census_command.proofs.Cuts.{cuts_more}
 use Rattle.census_command.specs.Remakes.{TellsCuts}

@@ -1,5 +1,5 @@
 use Rattle.std.proofs.Common.{[], ◌∷◌}
-use Rattle.gathered.proofs.Telling.{tells_more}
+use Rattle.watched.proofs.Telling.{tells_more}
 use Rattle.census_rows.specs.Lines.{row_text}
 use Rattle.census_merge.proofs.merging.put_line.Goals as goal
 

@@ -1,6 +1,6 @@
 use Rattle.std.proofs.Common.{◌∙◌, subst, sym, Option}
-use Rattle.gathered.specs.Telling.{sheet}
-use Rattle.gathered.proofs.Telling.{tells_none}
+use Rattle.watched.specs.Telling.{sheet}
+use Rattle.watched.proofs.Telling.{tells_none}
 use Rattle.census_merge.specs.Putting.{PutsEnd}
 use Rattle.census_merge.specs.declared.report_sums.Sums.{Sums}
 use Rattle.census_merge.proofs.merging.put_next.Goals as goal

@@ -1,5 +1,5 @@
 use Rattle.std.proofs.Common.{sym, ◌∙◌}
-use Rattle.gathered.specs.Telling.{sheet}
+use Rattle.watched.specs.Telling.{sheet}
 use Rattle.census_merge.proofs.Steps.{putting-end, putting-failed, putting-more, putting-none, putting-start}
 use Rattle.census_merge.proofs.merging.put_rows.Goals as goal
 

@@ -1,5 +1,5 @@
 use Rattle.std.proofs.Common.{length}
-use Rattle.gathered.specs.Telling.{sheet}
+use Rattle.watched.specs.Telling.{sheet}
 use Rattle.census_merge.proofs.Steps.{Putting}
 use Rattle.census_merge.proofs.merging.put_rows.Given as goal
 

@@ -1,6 +1,6 @@
 use Rattle.std.proofs.Common.{drop}
-use Rattle.gathered.specs.Telling.{sheet}
-use Rattle.gathered.proofs.Fronts.{TellsUpTo}
+use Rattle.watched.specs.Telling.{sheet}
+use Rattle.watched.proofs.Prefixes.{TellsUpTo}
 use Rattle.census_page_pieces.specs.Links.{linking_of}
 use Rattle.census_page.specs.Pages.{code_rows}
 use Rattle.census_page.proofs.code_row.put_code_rows.Given as goal

@@ -1,7 +1,7 @@
 use Rattle.std.proofs.Common.{refl, subst, arith}
 use Rattle.std.proofs.lemmas.Result.{err_from_is_err_and}
-use Rattle.gathered.specs.Telling.{TellsAfter, TellsFront, sheet}
-use Rattle.gathered.proofs.Fronts.{each_end, each_front, each_more, up_to_start}
+use Rattle.watched.specs.Telling.{TellsAfter, TellsFront, sheet}
+use Rattle.watched.proofs.Prefixes.{each_end, each_front, each_more, up_to_start}
 use Rattle.census_page.specs.Pages.{heading, headings}
 use Rattle.census_page.proofs.heading.put_headings.Goals as goal
 

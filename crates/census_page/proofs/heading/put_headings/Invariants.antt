@@ -1,6 +1,6 @@
 use Rattle.std.proofs.Common.{drop}
-use Rattle.gathered.specs.Telling.{sheet}
-use Rattle.gathered.proofs.Fronts.{TellsUpTo}
+use Rattle.watched.specs.Telling.{sheet}
+use Rattle.watched.proofs.Prefixes.{TellsUpTo}
 use Rattle.census_page.specs.Pages.{headings}
 use Rattle.census_page.proofs.heading.put_headings.Given as goal
 

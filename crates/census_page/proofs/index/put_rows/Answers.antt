@@ -1,7 +1,7 @@
 use Rattle.std.proofs.Common.{◌+◌, ◌∙◌, ap, refl, subst, arith}
 use Rattle.std.proofs.lemmas.Result.{err_from_is_err_and}
-use Rattle.gathered.specs.Telling.{TellsAfter, sheet}
-use Rattle.gathered.proofs.Fronts.{up_to_start}
+use Rattle.watched.specs.Telling.{TellsAfter, sheet}
+use Rattle.watched.proofs.Prefixes.{up_to_start}
 use Rattle.census_page.specs.Pages.{index_row, index_rows}
 use Rattle.census_page.proofs.Numbered.{numbered_end, numbered_more, numbered_stop}
 use Rattle.census_page.proofs.index.put_rows.Goals as goal

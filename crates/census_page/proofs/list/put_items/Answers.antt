@@ -1,7 +1,7 @@
 use Rattle.std.proofs.Common.{drop, ◌∙◌, ap, refl, subst, arith}
 use Rattle.std.proofs.lemmas.Result.{err_from_is_err_and}
-use Rattle.gathered.specs.Telling.{TellsAfter, sheet}
-use Rattle.gathered.proofs.Fronts.{each_end, each_more, up_to_start, up_to_stop}
+use Rattle.watched.specs.Telling.{TellsAfter, sheet}
+use Rattle.watched.proofs.Prefixes.{each_end, each_more, up_to_start, up_to_stop}
 use Rattle.census_page_pieces.specs.Links.{linking_of}
 use Rattle.census_page.specs.Lists.{item, items}
 use Rattle.census_page.proofs.list.put_items.Goals as goal

@@ -1,8 +1,8 @@
 use Rattle.std.proofs.Common.{◌≡◌, ℕ, List, MatchResult, ap, min, append_assoc, codes, drop, take, ◌++◌, ◌∙◌, refl, subst, sym}
 use Rattle.std.proofs.lemmas.Result.{err_from_is_err_and}
-use Rattle.gathered.specs.Telling.{TellsAfter, TellsFront, sheet}
-use Rattle.gathered.proofs.Telling.{tells_more}
-use Rattle.gathered.proofs.Fronts.{front_first, front_more, told_both}
+use Rattle.watched.specs.Telling.{TellsAfter, TellsFront, sheet}
+use Rattle.watched.proofs.Telling.{tells_more}
+use Rattle.watched.proofs.Prefixes.{front_first, front_more, told_both}
 use Rattle.census_page_pieces.specs.Links.{linking_of}
 use Rattle.census_page.specs.Lists.{items, more_items}
 use Rattle.census_page.proofs.Listing.{list-is}

@@ -1,8 +1,8 @@
 use Rattle.std.proofs.Common.{ℕ, ap, codes, length, ◌++◌, ◌∙◌, refl, subst, sym}
 use Rattle.std.proofs.lemmas.Result.{err_from_is_err_and}
-use Rattle.gathered.specs.Telling.{TellsAfter, TellsFront, sheet}
-use Rattle.gathered.proofs.Telling.{tells_more, tells_none}
-use Rattle.gathered.proofs.Fronts.{front_first, front_more, front_none}
+use Rattle.watched.specs.Telling.{TellsAfter, TellsFront, sheet}
+use Rattle.watched.proofs.Telling.{tells_more, tells_none}
+use Rattle.watched.proofs.Prefixes.{front_first, front_more, front_none}
 use Rattle.census_page_pieces.specs.Links.{linking_of}
 use Rattle.census_page_pieces.specs.Numbers.{grouped}
 use Rattle.census_page.specs.Lists.{items, more_items}

@@ -1,6 +1,6 @@
 use Rattle.std.proofs.Common.{[], Bool, if◌then◌else◌, MatchResult, ap, subst, sym}
-use Rattle.gathered.specs.Telling.{TellsAfter, TellsFront, sheet}
-use Rattle.gathered.proofs.Telling.{tells_none}
+use Rattle.watched.specs.Telling.{TellsAfter, TellsFront, sheet}
+use Rattle.watched.proofs.Telling.{tells_none}
 use Rattle.census_page_pieces.specs.Links.{linking_of}
 use Rattle.census_page.specs.Pages.{stray_list}
 use Rattle.census_page.proofs.section.put_pattern_table.Goals as goal

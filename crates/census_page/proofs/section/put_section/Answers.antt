@@ -1,9 +1,9 @@
 use Rattle.std.proofs.Common.{codes, ◌++◌, ◌∙◌, refl, subst, sym}
 use Rattle.std.specs.Prelude.{decimal}
 use Rattle.std.proofs.lemmas.Result.{err_from_is_err_and}
-use Rattle.gathered.specs.Telling.{TellsAfter, sheet}
-use Rattle.gathered.proofs.Telling.{tells_failed, tells_more}
-use Rattle.gathered.proofs.Fronts.{front_first, front_more, front_none}
+use Rattle.watched.specs.Telling.{TellsAfter, sheet}
+use Rattle.watched.proofs.Telling.{tells_failed, tells_more}
+use Rattle.watched.proofs.Prefixes.{front_first, front_more, front_none}
 use Rattle.census_page.specs.Options.{options_of}
 use Rattle.census_page.specs.Pages.{headings, section_text, tables}
 use Rattle.census_page.proofs.section.put_section.Goals as goal

@@ -1,7 +1,7 @@
 use Rattle.std.proofs.Common.{MatchResult, ap, ◌∙◌, subst}
 use Rattle.std.proofs.lemmas.Result.{err_from_is_err_and}
-use Rattle.gathered.specs.Telling.{TellsAfter, TellsFront, sheet}
-use Rattle.gathered.proofs.Fronts.{front_none}
+use Rattle.watched.specs.Telling.{TellsAfter, TellsFront, sheet}
+use Rattle.watched.proofs.Prefixes.{front_none}
 use Rattle.census_page_pieces.specs.Links.{Linking}
 use Rattle.census_page.specs.Options.{options_of}
 use Rattle.census_page.specs.Pages.{linked_tables, tables}

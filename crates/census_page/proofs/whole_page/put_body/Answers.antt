@@ -1,8 +1,8 @@
 use Rattle.std.proofs.Common.{◌++◌, ◌∙◌, refl, subst}
 use Rattle.std.proofs.lemmas.Result.{err_from_is_err_and}
-use Rattle.gathered.specs.Telling.{TellsAfter, sheet}
-use Rattle.gathered.proofs.Telling.{tells_more}
-use Rattle.gathered.proofs.Fronts.{front_first, front_more, front_none}
+use Rattle.watched.specs.Telling.{TellsAfter, sheet}
+use Rattle.watched.proofs.Telling.{tells_more}
+use Rattle.watched.proofs.Prefixes.{front_first, front_more, front_none}
 use Rattle.census_page_pieces.specs.Markup.{index_begin, index_end, page_end}
 use Rattle.census_page.specs.Options.{options_of}
 use Rattle.census_page.specs.Pages.{choices, index_rows, sections_text}

@@ -1,7 +1,7 @@
 use Rattle.std.proofs.Common.{◌≡◌, [], ap, ◌∙◌, length, MatchResult, refl, subst}
 use Rattle.std.proofs.lemmas.Result.{err_from_is_err_and}
-use Rattle.gathered.specs.Telling.{TellsAfter, TellsFront, sheet}
-use Rattle.gathered.proofs.Fronts.{front_none, told_both}
+use Rattle.watched.specs.Telling.{TellsAfter, TellsFront, sheet}
+use Rattle.watched.proofs.Prefixes.{front_none, told_both}
 use Rattle.census_readback.specs.Grouped.{collections_of}
 use Rattle.census_page.specs.Options.{options_of}
 use Rattle.census_page.specs.Pages.{body_text, front, page_of}

@@ -1,7 +1,7 @@
 use Rattle.std.proofs.Common.{◌+◌, refl, subst, arith}
 use Rattle.std.proofs.lemmas.Result.{err_from_is_err_and}
-use Rattle.gathered.specs.Telling.{TellsAfter, TellsFront, sheet}
-use Rattle.gathered.proofs.Fronts.{up_to_start}
+use Rattle.watched.specs.Telling.{TellsAfter, TellsFront, sheet}
+use Rattle.watched.proofs.Prefixes.{up_to_start}
 use Rattle.census_page.specs.Options.{options_of}
 use Rattle.census_page.specs.Pages.{section_text, sections_text}
 use Rattle.census_page.proofs.Numbered.{numbered_end, numbered_front, numbered_more}

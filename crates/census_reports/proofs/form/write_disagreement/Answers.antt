@@ -1,6 +1,6 @@
 use Rattle.std.proofs.Common.{inr, refl}
 use Rattle.std.proofs.lemmas.Result.{err_from_is_err_and}
-use Rattle.gathered.specs.Telling.{sheet}
+use Rattle.watched.specs.Telling.{sheet}
 use Rattle.census_table.specs.Entries.{entries_of}
 use Rattle.census_verify.specs.Claims.{claims_read}
 use Rattle.census_verify.specs.Verdict.{verdict_text}

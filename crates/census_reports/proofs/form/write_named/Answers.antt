@@ -1,7 +1,7 @@
 use Rattle.std.proofs.Common.{false, inr, refl}
 use Rattle.std.specs.Option.{option_copied}
 use Rattle.std.proofs.lemmas.Result.{err_from_is_err_and}
-use Rattle.gathered.specs.Telling.{sheet}
+use Rattle.watched.specs.Telling.{sheet}
 use Rattle.census_table.specs.Tables.{listing_of, listing_text}
 use Rattle.census_reports.proofs.Halted.{all_written, halted, lost}
 use Rattle.census_reports.specs.declared.form.Form.TheVariants as form

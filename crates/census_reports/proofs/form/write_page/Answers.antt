@@ -1,6 +1,6 @@
 use Rattle.std.proofs.Common.{false, inr, refl}
 use Rattle.std.proofs.lemmas.Result.{err_from_is_err_and}
-use Rattle.gathered.specs.Telling.{sheet}
+use Rattle.watched.specs.Telling.{sheet}
 use Rattle.census_page.specs.Options.{options_of}
 use Rattle.census_page.specs.Pages.{page_of}
 use Rattle.census_reports.proofs.Halted.{all_written, halted, lost}

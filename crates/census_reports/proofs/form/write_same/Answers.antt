@@ -1,6 +1,6 @@
 use Rattle.std.proofs.Common.{inr, refl}
 use Rattle.std.proofs.lemmas.Result.{err_from_is_err_and}
-use Rattle.gathered.specs.Telling.{sheet}
+use Rattle.watched.specs.Telling.{sheet}
 use Rattle.census_same.specs.Patterns.{tolds_of}
 use Rattle.census_same.specs.Same.{same_text}
 use Rattle.census_reports.proofs.Halted.{all_written, halted, lost}

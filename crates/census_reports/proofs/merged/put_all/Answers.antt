@@ -1,5 +1,5 @@
 use Rattle.std.proofs.Common.{◌∙◌, arith}
-use Rattle.gathered.specs.Telling.{sheet}
+use Rattle.watched.specs.Telling.{sheet}
 use Rattle.census_reports.proofs.Merging.{put_last, put_more, put_stopped}
 use Rattle.census_reports.proofs.merged.put_all.Goals as goal
 

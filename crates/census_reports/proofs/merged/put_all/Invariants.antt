@@ -1,4 +1,4 @@
-use Rattle.gathered.specs.Telling.{sheet}
+use Rattle.watched.specs.Telling.{sheet}
 use Rattle.census_reports.proofs.Merging.{PutTexts}
 use Rattle.census_reports.proofs.merged.put_all.Given as goal
 

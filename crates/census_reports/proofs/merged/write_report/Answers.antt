@@ -1,4 +1,4 @@
-use Rattle.gathered.specs.Telling.{sheet}
+use Rattle.watched.specs.Telling.{sheet}
 use Rattle.census_merge.specs.Merged.{merged_rows}
 use Rattle.census_rows.specs.Lines.{text_of}
 use Rattle.census_reports.proofs.Told.{told_whole}

@@ -1,4 +1,4 @@
-use Rattle.gathered.specs.Telling.{sheet}
+use Rattle.watched.specs.Telling.{sheet}
 use Rattle.census_rows.proofs.Told.{optional_at, optional_end}
 use Rattle.census_rows.proofs.write.put_fields.Goals as goal
 

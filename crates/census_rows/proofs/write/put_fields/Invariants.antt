@@ -1,5 +1,5 @@
 use Rattle.std.proofs.Common.{drop}
-use Rattle.gathered.specs.Telling.{Sheet, TellsAfter, sheet}
+use Rattle.watched.specs.Telling.{Sheet, TellsAfter, sheet}
 use Rattle.census_rows.specs.Kinds.{present, texts_of}
 use Rattle.census_rows.specs.Lines.{fields_text}
 use Rattle.census_rows.proofs.write.put_fields.Given as goal

@@ -1,6 +1,6 @@
 use Rattle.std.proofs.Common.{◌∷◌, [], decimal, subst}
 use Rattle.std.specs.Fmt.{signed_decimal}
-use Rattle.gathered.specs.Telling.{TellsAfter, sheet}
+use Rattle.watched.specs.Telling.{TellsAfter, sheet}
 use Rattle.census_rows.specs.Kinds.{texts_of}
 use Rattle.census_rows.specs.Lines.{fields_text}
 use Rattle.census_rows.proofs.Told.{field_last, field_then}

@@ -1,8 +1,8 @@
 use Rattle.std.proofs.Common.{◌≡◌, ℕ, ℤ, List, [], ◌∷◌, Bor, codes, decimal, refl, subst}
 use Rattle.std.specs.Fmt.{signed_decimal}
 use Rattle.std.specs.Prelude.{if◌then◌else◌}
-use Rattle.gathered.specs.Telling.{TellsAfter, sheet}
-use Rattle.gathered.proofs.Telling.{tells_none}
+use Rattle.watched.specs.Telling.{TellsAfter, sheet}
+use Rattle.watched.proofs.Telling.{tells_none}
 use Rattle.census_rows.specs.declared.row.Row.{Row}
 use Rattle.census_rows.specs.declared.row.Row.TheVariants.{Open, Line, Part, Engine, Emits, Code, Close, End}
 use Rattle.census_rows.specs.Lines.{describes_growth, row_text}

@@ -1,4 +1,4 @@
-use Rattle.gathered.proofs.Telling.{tells_none}
+use Rattle.watched.proofs.Telling.{tells_none}
 use Rattle.census_rows.proofs.write.put_optional.Goals as goal
 
 pub returns-in-None : goal.returns-in-None

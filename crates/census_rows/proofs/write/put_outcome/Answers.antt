@@ -1,5 +1,5 @@
 use Rattle.std.proofs.Common.{◌∷◌, [], codes, decimal, subst}
-use Rattle.gathered.specs.Telling.{TellsAfter, sheet}
+use Rattle.watched.specs.Telling.{TellsAfter, sheet}
 use Rattle.census_rows.specs.Kinds.{said, said_of, texts_of}
 use Rattle.census_rows.proofs.Told.{field_last, field_then}
 use Rattle.census_rows.proofs.write.put_outcome.Goals as goal

@@ -1,5 +1,5 @@
 use Rattle.std.proofs.Common.{[], ◌∷◌, decimal}
-use Rattle.gathered.proofs.Telling.{tells_more}
+use Rattle.watched.proofs.Telling.{tells_more}
 use Rattle.census_rows.specs.Lines.{fields_text}
 use Rattle.census_rows.proofs.Told.{field_last, field_then}
 use Rattle.census_rows.proofs.write.put_start.Goals as goal

@@ -1,5 +1,5 @@
 use Rattle.std.proofs.Common.{◌++◌, codes}
-use Rattle.gathered.proofs.Telling.{tells_more}
+use Rattle.watched.proofs.Telling.{tells_more}
 use Rattle.census_same.proofs.group.put_line.Goals as goal
 
 pub returns : goal.returns

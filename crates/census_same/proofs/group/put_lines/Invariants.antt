@@ -1,6 +1,6 @@
 use Rattle.std.proofs.Common.{drop}
-use Rattle.gathered.specs.Telling.{sheet}
-use Rattle.gathered.proofs.Fronts.{TellsUpTo}
+use Rattle.watched.specs.Telling.{sheet}
+use Rattle.watched.proofs.Prefixes.{TellsUpTo}
 use Rattle.census_same.specs.Same.{lines_text}
 use Rattle.census_same.proofs.group.put_lines.Given as goal
 

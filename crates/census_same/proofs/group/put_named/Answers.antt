@@ -1,5 +1,5 @@
-use Rattle.gathered.specs.Telling.{sheet}
-use Rattle.gathered.proofs.Telling.{tells_more}
+use Rattle.watched.specs.Telling.{sheet}
+use Rattle.watched.proofs.Telling.{tells_more}
 use Rattle.census_same.specs.Same.{heading_text, lines_text}
 use Rattle.census_same.proofs.group.put_named.Goals as goal
 

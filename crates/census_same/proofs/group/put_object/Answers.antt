@@ -1,6 +1,6 @@
 use Rattle.std.proofs.lemmas.Result.{err_from_is_err_and}
-use Rattle.gathered.specs.Telling.{sheet}
-use Rattle.gathered.proofs.Fronts.{front_none}
+use Rattle.watched.specs.Telling.{sheet}
+use Rattle.watched.proofs.Prefixes.{front_none}
 use Rattle.census_table.specs.Tables.{json_line}
 use Rattle.census_same.specs.Same.{members_of}
 use Rattle.census_same.proofs.group.put_object.Goals as goal

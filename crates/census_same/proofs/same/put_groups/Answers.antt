@@ -1,7 +1,7 @@
 use Rattle.std.proofs.Common.{◌-◌, ◌≤◌, drop, length, take, refl, sym, subst, arith}
 use Rattle.std.proofs.lemmas.Result.{err_from_is_err_and}
-use Rattle.gathered.specs.Telling.{sheet}
-use Rattle.gathered.proofs.Fronts.{up_to_end, up_to_front, up_to_more, up_to_start}
+use Rattle.watched.specs.Telling.{sheet}
+use Rattle.watched.proofs.Prefixes.{up_to_end, up_to_front, up_to_more, up_to_start}
 use Rattle.census_same.specs.Same.{group_text, same_text}
 use Rattle.census_same.proofs.Groups.{Walk, any-end, any-more, group-within, nothing-left, walk}
 use Rattle.census_same.proofs.same.put_groups.Goals as goal

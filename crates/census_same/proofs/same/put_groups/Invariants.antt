@@ -1,6 +1,6 @@
 use Rattle.std.proofs.Common.{◌≡◌, ◌-◌, ◌≤◌, ◌||◌, drop, length}
-use Rattle.gathered.specs.Telling.{sheet}
-use Rattle.gathered.proofs.Fronts.{TellsUpTo}
+use Rattle.watched.specs.Telling.{sheet}
+use Rattle.watched.proofs.Prefixes.{TellsUpTo}
 use Rattle.census_same.specs.Order.{AreInOrder}
 use Rattle.census_same.specs.Same.{has_bytes, same_text}
 use Rattle.census_same.proofs.same.put_groups.Given as goal

@@ -1,6 +1,6 @@
 use Rattle.std.proofs.Common.{◌∙◌, MatchResult, ap, subst, sym}
 use Rattle.std.specs.Option.{option_copied}
-use Rattle.gathered.specs.Telling.{TellsAfter, TellsFront, sheet}
+use Rattle.watched.specs.Telling.{TellsAfter, TellsFront, sheet}
 use Rattle.census_table.specs.Tables.{listing_of, members_in, rows_text}
 use Rattle.census_table.proofs.Texts.{parts-members, patterns-members}
 use Rattle.census_table.proofs.table.put_body.Goals as goal

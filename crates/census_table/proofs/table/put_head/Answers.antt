@@ -1,9 +1,9 @@
 use Rattle.std.proofs.Common.{map}
 use Rattle.std.proofs.lemmas.Result.{err_from_is_err_and}
-use Rattle.gathered.specs.Telling.{sheet}
-use Rattle.gathered.proofs.Telling.{tells_none}
+use Rattle.watched.specs.Telling.{sheet}
+use Rattle.watched.proofs.Telling.{tells_none}
 use Rattle.census_table.specs.Tables.{head_text}
-use Rattle.gathered.proofs.Fronts.{front_none}
+use Rattle.watched.proofs.Prefixes.{front_none}
 use Rattle.census_table.proofs.table.put_head.Goals as goal
 
 pub returns-in_err-header-in-Csv : goal.returns-in_err-header-in-Csv

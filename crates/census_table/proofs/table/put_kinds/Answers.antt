@@ -1,12 +1,12 @@
 use Rattle.std.proofs.Common.{◌∙◌, ◌+◌, List, ℕ, arith, drop, map, take}
 use Rattle.std.proofs.lemmas.Result.{err_from_is_err_and}
 use Rattle.std.specs.Option.{option_copied}
-use Rattle.gathered.specs.Telling.{sheet}
+use Rattle.watched.specs.Telling.{sheet}
 use Rattle.census_table.specs.ObjectColumns.{code_columns, object_row}
 use Rattle.census_table.specs.Tables.{rows_text}
 use Rattle.census_table.specs.declared.object.Object.{Object}
 use Rattle.census_table.proofs.Texts.{drop-cut, objects-cut}
-use Rattle.gathered.proofs.Fronts.{up_to_front, up_to_more, up_to_start, up_to_stop}
+use Rattle.watched.proofs.Prefixes.{up_to_front, up_to_more, up_to_start, up_to_stop}
 use Rattle.census_table.proofs.table.put_kinds.Goals as goal
 
 pub loop-start-init : goal.loop-start-init

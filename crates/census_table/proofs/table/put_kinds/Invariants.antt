@@ -1,9 +1,9 @@
 use Rattle.std.proofs.Common.{◌-◌, ◌≤◌, drop, length, map}
 use Rattle.std.specs.Option.{option_copied}
-use Rattle.gathered.specs.Telling.{sheet}
+use Rattle.watched.specs.Telling.{sheet}
 use Rattle.census_table.specs.ObjectColumns.{code_columns, object_row}
 use Rattle.census_table.specs.Tables.{rows_text}
-use Rattle.gathered.proofs.Fronts.{TellsUpTo}
+use Rattle.watched.proofs.Prefixes.{TellsUpTo}
 use Rattle.census_table.proofs.table.put_kinds.Given as goal
 
 abbrev pub invariant-loop-start : goal.invariant-loop-start

@@ -1,13 +1,13 @@
 use Rattle.std.proofs.Common.{ℕ, ◌+◌, List, arith, drop, map}
 use Rattle.std.proofs.lemmas.Result.{err_from_is_err_and}
 use Rattle.std.specs.Option.{option_copied}
-use Rattle.gathered.specs.Telling.{sheet}
+use Rattle.watched.specs.Telling.{sheet}
 use Rattle.census_rows.specs.declared.row.Row.{Row}
 use Rattle.census_table.specs.Columns.{pattern_row}
 use Rattle.census_table.specs.Patterns.{first_patterns, patterns_under}
 use Rattle.census_table.specs.Tables.{rows_text}
 use Rattle.census_table.proofs.Texts.{rows-cut}
-use Rattle.gathered.proofs.Fronts.{up_to_front, up_to_more, up_to_start}
+use Rattle.watched.proofs.Prefixes.{up_to_front, up_to_more, up_to_start}
 use Rattle.census_table.proofs.table.put_lines.Goals as goal
 
 pub loop-start-init : goal.loop-start-init

@@ -1,9 +1,9 @@
 use Rattle.std.proofs.Common.{◌++◌, ◌∙◌, ap, map, sym}
 use Rattle.std.proofs.lemmas.Result.{err_from_is_err_and}
 use Rattle.std.specs.Option.{option_copied}
-use Rattle.gathered.specs.Telling.{sheet}
+use Rattle.watched.specs.Telling.{sheet}
 use Rattle.census_table.specs.Tables.{head_text, listing_of, members_in, rows_text, listing_text}
-use Rattle.gathered.proofs.Fronts.{front_first, front_none, told_both}
+use Rattle.watched.proofs.Prefixes.{front_first, front_none, told_both}
 use Rattle.census_table.proofs.table.put_listing.Goals as goal
 
 pub returns-in_err-titles : goal.returns-in_err-titles

@@ -1,13 +1,13 @@
 use Rattle.std.proofs.Common.{◌+◌, ◌∙◌, None, Option, List, ℕ, ap, arith, drop, map, take}
 use Rattle.std.proofs.lemmas.Result.{err_from_is_err_and}
 use Rattle.std.specs.Option.{option_copied}
-use Rattle.gathered.specs.Telling.{sheet}
+use Rattle.watched.specs.Telling.{sheet}
 use Rattle.census_table.specs.ObjectColumns.{object_row, part_columns}
 use Rattle.census_table.specs.Objects.{objects_under}
 use Rattle.census_table.specs.Tables.{rows_text}
 use Rattle.census_table.specs.declared.entry.Entry.{Entry}
 use Rattle.census_table.proofs.Texts.{parts_text, parts-cut}
-use Rattle.gathered.proofs.Fronts.{up_to_front, up_to_more, up_to_start, up_to_stop}
+use Rattle.watched.proofs.Prefixes.{up_to_front, up_to_more, up_to_start, up_to_stop}
 use Rattle.census_table.proofs.table.put_parts.Goals as goal
 
 pub loop-start-init : goal.loop-start-init

@@ -1,8 +1,8 @@
 use Rattle.std.proofs.Common.{◌-◌, ◌≤◌, None, drop, length}
 use Rattle.std.specs.Option.{option_copied}
-use Rattle.gathered.specs.Telling.{sheet}
+use Rattle.watched.specs.Telling.{sheet}
 use Rattle.census_table.specs.Objects.{objects_under}
-use Rattle.gathered.proofs.Fronts.{TellsUpTo}
+use Rattle.watched.proofs.Prefixes.{TellsUpTo}
 use Rattle.census_table.proofs.Texts.{parts_text}
 use Rattle.census_table.proofs.table.put_parts.Given as goal
 

@@ -1,12 +1,12 @@
 use Rattle.std.proofs.Common.{◌∙◌, map, sym}
 use Rattle.std.proofs.lemmas.Result.{err_from_is_err_and}
 use Rattle.std.specs.Option.{option_copied}
-use Rattle.gathered.specs.Telling.{sheet}
-use Rattle.gathered.proofs.Telling.{tells_failed}
+use Rattle.watched.specs.Telling.{sheet}
+use Rattle.watched.proofs.Telling.{tells_failed}
 use Rattle.census_table.specs.Columns.{pattern_row}
 use Rattle.census_table.specs.Patterns.{first_patterns}
 use Rattle.census_table.specs.Tables.{rows_text}
-use Rattle.gathered.proofs.Fronts.{front_none}
+use Rattle.watched.proofs.Prefixes.{front_none}
 use Rattle.census_table.proofs.table.put_patterns.Goals as goal
 
 pub returns-then-failed : goal.returns-then-failed

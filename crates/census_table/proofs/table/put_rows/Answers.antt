@@ -1,8 +1,8 @@
 use Rattle.std.proofs.lemmas.Result.{err_from_is_err_and}
-use Rattle.gathered.specs.Telling.{sheet}
+use Rattle.watched.specs.Telling.{sheet}
 use Rattle.census_table.specs.Tables.{rows_text}
 use Rattle.census_table.specs.Told.{rows_in}
-use Rattle.gathered.proofs.Fronts.{front_none}
+use Rattle.watched.proofs.Prefixes.{front_none}
 use Rattle.census_table.proofs.table.put_rows.Goals as goal
 
 pub returns-in_err-text : goal.returns-in_err-text

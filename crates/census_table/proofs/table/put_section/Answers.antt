@@ -1,7 +1,7 @@
 use Rattle.std.proofs.Common.{subst, sym, ap, length, arith}
 use Rattle.std.specs.Option.{option_copied}
-use Rattle.gathered.specs.Telling.{TellsAfter, sheet}
-use Rattle.gathered.proofs.Telling.{tells_none}
+use Rattle.watched.specs.Telling.{TellsAfter, sheet}
+use Rattle.watched.proofs.Telling.{tells_none}
 use Rattle.census_table.proofs.Texts.{section-empty}
 use Rattle.census_table.proofs.table.put_section.Goals as goal
 

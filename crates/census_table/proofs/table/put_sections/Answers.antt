@@ -1,10 +1,10 @@
 use Rattle.std.proofs.Common.{ℕ, ◌+◌, List, drop, arith}
 use Rattle.std.proofs.lemmas.Result.{err_from_is_err_and}
 use Rattle.std.specs.Option.{option_copied}
-use Rattle.gathered.specs.Telling.{sheet}
+use Rattle.watched.specs.Telling.{sheet}
 use Rattle.census_table.specs.Tables.{all_members, rows_text, section_members}
 use Rattle.census_table.proofs.Texts.{sections-cut}
-use Rattle.gathered.proofs.Fronts.{up_to_front, up_to_more, up_to_start}
+use Rattle.watched.proofs.Prefixes.{up_to_front, up_to_more, up_to_start}
 use Rattle.census_table.proofs.table.put_sections.Goals as goal
 
 pub loop-index-init : goal.loop-index-init

@@ -1,8 +1,8 @@
 use Rattle.std.proofs.Common.{◌+◌, drop}
 use Rattle.std.specs.Option.{option_copied}
-use Rattle.gathered.specs.Telling.{sheet}
+use Rattle.watched.specs.Telling.{sheet}
 use Rattle.census_table.specs.Tables.{all_members, rows_text}
-use Rattle.gathered.proofs.Fronts.{TellsUpTo}
+use Rattle.watched.proofs.Prefixes.{TellsUpTo}
 use Rattle.census_table.proofs.table.put_sections.Given as goal
 
 abbrev pub invariant-loop-index : goal.invariant-loop-index

@@ -1,9 +1,9 @@
 use Rattle.std.proofs.Common.{None, MatchResult, ap, subst, sym}
 use Rattle.std.proofs.lemmas.Result.{err_from_is_err_and}
-use Rattle.gathered.specs.Telling.{TellsAfter, TellsFront, sheet}
+use Rattle.watched.specs.Telling.{TellsAfter, TellsFront, sheet}
 use Rattle.census_table.specs.Patterns.{patterns_of}
 use Rattle.census_table.specs.Tables.{listing_text, table_text}
-use Rattle.gathered.proofs.Fronts.{front_none}
+use Rattle.watched.proofs.Prefixes.{front_none}
 use Rattle.census_table.proofs.table.put_table.Goals as goal
 
 pub returns-in_err-table : goal.returns-in_err-table

@@ -1,6 +1,6 @@
 use Rattle.std.proofs.Common.{◌≡◌, ◌+◌, ◌++◌, ◌&&◌, ap, drop, get_or, refl, sym, ◌∙◌}
-use Rattle.gathered.specs.Telling.{sheet}
-use Rattle.gathered.proofs.Fronts.{up_to_more, up_to_start}
+use Rattle.watched.specs.Telling.{sheet}
+use Rattle.watched.proofs.Prefixes.{up_to_more, up_to_start}
 use Rattle.census_verify.specs.Claims.{claim_read, claims_read}
 use Rattle.census_verify.specs.Columns.{is_empty}
 use Rattle.census_verify.specs.Found.{patterns_in}

@@ -1,6 +1,6 @@
 use Rattle.std.proofs.lemmas.Result.{err_from_is_err_and}
-use Rattle.gathered.specs.Telling.{sheet}
-use Rattle.gathered.proofs.Fronts.{front_none}
+use Rattle.watched.specs.Telling.{sheet}
+use Rattle.watched.proofs.Prefixes.{front_none}
 use Rattle.census_table.specs.Entries.{section_entries}
 use Rattle.census_verify.specs.Claims.{claims_read}
 use Rattle.census_verify.specs.Verdict.{all_unclaimed_text}

@@ -1,7 +1,7 @@
 use Rattle.std.proofs.Common.{◌+◌, ◌&&◌, ap, arith, drop, refl, sym, ◌∙◌}
 use Rattle.std.proofs.lemmas.Result.{err_from_is_err_and}
-use Rattle.gathered.specs.Telling.{sheet}
-use Rattle.gathered.proofs.Fronts.{up_to_front, up_to_more, up_to_start}
+use Rattle.watched.specs.Telling.{sheet}
+use Rattle.watched.proofs.Prefixes.{up_to_front, up_to_more, up_to_start}
 use Rattle.census_table.specs.Entries.{all_entries, section_entries}
 use Rattle.census_verify.specs.Claims.{claims_read}
 use Rattle.census_verify.specs.Columns.{is_empty}

@@ -1,6 +1,6 @@
 use Rattle.std.proofs.Common.{◌≡◌, ◌+◌, ◌&&◌, drop}
-use Rattle.gathered.specs.Telling.{sheet}
-use Rattle.gathered.proofs.Fronts.{TellsUpTo}
+use Rattle.watched.specs.Telling.{sheet}
+use Rattle.watched.proofs.Prefixes.{TellsUpTo}
 use Rattle.census_table.specs.Entries.{all_entries}
 use Rattle.census_verify.specs.Claims.{claims_read}
 use Rattle.census_verify.specs.Columns.{is_empty}

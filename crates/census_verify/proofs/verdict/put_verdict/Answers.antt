@@ -1,8 +1,8 @@
 use Rattle.std.proofs.Common.{◌≡◌, ap₂, subst, sym, ◌∙◌, ap}
 use Rattle.std.proofs.lemmas.Result.{err_from_is_err_and}
-use Rattle.gathered.specs.Telling.{TellsAfter, TellsFront, sheet}
-use Rattle.gathered.proofs.Fronts.{front_first, front_more, front_none}
-use Rattle.gathered.proofs.Telling.{tells_more}
+use Rattle.watched.specs.Telling.{TellsAfter, TellsFront, sheet}
+use Rattle.watched.proofs.Prefixes.{front_first, front_more, front_none}
+use Rattle.watched.proofs.Telling.{tells_more}
 use Rattle.census_table.specs.Entries.{entries_of}
 use Rattle.census_verify.specs.Claims.{claims_read}
 use Rattle.census_verify.specs.Found.{patterns_in}

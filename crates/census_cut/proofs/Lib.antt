@@ -1,9 +1,0 @@
-pub mod Ranks
-pub mod Placed
-pub mod Tellings
-pub mod Standing
-pub mod Mirrored
-pub mod Counting
-pub mod Spelled
-pub mod Flat
-pub mod Whole

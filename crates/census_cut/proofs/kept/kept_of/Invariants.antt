@@ -1,5 +1,0 @@
-use Rattle.census_cut.proofs.Counting.{Gathers}
-use Rattle.census_cut.proofs.kept.kept_of.Given as goal
-
-abbrev pub invariant-loop-row : goal.invariant-loop-row
-invariant-loop-row l = Gathers l.rows l.row-index l.kept.items

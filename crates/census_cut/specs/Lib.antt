@@ -1,4 +1,0 @@
-pub mod Feeds
-pub mod Kept
-pub mod Numbers
-pub mod Mended

@@ -1,9 +1,0 @@
-use Rattle.std.proofs.Common.{refl}
-use Rattle.gathered.specs.Telling.{sheet}
-use Rattle.gathered.proofs.Telling.{tells_gathered}
-use Rattle.gathered.proofs.putting.put.Goals as goal
-
-pub returns-else-not-takes : goal.returns-else-not-takes
-returns-else-not-takes g c =
-    tells_gathered c.args.bytes.now (sheet c.args.block.now c.args.writer.now) (sheet c.takes.new.self c.args.writer.now)
-    (c.takes.ensures.yes c.if-not-takes.false) refl refl

@@ -1,0 +1,79 @@
+-- Bytes of which a prefix is told.
+use Rattle.std.proofs.Common.{◌≡◌, ℕ, suc, ◌+◌, ◌<◌, ◌≤◌, List, [], ◌∷◌, ◌++◌, length, drop, get_or, Result, Ok, Err, MatchResult, refl, sym, ap, ◌∙◌, subst, append_assoc, append-nil, drop-cons, arith}
+use Rattle.std.proofs.lemmas.List.{drop_all}
+use Rattle.watched.specs.Telling.{Sheet, TellsAfter, TellsFront}
+use Rattle.watched.proofs.Telling.{tells_more, tells_none}
+
+-- of the whole all but what is left is told
+pub record TellsUpTo (whole left : List ℕ) (a b : Sheet) : Type 0 where
+  pub done : List ℕ
+  pub whole_is : whole ≡ done ++ left
+  pub told : TellsAfter done a b
+
+pub up_to_start : (whole : List ℕ) (a : Sheet) → TellsUpTo whole whole a a
+up_to_start whole a = record { done = []; whole_is = refl; told = tells_none a }
+
+pub up_to_stop : (whole left : List ℕ) (a b : Sheet) → TellsUpTo whole left a b → TellsFront whole a b
+up_to_stop whole left a b p = record { front = p.done; rest = left; whole = p.whole_is; tells = p.told }
+
+pub up_to_end : (whole left : List ℕ) (a b : Sheet) → TellsUpTo whole left a b → left ≡ [] → TellsAfter whole a b
+up_to_end whole left a b p none =
+    subst (λ t. TellsAfter t a b) (sym (p.whole_is ∙ ap (λ t. p.done ++ t) none ∙ append-nil p.done)) p.told
+
+-- nothing is told
+pub front_none : (whole : List ℕ) (a : Sheet) → TellsFront whole a a
+front_none whole a = up_to_stop whole whole a a (up_to_start whole a)
+
+module _ (whole left text others : List ℕ) (a b c : Sheet) (p : TellsUpTo whole left a b) (cut : left ≡ text ++ others) where
+  pub up_to_more : TellsAfter text b c → TellsUpTo whole others a c
+  up_to_more told = record {
+    done = p.done ++ text;
+    whole_is = p.whole_is ∙ ap (λ t. p.done ++ t) cut ∙ sym (append_assoc p.done text others);
+    told = tells_more p.done text a b c p.told told;
+  }
+
+  pub up_to_front : TellsFront text b c → TellsFront whole a c
+  up_to_front front = record {
+    front = p.done ++ front.front;
+    rest = front.rest ++ others;
+    whole = p.whole_is
+        ∙ ap (λ t. p.done ++ t) (cut ∙ ap (λ t. t ++ others) front.whole ∙ append_assoc front.front front.rest others)
+        ∙ sym (append_assoc p.done front.front (front.rest ++ others));
+    tells = tells_more p.done front.front a b c p.told front.tells;
+  }
+
+-- no more than the first of two texts is told
+pub front_first : (whole first second : List ℕ) (a b : Sheet) → whole ≡ first ++ second → TellsFront first a b → TellsFront whole a b
+front_first whole first second a b e front = up_to_front whole whole first second a a b (up_to_start whole a) e front
+
+-- two texts, of which the second is told after the first
+pub told_both : {A B : Type 0} (r : Result A B) (whole first second : List ℕ) (a b c : Sheet) → whole ≡ first ++ second → TellsAfter first a b
+    → MatchResult r (λ _. TellsAfter second b c) (λ _. TellsFront second b c) → MatchResult r (λ _. TellsAfter whole a c) (λ _. TellsFront whole a c)
+told_both (Ok x) whole first second a b c e p q = subst (λ t. TellsAfter t a c) (sym e) (tells_more first second a b c p q)
+told_both (Err x) whole first second a b c e p q =
+    up_to_front whole second second [] a b c (record { done = first; whole_is = e; told = p }) (sym (append-nil second)) q
+
+-- after a first text a prefix of a second is told
+pub front_more : (first second : List ℕ) (a b c : Sheet) → TellsAfter first a b → TellsFront second b c → TellsFront (first ++ second) a c
+front_more first second a b c told front = record {
+  front = first ++ front.front;
+  rest = front.rest;
+  whole = ap (λ t. first ++ t) front.whole ∙ sym (append_assoc first front.front front.rest);
+  tells = tells_more first front.front a b c told front.tells;
+}
+
+-- texts of elements, one after another
+module _ {X : Type 0} (one : X → List ℕ) (all : List X → List ℕ) (cons : (x : X) (xs : List X) → all (x ∷ xs) ≡ one x ++ all xs) (xs : List X) (i : ℕ) (a b : Sheet)
+    (upto : TellsUpTo (all xs) (all (drop i xs)) a b) where
+  each_cut : (d : X) → i < length xs → all (drop i xs) ≡ one (get_or xs i d) ++ all (drop (i + 1) xs)
+  each_cut d less =
+      ap all (drop-cons xs i d less ∙ ap (λ k. get_or xs i d ∷ drop k xs) (let e : suc i ≡ i + 1 = omega arith in e)) ∙ cons (get_or xs i d) (drop (i + 1) xs)
+
+  pub each_more : (d : X) (c : Sheet) → i < length xs → TellsAfter (one (get_or xs i d)) b c → TellsUpTo (all xs) (all (drop (i + 1) xs)) a c
+  each_more d c less told = up_to_more (all xs) (all (drop i xs)) (one (get_or xs i d)) (all (drop (i + 1) xs)) a b c upto (each_cut d less) told
+
+  pub each_front : (d : X) (c : Sheet) → i < length xs → TellsFront (one (get_or xs i d)) b c → TellsFront (all xs) a c
+  each_front d c less front = up_to_front (all xs) (all (drop i xs)) (one (get_or xs i d)) (all (drop (i + 1) xs)) a b c upto (each_cut d less) front
+
+  pub each_end : length xs ≤ i → all [] ≡ [] → TellsAfter (all xs) a b
+  each_end over none = up_to_end (all xs) (all (drop i xs)) a b upto (ap all (drop_all i xs over) ∙ none)

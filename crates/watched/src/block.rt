@@ -1,0 +1,50 @@
+//! A block of bytes that a writer is to be given.
+ghost use Rattle.std.specs.Prelude.{◌≡◌, ◌++◌, [], true, false, IsTrue, IsFalse};
+ghost use Rattle.watched.specs.Telling.{pending_of};
+
+use std::alloc::Global;
+
+// As many bytes as a block has at most.
+const SIZE: usize = 65_536;
+
+/// Bytes that a writer is to be given, at most 65,536 of them.
+#[derive(Drop)]
+pub struct Block {
+    bytes: Vec<u8>,
+}
+
+impl Block {
+    /// A block without a byte. Nothing is allocated yet.
+    pub fn new(alloc: Global) -> Block
+        ensures { pending_of result ≡ [] }
+    {
+        Block {
+            bytes: Vec::new(alloc),
+        }
+    }
+
+    // The bytes.
+    pub fn as_slice(&self) -> &[u8]
+        ensures { result.now ≡ pending_of self.now }
+    {
+        self.bytes.as_slice()
+    }
+
+    // Whether these bytes have found room behind the others. Where they haven't, or memory was refused, the block is unchanged.
+    pub fn takes(&mut self, bytes: &[u8]) -> bool
+        ensures yes { IsTrue result → pending_of self.new ≡ pending_of self.old ++ bytes.now }
+        ensures no { IsFalse result → pending_of self.new ≡ pending_of self.old }
+    {
+        if self.bytes.len() + bytes.len() > SIZE {
+            return false;
+        }
+        self.bytes.extend_from_slice(bytes).is_ok()
+    }
+
+    // Without a byte again.
+    pub fn clear(&mut self)
+        ensures { pending_of self.new ≡ [] }
+    {
+        self.bytes.clear();
+    }
+}

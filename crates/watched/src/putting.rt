@@ -1,0 +1,50 @@
+//! Writing by way of a block.
+ghost use Rattle.std.specs.Prelude.{◌≡◌, [], true, false, MatchResult};
+ghost use Rattle.watched.specs.Telling.{TellsAfter, pending_of, sheet};
+
+use crate::block::Block;
+use crate::{Failed, Output, put_all};
+use itoa::{Buffer, Integer};
+use std::io::Write;
+
+/// Gives the writer the bytes of the block, which has none then.
+pub fn send<W: Write>(block: &mut Block, writer: &mut Output<W>) -> Result<(), Failed>
+    ensures tells { TellsAfter [] (sheet block.old writer.old)
+        (sheet block.new writer.new) }
+    ensures empty { pending_of block.new ≡ [] }
+    ensures failed { MatchResult result (λ _. writer.new.stream.failed ≡ false)
+        (λ _. writer.new.stream.failed ≡ true) }
+{
+    let sent = put_all(writer, block.as_slice());
+    block.clear();
+    sent
+}
+
+// Gives the writer the bytes of the block, and then these.
+fn put_behind<W: Write>(bytes: &[u8], block: &mut Block, writer: &mut Output<W>)
+    ensures { TellsAfter bytes.now (sheet block.old writer.old)
+        (sheet block.new writer.new) }
+{
+    let _ = send(block, writer);
+    let _ = put_all(writer, bytes);
+}
+
+/// Tells these bytes: they stand in the block, or are written behind it. It asks for no more memory than a block has, and
+/// where that is refused the bytes are written at once. To a writer that has failed nothing is written.
+pub fn put<W: Write>(bytes: &[u8], block: &mut Block, writer: &mut Output<W>)
+    ensures { TellsAfter bytes.now (sheet block.old writer.old)
+        (sheet block.new writer.new) }
+{
+    if !block.takes(bytes) {
+        put_behind(bytes, block, writer);
+    }
+}
+
+/// Tells the decimal text of a number.
+pub fn put_number<I: Integer, W: Write>(number: I, block: &mut Block, writer: &mut Output<W>)
+    ensures { TellsAfter (I.text number) (sheet block.old writer.old)
+        (sheet block.new writer.new) }
+{
+    let mut buffer = Buffer::new();
+    put(buffer.format(number).as_bytes(), block, writer);
+}
