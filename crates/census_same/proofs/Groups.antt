@@ -4,7 +4,7 @@ use Rattle.std.specs.Prelude.{◌≢◌, cond, filter, slice_index_or}
 use Rattle.std.specs.List.{prefix_len, All, list_any}
 use Rattle.std.specs.Ordering.{is_eq, is_lt}
 use Rattle.std.specs.declared.cmp.Ordering.TheVariants.{Less}
-use Rattle.std.proofs.lemmas.List.{drop-drop, drop_all, length-drop, take_all}
+use Rattle.std.proofs.lemmas.List.{drop-drop, drop_all, length-drop, length-take-le}
 use Rattle.std.proofs.lemmas.List.Sums.{prefix_len-le-length}
 use Rattle.std.proofs.lemmas.List.Elements.{All-cons, All-nil, All-tail}
 use Rattle.census_table.specs.Tables.{json_line}
@@ -179,10 +179,14 @@ group-none j [] few = refl
 group-none j (t ∷ []) few = refl
 group-none j (t ∷ (u ∷ us)) few = absurd (omega arith)
 
-pub group-several : (j : Bool) (ts : List Told) (d : Told) → 2 ≤ length ts → group_text j ts ≡ several_text j (slice_index_or ts 0 d) ts
+group-several : (j : Bool) (ts : List Told) (d : Told) → 2 ≤ length ts → group_text j ts ≡ several_text j (slice_index_or ts 0 d) ts
 group-several j [] d many = absurd (omega arith)
 group-several j (t ∷ []) d many = absurd (omega arith)
 group-several j (t ∷ (u ∷ us)) d many = refl
+
+-- with the first of them
+pub group-told : (j : Bool) (ts : List Told) (first : Told) → 2 ≤ length ts → first ≡ slice_index_or ts 0 first → group_text j ts ≡ several_text j first ts
+group-told j ts first many is = group-several j ts first many ∙ ap (λ t. several_text j t ts) (sym is)
 
 or-true : (b : Bool) → (b || true) ≡ true
 or-true true = refl
@@ -209,28 +213,21 @@ group-bytes j (t ∷ []) many = absurd (omega arith)
 group-bytes true (t ∷ (u ∷ us)) many = object-bytes t (objects_text (u ∷ us))
 group-bytes false (t ∷ (u ∷ us)) many = heading-bytes t (lines_text (t ∷ (u ∷ us)))
 
-pub group-first : (ts : List Told) (d : Told) → 0 < length ts → prefix_len (has_key (key_of (slice_index_or ts 0 d))) ts ≡ group_len ts
-group-first [] d some = absurd (omega arith)
-group-first (t ∷ ts) d some = refl
-
 -- # A walk from group to group
 
--- from a place on a group and the others are told
-pub record Walk (j : Bool) (ts : List Told) (at : ℕ) (group : List Told) : Type 0 where
-  pub within : at + length group ≤ length ts
-  pub on : at < at + length group
-  pub text : same_text j (drop at ts) ≡ group_text j group ++ same_text j (drop (at + length group) ts)
-  pub order : AreInOrder (drop (at + length group) ts)
+-- from a place on a group of so many and the others are told
+pub record Walk (j : Bool) (ts : List Told) (at n : ℕ) (group : List Told) : Type 0 where
+  pub within : at + n ≤ length ts
+  pub on : at < at + n
+  pub text : same_text j (drop at ts) ≡ group_text j group ++ same_text j (drop (at + n) ts)
+  pub order : AreInOrder (drop (at + n) ts)
 
-pub rest-whole : (n : ℕ) (ts : List Told) → take (length ts - n) (drop n ts) ≡ drop n ts
-rest-whole n ts = take_all (length ts - n) (drop n ts) (omega (arith, length-drop n ts))
-
-pub walk : (j : Bool) (ts : List Told) (at n : ℕ) (group : List Told) → AreInOrder (drop at ts) → at < length ts → n ≡ group_len (take (length ts - at) (drop at ts))
-    → group ≡ take n (take (length ts - at) (drop at ts)) → length group ≡ n → Walk j ts at group
-walk j ts at n group order less is front size = record {
-  within = omega (arith, low, high, long, size);
+pub walk : (j : Bool) (ts : List Told) (at n : ℕ) (group : List Told) → AreInOrder (drop at ts) → at < length ts
+    → group ≡ take (group_len (drop at ts)) (drop at ts) → n ≡ length group → Walk j ts at n group
+walk j ts at n group order less is count = record {
+  within = omega (arith, high, long, size);
   on = omega (arith, low, size);
-  text = same-first j left order ∙ ap₂ (λ (a b : List ℕ). a ++ b) (ap (group_text j) (sym here)) (ap (same_text j) there);
+  text = same-first j left order ∙ ap₂ (λ (a b : List ℕ). a ++ b) (ap (group_text j) (sym is)) (ap (same_text j) there);
   order = subst AreInOrder there (order-left left order);
 }
   where
@@ -240,20 +237,17 @@ walk j ts at n group order less is front size = record {
     long : length left ≡ length ts - at
     long = length-drop at ts
 
-    count : n ≡ group_len left
-    count = is ∙ ap group_len (rest-whole at ts)
+    low : 0 < group_len left
+    low = group-some left (omega (arith, long, less))
 
-    low : 0 < n
-    low = subst (λ m. 0 < m) (sym count) (group-some left (omega (arith, long, less)))
+    high : group_len left ≤ length left
+    high = group-within left
 
-    high : n ≤ length left
-    high = subst (λ m. m ≤ length left) (sym count) (group-within left)
+    size : n ≡ group_len left
+    size = count ∙ ap length is ∙ length-take-le (group_len left) left high
 
-    here : group ≡ take (group_len left) left
-    here = front ∙ ap₂ (λ (m : ℕ) (us : List Told). take m us) count (rest-whole at ts)
-
-    there : drop (group_len left) left ≡ drop (at + length group) ts
-    there = drop-drop (group_len left) at ts ∙ ap (λ m. drop (at + m) ts) (sym count ∙ sym size)
+    there : drop (group_len left) left ≡ drop (at + n) ts
+    there = drop-drop (group_len left) at ts ∙ ap (λ m. drop (at + m) ts) (sym size)
 
 or-assoc : (a b c : Bool) → (a || (b || c)) ≡ ((a || b) || c)
 or-assoc true b c = refl

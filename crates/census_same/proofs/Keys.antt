@@ -1,17 +1,15 @@
 -- Codes under rules, in order.
-use Rattle.std.proofs.Common.{◌≡◌, ℕ, zero, suc, ◌<◌, ◌≤◌, Bool, true, false, not, ◌&&◌, ◌||◌, List, [], ◌∷◌, length, refl, sym, ap, ap₂, ◌∙◌, subst, arith, true≢false}
-use Rattle.std.specs.Prelude.{cond, filter, nat_eq, slice_index_or}
+use Rattle.std.proofs.Common.{◌≡◌, ℕ, Bool, true, false, ◌&&◌, ◌||◌, List, [], ◌∷◌, refl, sym, ap, ap₂, ◌∙◌, subst, arith, true≢false}
+use Rattle.std.specs.Prelude.{nat_eq, slice_index_or}
 use Rattle.std.specs.Cmp.Lexicographic.{bytes_decides, on_texts, pointwise, slice_cmp, texts_ties}
 use Rattle.std.specs.Cmp.{both_tied, IsTotalOrder}
 use Rattle.std.specs.List.{All, list_any}
-use Rattle.std.specs.List.Sorted.{ties, IsSortedBy}
 use Rattle.std.specs.Ordering.{is_eq, is_lt, nat_cmp, ordering_reverse}
 use Rattle.std.specs.declared.cmp.Ordering.{Ordering}
 use Rattle.std.specs.declared.cmp.Ordering.TheVariants.{Less, Equal, Greater}
 use Rattle.std.proofs.lemmas.Cmp.{then_total}
 use Rattle.std.proofs.lemmas.List.Elements.{All-cons, All-nil, All-tail}
-use Rattle.std.proofs.lemmas.List.Sorted.{ranks_by, sorted_far}
-use Rattle.census_same.specs.Order.{Key, is_among, is_key, has_key, key_cmp, key_of, keys_of, with_key, AreInOrder, AreRising}
+use Rattle.census_same.specs.Order.{Key, is_among, is_key, has_key, key_cmp, key_of, keys_of, with_key, AreRising}
 use Rattle.census_same.specs.declared.told.Told.{Told}
 
 -- # The order
@@ -179,37 +177,3 @@ module _ where
       go Less e more = absurd (true≢false (sym (first-among x xs) ∙ same x ∙ before-among x y ys uy e))
       go Equal e more = ap₂ (λ (k : Key) (ks : List Key). k ∷ ks) (key-same x y e) (more e)
       go Greater e more = absurd (true≢false (sym (first-among y ys) ∙ sym (same y) ∙ before-among y x xs ux (above x y e)))
-
--- # Patterns that are put in order
-
-filter-alike : (p q : Told → Bool) (ts : List Told) → ((t : Told) → p t ≡ q t) → filter p ts ≡ filter q ts
-filter-alike p q [] same = refl
-filter-alike p q (t ∷ ts) same = ap₂ (λ (b : Bool) (us : List Told). cond b (t ∷ us) us) (same t) (filter-alike p q ts same)
-
-level : (r : Ordering) → (not (is_lt (ordering_reverse r)) && not (is_lt r)) ≡ is_eq r
-level Less = refl
-level Equal = refl
-level Greater = refl
-
-abbrev pub before : Told → Told → Bool
-before one two = is_lt (key_cmp (key_of one) (key_of two))
-
-tied : (k : Key) (t : Told) → ties before (at_key k) t ≡ has_key k t
-tied k t =
-    ap (λ r. not (is_lt r) && not (is_lt (key_cmp (key_of t) k))) (key_total.antisymm k (key_of t))
-    ∙ level (key_cmp (key_of t) k) ∙ sym (has_is k t)
-
-pub stable-keys : (k : Key) (old new : List Told) → filter (ties before (at_key k)) new ≡ filter (ties before (at_key k)) old
-    → filter (has_key k) new ≡ filter (has_key k) old
-stable-keys k old new stable =
-    filter-alike (has_key k) (ties before (at_key k)) new (λ t. sym (tied k t)) ∙ stable ∙ filter-alike (ties before (at_key k)) (has_key k) old (tied k)
-
-pub in-order : (ts : List Told) → IsSortedBy before ts → AreInOrder ts
-in-order ts up = go ts (λ i j d less small. sorted_far before (ranks_by key_total key_of) ts up i j d less small)
-  where
-    go : (ts : List Told) → ((i j : ℕ) (d : Told) → i ≤ j → j < length ts → before (slice_index_or ts j d) (slice_index_or ts i d) ≡ false) → AreInOrder ts
-    go [] h = tt
-    go (t ∷ ts) h = (
-      λ k d small. h zero (suc k) d (omega arith) (omega (arith, small)),
-      go ts (λ i j d less small. h (suc i) (suc j) d (omega (arith, less)) (omega (arith, small))),
-    )

@@ -1,3 +1,5 @@
 pub mod Groups
 pub mod Keys
+pub mod Placed
 pub mod Several
+pub mod Sorting

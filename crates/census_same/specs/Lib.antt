@@ -1,3 +1,4 @@
 pub mod Order
 pub mod Patterns
+pub mod Places
 pub mod Same

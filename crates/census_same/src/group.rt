@@ -1,5 +1,5 @@
 //! Patterns of which one object is told.
-ghost use Rattle.std.specs.Prelude.{◌≡◌, IfOk, MatchResult};
+ghost use Rattle.std.specs.Prelude.{◌≡◌, ◌<◌, ◌≤◌, ◌+◌, ◌^◌, drop, length, slice_index_or, take, IfOk, MatchResult};
 ghost use Rattle.std.specs.List.{prefix_len};
 ghost use Rattle.watched.specs.Telling.{TellsAfter, TellsFront, sheet};
 ghost use Rattle.census_table.specs.Contents.{row_of};
@@ -8,10 +8,50 @@ ghost use Rattle.census_same.specs.Order.{has_key, key_of};
 ghost use Rattle.census_same.specs.Same.{group_len, group_text, has_bytes, heading_text, line_text, lines_text, members_of, named_text, objects_text, several_text};
 
 use crate::told::Told;
+use crate::tolds::Tolds;
 use census_table::{Cell, Field, push_object};
 use watched::{Block, Output, put};
 use std::alloc::{AllocError, Global};
 use std::io::Write;
+use std::marker::Model;
+use watched::Output;
+
+/// Patterns that stand one behind another: so many from an index on.
+#[derive(Drop)]
+pub struct Group<'t, 'b, 'a> {
+    tolds: &'t Tolds<'b, 'a>,
+    // The index of the first.
+    start: usize,
+    count: usize,
+}
+
+impl<'t, 'b, 'a> Model for Group<'t, 'b, 'a> {
+    ghost use Rattle.std.specs.Prelude.{◌+◌, ◌≤◌, ◌<◌, ◌^◌, List, drop, length, take};
+    ghost use Rattle.census_same.specs.declared.told.Told.{Told};
+
+    ghost Value = { List Told };
+
+    ghost view = { λ s. take s.count (drop s.start s.tolds.now) };
+
+    ghost invariant = { λ s. (s.start + s.count ≤ length s.tolds.now) × (s.start + s.count < 2 ^ 64) };
+}
+
+impl<'t, 'b, 'a> Group<'t, 'b, 'a> {
+    /// How many there are.
+    pub fn len(&self) -> usize
+        ensures { result ≡ length self.now }
+    {
+        self.count
+    }
+
+    /// The pattern at this index.
+    pub fn told(&self, index: usize) -> Told<'a>
+        requires { index < length self.now }
+        ensures { result ≡ slice_index_or self.now index result }
+    {
+        self.tolds.told(self.start + index)
+    }
+}
 
 // Whether a pattern has the code of another under its rule.
 fn is_same(told: &Told, first: &Told) -> bool
@@ -20,23 +60,31 @@ fn is_same(told: &Told, first: &Told) -> bool
     told.code == first.code && told.rule == first.rule
 }
 
-// How many patterns at the start have the code of one under its rule.
-fn same_len(tolds: &[Told], first: &Told) -> usize
-    ensures { result ≡ prefix_len (has_key (key_of first.now)) tolds.now }
+// How many patterns from this index on have the code of one under its rule.
+fn same_len(tolds: &Tolds, start: usize, first: &Told) -> usize
+    requires { start ≤ length tolds.now }
+    ensures count { result ≡ prefix_len (has_key (key_of first.now)) (drop start tolds.now) }
+    ensures within { start + result ≤ length tolds.now }
+    ensures few { start + result < 2 ^ 64 }
 {
-    tolds
-        .iter()
-        .take_while(|told| is_same(*told, first))
-        .count()
+    for index in start..tolds.len() {
+        if !is_same(&tolds.told(index), first) {
+            return index - start;
+        }
+    }
+    tolds.len() - start
 }
 
-/// How many patterns at the start have the code of the first under its rule.
-pub fn group_len(tolds: &[Told]) -> usize
-    ensures { result ≡ group_len tolds.now }
+/// The patterns from this index on that have the code of the first of them under its rule.
+pub fn group_at<'t, 'b, 'a>(tolds: &'t Tolds<'b, 'a>, start: usize) -> Group<'t, 'b, 'a>
+    requires { start < length tolds.now }
+    ensures { result ≡ take (group_len (drop start tolds.now)) (drop start tolds.now) }
 {
-    match tolds {
-        [first, ..] => same_len(tolds, first),
-        [] => 0,
+    let count = same_len(tolds, start, &tolds.told(start));
+    Group {
+        tolds,
+        start,
+        count,
     }
 }
 
@@ -64,17 +112,17 @@ fn put_line<W: Write>(told: &Told, block: &mut Block, writer: &mut Output<W>)
 }
 
 // Tells a line for each pattern.
-fn put_lines<W: Write>(tolds: &[Told], block: &mut Block, writer: &mut Output<W>)
-    ensures { TellsAfter (lines_text tolds.now)
+fn put_lines<W: Write>(group: &Group, block: &mut Block, writer: &mut Output<W>)
+    ensures { TellsAfter (lines_text group.now)
         (sheet block.old writer.old) (sheet block.new writer.new) }
 {
-    for told in tolds {
-        put_line(told, block, writer);
+    for index in 0..group.len() {
+        put_line(&group.told(index), block, writer);
     }
 }
 
 // Tells the rule and the code of these patterns, and a line for each.
-fn put_named<W: Write>(first: &Told, group: &[Told], block: &mut Block, writer: &mut Output<W>)
+fn put_named<W: Write>(first: &Told, group: &Group, block: &mut Block, writer: &mut Output<W>)
     ensures { TellsAfter (named_text first.now group.now)
         (sheet block.old writer.old) (sheet block.new writer.new) }
 {
@@ -144,18 +192,18 @@ fn put_object<W: Write>(
 // Tells an object for each pattern. The only error is out of memory.
 fn put_objects<W: Write>(
     alloc: Global,
-    tolds: &[Told],
+    group: &Group,
     block: &mut Block,
     writer: &mut Output<W>,
 ) -> Result<(), AllocError>
     ensures { MatchResult result
-        (λ _. TellsAfter (objects_text tolds.now)
+        (λ _. TellsAfter (objects_text group.now)
         (sheet block.old writer.old) (sheet block.new writer.new))
-        (λ _. TellsFront (objects_text tolds.now)
+        (λ _. TellsFront (objects_text group.now)
         (sheet block.old writer.old) (sheet block.new writer.new)) }
 {
-    for told in tolds {
-        put_object(alloc, told, block, writer)?;
+    for index in 0..group.len() {
+        put_object(alloc, &group.told(index), block, writer)?;
     }
     Ok(())
 }
@@ -165,7 +213,7 @@ fn put_several<W: Write>(
     alloc: Global,
     json: bool,
     first: &Told,
-    group: &[Told],
+    group: &Group,
     block: &mut Block,
     writer: &mut Output<W>,
 ) -> Result<(), AllocError>
@@ -186,7 +234,7 @@ fn put_several<W: Write>(
 pub fn put_group<W: Write>(
     alloc: Global,
     json: bool,
-    group: &[Told],
+    group: &Group,
     block: &mut Block,
     writer: &mut Output<W>,
 ) -> Result<bool, AllocError>
@@ -197,11 +245,9 @@ pub fn put_group<W: Write>(
         (sheet block.old writer.old) (sheet block.new writer.new)) }
     ensures several { IfOk result (λ several. several ≡ has_bytes (group_text json group.now)) }
 {
-    match group {
-        [first, _, ..] => {
-            put_several(alloc, json, first, group, block, writer)?;
-            Ok(true)
-        }
-        _ => Ok(false),
+    if group.len() < 2 {
+        return Ok(false);
     }
+    put_several(alloc, json, &group.told(0), group, block, writer)?;
+    Ok(true)
 }

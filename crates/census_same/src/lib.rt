@@ -6,5 +6,6 @@
 mod group;
 mod same;
 mod told;
+mod tolds;
 
 pub use same::{codes_of_several_are_told, put_same};

@@ -1,21 +1,23 @@
-use Rattle.std.proofs.Common.{refl}
-use Rattle.watched.specs.Telling.{sheet}
-use Rattle.watched.proofs.Prefixes.{each_end, each_more, up_to_start}
+use Rattle.std.proofs.Common.{arith, refl, subst}
+use Rattle.gathered.specs.Telling.{sheet, TellsAfter}
+use Rattle.gathered.proofs.Fronts.{each_end, each_more, up_to_start}
 use Rattle.census_same.specs.Same.{line_text, lines_text}
 use Rattle.census_same.proofs.group.put_lines.Goals as goal
 
-pub loop-told-init : goal.loop-told-init
-loop-told-init g c = up_to_start (lines_text c.args.tolds.now) (sheet c.args.block.now c.args.writer.now)
+pub loop-index-init : goal.loop-index-init
+loop-index-init g c = up_to_start (lines_text c.args.group.now) (sheet c.args.block.now c.args.writer.now)
 
-pub loop-told-preserved : goal.loop-told-preserved
-loop-told-preserved g c =
-    let l = c.loop-told in
-    each_more line_text lines_text (λ x xs. refl) c.args.tolds.now l.told-index (sheet c.args.block.now c.args.writer.now)
-    (sheet l.block l.writer) l.invariant _
-    (sheet c.put_line.new.block c.put_line.new.writer) c.loop-told-test.true c.put_line.ensures
+pub loop-index-preserved : goal.loop-index-preserved
+loop-index-preserved g c =
+    let l = c.loop-index in
+    let before = sheet l.block l.writer in
+    let after = sheet c.put_line.new.block c.put_line.new.writer in
+    each_more line_text lines_text (λ x xs. refl) c.args.group.now l.index (sheet c.args.block.now c.args.writer.now)
+    before l.invariant c.told.result after (omega arith)
+    (subst (λ t. TellsAfter (line_text t) before after) c.told.ensures c.put_line.ensures)
 
 pub returns : goal.returns
 returns g c =
-    let l = c.loop-told in
-    each_end line_text lines_text (λ x xs. refl) c.args.tolds.now l.told-index (sheet c.args.block.now c.args.writer.now)
-    (sheet l.block l.writer) l.invariant c.loop-told-test.false refl
+    let l = c.loop-index in
+    each_end line_text lines_text (λ x xs. refl) c.args.group.now l.index (sheet c.args.block.now c.args.writer.now)
+    (sheet l.block l.writer) l.invariant (omega arith) refl
