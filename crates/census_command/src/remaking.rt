@@ -9,9 +9,9 @@ ghost use Rattle.census_command.specs.Streams.{HasSoundStreams};
 
 use crate::forms::{Beside, form_beside, reading_of};
 use census_cli::Reports;
-use census_merge::Cut;
 use census_errors::{CommandError, cut_line, reports_place_if, reports_saying, stop_saying};
 use census_folders::Shelf;
+use census_merge::Cut;
 use census_reports::{
     Form, Reading, ReportsError, Written, merge_reports, read_text, write_reports,
 };

@@ -15,10 +15,10 @@ use census_page_pieces::{
     push_picture, push_rle, push_text, spelled,
 };
 use census_rows::Row;
-use watched::{Block, Output, put};
 use life_shape::Shape;
 use std::alloc::{AllocError, Global};
 use std::io::Write;
+use watched::{Block, Output, put};
 
 // Adds the picture of a code.
 fn push_picture_cell(

@@ -6,9 +6,9 @@ ghost use Rattle.census_page.specs.Pages.{collection_name, counts_text, heading,
 use census_kept::Section;
 use census_page_pieces::{push_labelled, push_told};
 use census_rows::Row;
-use watched::{Block, Output, put};
 use std::alloc::{AllocError, Global};
 use std::io::Write;
+use watched::{Block, Output, put};
 
 // Adds the name of a collection.
 fn push_name(alloc: Global, text: &mut Vec<u8>, name: &[u8]) -> Result<(), AllocError>

@@ -8,9 +8,9 @@ use census_kept::Section;
 use census_page_pieces::{Kind, push_grouped, push_number, push_told};
 use census_readback::Sections;
 use census_rows::Row;
-use watched::{Block, Output, put};
 use std::alloc::{AllocError, Global};
 use std::io::Write;
+use watched::{Block, Output, put};
 
 // Adds a cell with a number.
 #[tactic(auto, unfolding(crate::specs::Pages::number_cell))]

@@ -8,9 +8,9 @@ ghost use Rattle.census_page.specs.Lists.{holder_list, item, items, more_items, 
 use crate::holder::{Holder, Share};
 use crate::holders::Holders;
 use census_page_pieces::{Links, push_grouped, push_labelled, push_name};
-use watched::{Block, Output, put};
 use std::alloc::{AllocError, Global};
 use std::io::Write;
+use watched::{Block, Output, put};
 
 // So many patterns of a list are shown at first.
 const SHOWN: usize = 10;

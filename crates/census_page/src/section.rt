@@ -19,9 +19,9 @@ use crate::stray::put_stray_rows;
 use census_kept::Section;
 use census_page_pieces::{Links, list_begin, push_number, recurs, table_begin, table_end};
 use census_rows::Row;
-use watched::{Block, Output, put};
 use std::alloc::{AllocError, Global};
 use std::io::Write;
+use watched::{Block, Output, put};
 
 // Whether a row tells of a pattern that does not recur.
 fn is_stray(row: &Row) -> bool

@@ -8,9 +8,9 @@ use census_kept::Section;
 use census_page_pieces::{Links, push_fate_row};
 use census_readback::rows_behind;
 use census_rows::{Behind, Row};
-use watched::{Block, Output, put};
 use std::alloc::{AllocError, Global};
 use std::io::Write;
+use watched::{Block, Output, put};
 
 // Adds the table row for a row that tells of a pattern that does not recur, and stands before these.
 fn push_stray_row(

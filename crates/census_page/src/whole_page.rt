@@ -14,9 +14,9 @@ use crate::section::put_section;
 use census_kept::Rows;
 use census_page_pieces::{index_begin, index_end, page_end};
 use census_readback::{Sections, collections};
-use watched::{Block, Output, put};
 use std::alloc::{AllocError, Global};
 use std::io::Write;
+use watched::{Block, Output, put};
 
 // Tells each collection.
 fn put_sections<W: Write>(

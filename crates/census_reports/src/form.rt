@@ -17,9 +17,9 @@ use census_page::{PageOptions, put_page};
 use census_same::put_same;
 use census_table::{Format, Subject, put_listing, table_of};
 use census_verify::{Claims, put_verdict, read_claims};
-use watched::{Block, Output, send};
 use std::alloc::Global;
 use std::io::Write;
+use watched::{Block, Output, send};
 
 /// What is written of reports.
 #[derive(Clone, Copy, Debug, PartialEq, Eq)]

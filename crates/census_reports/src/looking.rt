@@ -4,8 +4,8 @@ ghost use Rattle.census_reports.specs.Looking.{RefusesRead};
 ghost use Rattle.census_reports.specs.Mending.{AreMended, HasBrokenText, LackMending};
 
 use crate::error::ReportsError;
-use census_merge::{Cut, Mended, mend};
 use census_identify::Bytes;
+use census_merge::{Cut, Mended, mend};
 use std::alloc::{AllocError, Global};
 
 // Texts that were mended, and where those of them were cut that were.

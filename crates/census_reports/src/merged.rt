@@ -15,9 +15,9 @@ use crate::form::Form;
 use census_identify::Bytes;
 use census_merge::{Counted, Sums, count, put_end, put_rows};
 use census_readback::fault_of;
-use watched::{Block, Failed, Output, send};
 use std::alloc::Global;
 use std::io::Write;
+use watched::{Block, Failed, Output, send};
 
 // Looks whether each of these texts is a report, or several.
 fn look_at(alloc: Global, texts: &[Bytes]) -> Result<(), ReportsError>

@@ -2,9 +2,9 @@
 ghost use Rattle.std.specs.Prelude.{◌∷◌};
 ghost use Rattle.watched.specs.Telling.{TellsAfter, sheet};
 
-use watched::{Block, Output, put, put_number as put_digits};
 use itoa::Integer;
 use std::io::Write;
+use watched::{Block, Output, put, put_number as put_digits};
 
 /// Tells a blank and these bytes.
 pub fn put_field<W: Write>(field: &[u8], block: &mut Block, writer: &mut Output<W>)

@@ -8,8 +8,8 @@ ghost use Rattle.census_rows.specs.Lines.{describes_collection, describes_growth
 use crate::fields::{put_field, put_number};
 use crate::kinds::{Field, Value};
 use crate::row::{Finding, Outcome, Row};
-use watched::{Block, Output, put};
 use std::io::Write;
+use watched::{Block, Output, put};
 
 // A signed number.
 fn put_signed<W: Write>(number: &i64, block: &mut Block, writer: &mut Output<W>)

@@ -10,11 +10,10 @@ ghost use Rattle.census_same.specs.Same.{group_len, group_text, has_bytes, headi
 use crate::told::Told;
 use crate::tolds::Tolds;
 use census_table::{Cell, Field, push_object};
-use watched::{Block, Output, put};
 use std::alloc::{AllocError, Global};
 use std::io::Write;
 use std::marker::Model;
-use watched::Output;
+use watched::{Block, Output, put};
 
 /// Patterns that stand one behind another: so many from an index on.
 #[derive(Drop)]

@@ -1,6 +1,6 @@
 //! The patterns of which one object is told.
 ghost use Rattle.std.specs.Prelude.{◌≡◌, Bool, List, IfOk, MatchResult};
-ghost use Rattle.gathered.specs.Telling.{TellsAfter, TellsFront, sheet};
+ghost use Rattle.watched.specs.Telling.{TellsAfter, TellsFront, sheet};
 ghost use Rattle.census_readback.specs.Shapes.{AreReports};
 ghost use Rattle.census_same.specs.declared.told.Told.{Told};
 ghost use Rattle.census_same.specs.Order.{AreInOrder};
@@ -11,9 +11,9 @@ use crate::group::{group_at, put_group};
 use crate::tolds::{Tolds, tolds_in_order};
 use census_kept::Rows;
 use census_readback::collections;
-use watched::{Block, Output};
 use std::alloc::{AllocError, Global};
 use std::io::Write;
+use watched::{Block, Output};
 
 // Tells each group of patterns that stand in order. Returns whether there is any.
 fn put_groups<W: Write>(

@@ -27,9 +27,9 @@ use census_kept::{Rows, Section};
 use census_names::Names;
 use census_readback::Sections;
 use census_rows::Row;
-use watched::{Block, Output, put};
 use std::alloc::{AllocError, Global};
 use std::io::Write;
+use watched::{Block, Output, put};
 
 /// How a table is written.
 #[derive(Clone, Copy, Debug, PartialEq, Eq)]

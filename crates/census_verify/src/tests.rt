@@ -3,8 +3,8 @@
 use crate::{put_verdict, read_claims};
 use census_kept::Rows;
 use census_readback::read_report;
-use watched::{Block, Output, send};
 use std::alloc::{AllocError, Global};
+use watched::{Block, Output, send};
 
 // Two collections with a name in common, and another report.
 const REPORT: &[u8] = b"open 1 4 first

@@ -15,9 +15,9 @@ use crate::matching::section_patterns;
 use crate::reading::Claims;
 use census_kept::{Rows, Section};
 use census_table::Entry;
-use watched::{Block, Output, put};
 use std::alloc::{AllocError, Global};
 use std::io::Write;
+use watched::{Block, Output, put};
 
 // Whether nothing is told with this text, if this is so before it.
 fn is_silent(before: bool, text: &[u8]) -> bool

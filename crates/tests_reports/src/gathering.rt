@@ -1,10 +1,10 @@
 //! Bytes that are told at once and are more than a block has.
 
 use crate::files::FailingWriter;
-use watched::{Block, Failed, Output, put, send};
 use std::alloc::{AllocError, Global};
 use std::io::Write;
 use std::test::Fail;
+use watched::{Block, Failed, Output, put, send};
 
 const FIRST: &[u8] = b"first ";
 

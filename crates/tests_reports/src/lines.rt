@@ -5,8 +5,8 @@ ghost use Rattle.census_readback.specs.Shapes.{AreReports};
 use census_kept::Rows;
 use census_readback::read_report;
 use census_rows::{Row, put_row};
-use watched::{Block, Output, put, send};
 use std::alloc::{AllocError, Global};
+use watched::{Block, Output, put, send};
 
 // The rows' lines.
 pub fn lines_of(alloc: Global, rows: &[Row]) -> Result<Vec<u8>, AllocError> {

@@ -2,8 +2,8 @@
 
 use census_merge::{Counted, Sums, count, put_end, put_rows};
 use census_readback::fault_of;
-use watched::{Block, Output, send};
 use std::alloc::{AllocError, Global};
+use watched::{Block, Output, send};
 
 // Two reports, whose sections interleave, and one of no collection between them.
 pub const PARTS: &[u8] = b"open 2 1 b

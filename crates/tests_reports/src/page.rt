@@ -2,8 +2,8 @@
 
 use crate::lines::rows_read;
 use census_page::{PageOptions, default_options, put_page};
-use watched::{Block, Output, send};
 use std::alloc::{AllocError, Global};
+use watched::{Block, Output, send};
 
 // Two collections that interleave, and a second report, with each status, and names with markup,
 // quotes, an entity, and bytes that are not UTF-8. The second collection has one pattern, which

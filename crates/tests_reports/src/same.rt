@@ -2,8 +2,8 @@
 
 use crate::lines::rows_read;
 use census_same::put_same;
-use watched::{Block, Output, send};
 use std::alloc::{AllocError, Global};
+use watched::{Block, Output, send};
 
 // Two collections that interleave, and two more reports: a code under two rules, a code of one
 // pattern alone, parts with the code of a pattern, and a name that is not UTF-8.

@@ -4,9 +4,9 @@ use crate::lines::rows_read;
 use crate::merging::{MERGED, PARTS};
 use census_names::{Names, read_names};
 use census_table::{Format, Subject, put_listing, put_table, table_of};
-use watched::{Block, Output, send};
 use std::alloc::{AllocError, Global};
 use std::test::Fail;
+use watched::{Block, Output, send};
 
 // Two collections that interleave, and a second report, with each status, and names with a blank,
 // quotes, a comma, and bytes that are not UTF-8.

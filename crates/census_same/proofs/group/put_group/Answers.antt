@@ -1,7 +1,7 @@
 use Rattle.std.proofs.Common.{arith, sym, subst}
 use Rattle.std.proofs.lemmas.Result.{err_from_is_err_and}
-use Rattle.gathered.specs.Telling.{TellsAfter, TellsFront, sheet}
-use Rattle.gathered.proofs.Telling.{tells_none}
+use Rattle.watched.specs.Telling.{TellsAfter, TellsFront, sheet}
+use Rattle.watched.proofs.Telling.{tells_none}
 use Rattle.census_same.proofs.Groups.{group-bytes, group-none, group-told}
 use Rattle.census_same.proofs.group.put_group.Goals as goal
 

@@ -1,6 +1,6 @@
 use Rattle.std.proofs.Common.{arith, refl, subst}
-use Rattle.gathered.specs.Telling.{sheet, TellsAfter}
-use Rattle.gathered.proofs.Fronts.{each_end, each_more, up_to_start}
+use Rattle.watched.specs.Telling.{sheet, TellsAfter}
+use Rattle.watched.proofs.Prefixes.{each_end, each_more, up_to_start}
 use Rattle.census_same.specs.Same.{line_text, lines_text}
 use Rattle.census_same.proofs.group.put_lines.Goals as goal
 

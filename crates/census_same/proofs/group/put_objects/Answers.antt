@@ -1,7 +1,7 @@
 use Rattle.std.proofs.Common.{arith, refl, subst}
 use Rattle.std.proofs.lemmas.Result.{err_from_is_err_and}
-use Rattle.gathered.specs.Telling.{sheet, TellsAfter, TellsFront}
-use Rattle.gathered.proofs.Fronts.{each_end, each_more, each_front, up_to_start}
+use Rattle.watched.specs.Telling.{sheet, TellsAfter, TellsFront}
+use Rattle.watched.proofs.Prefixes.{each_end, each_more, each_front, up_to_start}
 use Rattle.census_table.specs.Tables.{json_line}
 use Rattle.census_same.specs.Same.{members_of, objects_text}
 use Rattle.census_same.proofs.group.put_objects.Goals as goal

@@ -1,8 +1,8 @@
 use Rattle.std.proofs.Common.{ap, ◌∙◌, subst, ◌≡◌}
 use Rattle.std.specs.Prelude.{MatchResult}
 use Rattle.std.proofs.lemmas.Result.{err_from_is_err_and, IfOk-weaker}
-use Rattle.gathered.specs.Telling.{TellsAfter, TellsFront, sheet}
-use Rattle.gathered.proofs.Fronts.{front_none}
+use Rattle.watched.specs.Telling.{TellsAfter, TellsFront, sheet}
+use Rattle.watched.proofs.Prefixes.{front_none}
 use Rattle.census_same.specs.Patterns.{all_told, tolds_of}
 use Rattle.census_same.specs.Same.{has_bytes, same_text}
 use Rattle.census_same.proofs.Groups.{same-sorted}
