@@ -5,5 +5,6 @@ pub mod Patterned
 pub mod Placed
 pub mod Ties
 pub mod Rising
+pub mod Keyed
 pub mod Floatless
 pub mod Texts

@@ -1,14 +1,17 @@
 -- Objects by where they are told.
-use Rattle.std.specs.Prelude.{◌≡◌, ℕ, ◌+◌, Option, List, [], ◌∷◌, ⊤, slice_index_or}
+use Rattle.std.specs.Prelude.{◌≡◌, ℕ, ◌+◌, Option, Some, None, List, [], ◌∷◌, ⊤, slice_index_or}
+use Rattle.std.specs.Borrow.{Bor}
 use Rattle.std.specs.List.{AllByRecursion}
 use Rattle.std.specs.Option.{unwrap_or}
 use Rattle.std.specs.Ordering.{nat_cmp, ordering_then}
 use Rattle.std.specs.declared.cmp.Ordering.{Ordering}
 use Rattle.std.specs.declared.cmp.Ordering.TheVariants.{Less}
 use Rattle.census_rows.specs.declared.row.Row.{Row}
-use Rattle.census_rows.specs.declared.row.Row.TheVariants.{End}
+use Rattle.census_rows.specs.declared.row.Row.TheVariants.{End, Line, Part}
+use Rattle.census_rows.specs.declared.kinds.Label.TheVariants as label
+use Rattle.census_rows.specs.Kinds.{said, value_at}
 use Rattle.census_table.specs.Entries.{entry_of_row}
-use Rattle.census_table.specs.Objects.{object_of_row}
+use Rattle.census_table.specs.Objects.{object_of_row, text_in}
 use Rattle.census_table.specs.declared.counting.Kind.{Kind}
 use Rattle.census_table.specs.declared.entry.Entry.{Entry}
 use Rattle.census_table.specs.declared.object.Object.{Object}
@@ -30,9 +33,30 @@ told_in number rows line row = object_of_row (entry_at number rows line) (row_in
 abbrev pub told_at : List (List Row) → Place → Option Object
 told_at sections place = told_in (place.collection + 1) (slice_index_or sections place.collection []) place.under place.row
 
--- that object, or this one where there is none
+-- the code that a row tells
+abbrev pub code_in : Row → Option (Bor (List ℕ))
+code_in (Line collection pattern outcome name) = text_in (value_at label.Code (said outcome).fields)
+code_in (Part collection pattern code count) = Some code
+code_in _ = None
+
+-- the rule of a line
+abbrev pub rule_in : Row → Option (Bor (List ℕ))
+rule_in (Line collection pattern outcome name) = text_in (value_at label.Rule (said outcome).fields)
+rule_in _ = None
+
+-- with this code under this rule, where there is one
+abbrev pub with_key : Object → Option (Bor (List ℕ)) → Option (Bor (List ℕ)) → Object
+with_key o rule code = record o { rule = unwrap_or rule o.rule; code = unwrap_or code o.code }
+
+-- the code that a row tells, and the rule of the line under which it stands
+abbrev pub key_at : Object → List (List Row) → Place → Object
+key_at nothing sections place =
+    let rows = slice_index_or sections place.collection [] in
+    with_key nothing (rule_in (row_in rows place.under)) (code_in (row_in rows place.row))
+
+-- that object; where there is none, one that has as much of it as is there
 abbrev pub object_at : Object → List (List Row) → Place → Object
-object_at nothing sections place = unwrap_or (told_at sections place) nothing
+object_at nothing sections place = unwrap_or (told_at sections place) (key_at nothing sections place)
 
 -- an object, counted so
 abbrev pub with_counts : Object → ℕ → ℕ → Object

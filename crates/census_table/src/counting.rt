@@ -164,9 +164,13 @@ fn count_order(nothing: &Object, objects: &Objects, one: &Kind, other: &Kind) ->
     ensures { result ≡ count_cmp (kind_at nothing.now objects.now one.now)
         (kind_at nothing.now objects.now other.now) }
 {
-    let object = kind_at(nothing, objects, *one);
-    let kinds = kind_order(&object, &kind_at(nothing, objects, *other));
-    other.count.cmp(&one.count).then(kinds)
+    match other.count.cmp(&one.count) {
+        Ordering::Equal => {
+            let object = kind_at(nothing, objects, *one);
+            kind_order(&object, &kind_at(nothing, objects, *other))
+        }
+        counts => counts,
+    }
 }
 
 // Puts kinds in their order: by falling count and then in the order of kinds.

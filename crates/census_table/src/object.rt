@@ -2,6 +2,7 @@
 ghost use Rattle.std.specs.Prelude.{◌≡◌};
 ghost use Rattle.census_rows.specs.declared.row.Row.{Row};
 ghost use Rattle.census_table.specs.Objects.{object_of_row, object_under, object_with, text_in};
+ghost use Rattle.census_table.specs.Places.{code_in, rule_in};
 
 use crate::entry::Entry;
 use census_rows::{Label, Row, Value};
@@ -25,6 +26,27 @@ fn text_in(value: Option<Value>) -> Option<&[u8]>
 {
     match value {
         Some(Value::Text(bytes)) => Some(bytes),
+        _ => None,
+    }
+}
+
+// The code that a row tells.
+pub fn code_in<'a>(row: &Row<'a>) -> Option<&'a [u8]>
+    ensures { result ≡ code_in row.now }
+{
+    match row {
+        Row::Line { outcome, .. } => text_in(outcome.value(Label::Code)),
+        Row::Part { code, .. } => Some(*code),
+        _ => None,
+    }
+}
+
+// The rule of a line.
+pub fn rule_in<'a>(row: &Row<'a>) -> Option<&'a [u8]>
+    ensures { result ≡ rule_in row.now }
+{
+    match row {
+        Row::Line { outcome, .. } => text_in(outcome.value(Label::Rule)),
         _ => None,
     }
 }

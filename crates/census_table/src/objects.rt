@@ -1,15 +1,16 @@
 //! The objects that reports tell of, held by where they are told.
 ghost use Rattle.std.specs.Prelude.{◌≡◌, ◌<◌, ◌≤◌, ◌+◌, ◌^◌, ◌++◌, [], filter, length, map, slice_index_or, IfOk, OnOk};
 ghost use Rattle.std.specs.List.Sorted.{IsPermutation};
-ghost use Rattle.std.specs.Ordering.{ordering_then};
+ghost use Rattle.std.specs.Cmp.Lexicographic.{slice_cmp};
+ghost use Rattle.std.specs.Ordering.{nat_cmp, ordering_then};
 ghost use Rattle.census_table.specs.Grouping.{AreInKinds};
 ghost use Rattle.census_table.specs.Kinds.{capped, kind_cmp, same_kind};
 ghost use Rattle.census_table.specs.Objects.{all_objects, entry_or, object_before, section_objects};
-ghost use Rattle.census_table.specs.Places.{entry_at, object_at, place_cmp, row_in, told_at, AreBefore, AreRising};
+ghost use Rattle.census_table.specs.Places.{entry_at, key_at, object_at, place_cmp, row_in, told_at, AreBefore, AreRising};
 ghost use Rattle.census_table.specs.declared.object.Object.{Object};
 
 use crate::entry::{Entry, entry_of_row};
-use crate::object::{Object, object_of_row};
+use crate::object::{Object, code_in, object_of_row, rule_in};
 use crate::place::{Place, place_order};
 use census_kept::Section;
 use census_readback::Sections;
@@ -52,6 +53,20 @@ fn row_in<'a>(rows: &Section<'_, 'a>, index: usize) -> Row<'a>
     }
 }
 
+// The row at this index of a collection. Where there is no such collection there are `end` rows.
+fn row_at<'a>(sections: &Sections<'_, 'a>, collection: usize, index: usize) -> Row<'a>
+    ensures { result ≡ row_in (slice_index_or sections.now collection []) index }
+{
+    if collection < sections.len() {
+        row_in(&sections.section(collection), index)
+    } else {
+        Row::End {
+            collections: 0,
+            patterns: 0,
+        }
+    }
+}
+
 // The pattern of the line at this index, in a collection that has this number.
 fn entry_at<'a>(number: u64, rows: &Section<'_, 'a>, index: usize) -> Option<Entry<'a>>
     ensures { result ≡ entry_at number rows.now index }
@@ -72,11 +87,39 @@ fn told_at<'a>(sections: &Sections<'_, 'a>, place: Place) -> Option<Object<'a>>
     object_of_row(&entry, &row_in(&rows, place.row))
 }
 
-// That object, or this one where there is none.
+// The code that is told at a place, or that of this object where none is.
+fn code_at<'a>(nothing: &Object<'a>, sections: &Sections<'_, 'a>, place: &Place) -> &'a [u8]
+    ensures { result ≡ (key_at nothing.now sections.now place.now).code }
+{
+    code_in(&row_at(sections, place.collection, place.row)).unwrap_or(nothing.code)
+}
+
+// The rule of the line under which something is told at a place, or that of this object where there is none.
+fn rule_at<'a>(nothing: &Object<'a>, sections: &Sections<'_, 'a>, place: &Place) -> &'a [u8]
+    ensures { result ≡ (key_at nothing.now sections.now place.now).rule }
+{
+    rule_in(&row_at(sections, place.collection, place.under)).unwrap_or(nothing.rule)
+}
+
+// The code that is told at a place, under its rule.
+fn key_at<'a>(nothing: &Object<'a>, sections: &Sections<'_, 'a>, place: Place) -> Object<'a>
+    ensures { result ≡ key_at nothing.now sections.now place }
+{
+    Object {
+        rule: rule_at(nothing, sections, &place),
+        code: code_at(nothing, sections, &place),
+        ..*nothing
+    }
+}
+
+// That object. Where there is none it is one that has as much of it as is there.
 fn object_at<'a>(nothing: &Object<'a>, sections: &Sections<'_, 'a>, place: Place) -> Object<'a>
     ensures { result ≡ object_at nothing.now sections.now place }
 {
-    told_at(sections, place).unwrap_or(*nothing)
+    match told_at(sections, place) {
+        Some(object) => object,
+        None => key_at(nothing, sections, place),
+    }
 }
 
 /// Which of the kinds of two objects stands first.
@@ -89,13 +132,38 @@ pub fn kind_order(object: &Object, other: &Object) -> Ordering
     lengths.then(codes.then(rules))
 }
 
+// Which of the codes that are told at two places stands first: the shorter, and of equally long ones by their bytes.
+fn code_order(code: &[u8], other: &[u8]) -> Ordering
+    ensures { result ≡ ordering_then (nat_cmp (length code.now) (length other.now))
+        (slice_cmp nat_cmp code.now other.now) }
+{
+    match code.len().cmp(&other.len()) {
+        Ordering::Equal => code.cmp(other),
+        lengths => lengths,
+    }
+}
+
+// Which of the kinds that are told at two places stands first. Rules are unpacked only where the codes are the same.
+fn key_order(nothing: &Object, sections: &Sections, one: &Place, other: &Place) -> Ordering
+    ensures { result ≡ kind_cmp (key_at nothing.now sections.now one.now)
+        (key_at nothing.now sections.now other.now) }
+{
+    let code = code_at(nothing, sections, one);
+    match code_order(code, code_at(nothing, sections, other)) {
+        Ordering::Equal => {
+            let rule = rule_at(nothing, sections, one);
+            rule.cmp(rule_at(nothing, sections, other))
+        }
+        codes => codes,
+    }
+}
+
 // Which of the objects at two places stands first: by their kinds, and those of one kind by their places.
 fn told_order(nothing: &Object, sections: &Sections, one: &Place, other: &Place) -> Ordering
     ensures { result ≡ ordering_then (kind_cmp (object_at nothing.now sections.now one.now)
         (object_at nothing.now sections.now other.now)) (place_cmp one.now other.now) }
 {
-    let object = object_at(nothing, sections, *one);
-    kind_order(&object, &object_at(nothing, sections, *other)).then(place_order(one, other))
+    key_order(nothing, sections, one, other).then(place_order(one, other))
 }
 
 // Puts places that rise in the order of the kinds of their objects. Those of one kind keep their order: they are sorted by
