@@ -1,4 +1,5 @@
 //! Patterns of Life: guns, switch engines and what is none. The cells are from outside, and so are periods and displacements.
+use crate::growing_patterns::{BLINKER, BLOCK, GLIDER, GLIDERS, GUN, ROW};
 use life_board::Board;
 use life_cells::{CellList, Rule};
 use life_plane::{AGE_LIMIT, Plane};
@@ -6,99 +7,6 @@ use life_tracks::{Film, Track, tracks};
 use std::alloc::Global;
 use std::process::Abort;
 use std::test::Fail;
-
-const BLOCK: &[(i32, i32)] = &[(40, 40), (41, 40), (40, 41), (41, 41)];
-
-const BLINKER: &[(i32, i32)] = &[(40, 40), (41, 40), (42, 40)];
-
-const GLIDER: &[(i32, i32)] = &[(41, 40), (42, 41), (40, 42), (41, 42), (42, 42)];
-
-// Two gliders that fly apart, the second upside down and reversed.
-const GLIDERS: &[(i32, i32)] = &[
-    (42, 41),
-    (43, 42),
-    (41, 43),
-    (42, 43),
-    (43, 43),
-    (38, 38),
-    (37, 37),
-    (39, 36),
-    (38, 36),
-    (37, 36),
-];
-
-// Gosper's gun.
-const GUN: &[(i32, i32)] = &[
-    (64, 40),
-    (62, 41),
-    (64, 41),
-    (52, 42),
-    (53, 42),
-    (60, 42),
-    (61, 42),
-    (74, 42),
-    (75, 42),
-    (51, 43),
-    (55, 43),
-    (60, 43),
-    (61, 43),
-    (74, 43),
-    (75, 43),
-    (40, 44),
-    (41, 44),
-    (50, 44),
-    (56, 44),
-    (60, 44),
-    (61, 44),
-    (40, 45),
-    (41, 45),
-    (50, 45),
-    (54, 45),
-    (56, 45),
-    (57, 45),
-    (62, 45),
-    (64, 45),
-    (50, 46),
-    (56, 46),
-    (64, 46),
-    (51, 47),
-    (55, 47),
-    (52, 48),
-    (53, 48),
-];
-
-// A row of 28 cells with gaps, 39 long, which becomes two block-laying switch engines and debris. Each of the two lays eight
-// blocks in 288 generations.
-const ROW: &[(i32, i32)] = &[
-    (500, 500),
-    (501, 500),
-    (502, 500),
-    (503, 500),
-    (504, 500),
-    (505, 500),
-    (506, 500),
-    (507, 500),
-    (509, 500),
-    (510, 500),
-    (511, 500),
-    (512, 500),
-    (513, 500),
-    (517, 500),
-    (518, 500),
-    (519, 500),
-    (526, 500),
-    (527, 500),
-    (528, 500),
-    (529, 500),
-    (530, 500),
-    (531, 500),
-    (532, 500),
-    (534, 500),
-    (535, 500),
-    (536, 500),
-    (537, 500),
-    (538, 500),
-];
 
 /// The tracks in a pattern's generations from one on, so many more.
 fn tracks_from(

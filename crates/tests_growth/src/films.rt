@@ -1,24 +1,11 @@
 //! Small patterns of Life, and the classes of their generations. Those of each generation are compared with what is found
 //! where that generation is followed forward by itself, and who bears them with what becomes of each class alone.
+use crate::growing_patterns::{GLIDERS, GUN};
 use life_cells::{CellList, Rule};
 use life_classes::classes;
 use life_plane::{AGE_LIMIT, ListPlane, Plane};
 use life_tracks::Film;
 use std::test::Fail;
-
-// Two gliders that fly apart, the second upside down and reversed.
-const PARTING: &[(i32, i32)] = &[
-    (42, 41),
-    (43, 42),
-    (41, 43),
-    (42, 43),
-    (43, 43),
-    (38, 38),
-    (37, 37),
-    (39, 36),
-    (38, 36),
-    (37, 36),
-];
 
 // Two blinkers that are near each other in every second generation.
 const BLINKERS: &[(i32, i32)] = &[(40, 40), (41, 40), (42, 40), (40, 44), (41, 44), (42, 44)];
@@ -92,51 +79,11 @@ const PULSAR: &[(i32, i32)] = &[
     (50, 52),
 ];
 
-// Gosper's gun.
-const GUN: &[(i32, i32)] = &[
-    (64, 40),
-    (62, 41),
-    (64, 41),
-    (52, 42),
-    (53, 42),
-    (60, 42),
-    (61, 42),
-    (74, 42),
-    (75, 42),
-    (51, 43),
-    (55, 43),
-    (60, 43),
-    (61, 43),
-    (74, 43),
-    (75, 43),
-    (40, 44),
-    (41, 44),
-    (50, 44),
-    (56, 44),
-    (60, 44),
-    (61, 44),
-    (40, 45),
-    (41, 45),
-    (50, 45),
-    (54, 45),
-    (56, 45),
-    (57, 45),
-    (62, 45),
-    (64, 45),
-    (50, 46),
-    (56, 46),
-    (64, 46),
-    (51, 47),
-    (55, 47),
-    (52, 48),
-    (53, 48),
-];
-
 /// Cells, up to which generation the film goes, and how many classes some of its generations have.
 type Case = (&'static [(i32, i32)], u32, &'static [(usize, usize)]);
 
 const CASES: &[Case] = &[
-    (PARTING, 12, &[(0, 2), (6, 2), (12, 2)]),
+    (GLIDERS, 12, &[(0, 2), (6, 2), (12, 2)]),
     (BLINKERS, 0, &[(0, 2)]),
     (BLINKERS, 2, &[(0, 1), (1, 1), (2, 2)]),
     // What has died is in no later class.
