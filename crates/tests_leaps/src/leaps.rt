@@ -5,11 +5,9 @@ use life_cells::{CellList, Rule};
 use life_leaps::{LeapPlane, Side};
 use std::alloc::Global;
 use std::test::Fail;
+use tests_cells::{GLIDER, GUN};
 
-// A glider that moves to the right and down by one cell in four generations.
-const GLIDER: &[(i32, i32)] = &[(1, 0), (2, 1), (0, 2), (1, 2), (2, 2)];
-
-// The same after 4,096 generations.
+// The glider after 4,096 generations.
 const GLIDER_1024: &[(i32, i32)] = &[
     (1025, 1024),
     (1026, 1025),
@@ -25,46 +23,6 @@ const GLIDER_FAR: &[(i32, i32)] = &[
     (2_097_152, 2_097_154),
     (2_097_153, 2_097_154),
     (2_097_154, 2_097_154),
-];
-
-// Gosper's glider gun, which has 36 cells and sends out a glider of five every 30 generations.
-const GUN: &[(i32, i32)] = &[
-    (24, 0),
-    (22, 1),
-    (24, 1),
-    (12, 2),
-    (13, 2),
-    (20, 2),
-    (21, 2),
-    (34, 2),
-    (35, 2),
-    (11, 3),
-    (15, 3),
-    (20, 3),
-    (21, 3),
-    (34, 3),
-    (35, 3),
-    (0, 4),
-    (1, 4),
-    (10, 4),
-    (16, 4),
-    (20, 4),
-    (21, 4),
-    (0, 5),
-    (1, 5),
-    (10, 5),
-    (14, 5),
-    (16, 5),
-    (17, 5),
-    (22, 5),
-    (24, 5),
-    (10, 6),
-    (16, 6),
-    (24, 6),
-    (11, 7),
-    (15, 7),
-    (12, 8),
-    (13, 8),
 ];
 
 #[test]

@@ -10,9 +10,7 @@ use life_plane::{ListPlane, Plane};
 use std::alloc::{AllocError, Global};
 use std::process::Abort;
 use std::test::Fail;
-
-// The R-pentomino.
-pub const PENTOMINO: &[(i32, i32)] = &[(1, 0), (2, 0), (0, 1), (1, 1), (1, 2)];
+use tests_cells::{GLIDER, PENTOMINO};
 
 // The acorn, so far from the edge that all that it becomes stays in the field.
 const ACORN: &[(i32, i32)] = &[
@@ -77,9 +75,6 @@ const TWO_GLIDERS: &[(i32, i32)] = &[
     (30, 41),
     (32, 41),
 ];
-
-// A glider, which is its own ash.
-const GLIDER: &[(i32, i32)] = &[(1, 0), (2, 1), (0, 2), (1, 2), (2, 2)];
 
 // Three cells in a slanted row, which are one cell after a generation and none after two.
 const SLANT: &[(i32, i32)] = &[(0, 0), (1, 1), (2, 2)];

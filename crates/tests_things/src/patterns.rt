@@ -7,12 +7,11 @@ use life_settled::settled;
 use std::alloc::Global;
 use std::process::Abort;
 use std::test::Fail;
+use tests_cells::{GLIDER, GUN, PENTOMINO};
 
 const BLOCK: &[(i32, i32)] = &[(0, 0), (1, 0), (0, 1), (1, 1)];
 
 const BLINKER: &[(i32, i32)] = &[(10, 10), (11, 10), (12, 10)];
-
-const GLIDER: &[(i32, i32)] = &[(1, 0), (2, 1), (0, 2), (1, 2), (2, 2)];
 
 // Two gliders that vanish with each other in generation 6.
 const VANISHING: &[(i32, i32)] = &[
@@ -26,49 +25,6 @@ const VANISHING: &[(i32, i32)] = &[
     (6, 5),
     (4, 6),
     (5, 7),
-];
-
-// The R-pentomino, which is ash from generation 1,103 on.
-const PENTOMINO: &[(i32, i32)] = &[(1, 0), (2, 0), (0, 1), (1, 1), (1, 2)];
-
-// The gun of period 30, which never is.
-const GUN: &[(i32, i32)] = &[
-    (24, 0),
-    (22, 1),
-    (24, 1),
-    (12, 2),
-    (13, 2),
-    (20, 2),
-    (21, 2),
-    (34, 2),
-    (35, 2),
-    (11, 3),
-    (15, 3),
-    (20, 3),
-    (21, 3),
-    (34, 3),
-    (35, 3),
-    (0, 4),
-    (1, 4),
-    (10, 4),
-    (16, 4),
-    (20, 4),
-    (21, 4),
-    (0, 5),
-    (1, 5),
-    (10, 5),
-    (14, 5),
-    (16, 5),
-    (17, 5),
-    (22, 5),
-    (24, 5),
-    (10, 6),
-    (16, 6),
-    (24, 6),
-    (11, 7),
-    (15, 7),
-    (12, 8),
-    (13, 8),
 ];
 
 /// A pattern, a bound, and how many early generations, parts and things it has, if it falls apart.
