@@ -6,6 +6,7 @@ use life_plane::{ListPlane, Unobserved};
 use std::alloc::{AllocError, Global};
 use std::process::Abort;
 use std::test::Fail;
+use tests_cells::{GUN, PENTOMINO};
 
 // Within how many generations growth is looked for: fewer than the period of the gun, which so is neither ash nor growth.
 const HORIZON: u32 = 10;
@@ -113,49 +114,6 @@ const FARMING: &[(i32, i32)] = &[
     (41, 2),
     (40, 3),
     (41, 3),
-];
-
-// The R-pentomino, which is ash from generation 1,103 on.
-const PENTOMINO: &[(i32, i32)] = &[(1, 0), (2, 0), (0, 1), (1, 1), (1, 2)];
-
-// The gun of period 30, which never is.
-const GUN: &[(i32, i32)] = &[
-    (24, 0),
-    (22, 1),
-    (24, 1),
-    (12, 2),
-    (13, 2),
-    (20, 2),
-    (21, 2),
-    (34, 2),
-    (35, 2),
-    (11, 3),
-    (15, 3),
-    (20, 3),
-    (21, 3),
-    (34, 3),
-    (35, 3),
-    (0, 4),
-    (1, 4),
-    (10, 4),
-    (16, 4),
-    (20, 4),
-    (21, 4),
-    (0, 5),
-    (1, 5),
-    (10, 5),
-    (14, 5),
-    (16, 5),
-    (17, 5),
-    (22, 5),
-    (24, 5),
-    (10, 6),
-    (16, 6),
-    (24, 6),
-    (11, 7),
-    (15, 7),
-    (12, 8),
-    (13, 8),
 ];
 
 // Five cells that grow for ever under B2/S.
