@@ -1,7 +1,7 @@
 -- Objects that stand in the order of their kinds, counted kind by kind.
 use Rattle.std.proofs.Common.{◌≡◌, ℕ, ◌+◌, ◌<◌, zero, suc, Bool, true, false, not, ◌&&◌, ◌||◌, eqb, if◌then◌else◌, List, [], ◌∷◌, length, refl, sym, ap, ap₂, ◌∙◌, subst, arith, true≢false, map}
 use Rattle.std.specs.Prelude.{filter, count_by, nat_eq, cond, reverse, slice_index_or}
-use Rattle.std.specs.Cmp.Lexicographic.{as_long, on_texts, pointwise, slice_cmp, texts_ties}
+use Rattle.std.specs.Cmp.Lexicographic.{as_long, pointwise, slice_cmp, texts_ties}
 use Rattle.std.specs.Cmp.{both_tied, unsigned_tied, IsTotalOrder, IsEquivalence, IsStrictWeakOrder}
 use Rattle.std.specs.List.{All, AllByRecursion, list_any, sum_by}
 use Rattle.std.specs.List.Sorted.{ties, IsPermutation, IsSorted, IsSortedBy}
@@ -14,19 +14,13 @@ use Rattle.std.proofs.lemmas.List.Sorted.{All-permutation, IsPermutation-reverse
 use Rattle.std.proofs.lemmas.List.Sums.{sum_by-cons}
 use Rattle.std.proofs.lemmas.List.{get_or-map, length-map}
 use Rattle.census_table.specs.Kinds.{capped, count_cmp, counted, kind_cmp, patterns_told, same_kind, same_pattern, AreKinds, IsCounted}
+use Rattle.census_table.specs.KindLaws.{kind_total}
 use Rattle.census_table.specs.Grouping.{alone, grouped, joined, with_told, AreInKinds}
-use Rattle.census_table.specs.Places.{place_cmp, AreRising, Rises}
+use Rattle.census_table.specs.Places.{Rises}
 use Rattle.census_table.specs.declared.object.Object.{Object}
 use Rattle.census_table.specs.declared.place.Place.{Place}
-use Rattle.census_table.proofs.Rising.{place_total}
-use Rattle.census_table.proofs.Ties.{before-order, first-not-falling, level-kept, stands-before}
 
 -- ---- the order
-
-pub kind_total : IsTotalOrder kind_cmp
-kind_total =
-    then_total (on_total (λ (o : Object). length o.code.now) nat_cmp_total)
-    (then_total (on_texts (λ (o : Object). o.code.now)) (on_texts (λ (o : Object). o.rule.now)))
 
 absorbed : (l c r : Bool) → (c ≡ true → l ≡ true) → (c && r) ≡ (l && (c && r))
 absorbed true c r h = refl
@@ -313,30 +307,15 @@ lt_back Less = refl
 lt_back Equal = refl
 lt_back Greater = refl
 
--- what a sort by the kinds of objects and by their places gives
+-- objects at places, in the order of their kinds
 module _ (told : Place → Object) where
-  abbrev pub kinds-at : Place → Place → Ordering
-  kinds-at one other = kind_cmp (told one) (told other)
-
-  pub kinds-total : IsTotalOrder kinds-at
-  kinds-total = on_total told kind_total
-
-  abbrev pub place-less : Place → Place → Bool
-  place-less = stands-before kinds-at place_cmp kinds-total place_total
-
-  pub places-order : IsStrictWeakOrder place-less
-  places-order = before-order kinds-at place_cmp kinds-total place_total
-
-  pub places-in-kinds : (ps : List Place) → IsSortedBy place-less ps → AreInKinds (map told ps)
-  places-in-kinds ps up = go ps (first-not-falling kinds-at place_cmp kinds-total place_total ps up)
+  pub places-in-kinds : (ps : List Place) → Rises (λ p q. is_gt (kind_cmp (told p) (told q)) ≡ false) ps → AreInKinds (map told ps)
+  places-in-kinds [] h = tt
+  places-in-kinds (p ∷ ps) h = (All-from_recursion (λ o. is_gt (kind_cmp (told p) o) ≡ false) (map told ps) (behind p ps h.0), places-in-kinds ps h.1)
     where
-      behind : (p : Place) (ps : List Place) → AllByRecursion (λ q. is_gt (kinds-at p q) ≡ false) ps → AllByRecursion (λ o. is_gt (kind_cmp (told p) o) ≡ false) (map told ps)
+      behind : (p : Place) (ps : List Place) → AllByRecursion (λ q. is_gt (kind_cmp (told p) (told q)) ≡ false) ps → AllByRecursion (λ o. is_gt (kind_cmp (told p) o) ≡ false) (map told ps)
       behind p [] h = tt
       behind p (q ∷ qs) h = (h.0, behind p qs h.1)
-
-      go : (ps : List Place) → Rises (λ p q. is_gt (kinds-at p q) ≡ false) ps → AreInKinds (map told ps)
-      go [] h = tt
-      go (p ∷ ps) h = (All-from_recursion (λ o. is_gt (kind_cmp (told p) o) ≡ false) (map told ps) (behind p ps h.0), go ps h.1)
 
   filter-at : (test : Object → Bool) (ps : List Place) → filter test (map told ps) ≡ map told (filter (λ p. test (told p)) ps)
   filter-at test [] = refl
@@ -355,11 +334,12 @@ module _ (told : Place → Object) where
       equal Equal h = refl
       equal Greater h = absurd (true≢false (sym h))
 
-  pub places-stable : (ps qs : List Place) → AreRising ps → IsPermutation ps qs → IsSortedBy place-less qs → (kind : Object) → filter (same_kind kind) (map told qs) ≡ filter (same_kind kind) (map told ps)
-  places-stable ps qs rising moved up kind =
-      filter-at (same_kind kind) qs
-      ∙ ap (map told) (level-kept kinds-at place_cmp kinds-total place_total (λ p. same_kind kind (told p)) (λ p q. one-kind kind (told p) (told q)) ps qs rising moved up)
-      ∙ sym (filter-at (same_kind kind) ps)
+  pub kind-level : (kind : Object) (p q : Place) → same_kind kind (told p) ≡ true → same_kind kind (told q) ≡ true → kind_cmp (told p) (told q) ≡ Equal
+  kind-level kind p q = one-kind kind (told p) (told q)
+
+  pub places-stable : (ps qs : List Place) (kind : Object) → filter (λ p. same_kind kind (told p)) qs ≡ filter (λ p. same_kind kind (told p)) ps
+      → filter (same_kind kind) (map told qs) ≡ filter (same_kind kind) (map told ps)
+  places-stable ps qs kind same = filter-at (same_kind kind) qs ∙ ap (map told) same ∙ sym (filter-at (same_kind kind) ps)
 
 -- ---- the order of kinds by how many objects they have
 

@@ -4,6 +4,7 @@ pub mod Contents
 pub mod Entries
 pub mod Grouping
 pub mod Kinds
+pub mod KindLaws
 pub mod Lists
 pub mod ObjectColumns
 pub mod Objects

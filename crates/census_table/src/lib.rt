@@ -28,6 +28,6 @@ pub use json_lines::push_object;
 pub use object::Object;
 pub use object_column::ObjectColumn;
 pub use objects::Objects;
-pub use place::{Place, place_order};
+pub use place::{OrderAtPlaces, Place, put_in_order};
 pub use subject::{Subject, Table, table_of};
 pub use table::{Format, each_line_has_a_row, put_listing, put_table};

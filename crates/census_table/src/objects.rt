@@ -11,7 +11,7 @@ ghost use Rattle.census_table.specs.declared.object.Object.{Object};
 
 use crate::entry::{Entry, entry_of_row};
 use crate::object::{Object, code_in, object_of_row, rule_in};
-use crate::place::{Place, place_order};
+use crate::place::{OrderAtPlaces, Place, put_in_order};
 use census_kept::Section;
 use census_readback::Sections;
 use census_rows::{Outcome, Row};
@@ -158,26 +158,47 @@ fn key_order(nothing: &Object, sections: &Sections, one: &Place, other: &Place) 
     }
 }
 
-// Which of the objects at two places stands first: by their kinds, and those of one kind by their places.
+// Which of the kinds of the objects at two places stands first.
 fn told_order(nothing: &Object, sections: &Sections, one: &Place, other: &Place) -> Ordering
-    ensures { result ≡ ordering_then (kind_cmp (object_at nothing.now sections.now one.now)
-        (object_at nothing.now sections.now other.now)) (place_cmp one.now other.now) }
+    ensures { result ≡ kind_cmp (object_at nothing.now sections.now one.now)
+        (object_at nothing.now sections.now other.now) }
 {
-    key_order(nothing, sections, one, other).then(place_order(one, other))
+    key_order(nothing, sections, one, other)
 }
 
-// Puts places that rise in the order of the kinds of their objects. Those of one kind keep their order: they are sorted by
-// their places too, so that no second list is needed.
-fn sort_places(nothing: &Object, sections: &Sections, places: &mut Vec<Place>)
-    requires { AreRising places.old.items }
-    ensures permutation { IsPermutation (map (object_at nothing.now sections.now) places.old.items)
-        (map (object_at nothing.now sections.now) places.new.items) }
+// The order of the kinds of objects at places of collections.
+#[derive(Drop)]
+struct ByKind<'s, 'b, 'a> {
+    nothing: &'s Object<'a>,
+    sections: &'s Sections<'b, 'a>,
+}
+
+impl<'s, 'b, 'a> OrderAtPlaces for ByKind<'s, 'b, 'a> {
+    ghost use Rattle.census_table.specs.Kinds.{kind_cmp};
+    ghost use Rattle.census_table.specs.Places.{object_at};
+    ghost use Rattle.census_table.specs.KindLaws.{kinds_at_total};
+
+    ghost cmp = { λ by p q. kind_cmp (object_at by.nothing.now by.sections.now p)
+        (object_at by.nothing.now by.sections.now q) };
+
+    ghost total = { λ by. kinds_at_total (object_at by.nothing.now by.sections.now) };
+
+    fn order(&self, one: &Place, other: &Place) -> Ordering {
+        told_order(self.nothing, self.sections, one, other)
+    }
+}
+
+// Puts places that rise in the order of the kinds of their objects. Those of one kind keep their order.
+fn sort_places(nothing: &Object, sections: &Sections, places: &mut [Place])
+    requires { AreRising places.old }
+    ensures permutation { IsPermutation (map (object_at nothing.now sections.now) places.old)
+        (map (object_at nothing.now sections.now) places.new) }
     ensures stable { (kind : Object) →
-        filter (same_kind kind) (map (object_at nothing.now sections.now) places.new.items)
-        ≡ filter (same_kind kind) (map (object_at nothing.now sections.now) places.old.items) }
-    ensures sorted { AreInKinds (map (object_at nothing.now sections.now) places.new.items) }
+        filter (same_kind kind) (map (object_at nothing.now sections.now) places.new)
+        ≡ filter (same_kind kind) (map (object_at nothing.now sections.now) places.old) }
+    ensures sorted { AreInKinds (map (object_at nothing.now sections.now) places.new) }
 {
-    places.sort_unstable_by(|one, other| told_order(nothing, sections, one, other));
+    put_in_order(&ByKind { nothing, sections }, places);
 }
 
 impl<'b, 'a> Objects<'b, 'a> {
@@ -358,7 +379,7 @@ pub fn objects_in_kinds<'b, 'a>(
 {
     let nothing = no_object();
     let mut places = places_in(alloc, &nothing, &sections)?;
-    sort_places(&nothing, &sections, &mut places);
+    sort_places(&nothing, &sections, places.as_mut_slice());
     Ok(Objects {
         sections,
         places,

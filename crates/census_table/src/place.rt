@@ -1,6 +1,11 @@
 //! Places in reports.
-ghost use Rattle.std.specs.Prelude.{◌≡◌};
-ghost use Rattle.census_table.specs.Places.{place_cmp};
+ghost use Rattle.std.specs.Prelude.{◌≡◌, ◌<◌, ◌≤◌, Bool, drop, false, filter, length, slice_index_or, take, true};
+ghost use Rattle.std.specs.List.{prefix_len};
+ghost use Rattle.std.specs.List.Sorted.{IsPermutation};
+ghost use Rattle.std.specs.Ordering.{is_eq, is_gt, ordering_then};
+ghost use Rattle.std.specs.declared.cmp.Ordering.TheVariants.{Equal};
+ghost use Rattle.census_table.specs.Places.{place_cmp, AreRising, Rises};
+ghost use Rattle.census_table.specs.declared.place.Place.{Place as ModelPlace};
 
 use std::cmp::Ordering;
 
@@ -21,4 +26,76 @@ pub fn place_order(one: &Place, other: &Place) -> Ordering
 {
     let rows = one.row.cmp(&other.row);
     one.collection.cmp(&other.collection).then(rows)
+}
+
+/// An order of what is told at places.
+pub trait OrderAtPlaces {
+    ghost use Rattle.std.specs.Cmp.{IsTotalOrder};
+    ghost use Rattle.std.specs.declared.cmp.Ordering.{Ordering};
+    ghost use Rattle.census_table.specs.declared.place.Place.{Place};
+
+    /// The order. Places at which the same is told are level in it.
+    ghost cmp: { Self → Place → Place → Ordering };
+
+    /// It is total.
+    ghost total: { (order : Self) → IsTotalOrder (cmp order) };
+
+    /// Which of two places stands first in it.
+    fn order(&self, one: &Place, other: &Place) -> Ordering
+        ensures { result ≡ cmp self.now one.now other.now };
+}
+
+// How many places at the start are level with this one.
+fn run_len<O: OrderAtPlaces>(order: &O, places: &[Place], first: &Place) -> usize
+    ensures count { result ≡ prefix_len (λ p. is_eq (O.cmp order.now first.now p)) places.now }
+    ensures within { result ≤ length places.now }
+{
+    places
+        .iter()
+        .take_while(|place| order.order(first, *place) == Ordering::Equal)
+        .count()
+}
+
+// Puts the places at the start that are level with the first by collections and rows. Returns how many they are.
+fn put_run_in_order<O: OrderAtPlaces>(order: &O, places: &mut [Place]) -> usize
+    requires { 0 < length places.old }
+    ensures count { (first : ModelPlace) → first ≡ slice_index_or places.old 0 first →
+        result ≡ prefix_len (λ p. is_eq (O.cmp order.now first p)) places.old }
+    ensures within { result ≤ length places.old }
+    ensures run { IsPermutation (take result places.old) (take result places.new) }
+    ensures sorted { Rises (λ p q. is_gt (place_cmp p q) ≡ false) (take result places.new) }
+    ensures others { drop result places.new ≡ drop result places.old }
+{
+    let first = places[0];
+    let count = run_len(order, places, &first);
+    let (run, _) = places.split_at_mut(count);
+    run.sort_unstable_by(|one, other| place_order(one, other));
+    count
+}
+
+// Puts places that do not fall in an order by collections and rows where they are level in it.
+fn put_runs_in_order<O: OrderAtPlaces>(order: &O, places: &mut [Place])
+    requires { Rises (λ p q. is_gt (O.cmp order.now p q) ≡ false) places.old }
+    ensures permutation { IsPermutation places.old places.new }
+    ensures both { Rises (λ p q. is_gt (ordering_then (O.cmp order.now p q) (place_cmp p q)) ≡ false)
+        places.new }
+{
+    let mut at = 0;
+    while at < places.len() {
+        let (_, left) = places.split_at_mut(at);
+        at += put_run_in_order(order, left);
+    }
+}
+
+/// Puts places that rise in an order. Those that are level in it keep their order. No second list is needed: what is level is
+/// put in the order of places once the rest is.
+pub fn put_in_order<O: OrderAtPlaces>(order: &O, places: &mut [Place])
+    requires { AreRising places.old }
+    ensures permutation { IsPermutation places.old places.new }
+    ensures ordered { Rises (λ p q. is_gt (O.cmp order.now p q) ≡ false) places.new }
+    ensures stable { (test : ModelPlace → Bool) → ((p q : ModelPlace) → test p ≡ true → test q ≡ true
+        → O.cmp order.now p q ≡ Equal) → filter test places.new ≡ filter test places.old }
+{
+    places.sort_unstable_by(|one, other| order.order(one, other));
+    put_runs_in_order(order, places);
 }
