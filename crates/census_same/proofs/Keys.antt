@@ -1,21 +1,18 @@
 -- Codes under rules, in order.
 use Rattle.std.proofs.Common.{◌≡◌, ℕ, Bool, true, false, ◌&&◌, ◌||◌, List, [], ◌∷◌, refl, sym, ap, ap₂, ◌∙◌, subst, arith, true≢false}
 use Rattle.std.specs.Prelude.{nat_eq, slice_index_or}
-use Rattle.std.specs.Cmp.Lexicographic.{bytes_decides, on_texts, pointwise, slice_cmp, texts_ties}
-use Rattle.std.specs.Cmp.{both_tied, IsTotalOrder}
+use Rattle.std.specs.Cmp.Lexicographic.{bytes_decides, pointwise, slice_cmp, texts_ties}
+use Rattle.std.specs.Cmp.{both_tied}
 use Rattle.std.specs.List.{All, list_any}
 use Rattle.std.specs.Ordering.{is_eq, is_lt, nat_cmp, ordering_reverse}
 use Rattle.std.specs.declared.cmp.Ordering.{Ordering}
 use Rattle.std.specs.declared.cmp.Ordering.TheVariants.{Less, Equal, Greater}
-use Rattle.std.proofs.lemmas.Cmp.{then_total}
 use Rattle.std.proofs.lemmas.List.Elements.{All-cons, All-nil, All-tail}
 use Rattle.census_same.specs.Order.{Key, is_among, is_key, has_key, key_cmp, key_of, keys_of, with_key, AreRising}
+use Rattle.census_same.specs.KeyLaws.{key_total}
 use Rattle.census_same.specs.declared.told.Told.{Told}
 
 -- # The order
-
-pub key_total : IsTotalOrder key_cmp
-key_total = then_total (on_texts (λ (k : Key). k.0)) (on_texts (λ (k : Key). k.1))
 
 pub has_is : (k : Key) (t : Told) → has_key k t ≡ is_key (key_of t) k
 has_is k t =

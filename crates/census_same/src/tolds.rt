@@ -1,9 +1,8 @@
 //! The patterns that are objects, held by where they are told.
 ghost use Rattle.std.specs.Prelude.{◌≡◌, ◌<◌, ◌+◌, ◌++◌, [], List, None, filter, length, map, slice_index_or, IfOk, OnOk};
-ghost use Rattle.std.specs.Ordering.{ordering_then};
 ghost use Rattle.census_rows.specs.declared.row.Row.{Row};
 ghost use Rattle.census_table.specs.Kinds.{capped};
-ghost use Rattle.census_table.specs.Places.{place_cmp, row_in, AreBefore, AreRising};
+ghost use Rattle.census_table.specs.Places.{row_in, AreBefore, AreRising};
 ghost use Rattle.census_same.specs.Order.{AreInOrder, Key, has_key, key_cmp, key_of};
 ghost use Rattle.census_same.specs.Patterns.{all_told, collection_after, told_from};
 ghost use Rattle.census_same.specs.Places.{opened_by, row_at, told_at, told_under};
@@ -12,7 +11,7 @@ use crate::told::{Told, collection_after, no_told, told_by};
 use census_kept::Section;
 use census_readback::Sections;
 use census_rows::Row;
-use census_table::{Place, place_order};
+use census_table::{OrderAtPlaces, Place, put_in_order};
 use std::alloc::{AllocError, Global};
 use std::cmp::Ordering;
 use std::marker::Model;
@@ -105,25 +104,47 @@ fn key_order(told: &Told, other: &Told) -> Ordering
     told.code.cmp(other.code).then(rules)
 }
 
-// Which of the patterns at two places comes first. Those of one code and rule stand by their places.
+// Which of the patterns at two places comes first.
 fn told_order(nothing: &Told, sections: &Sections, one: &Place, other: &Place) -> Ordering
-    ensures { result ≡ ordering_then (key_cmp (key_of (told_at nothing.now sections.now one.now))
-        (key_of (told_at nothing.now sections.now other.now))) (place_cmp one.now other.now) }
+    ensures { result ≡ key_cmp (key_of (told_at nothing.now sections.now one.now))
+        (key_of (told_at nothing.now sections.now other.now)) }
 {
     let told = keyed_at(nothing, sections, *one);
-    key_order(&told, &keyed_at(nothing, sections, *other)).then(place_order(one, other))
+    key_order(&told, &keyed_at(nothing, sections, *other))
+}
+
+// The order of patterns at places of collections: by their codes, and under one code by their rules.
+#[derive(Drop)]
+struct ByKey<'s, 'b, 'a> {
+    nothing: &'s Told<'a>,
+    sections: &'s Sections<'b, 'a>,
+}
+
+impl<'s, 'b, 'a> OrderAtPlaces for ByKey<'s, 'b, 'a> {
+    ghost use Rattle.census_same.specs.KeyLaws.{keys_at_total};
+    ghost use Rattle.census_same.specs.Order.{key_cmp, key_of};
+    ghost use Rattle.census_same.specs.Places.{told_at};
+
+    ghost cmp = { λ by p q. key_cmp (key_of (told_at by.nothing.now by.sections.now p))
+        (key_of (told_at by.nothing.now by.sections.now q)) };
+
+    ghost total = { λ by. keys_at_total (told_at by.nothing.now by.sections.now) };
+
+    fn order(&self, one: &Place, other: &Place) -> Ordering {
+        told_order(self.nothing, self.sections, one, other)
+    }
 }
 
 // Puts places that rise in the order of the codes of their patterns, and of their rules under one code. Those of one code
-// and rule keep their order: they are sorted by their places too, so that no second list is needed.
-fn sort_places(nothing: &Told, sections: &Sections, places: &mut Vec<Place>)
-    requires { AreRising places.old.items }
+// and rule keep their order.
+fn sort_places(nothing: &Told, sections: &Sections, places: &mut [Place])
+    requires { AreRising places.old }
     ensures same { (key : Key) →
-        filter (has_key key) (map (told_at nothing.now sections.now) places.new.items)
-        ≡ filter (has_key key) (map (told_at nothing.now sections.now) places.old.items) }
-    ensures ordered { AreInOrder (map (told_at nothing.now sections.now) places.new.items) }
+        filter (has_key key) (map (told_at nothing.now sections.now) places.new)
+        ≡ filter (has_key key) (map (told_at nothing.now sections.now) places.old) }
+    ensures ordered { AreInOrder (map (told_at nothing.now sections.now) places.new) }
 {
-    places.sort_unstable_by(|one, other| told_order(nothing, sections, one, other));
+    put_in_order(&ByKey { nothing, sections }, places);
 }
 
 impl<'b, 'a> Tolds<'b, 'a> {
@@ -240,7 +261,7 @@ pub fn tolds_in_order<'b, 'a>(
 {
     let nothing = no_told();
     let mut places = places_in(alloc, &nothing, &sections)?;
-    sort_places(&nothing, &sections, &mut places);
+    sort_places(&nothing, &sections, places.as_mut_slice());
     Ok(Tolds {
         sections,
         places,

@@ -19,6 +19,7 @@ use Rattle.census_table.specs.Grouping.{alone, grouped, joined, with_told, AreIn
 use Rattle.census_table.specs.Places.{Rises}
 use Rattle.census_table.specs.declared.object.Object.{Object}
 use Rattle.census_table.specs.declared.place.Place.{Place}
+use Rattle.census_table.proofs.Ties.{filter-of}
 
 -- ---- the order
 
@@ -317,15 +318,6 @@ module _ (told : Place → Object) where
       behind p [] h = tt
       behind p (q ∷ qs) h = (h.0, behind p qs h.1)
 
-  filter-at : (test : Object → Bool) (ps : List Place) → filter test (map told ps) ≡ map told (filter (λ p. test (told p)) ps)
-  filter-at test [] = refl
-  filter-at test (p ∷ ps) = go (test (told p)) (filter-at test ps)
-    where
-      go : (b : Bool) → filter test (map told ps) ≡ map told (filter (λ p. test (told p)) ps)
-          → cond b (told p ∷ filter test (map told ps)) (filter test (map told ps)) ≡ map told (cond b (p ∷ filter (λ p. test (told p)) ps) (filter (λ p. test (told p)) ps))
-      go true e = ap (λ os. told p ∷ os) e
-      go false e = e
-
   one-kind : (kind o p : Object) → same_kind kind o ≡ true → same_kind kind p ≡ true → kind_cmp o p ≡ Equal
   one-kind kind o p a b = equal (kind_cmp o p) (sym (same_is o p) ∙ sym (same-alike kind o p a) ∙ b)
     where
@@ -339,7 +331,7 @@ module _ (told : Place → Object) where
 
   pub places-stable : (ps qs : List Place) (kind : Object) → filter (λ p. same_kind kind (told p)) qs ≡ filter (λ p. same_kind kind (told p)) ps
       → filter (same_kind kind) (map told qs) ≡ filter (same_kind kind) (map told ps)
-  places-stable ps qs kind same = filter-at (same_kind kind) qs ∙ ap (map told) same ∙ sym (filter-at (same_kind kind) ps)
+  places-stable ps qs kind same = filter-of (same_kind kind) told qs ∙ ap (map told) same ∙ sym (filter-of (same_kind kind) told ps)
 
 -- ---- the order of kinds by how many objects they have
 

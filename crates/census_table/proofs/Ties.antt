@@ -1,5 +1,5 @@
 -- Lists in an order of two parts: what is level in the first part stands in the order of the second.
-use Rattle.std.proofs.Common.{◌≡◌, ◌⊎◌, inl, inr, ℕ, ◌+◌, zero, suc, ◌<◌, ◌≤◌, take, drop, Bool, true, false, not, cond, List, [], ◌∷◌, ◌++◌, filter, length, get_or, set, swap, refl, sym, ap, ap₂, ◌∙◌, subst, arith, append_assoc, true≢false}
+use Rattle.std.proofs.Common.{◌≡◌, ◌⊎◌, inl, inr, ℕ, ◌+◌, zero, suc, ◌<◌, ◌≤◌, take, drop, Bool, true, false, not, cond, List, [], ◌∷◌, ◌++◌, filter, map, length, get_or, set, swap, refl, sym, ap, ap₂, ◌∙◌, subst, arith, append_assoc, true≢false}
 use Rattle.std.specs.Cmp.{IsStrictWeakOrder, IsTotalOrder}
 use Rattle.std.specs.List.{prefix_len, AllByRecursion}
 use Rattle.std.specs.List.Sorted.{IsPermutation, IsSortedBy}
@@ -65,6 +65,16 @@ module _ {X : Type 0} where
   filter-none p (x ∷ xs) h = rw (h.0, filter-none p xs h.1)
 
 -- ---- a filter and another order
+
+-- what passes a test, of what a function gives
+pub filter-of : {A B : Type 0} (test : B → Bool) (f : A → B) (xs : List A) → filter test (map f xs) ≡ map f (filter (λ x. test (f x)) xs)
+filter-of test f [] = refl
+filter-of {A} test f (x ∷ xs) = go (test (f x)) (filter-of test f xs)
+  where
+    go : (b : Bool) → filter test (map f xs) ≡ map f (filter (λ y. test (f y)) xs)
+        → cond b (f x ∷ filter test (map f xs)) (filter test (map f xs)) ≡ map f (cond b (x ∷ filter (λ y. test (f y)) xs) (filter (λ y. test (f y)) xs))
+    go true e = ap (λ ys. f x ∷ ys) e
+    go false e = e
 
 -- A relation holds along each permutation if it is reflexive and transitive, and goes under a head and over an exchange of two heads.
 module _ {X : Type 0} (R : List X → List X → Type 0) (same : (xs : List X) → R xs xs)
