@@ -1,17 +1,15 @@
 -- A class is unsplit, and what splits off a part of a set splits off the whole.
-use Rattle.std.proofs.Common.{◌≡◌, ◌≢◌, ℕ, suc, ◌+◌, ◌≤◌, List, ◌∷◌, inl, inr, sym, ap, subst, ◌∙◌, arith}
+use Rattle.std.proofs.Common.{◌≢◌, ℕ, ◌≤◌, List, ◌∷◌, inl, inr, sym, ap, subst, ◌∙◌, arith}
 use Rattle.std.specs.List.{Contains}
 use Rattle.std.proofs.lemmas.List.Elements.{All-contains}
 use Rattle.life_model.specs.Rule.{Rule}
 use Rattle.life_model.specs.Generation.{Generation, contains, empty}
-use Rattle.life_model.specs.Evolution.{generation, next}
+use Rattle.life_model.specs.Evolution.{generation}
 use Rattle.life_model.proofs.Moves.{nothing_or_some}
-use Rattle.life_model.proofs.Recurrences.{generation-add}
 use Rattle.life_objects.specs.Apart.{AreApart, AreApartFor}
 use Rattle.life_objects.specs.Piece.{IsSplit}
 use Rattle.life_objects.specs.Union.{IsSubsetOf, union, union_of}
 use Rattle.life_objects.specs.Whole.{StaysWhole}
-use Rattle.life_objects.proofs.Alone.{next-union}
 use Rattle.life_objects.proofs.Distances.{apart_from_union}
 use Rattle.life_objects.proofs.Dividing.{AreApartFor-swap, apart_from_rest}
 use Rattle.life_objects.proofs.Lists.{set_aside}
@@ -21,24 +19,6 @@ use Rattle.life_objects.proofs.Times.{before_from_while, generation-union}
 use Rattle.life_objects.proofs.Unions.{in_first, in_second}
 use Rattle.life_growth.specs.Unsplit.{AreClasses, IsUnsplit}
 use Rattle.life_growth.proofs.Growing.{union-assoc}
-
-module _ (R : Rule) where
-  from_next : (P : Generation) (n : ℕ) → generation R (next R P) n ≡ generation R P (suc n)
-  unfolding generation
-  from_next P n = generation-add R P 1 n ∙ ap (generation R P) (let e : 1 + n ≡ suc n = omega arith in e)
-
-  apart_now : (b : ℕ) (A B : Generation) → AreApartFor R b A B → AreApart A B
-  unfolding generation
-  apart_now b A B far = far 0 (omega arith)
-
-  -- the next generation splits for one generation fewer
-  pub split_next : (b : ℕ) (G A B : Generation) → IsSplit R (suc b) G A B → IsSplit R b (next R G) (next R A) (next R B)
-  split_next b G A B split = record {
-    together = sym (next-union R A B (apart_now (suc b) A B split.apart)) ∙ ap (next R) split.together;
-    apart = λ n h.
-        subst (AreApart (generation R (next R A) n)) (sym (from_next B n))
-        (subst (λ H. AreApart H (generation R B (suc n))) (sym (from_next A n)) (split.apart (suc n) (omega arith)));
-  }
 
 module _ (R : Rule) (b : ℕ) where
   -- G splits into P and X, and P into A and B

@@ -17,6 +17,7 @@ use Rattle.life_objects.proofs.Unions.{in_first, in_second}
 use Rattle.life_growth.specs.Engine.{IsEngine, Way}
 use Rattle.life_growth.specs.Unsplit.{AreClasses, IsUnsplit, Leaves}
 use Rattle.life_growth.proofs.Classes.{unsplit_is_a_class}
+use Rattle.life_growth.proofs.FilmLemmas.Splits.{split_next}
 use Rattle.life_growth.proofs.Endless.{IsUnsplit-wider}
 use Rattle.life_growth.proofs.Parts.{disjoint_now, rest_is_disjoint}
 use Rattle.life_tracks.specs.Lines.{ComesToReturn, HasLost, ancestor, core_of}
@@ -25,7 +26,7 @@ use Rattle.life_tracks.specs.Tracks.{Path, way_of}
 use Rattle.life_tracks.proofs.Alike.{engine_alike}
 use Rattle.life_tracks.proofs.Ancestors.{ancestor-before, ancestor-last, ancestor-parent, core-before, core-last}
 use Rattle.life_tracks.proofs.Backs.{AreFramesOf, core_is, made_of, next_classes, on_line, without_left}
-use Rattle.life_tracks.proofs.Classes.{class_splits, split_further, split_next}
+use Rattle.life_tracks.proofs.Classes.{class_splits, split_further}
 use Rattle.life_tracks.proofs.Steps.{bearer_is_parent, bears_within, class_with}
 
 module _ (R : Rule) (b : ℕ) (E : Generation) (way : Way) (engine : IsEngine R b E way) where
@@ -71,8 +72,8 @@ module _ (R : Rule) (b : ℕ) (E : Generation) (way : Way) (engine : IsEngine R 
         unfolding generation
         split_now =
             let e : T - n ≡ suc (T - suc n) = omega arith in
-            split_next R (T - suc n) (generation R G n) (way.core n) line.rest
-            (subst (λ t. IsSplit R t (generation R G n) (way.core n) line.rest) e line.split)
+            (split_next R (T - suc n) (generation R G n) (way.core n) line.rest
+            (subst (λ t. IsSplit R t (generation R G n) (way.core n) line.rest) e line.split)).2
 
         rest_later : Generation
         rest_later = union (way.left n) (next R line.rest)

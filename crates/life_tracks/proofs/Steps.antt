@@ -18,17 +18,14 @@ use Rattle.life_objects.proofs.Members.{found_now, in_list}
 use Rattle.life_objects.proofs.Sides.{within_each_other}
 use Rattle.life_objects.proofs.Unions.{in_empty, in_first, in_second, in_union}
 use Rattle.life_growth.specs.Unsplit.{AreClasses}
+use Rattle.life_growth.proofs.FilmLemmas.Splits.{apart_now}
 use Rattle.life_tracks.specs.Frames.Frames.{AreParents}
 use Rattle.life_tracks.specs.Lines.{IsSibling}
 use Rattle.life_tracks.specs.Readings.{AreLeft}
 
 module _ (R : Rule) where
-  apart_at_once : (b : ℕ) (P Q : Generation) → AreApartFor R b P Q → AreApart P Q
-  unfolding generation
-  apart_at_once b P Q far = far 0 (omega arith)
-
   classes_apart : (b : ℕ) (G : Generation) (Ps : List Generation) → AreClasses R b G Ps → AllPairs AreApart Ps
-  classes_apart b G Ps classes = AllPairs-weaker (AreApartFor R b) AreApart (apart_at_once b) Ps classes.apart
+  classes_apart b G Ps classes = AllPairs-weaker (AreApartFor R b) AreApart (apart_now R b) Ps classes.apart
 
   -- different classes share no cell
   pub classes_disjoint : (b : ℕ) (G : Generation) (Ps : List Generation) → AreClasses R b G Ps → (i j : ℕ) →

@@ -5,6 +5,7 @@ use Rattle.std.proofs.lemmas.Bool.{cases_lt}
 use Rattle.std.proofs.lemmas.Int.{ints}
 use Rattle.life_model.specs.Cell.{Cell, IsNear, origin}
 use Rattle.life_model.specs.Generation.{Generation, cells, contains, is_rising}
+use Rattle.life_objects.proofs.PartsLemmas.Ring.{near_itself}
 use Rattle.life_cells.specs.Limits.{IsPlace}
 use Rattle.life_classes.specs.Tags.{place_number}
 use Rattle.life_classes.proofs.Lookups.{either}
@@ -40,9 +41,6 @@ none_between cs number low high at rising placed parts same inside far n there =
     ]
 
 -- ---- which cells are near
-
-pub near_itself : (c : Cell) → IsNear c c
-near_itself c = record { left = omega (arith, ints); right = omega (arith, ints); above = omega (arith, ints); below = omega (arith, ints) }
 
 module _ (c g : Cell) (p : IsPlace c) (q : IsPlace g) (low high : ℤ) (from : low ≤ℤ place_number g) (to : place_number g ≤ℤ high) where
   pub near_level : (low +ℤ pos 1) ≡ place_number c → high ≡ (place_number c +ℤ pos 1) → IsNear c g

@@ -6,6 +6,8 @@ use Rattle.std.proofs.lemmas.Int.{ints}
 use Rattle.life_model.specs.Cell.{Cell, origin}
 use Rattle.life_model.specs.Generation.{Generation, cells, is_rising}
 use Rattle.life_objects.specs.Apart.{AreNear}
+use Rattle.life_objects.proofs.Distances.{AreNear-swap}
+use Rattle.life_objects.proofs.PartsLemmas.Ring.{near_itself}
 use Rattle.life_cells.specs.Limits.{IsPlace}
 use Rattle.life_classes.specs.Forest.{root}
 use Rattle.life_classes.specs.Tags.{place_number}
@@ -15,7 +17,6 @@ use Rattle.life_islands.proofs.Labelled.{listed_cell}
 use Rattle.life_tracks.specs.Frames.Bearers.{IsBearer}
 use Rattle.life_tracks.specs.Frames.Nearby.{AreJoinedByNear, IsAbove, IsJoinedAround, IsJoinedAt, IsJoinedNear, number_at}
 use Rattle.life_tracks.specs.Frames.Ties.{IsUnited}
-use Rattle.life_tracks.proofs.FramesLemmas.Beside.{near_itself}
 use Rattle.life_tracks.proofs.FramesLemmas.Tying.{further_itself, further_through, further_united, tied_more}
 
 -- ---- which cells are near
@@ -52,14 +53,6 @@ less_by_test x t e = grind (arith, ints)
 
 pub least_by_test : (x t : ℤ) → int_lt x t ≡ false → t ≤ℤ x
 least_by_test x t e = grind (arith, ints)
-
-pub AreNear-swap : (c d : Cell) → AreNear c d → AreNear d c
-AreNear-swap c d n =
-    let a = n.left in
-    let b = n.right in
-    let e = n.above in
-    let f = n.below in
-    record { left = omega (arith, ints); right = omega (arith, ints); above = omega (arith, ints); below = omega (arith, ints) }
 
 module _ (G : Generation) (placed : All IsPlace (cells G)) where
   abbrev cell : ℕ → Cell

@@ -17,6 +17,7 @@ use Rattle.life_objects.proofs.Many.{next-union_of}
 use Rattle.life_objects.proofs.Members.{found_in, found_now, in_list_now}
 use Rattle.life_classes.proofs.Owners.{owner}
 use Rattle.life_growth.specs.Unsplit.{AreClasses}
+use Rattle.life_growth.proofs.FilmLemmas.Splits.{apart_now}
 use Rattle.life_growth.specs.Film.Film.{AreLinked, AreSeparate, bearing, itself, swapped, through, within}
 use Rattle.life_growth.specs.Film.Film as film
 use Rattle.life_classes.specs.Forest.{root}
@@ -30,10 +31,6 @@ use Rattle.life_tracks.specs.Frames.Ties.{AreTied, AreTouched, IsJoined, JoinsTi
 use Rattle.life_tracks.specs.Frames.Ties as ties
 
 module _ (R : Rule) where
-  apart_at_once : (P Q : Generation) → AreApartFor R 0 P Q → AreApart P Q
-  unfolding generation
-  apart_at_once P Q far = far 0 (omega arith)
-
   -- ---- what is touched
 
   pub later_touched : (G : Generation) (Qs : List Generation) → union_of Qs ≡ next R G → AreTouched G Qs
@@ -96,7 +93,7 @@ module _ (G : Generation) (forest : List ℕ) (long : length forest ≡ length (
       piece_of c h = found_now R pieces c (ap (λ H. contains H c) near.together ∙ h)
 
       pieces_apart : AllPairs AreApart pieces
-      pieces_apart = AllPairs-weaker (AreApartFor R 0) AreApart (apart_at_once R) pieces near.apart
+      pieces_apart = AllPairs-weaker (AreApartFor R 0) AreApart (apart_now R 0) pieces near.apart
 
       cell_there : (m : ℕ) → m < length (cells G) → contains G (get_or (cells G) m origin) ≡ true
       cell_there m h = listed_cell G (cells G) m refl h
