@@ -22,6 +22,7 @@ use Rattle.life_model.specs.Evolution.{generation}
 use Rattle.life_model.specs.Generation.{Generation, size}
 use Rattle.life_model.specs.Rule.{Rule}
 use Rattle.life_shape.specs.TextOrder.{least_text, shorter_cmp}
+use Rattle.life_objects.proofs.DecidedLemmas.Tests.{both}
 use Rattle.report_laws.proofs.Solid.{each-map}
 use Rattle.texts.specs.Bytes.{is_digit}
 
@@ -46,10 +47,6 @@ onto-digits (suc k) n acc h =
 decimal-digits : (n : ℕ) → list_all is_digit (decimal n) ≡ true
 unfolding digits
 decimal-digits n = onto-digits 64 n [] refl
-
-both : (a b : Bool) → (a && b) ≡ true → (a ≡ true) × (b ≡ true)
-both true b e = (refl, e)
-both false b e = absurd (cc)
 
 -- ---- where the first `_` is
 

@@ -1,5 +1,5 @@
 -- The rows of a bundle with lawful names can be cut from their lines.
-use Rattle.std.proofs.Common.{◌≡◌, ℕ, zero, suc, ◌*◌, ◌-◌, ◌<◌, ◌≤◌, ◌^◌, ⊎_elim, Bool, true, false, ◌&&◌, Some, All, List, [], ◌∷◌, ◌++◌, map, length, codes, count_by, decimal, slice_get, ap, ◌∙◌, sym, subst, refl, arith, eq-zero-or-pos}
+use Rattle.std.proofs.Common.{◌≡◌, ℕ, zero, suc, ◌*◌, ◌-◌, ◌<◌, ◌≤◌, ◌^◌, ⊎_elim, true, false, Some, All, List, [], ◌∷◌, ◌++◌, map, length, codes, count_by, decimal, slice_get, ap, ◌∙◌, sym, subst, refl, arith, eq-zero-or-pos}
 use Rattle.std.specs.Fmt.{signed_decimal}
 use Rattle.std.specs.List.{AllByRecursion as Each, list_all}
 use Rattle.std.proofs.lemmas.Option.{slice_get_past}
@@ -26,6 +26,7 @@ use Rattle.life_answer.specs.CountedTales.{engines_in}
 use Rattle.life_answer.specs.Parts.{objects_in}
 use Rattle.life_cells.specs.Rules.{rule_text}
 use Rattle.life_model.specs.Rule.{Rule}
+use Rattle.life_objects.proofs.DecidedLemmas.Tests.{both}
 use Rattle.report_laws.specs.Joining.{IsBundle}
 use Rattle.report_laws.proofs.Rowed.{close_row, code-is, code_groups, code_row, counted_in, open_row, row_outcome, section-is}
 use Rattle.report_laws.proofs.Coded.{IsCoded, IsCodedAnswer, IsSolidEngines, IsSolidObject, IsSolidPart, entry-coded, tally-coded}
@@ -33,10 +34,6 @@ use Rattle.report_laws.proofs.Parsed.{IsParsed, long-parsed, short-parsed, solid
 use Rattle.report_laws.proofs.Solid.{decimal-solid, each-append, rule-solid, signed-solid, solid-checked}
 
 -- ---- names
-
-both : (a b : Bool) → (a && b) ≡ true → (a ≡ true) × (b ≡ true)
-both true b e = (refl, e)
-both false b e = absurd (cc)
 
 no-feeds : (bytes : List ℕ) → list_all is_name_byte bytes ≡ true → HasNoFeed bytes
 no-feeds [] e = tt
