@@ -11,7 +11,8 @@ use Rattle.life_model.proofs.Orbits.{far_enough, multiple}
 use Rattle.life_model.proofs.Moves.{normal-moved, normal_decides, moved-origin, moved-empty, move_one, nothing_or_some}
 use Rattle.life_model.proofs.Recurrences.{shape, way, shape-follows, shape_carried, shape_from_recurs, recurs_from_shape, generation-zero, generation-add}
 use Rattle.life_model.proofs.Symmetries.{generation-moved, generation-turned}
-use Rattle.life_answer.proofs.Sizes.{size-turned, size_by_shape, generation-empty}
+use Rattle.life_objects.proofs.Times.{generation-empty}
+use Rattle.life_answer.proofs.Sizes.{size-turned, size_by_shape}
 
 -- a set comes again first after p steps, moved by d, which is nothing where there is no cell
 pub record RecursFirst (R : Rule) (H : Generation) (p : ℕ) (d : Cell) : Type 0 where

@@ -1,19 +1,16 @@
--- A set has as many cells as its image under a map of the plane, and no cell comes from none.
-use Rattle.std.proofs.Common.{◌≡◌, ℕ, zero, suc, ◌+◌, ◌≤◌, Bool, true, false, cond, List, [], ◌∷◌, map, length, sym, refl, ap, ◌∙◌, arith}
+-- A set has as many cells as its image under a map of the plane.
+use Rattle.std.proofs.Common.{◌≡◌, ℕ, ◌+◌, ◌≤◌, Bool, true, false, cond, List, [], ◌∷◌, map, length, sym, ap, ◌∙◌, arith}
 use Rattle.std.proofs.lemmas.List.{length-map}
 use Rattle.std.specs.FinMap as finmap
-use Rattle.life_model.specs.Cell.{Cell, plus}
-use Rattle.life_model.specs.Rule.{Rule}
-use Rattle.life_model.specs.Generation.{Generation, contains, empty, insert, from_list, cells, size}
-use Rattle.life_model.specs.Evolution.{next, generation}
-use Rattle.life_model.specs.Symmetry.{image, translate_of, normal, Orientation, turn, image_under}
+use Rattle.life_model.specs.Cell.{Cell}
+use Rattle.life_model.specs.Generation.{Generation, insert, from_list, cells, size}
+use Rattle.life_model.specs.Symmetry.{image, normal, Orientation, turn, image_under}
 use Rattle.life_model.proofs.Cells.{cell_cmp_total}
-use Rattle.life_model.proofs.Generations.{contains-empty, same_members, size-cells, size-empty}
-use Rattle.life_model.proofs.Lists.{cells-moved}
+use Rattle.life_model.proofs.Generations.{size-cells, size-empty}
 use Rattle.life_model.proofs.Moves.{normal_decides}
-use Rattle.life_model.proofs.Near.{next_near}
 use Rattle.life_model.proofs.Objects.{turned-undone}
 use Rattle.life_model.proofs.Symmetries.{undone}
+use Rattle.life_growth.proofs.Sizes.{size-moved}
 
 at_most : (b : Bool) (n : ℕ) → cond b n (n + 1) ≤ n + 1
 at_most true n = omega arith
@@ -49,29 +46,8 @@ size-turned G m =
     let e = ap size (turned-undone G m) in
     omega arith
 
--- a set that is moved keeps its number of cells
-pub size-moved : (G : Generation) (d : Cell) → size (translate_of G d) ≡ size G
-size-moved G d =
-    size-cells (translate_of G d) ∙ ap length (cells-moved G d) ∙ length-map (cells G) (λ c. plus c d) ∙ sym (size-cells G)
-
 -- sets of one shape have as many cells
 pub size_by_shape : (G H : Generation) → normal G ≡ normal H → size G ≡ size H
 size_by_shape G H e =
     let m = (normal_decides G H).0 e in
     sym (size-moved G m.0) ∙ ap size (sym m.1)
-
--- ---- no cell
-
-none_next : (R : Rule) (c : Cell) (b : Bool) → contains (next R empty) c ≡ b → b ≡ false
-none_next R c true e =
-    let from = next_near R empty c e in
-    sym (sym (contains-empty from.0) ∙ from.1)
-none_next R c false e = refl
-
-next-empty : (R : Rule) → next R empty ≡ empty
-next-empty R = same_members _ _ (λ c. none_next R c (contains (next R empty) c) refl ∙ sym (contains-empty c))
-
-pub generation-empty : (R : Rule) (n : ℕ) → generation R empty n ≡ empty
-unfolding generation
-generation-empty R zero = refl
-generation-empty R (suc n) = ap (next R) (generation-empty R n) ∙ next-empty R

@@ -1,5 +1,5 @@
 -- The generations of ash have nearly as many cells in each stretch as in any other that is as long.
-use Rattle.std.proofs.Common.{◌≡◌, ℕ, zero, suc, ◌+◌, ◌-◌, ◌*◌, ◌<◌, ◌≤◌, List, [], ◌∷◌, length, slice_index_or, sym, ap, subst, ◌∙◌, arith}
+use Rattle.std.proofs.Common.{◌≡◌, ℕ, zero, suc, ◌+◌, ◌-◌, ◌*◌, ◌≤◌, List, [], ◌∷◌, slice_index_or, sym, ap, subst, ◌∙◌, arith}
 use Rattle.std.specs.List.{All, AllPairs}
 use Rattle.std.proofs.lemmas.List.Elements.{All-head, All-tail}
 use Rattle.life_model.specs.Rule.{Rule}
@@ -7,8 +7,8 @@ use Rattle.life_model.specs.Evolution.{generation}
 use Rattle.life_model.specs.Generation.{Generation, empty, size}
 use Rattle.life_model.proofs.Generations.{size-empty}
 use Rattle.life_model.proofs.Recurrences.{generation-add}
-use Rattle.life_answer.proofs.Sizes.{size-moved}
-use Rattle.life_objects.specs.Apart.{AreApart, AreApartForEver}
+use Rattle.life_growth.proofs.Sizes.{size-moved}
+use Rattle.life_objects.specs.Apart.{AreApartForEver}
 use Rattle.life_objects.specs.Ash.{IsAsh, IsObject, RecursWithin}
 use Rattle.life_objects.specs.Union.{union, union_of}
 use Rattle.life_objects.proofs.Lists.{AllPairs-head, AllPairs-tail}
