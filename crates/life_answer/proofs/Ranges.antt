@@ -10,9 +10,9 @@ use Rattle.life_model.specs.Evolution.{generation}
 use Rattle.life_objects.specs.Ash.{IsObject}
 use Rattle.life_objects.specs.Limits.{objects_bound_limit}
 use Rattle.life_objects.specs.Union.{union_of}
-use Rattle.life_objects.proofs.Lists.{Contains-later, head_or_later}
 use Rattle.life_objects.specs.Independent.Independent.{independent_parts_of}
 use Rattle.life_objects.proofs.IndependentLemmas.Finest.{are_the_parts}
+use Rattle.life_objects.proofs.IndependentLemmas.Found.{of_map}
 use Rattle.life_growth.specs.Engine.{Emits, IsEngine, Way, joined}
 use Rattle.life_growth.proofs.Emitting.{emits_some}
 use Rattle.life_growth.proofs.OneGrowth.{engine_of, some_element}
@@ -36,14 +36,6 @@ use Rattle.life_answer.proofs.TaleOrders.{same_by_test, test_by_same}
 use Rattle.life_answer.proofs.Tales.{emits_objects, tale_right}
 use Rattle.life_answer.proofs.Tallying.{counted_all}
 use Rattle.life_answer.proofs.Told.{growth_is_so}
-
-mapped_from : {X Y : Type 0} (f : X → Y) (xs : List X) (y : Y) → Contains (map f xs) y → (x : X) × Contains xs x × (f x ≡ y)
-mapped_from f [] y one = let none : one.0 < 0 = one.1 in absurd (omega arith)
-mapped_from f (x ∷ xs) y one =
-    elim (head_or_later (f x) y (map f xs) one.0 one.1 one.2) [
-      | inl same ↦ (x, (0, omega arith, refl), same)
-      | inr later ↦ let rest = mapped_from f xs y later in (rest.0, Contains-later x rest.0 xs rest.1, rest.2)
-    ]
 
 -- ---- an engine emits something
 
@@ -134,7 +126,7 @@ module _ (R : Rule) where
         let some : 1 ≤ line.count = number.0 in
         let count = number.1 in
         let among = counted_is_in same_tale (λ t. test_by_same t t refl) same_by_test line.tale tales (omega arith) in
-        let its = mapped_from (tale_of near R b) Es line.tale among in
+        let its = of_map (tale_of near R b) Es line.tale among in
         let engine = engine_of R b G Es q.1 q.2 its.0 its.1 in
         engine_in_range near b its.0 engine.0 line engine.1 its.2 some)
         (counted_tales tales) (All-contains_itself (counted_tales tales)))
