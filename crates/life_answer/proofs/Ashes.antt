@@ -22,7 +22,7 @@ use Rattle.life_answer.specs.declared.part.Part.{Part}
 use Rattle.life_answer.proofs.AlikeCounts.{counted_alike}
 use Rattle.life_answer.proofs.CountedSets.{counted_in_any_order}
 use Rattle.life_answer.proofs.Onsets.{onset_of_census}
-use Rattle.life_answer.proofs.Options.{some_or_none}
+use Rattle.life_growth.proofs.FatesLemmas.Finding.{cases_Option}
 
 module _ (near : Bool) (R : Rule) where
   -- ---- what is found is right
@@ -44,7 +44,7 @@ module _ (near : Bool) (R : Rule) where
 
     pub census_none : ((parts : List Generation) → HasFallenApart R b G parts → ⊥) → census_of near R G b ≡ Unresolved
     census_none none =
-        elim (some_or_none (ash_of R b last)) [
+        elim (cases_Option (ash_of R b last)) [
           | inl q ↦ absurd (none q.0 (ash_if_found R b last q.0 q.1))
           | inr e ↦ census_by None e
         ]
@@ -62,7 +62,7 @@ module _ (near : Bool) (R : Rule) where
     pub ash_is_so : (onset : ℕ) (told : List Part) → census_of near R G b ≡ Ash onset told →
         (parts : List Generation) × HasFallenApart R b G parts × (told ≡ counted_parts near R b parts)
     ash_is_so onset told e =
-        elim (some_or_none (ash_of R b last)) [
+        elim (cases_Option (ash_of R b last)) [
           | inl q ↦ (
             q.0,
             ash_if_found R b last q.0 q.1,

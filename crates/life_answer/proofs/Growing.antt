@@ -22,7 +22,7 @@ use Rattle.life_answer.specs.declared.question.Question.TheVariants.{Objects}
 use Rattle.life_answer.specs.declared.tale.Engines.{Engines}
 use Rattle.life_answer.proofs.Ashes.{ash_is_so, ash_no_growth}
 use Rattle.life_answer.proofs.Limits.{none_past-is}
-use Rattle.life_answer.proofs.Options.{some_or_none}
+use Rattle.life_growth.proofs.FatesLemmas.Finding.{cases_Option}
 use Rattle.life_answer.proofs.Told.{growth_is_so, growth_later_told, told_alike, told_nothing}
 
 is_there : (o : Option ℕ) → is_none o ≡ true → o ≡ None
@@ -222,7 +222,7 @@ module _ (near : Bool) (R : Rule) (G : Generation) where
       outcome_to (Objects b limit near horizon) R G ≡ outcome_unless_large limit R G (3 * b) (census_of near R G b)
   ash_answered limit b onset horizon parts ash =
       let c : ℕ = allowed near limit R G b in
-      elim (some_or_none (growth_told near R (min horizon c) (generation R G c))) [
+      elim (cases_Option (growth_told near R (min horizon c) (generation R G c))) [
         | inl q ↦
             absurd (ash_never_grows near limit b b onset horizon parts q.0 ash
             (outcome_by near limit R G b horizon (Some q.0) q.1))

@@ -10,7 +10,6 @@ pub mod Tallying
 pub mod PartCodes
 pub mod CountedSets
 pub mod Onsets
-pub mod Options
 pub mod Permuted
 pub mod CountsOfOne
 pub mod TaleOrders

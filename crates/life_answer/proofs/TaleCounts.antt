@@ -14,7 +14,7 @@ use Rattle.life_objects.proofs.Lists.{AllPairs-nil, Contains-head, Contains-late
 use Rattle.life_answer.specs.CountedTales.{counted_tales, same_tale, tale_cmp, with_tale, with_tale_by_order}
 use Rattle.life_answer.specs.declared.tale.Engines.{Engines}
 use Rattle.life_answer.specs.declared.tale.Tale.{Tale}
-use Rattle.life_answer.proofs.Options.{some_or_none}
+use Rattle.life_growth.proofs.FatesLemmas.Finding.{cases_Option}
 use Rattle.life_answer.proofs.TaleOrders.{same_by_test, tale_total, test_by_same}
 
 abbrev pub Tally : Type 0
@@ -145,7 +145,7 @@ pairs_rise (e ∷ es) h =
 
 pub none_found : (e : Line) (es : List Line) (t : Tale) → T (rising (e ∷ es)) → tale_cmp t e.0 ≡ Less → found t es ≡ None
 none_found e es t h early =
-    elim (some_or_none (found t es)) [
+    elim (cases_Option (found t es)) [
       | inl q ↦
           absurd (true≢false (ap is_lt (sym (below_each e.0 es (first_holds (below e.0 es) (rising es) h) (t, q.0)
           (line_found es t q.0 q.1)) ∙ tale_total.antisymm e.0 t ∙ ap ordering_reverse early)))

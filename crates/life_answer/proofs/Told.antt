@@ -20,7 +20,7 @@ use Rattle.life_answer.specs.Told.{growth_told, told_of_engines}
 use Rattle.life_answer.specs.declared.tale.Engines.{Engines}
 use Rattle.life_answer.proofs.CountedTales.{counted-any_order}
 use Rattle.life_answer.proofs.Tales.{all_told_one}
-use Rattle.life_answer.proofs.Options.{some_or_none}
+use Rattle.life_growth.proofs.FatesLemmas.Finding.{cases_Option}
 
 module _ (near : Bool) (R : Rule) where
   engines_in_any_order : (b : ℕ) (Es Fs : List Generation) → IsPermutation Es Fs →
@@ -50,7 +50,7 @@ module _ (near : Bool) (R : Rule) where
     pub growth_is_so : (told : List Engines) → growth_told near R b G ≡ Some told →
         (Es : List Generation) × (S : Generation) × IsGrowth R b G Es S × (told ≡ told_of_engines near R b Es)
     growth_is_so told e =
-        elim (some_or_none (growth_of R b G)) [
+        elim (cases_Option (growth_of R b G)) [
           | inl q ↦ (
             q.0.0,
             q.0.1,
