@@ -1,5 +1,5 @@
 -- Sets that have no cell in common have as many cells together as one by one.
-use Rattle.std.proofs.Common.{◌≡◌, ◌+◌, ◌<ℤ◌, true, T, ⊎_elim, Less, List, [], ◌∷◌, ◌++◌, length, length-append, sym, ap, ◌∙◌, arith}
+use Rattle.std.proofs.Common.{◌≡◌, ◌+◌, ◌<ℤ◌, T, ⊎_elim, Less, List, [], ◌∷◌, ◌++◌, length-append, arith}
 use Rattle.std.specs.Ordering.{int_cmp}
 use Rattle.std.proofs.lemmas.Int.{ints}
 use Rattle.life_model.specs.Cell.{Cell, cell_cmp}
@@ -8,7 +8,6 @@ use Rattle.life_model.proofs.Generations.{cells-rise, size-cells}
 use Rattle.life_objects.specs.Apart.{AreDisjoint}
 use Rattle.life_objects.specs.Union.{union}
 use Rattle.life_slots.proofs.Counted.{IsFresh, size-fresh}
-use Rattle.life_slots.proofs.Members.{Has}
 use Rattle.life_slots.proofs.Sizes.{below_has, both_hold, fresh-append, int_less, lesser, member_has}
 
 not_before_itself : (c : Cell) → cell_cmp c c ≡ Less → ⊥
