@@ -15,7 +15,8 @@ use Rattle.life_answer.specs.CountedTales.{counted_tales, engines_in, same_tale,
 use Rattle.life_answer.specs.declared.tale.Engines.{Engines}
 use Rattle.life_answer.specs.declared.tale.Tale.{Tale}
 use Rattle.life_answer.proofs.Permuted.{sum_by-map}
-use Rattle.life_answer.proofs.TaleCounts.{Line, Tally, below, count-cons, counted, counted-is, engines_of, found, found_line, line_found, none_found, once_more, pairs_rise, rising, second_so, tally_is, tally_of}
+use Rattle.life_cells.proofs.Sorted.{second_holds}
+use Rattle.life_answer.proofs.TaleCounts.{Line, Tally, below, count-cons, counted, counted-is, engines_of, found, found_line, line_found, none_found, once_more, pairs_rise, rising, tally_is, tally_of}
 use Rattle.life_answer.proofs.TaleOrders.{same_by_test, tale_exact, tale_total, test_by_same}
 
 pub counted-any_order : (ts us : List Tale) → IsPermutation ts us → counted_tales ts ≡ counted_tales us
@@ -69,7 +70,7 @@ one_up : (g : Tale → ℕ) (t : Tale) (es : List Line) → T (rising es) →
     total g (sorted.put tale_cmp t (unwrap_or (found t es) 0 + 1) es) ≡ total g es + g t
 one_up g t [] h = let e : total g ((t, 1) ∷ []) ≡ 1 * g t + total g [] = total-cons g (t, 1) [] in e ∙ (omega arith)
 one_up g t (e ∷ es) h =
-    put_up g t e es h (unwrap_or (found t (e ∷ es)) 0 + 1) refl (one_up g t es (second_so (below e.0 es) (rising es) h))
+    put_up g t e es h (unwrap_or (found t (e ∷ es)) 0 + 1) refl (one_up g t es (second_holds (below e.0 es) (rising es) h))
     (tale_cmp t e.0) refl
 
 all_after : (g : Tale → ℕ) (ts : List Tale) (m : Tally) →

@@ -1,7 +1,7 @@
 -- What becomes of a set is its onset, period and displacement, where it settles, and none where it doesn't.
 use Rattle.std.proofs.Common.{◌≡◌, ℕ, zero, suc, ◌+◌, ◌-◌, ◌<◌, ◌≤◌, ◌⊎◌, inl, inr, Bool, true, false, cond, Decides, Option, Some, None, is_some, sym, refl, ap, subst, ◌∙◌, true≢false, ℤ, List, [], arith}
 use Rattle.std.proofs.lemmas.Slice.Eq.{slice_eq-Decides}
-use Rattle.std.proofs.lemmas.Bool.{cases_lt}
+use Rattle.std.proofs.lemmas.Bool.{cases_Bool, cases_lt}
 use Rattle.std.proofs.lemmas.Bool.Decides.{Decides-like}
 use Rattle.life_model.specs.Cell.{origin, plus, opposite}
 use Rattle.life_model.specs.Rule.{Rule}
@@ -35,14 +35,10 @@ pub record IsFirst (test : ℕ → Bool) (from end first : ℕ) : Type 0 where
   pub passes : test first ≡ true
   pub before : (m : ℕ) → from ≤ m → m < first → test m ≡ false
 
-bool_cases : (b : Bool) → (b ≡ true) ⊎ (b ≡ false)
-bool_cases true = inl refl
-bool_cases false = inr refl
-
 pub first_from-found : (test : ℕ → Bool) (count n first : ℕ) → first_from test n count ≡ Some first → IsFirst test n (n + count) first
 first_from-found test zero n first e = absurd cc
 first_from-found test (suc count) n first e =
-    elim (bool_cases (test n)) [
+    elim (cases_Bool (test n)) [
       | inl passed ↦
           let here : n ≡ first = cc in
           record {
@@ -85,7 +81,7 @@ first_from-nowhere test (suc count) n none =
 pub first_from-none : (test : ℕ → Bool) (count n m : ℕ) → first_from test n count ≡ None → n ≤ m → m < n + count → test m ≡ false
 first_from-none test zero n m e h k = absurd (omega arith)
 first_from-none test (suc count) n m e h k =
-    elim (bool_cases (test n)) [
+    elim (cases_Bool (test n)) [
       | inl passed ↦ absurd (let s : ◌≡◌ {A = Option ℕ} (Some n) None = ap (λ b. cond b (Some n) (first_from test (n + 1) count)) (sym passed) ∙ e in cc)
       | inr failed ↦
           elim (cases_lt n m) [

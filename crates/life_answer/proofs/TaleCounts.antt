@@ -11,6 +11,7 @@ use Rattle.std.proofs.lemmas.List.Kept.{AllPairs-cons}
 use Rattle.std.proofs.lemmas.List.Sums.{sum_by-cons}
 use Rattle.std.proofs.lemmas.Option.{none-some, same_Some}
 use Rattle.life_objects.proofs.Lists.{AllPairs-nil, Contains-head, Contains-later, head_or_later}
+use Rattle.life_cells.proofs.Sorted.{first_holds, second_holds}
 use Rattle.life_answer.specs.CountedTales.{counted_tales, same_tale, tale_cmp, with_tale, with_tale_by_order}
 use Rattle.life_answer.specs.declared.tale.Engines.{Engines}
 use Rattle.life_answer.specs.declared.tale.Tale.{Tale}
@@ -80,14 +81,6 @@ first_so : (a b : Bool) → T (a && b) → a ≡ true
 first_so true b h = refl
 first_so false b h = absurd h
 
-pub first_holds : (a b : Bool) → T (a && b) → T a
-first_holds true b h = tt
-first_holds false b h = absurd h
-
-pub second_so : (a b : Bool) → T (a && b) → T b
-second_so true b h = h
-second_so false b h = absurd h
-
 less : (o : Ordering) → is_lt o ≡ true → o ≡ Less
 less Less h = refl
 less Equal h = absurd (true≢false (sym h))
@@ -104,7 +97,7 @@ below_each t [] h e one = let none : one.0 < 0 = one.1 in absurd (omega arith)
 below_each t (f ∷ es) h e one =
     elim (head_or_later f e es one.0 one.1 one.2) [
       | inl same ↦ ap (λ (g : Line). tale_cmp t g.0) (sym same) ∙ less (tale_cmp t f.0) (first_so (is_lt (tale_cmp t f.0)) (below t es) h)
-      | inr later ↦ below_each t es (second_so (is_lt (tale_cmp t f.0)) (below t es) h) e later
+      | inr later ↦ below_each t es (second_holds (is_lt (tale_cmp t f.0)) (below t es) h) e later
     ]
 
 not_below : (s t : Tale) → tale_cmp s t ≡ Less → same_tale t s ≡ false
@@ -120,7 +113,7 @@ found_line (e ∷ es) t n h one =
       | inr later ↦
           ap (λ b. cond b (Some e.1) (found t es))
           (not_below e.0 t (below_each e.0 es (first_holds (below e.0 es) (rising es) h) (t, n) later))
-          ∙ found_line es t n (second_so (below e.0 es) (rising es) h) later
+          ∙ found_line es t n (second_holds (below e.0 es) (rising es) h) later
     ]
 
 pub line_found : (es : List Line) (t : Tale) (n : ℕ) → found t es ≡ Some n → Contains es (t, n)
@@ -141,7 +134,7 @@ pairs_rise [] h = AllPairs-nil (λ s t. tale_cmp s.0 t.0 ≡ Less)
 pairs_rise (e ∷ es) h =
     AllPairs-cons (λ s t. tale_cmp s.0 t.0 ≡ Less) e es
     (All-weaker (Contains es) (λ f. tale_cmp e.0 f.0 ≡ Less) (below_each e.0 es (first_holds (below e.0 es) (rising es) h)) es (All-contains_itself es))
-    (pairs_rise es (second_so (below e.0 es) (rising es) h))
+    (pairs_rise es (second_holds (below e.0 es) (rising es) h))
 
 pub none_found : (e : Line) (es : List Line) (t : Tale) → T (rising (e ∷ es)) → tale_cmp t e.0 ≡ Less → found t es ≡ None
 none_found e es t h early =
@@ -180,7 +173,7 @@ put_is : (t : Tale) (es : List Line) → T (rising es) →
 put_is t [] h = refl
 put_is t (e ∷ es) h =
     put_by t e es (unwrap_or (found t (e ∷ es)) 0 + 1) (tale_cmp t e.0) refl h refl
-    (put_is t es (second_so (below e.0 es) (rising es) h))
+    (put_is t es (second_holds (below e.0 es) (rising es) h))
 
 all_put : (ts : List Tale) (m : Tally) →
     fold (λ lines tale. with_tale tale lines) (map engines_of (finmap.entries m)) ts
