@@ -1,5 +1,5 @@
 -- How many patterns rows open, by their collections.
-use Rattle.std.proofs.Common.{◌≡◌, ℕ, zero, suc, ◌+◌, ◌<◌, ◌≤◌, Bool, true, false, eqb, if◌then◌else◌, inl, inr, Option, Some, None, List, [], ◌∷◌, ◌++◌, length, slice_get, ap, ◌∙◌, sym, refl, arith}
+use Rattle.std.proofs.Common.{◌≡◌, ℕ, zero, suc, ◌+◌, ◌<◌, ◌≤◌, Bool, true, false, eqb, if◌then◌else◌, inl, inr, Option, Some, None, List, [], ◌∷◌, length, slice_get, ap, ◌∙◌, sym, refl, arith}
 use Rattle.std.proofs.lemmas.Bool.{cases_Bool}
 use Rattle.census_bundle.specs.declared.bundle.Folder.{Folder}
 use Rattle.census_format.specs.Lines.{pattern_count}
@@ -9,10 +9,6 @@ use Rattle.census_rows.specs.Kinds.{said}
 use Rattle.census_rows.specs.declared.kinds.Behind.{Behind}
 use Rattle.census_rows.specs.declared.row.Row.{Row}
 use Rattle.census_rows.specs.declared.row.Row.TheVariants.{Open, Line, Part, Engine, Emits, Code, Close, End}
-
-pub patterns-append : (xs ys : List Row) → patterns_in (xs ++ ys) ≡ patterns_in xs + patterns_in ys
-patterns-append [] ys = (let e : patterns_in ys ≡ 0 + patterns_in ys = omega arith in e)
-patterns-append (x ∷ xs) ys = (let inner = patterns-append xs ys in omega (arith, inner))
 
 pub lines-open-none : (last : ℕ) (kind : Behind) (rows : List Row) → AreLines last kind rows → patterns_in rows ≡ 0
 lines-open-none last kind [] h = refl

@@ -2,24 +2,13 @@
 use Rattle.std.proofs.Common.{◌≡◌, ℕ, ◌<◌, ◌^◌, List, [], ◌∷◌, ◌++◌, map, codes, decimal, bytes_eq, true, false, ap, ◌∙◌, sym, refl, append_assoc}
 use Rattle.std.specs.List.{AllByRecursion as Each}
 use Rattle.std.proofs.lemmas.Fmt.{decimal_injective}
-use Rattle.census_readback.specs.Texts.{AllLines, HasNoFeed}
+use Rattle.census_readback.specs.Texts.{AllLines}
+use Rattle.census_readback.proofs.Feeds.{one-line}
 use Rattle.census_rows.specs.declared.row.Row.{Row}
 use Rattle.census_rows.specs.declared.row.Row.TheVariants.{Open, Line, Part, Engine, Emits, Code, Close, End}
 use Rattle.census_rows.specs.Lines.{IsRow, Spelling, line_of, row_text, spelling, text_of}
 use Rattle.report_laws.proofs.Named.{IsCut}
 use Rattle.report_laws.proofs.Parsed.{end-cut, parse, row-parsed}
-
--- two texts whose first lines are these have the same first line
-pub one-line : (a b x y : List ℕ) → HasNoFeed a → HasNoFeed b → a ++ 10 ∷ x ≡ b ++ 10 ∷ y → (a ≡ b) × (x ≡ y)
-one-line [] [] x y h k e = let same : x ≡ y = cc in (refl, same)
-one-line [] (c ∷ b) x y h k e = let same : c ≡ 10 = cc in absurd (k.0 same)
-one-line (c ∷ a) [] x y h k e = let same : c ≡ 10 = cc in absurd (h.0 same)
-one-line (c ∷ a) (d ∷ b) x y h k e =
-    let heads : c ≡ d = cc in
-    let tails : a ++ 10 ∷ x ≡ b ++ 10 ∷ y = cc in
-    let rest = one-line a b x y h.1 k.1 tails in
-    let lines : c ∷ a ≡ d ∷ b = (λ i. heads i ∷ rest.0 i) in
-    (lines, rest.1)
 
 pub isnt-empty : (a x : List ℕ) → [] ≡ a ++ 10 ∷ x → ⊥
 isnt-empty [] x e = absurd (cc)

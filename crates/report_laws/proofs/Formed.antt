@@ -24,7 +24,8 @@ use Rattle.life_answer.specs.declared.part.Part as part
 use Rattle.life_answer.specs.declared.question.Question.{Question}
 use Rattle.life_answer.specs.declared.tale.Engines.{Engines}
 use Rattle.life_model.specs.Rule.{Rule}
-use Rattle.report_laws.proofs.Counted.{codes-open-none, lines-open-none, patterns-append}
+use Rattle.census_readback.proofs.Kept.{patterns-append}
+use Rattle.report_laws.proofs.Counted.{codes-open-none, lines-open-none}
 use Rattle.report_laws.proofs.Rowed.{close_row, code_groups, counted_in, open_row, row_outcome, section-is}
 use Rattle.report_laws.proofs.Tallied.{section-tallied}
 

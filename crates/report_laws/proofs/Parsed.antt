@@ -10,6 +10,7 @@ use Rattle.census_rows.specs.declared.row.Outcome.TheVariants as outcomes
 use Rattle.census_rows.specs.declared.row.Row.{Row}
 use Rattle.census_rows.specs.declared.row.Row.TheVariants.{Open, Line, Part, Engine, Emits, Code, Close, End}
 use Rattle.census_rows.specs.Lines.{HasNoBlank, IsOutcome, IsRow, Spelling, fields_text, outcome_fields, row_text, spelled, spelling, spelling_text}
+use Rattle.census_merge.proofs.Flat.{flat-append}
 use Rattle.report_laws.proofs.Solid.{IsSolid, decimal-solid, signed-solid, solid-checked}
 
 -- the bytes before the first blank, and those after it
@@ -199,10 +200,6 @@ row-parsed (End collections patterns) h =
 pub solid-flat : (bytes : List ℕ) → IsSolid bytes → HasNoFeed bytes
 solid-flat [] h = tt
 solid-flat (b ∷ bytes) h = (λ e. omega (arith, h.0), solid-flat bytes h.1)
-
-flat-append : (a b : List ℕ) → HasNoFeed a → HasNoFeed b → HasNoFeed (a ++ b)
-flat-append [] b h k = k
-flat-append (x ∷ a) b h k = (h.0, flat-append a b h.1 k)
 
 -- fields without a blank or a control character, but for the last, which has no LF
 abbrev pub AreFields : List (List ℕ) → Type 0

@@ -6,7 +6,8 @@ use Rattle.census_readback.specs.Steps.{patterns_opened}
 use Rattle.census_readback.specs.Texts.{AllLines, HasNoFeed}
 use Rattle.census_rows.specs.declared.row.Row.{Row}
 use Rattle.census_rows.specs.Lines.{IsRow, line_of, row_text, spelling, text_of}
-use Rattle.report_laws.proofs.Cut.{one-line, same-spelling, split}
+use Rattle.census_readback.proofs.Feeds.{one-line}
+use Rattle.report_laws.proofs.Cut.{same-spelling, split}
 use Rattle.report_laws.proofs.Named.{IsCut}
 use Rattle.report_laws.proofs.CutsLemmas.Spelled.{same-end, same-opened}
 
