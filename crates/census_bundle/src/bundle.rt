@@ -4,7 +4,7 @@ ghost use Rattle.std.specs.Prelude.{◌≡◌, ◌≤◌, ℕ, List, [], IfOk, I
 use crate::bytes::Bytes;
 use crate::last::{last_len, push_to_last};
 use crate::limits::COUNT_LIMIT;
-use crate::names::is_lawful;
+use crate::names::is_lawful_name;
 use crate::ticket::Ticket;
 use smallvec::SmallVec;
 use std::alloc::{AllocError, AllocFailed, Global};
@@ -236,7 +236,7 @@ impl Bundle {
         ensures too_many { (result ≡ Err TooMany) ↔
             ((is_name name.now ≡ true) × (count_limit ≤ length self.old)) }
     {
-        if !is_lawful(name) {
+        if !is_lawful_name(name) {
             return Err(AddFault::BadName);
         }
         if self.folders.len() >= COUNT_LIMIT {
@@ -259,7 +259,7 @@ impl Bundle {
         ensures too_many { (result ≡ Err TooMany) ↔
             ((is_name name.now ≡ true) × (count_limit ≤ length (last_entries self.old))) }
     {
-        if !is_lawful(name) {
+        if !is_lawful_name(name) {
             return Err(AddFault::BadName);
         }
         if self.folders.is_empty() {

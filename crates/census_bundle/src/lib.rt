@@ -17,5 +17,6 @@ pub use bundle::{AddFault, Bundle, Entries, Entry, Folder, Text};
 pub use bytes::Bytes;
 pub use fault::BundleFault;
 pub use limits::INPUT_LIMIT;
+pub use names::is_lawful_name;
 pub use reading::read_bundle;
 pub use ticket::Ticket;

@@ -22,7 +22,7 @@ fn has_blank_end(name: &[u8]) -> bool
 
 /// Whether a name is lawful: it has 1 to 255 bytes, none of them below 32 or equal to 127, the first and the last not
 /// blank.
-pub fn is_lawful(name: &[u8]) -> bool
+pub fn is_lawful_name(name: &[u8]) -> bool
     ensures { result ≡ is_name name.now }
 {
     !name.is_empty() && name.len() <= NAME_LIMIT && is_printed(name) && !has_blank_end(name)

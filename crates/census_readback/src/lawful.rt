@@ -6,8 +6,8 @@ ghost use Rattle.census_readback.specs.Lawful.{has_lawful_code, has_lawful_engin
 
 use crate::code::{is_code, is_code_after};
 use crate::limits::PERIOD_LIMIT;
-use crate::names::is_name;
 use crate::rules::is_rule;
+use census_bundle::is_lawful_name;
 use census_rows::{Label, Outcome, Row, Value};
 
 // The text with a label, where there is one.
@@ -96,12 +96,12 @@ pub fn is_lawful(row: &Row) -> bool
     ensures { result ≡ is_lawful row.now }
 {
     match row {
-        Row::Open { name, .. } => is_name(*name),
+        Row::Open { name, .. } => is_lawful_name(*name),
         Row::Line { outcome, name, .. } => {
             has_lawful_rule(outcome)
                 && has_lawful_code(outcome)
                 && has_lawful_engines(outcome)
-                && is_name(*name)
+                && is_lawful_name(*name)
         }
         Row::Part { code, count, .. } => is_code(*code) && 0 < *count,
         Row::Engine {

@@ -10,7 +10,6 @@ mod following;
 mod lawful;
 mod limits;
 mod lines;
-mod names;
 mod place;
 mod progress;
 mod reading;

@@ -5,6 +5,3 @@ pub const COUNT_LIMIT: u64 = 65_535;
 
 /// The most generations after which an engine comes again.
 pub const PERIOD_LIMIT: u64 = 10_000;
-
-/// The most bytes of a name.
-pub const NAME_LIMIT: usize = 255;
