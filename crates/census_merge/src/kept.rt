@@ -2,40 +2,15 @@
 ghost use Rattle.std.specs.Prelude.{◌≡◌, ◌<◌, ◌≤◌, ◌^◌, ◌++◌, length, IfOk, OnOk};
 ghost use Rattle.census_readback.specs.Limits.{count_limit};
 ghost use Rattle.census_readback.specs.Shapes.{AreOfCollections, patterns_in};
-ghost use Rattle.census_readback.specs.Steps.{collection_of, patterns_opened};
+ghost use Rattle.census_readback.specs.Steps.{collection_of};
 ghost use Rattle.census_merge.specs.Kept.{kept_of, kept_rows, numbered, report_of};
 ghost use Rattle.census_merge.specs.Numbers.{AreNumbers, CanBeKept, kept_as};
 
 use crate::ended::whole_count;
 use crate::numbering::numbers_of;
+use census_readback::{collection_of, patterns_opened};
 use census_rows::Row;
 use std::alloc::{AllocError, Global};
-
-// The number of the collection that a row belongs to.
-fn collection_of(row: &Row) -> u64
-    ensures { result ≡ collection_of row.now }
-{
-    match row {
-        Row::Open { collection, .. } => *collection,
-        Row::Line { collection, .. } => *collection,
-        Row::Part { collection, .. } => *collection,
-        Row::Engine { collection, .. } => *collection,
-        Row::Emits { collection, .. } => *collection,
-        Row::Code { collection, .. } => *collection,
-        Row::Close { collection, .. } => *collection,
-        Row::End { .. } => 0,
-    }
-}
-
-// How many patterns a row opens.
-fn patterns_opened(row: &Row) -> u64
-    ensures { result ≡ patterns_opened row.now }
-{
-    match row {
-        Row::Open { patterns, .. } => *patterns,
-        _ => 0,
-    }
-}
 
 // A row under this number of its collection.
 fn numbered<'a>(number: u64, mut row: Row<'a>) -> Row<'a>

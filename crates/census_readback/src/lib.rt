@@ -20,5 +20,6 @@ mod told;
 pub use following::{emits_first, rows_behind};
 pub use limits::COUNT_LIMIT;
 pub use lines::{First, behind_line, first_row};
+pub use progress::{collection_of, patterns_opened};
 pub use reading::{fault_of, read_report};
 pub use sectioning::{Sections, collections};

@@ -20,7 +20,7 @@ pub struct Progress<'a> {
     pub ended: bool,
 }
 
-// The number of the collection that a row belongs to.
+/// The number of the collection that a row belongs to; 0 of an `end` row, which belongs to none.
 pub fn collection_of(row: &Row) -> u64
     ensures { result ≡ collection_of row.now }
 {
@@ -36,8 +36,8 @@ pub fn collection_of(row: &Row) -> u64
     }
 }
 
-// How many patterns a row opens.
-fn patterns_opened(row: &Row) -> u64
+/// How many patterns a row opens.
+pub fn patterns_opened(row: &Row) -> u64
     ensures { result ≡ patterns_opened row.now }
 {
     match row {
