@@ -10,11 +10,12 @@ use Rattle.census_readback.specs.Sections.{place_after}
 use Rattle.census_readback.specs.Shapes.{AreOfCollections, patterns_in}
 use Rattle.census_readback.specs.Steps.{Reading, collection_of, is_behind, patterns_opened, place_at, step, with_place}
 use Rattle.census_readback.specs.Told.{Told, is_told, nothing_told, told_after}
-use Rattle.census_readback.proofs.Kept.{put-size}
+use Rattle.census_readback.proofs.Interleaved.{Taken, all-behind, section-is-step, taking}
+use Rattle.census_readback.proofs.Kept.{put-other, put-same, put-size}
 use Rattle.census_readback.proofs.Shaped.{both-and}
 use Rattle.census_merge.specs.Kept.{closed_to, closes, is_closed, is_end, kept_of, most, numbered}
 use Rattle.census_merge.proofs.Ranks.{most-is, number-least, number-less, number-most, number-of, number-rises}
-use Rattle.census_merge.proofs.Placed.{Taken, all-behind, closed-more, closes-other, collection-numbered, end-numbered, leads-behind, none-there, opened-numbered, place-numbered, put-other, put-same, taken, taking}
+use Rattle.census_merge.proofs.Placed.{closed-more, closes-other, collection-numbered, leads-behind, none-there, opened-numbered, place-numbered, taken}
 use Rattle.census_merge.proofs.Standing.{NoEnds, Stand, ended_reading}
 use Rattle.census_merge.proofs.Tellings.{MirrorsTold, ready, told-goes, told-stays, told-too}
 
@@ -117,7 +118,8 @@ module _ (all : List Row) (s k v : Reading) (r : Row) (own : is_end r ≡ false)
         let goes : place_after (place_at v.places (collection_of (numbered n r) - 1)) (numbered n r) ≡ Some h.place =
         ap (λ q. place_after q (numbered n r)) here ∙ place-numbered n (place_at s.places (d - 1)) r ∙ h.goes in
         let fits : v.patterns + patterns_opened (numbered n r) < 2 ^ 64 = omega (arith, opened, m.patterns, h.fits) in
-        taking v (numbered n r) h.place (end-numbered n r ∙ own) low high goes fits
+        section-is-step v (numbered n r) low
+        ∙ taking v (numbered n r) h.place low high goes fits
         ∙ ap (λ c. Some (record { places = with_place v.places (c - 1) h.place; patterns = v.patterns + patterns_opened (numbered n r); ended = false })) number
         ∙ ap (λ o. Some (record { places = with_place v.places (n - 1) h.place; patterns = v.patterns + o; ended = false })) opened
 

@@ -1,9 +1,7 @@
 -- The places of collections.
-use Rattle.std.proofs.Common.{◌≡◌, ◌≢◌, ℕ, suc, ◌+◌, ◌-◌, ◌<◌, ◌≤◌, ◌^◌, Bool, true, false, ◌&&◌, ◌||◌, eqb, ltb, leb, Option, Some, None, List, [], ◌∷◌, ap, ◌∙◌, sym, refl, arith, length, replicate, get_or-set_other, get_or-set_same, length-append}
+use Rattle.std.proofs.Common.{◌≡◌, ◌≢◌, ℕ, ◌+◌, ◌-◌, ◌<◌, Bool, true, false, ◌&&◌, ◌||◌, eqb, ltb, leb, Some, None, List, [], ◌∷◌, ap, ◌∙◌, sym, refl, arith, length}
 use Rattle.std.specs.Prelude.{if◌then◌else◌}
-use Rattle.std.specs.List.{list_all}
-use Rattle.std.proofs.lemmas.Bool.{eqb-true, eqb-false, ltb-true, lt-ltb, leb-true, le-leb}
-use Rattle.std.proofs.lemmas.List.{length-replicate}
+use Rattle.std.proofs.lemmas.Bool.{eqb-true, eqb-false}
 use Rattle.census_rows.specs.declared.row.Row.{Row}
 use Rattle.census_rows.specs.declared.row.Row.TheVariants.{Open, Line, Part, Engine, Emits, Code, Close, End}
 use Rattle.census_readback.specs.declared.place.Place.{Place}
@@ -13,98 +11,32 @@ use Rattle.census_readback.specs.declared.place.Tally.{Tally}
 use Rattle.census_rows.specs.declared.kinds.Behind.TheVariants as behind
 use Rattle.census_readback.specs.Counts.{nothing_counted}
 use Rattle.census_readback.specs.Sections.{closes as closes_with, may_stand, place_after, tells_next, with_line, with_part, with_told}
-use Rattle.census_readback.specs.Steps.{Reading, collection_of, patterns_opened, is_behind, padded_places, place_at, with_place, gone_on, section_step, step}
-use Rattle.census_readback.proofs.Kept.{get-padded}
-use Rattle.census_readback.proofs.Shaped.{and-both, both-and}
+use Rattle.census_readback.specs.Steps.{Reading, collection_of, patterns_opened, is_behind, place_at, with_place, section_step, step}
+use Rattle.census_readback.proofs.Interleaved.{Taken, taken as section-taken}
+use Rattle.census_readback.proofs.Kept.{put-other, put-same}
 use Rattle.census_merge.specs.Kept.{closes, is_close, is_end, numbered}
 
 -- # Lists of places
-
-padded-size : (xs : List Place) (n : ℕ) → length (padded_places xs n) ≡ length xs + (n - length xs)
-padded-size xs n = length-append xs (replicate (n - length xs) Before) ∙ ap (λ k. length xs + k) (length-replicate (n - length xs) Before)
-
-pub put-same : (xs : List Place) (i : ℕ) (p : Place) → place_at (with_place xs i p) i ≡ p
-put-same xs i p = get_or-set_same (padded_places xs (i + 1)) i p Before (omega (arith, padded-size xs (i + 1)))
-
-pub put-other : (xs : List Place) (i k : ℕ) (p : Place) → k ≢ i → place_at (with_place xs i p) k ≡ place_at xs k
-put-other xs i k p other = get_or-set_other (padded_places xs (i + 1)) i k p Before other ∙ get-padded xs ((i + 1) - length xs) k
 
 pub none-there : (xs : List Place) → place_at xs (length xs) ≡ Before
 none-there [] = refl
 none-there (x ∷ xs) = none-there xs
 
-pub all-behind : (xs : List Place) → ((i : ℕ) → i < length xs → is_behind (place_at xs i) ≡ true) → list_all is_behind xs ≡ true
-all-behind [] h = refl
-all-behind (x ∷ xs) h = both-and (is_behind x) (list_all is_behind xs) (h 0 (omega arith)) (all-behind xs (λ i less. h (suc i) (omega arith)))
-
 -- # Rows that are taken
 
-if-some : (b : Bool) (x : Option Reading) (t : Reading) → (if b then x else None) ≡ Some t → (b ≡ true) × (x ≡ Some t)
-if-some true x t h = (refl, h)
-if-some false x t h = absurd (cc)
-
--- a row of a collection that was taken
-pub record Taken (s t : Reading) (r : Row) : Type 0 where
-  pub place : Place
-  pub low : 0 < collection_of r
-  pub high : collection_of r ≤ count_limit
-  pub goes : place_after (place_at s.places (collection_of r - 1)) r ≡ Some place
-  pub fits : s.patterns + patterns_opened r < 2 ^ 64
-  pub is : t ≡ record { places = with_place s.places (collection_of r - 1) place; patterns = s.patterns + patterns_opened r; ended = false }
-
-gone-some : (s t : Reading) (i n : ℕ) (o : Option Place) → gone_on s i n o ≡ Some t
-    → (p : Place) × (o ≡ Some p) × (s.patterns + n < 2 ^ 64) × (t ≡ record { places = with_place s.places i p; patterns = s.patterns + n; ended = false })
-gone-some s t i n None h = absurd (cc)
-gone-some s t i n (Some p) h =
-    let u : Reading = record { places = with_place s.places i p; patterns = s.patterns + n; ended = false } in
-    let k = if-some (ltb (s.patterns + n) (2 ^ 64)) (Some u) t h in
-    let same : t ≡ u = (let e : Some u ≡ Some t = k.1 in cc) in
-    (p, refl, ltb-true _ _ k.0, same)
-
-section-taken : (s t : Reading) (r : Row) → section_step s r ≡ Some t → Taken s t r
-section-taken s t r h =
-    let i = collection_of r - 1 in
-    let o = place_after (place_at s.places i) r in
-    let k = if-some (ltb 0 (collection_of r) && leb (collection_of r) count_limit) (gone_on s i (patterns_opened r) o) t h in
-    let b = and-both (ltb 0 (collection_of r)) (leb (collection_of r) count_limit) k.0 in
-    let g = gone-some s t i (patterns_opened r) o k.1 in
-    record {
-      place = g.0;
-      low = ltb-true _ _ b.0;
-      high = leb-true _ _ b.1;
-      goes = g.1;
-      fits = g.2;
-      is = g.3;
-    }
-
 -- a row that ends no report is taken as one of its collection
-pub section-is-step : (s : Reading) (r : Row) → is_end r ≡ false → step s r ≡ section_step s r
-section-is-step s (Open c n name) h = refl
-section-is-step s (Line c i o name) h = refl
-section-is-step s (Part c i code k) h = refl
-section-is-step s (Engine c i e p x y k) h = refl
-section-is-step s (Emits c i e code k) h = refl
-section-is-step s (Code c rule code k) h = refl
-section-is-step s (Close c n a b d) h = refl
-section-is-step s (End n k) h = absurd (cc)
+own-step : (s : Reading) (r : Row) → is_end r ≡ false → step s r ≡ section_step s r
+own-step s (Open c n name) h = refl
+own-step s (Line c i o name) h = refl
+own-step s (Part c i code k) h = refl
+own-step s (Engine c i e p x y k) h = refl
+own-step s (Emits c i e code k) h = refl
+own-step s (Code c rule code k) h = refl
+own-step s (Close c n a b d) h = refl
+own-step s (End n k) h = absurd (cc)
 
 pub taken : (s t : Reading) (r : Row) → is_end r ≡ false → step s r ≡ Some t → Taken s t r
-taken s t r own h = section-taken s t r (sym (section-is-step s r own) ∙ h)
-
--- a row of a collection that may stand is taken
-pub taking : (s : Reading) (r : Row) (p : Place) → is_end r ≡ false → 0 < collection_of r → collection_of r ≤ count_limit
-    → place_after (place_at s.places (collection_of r - 1)) r ≡ Some p → s.patterns + patterns_opened r < 2 ^ 64
-    → step s r ≡ Some (record { places = with_place s.places (collection_of r - 1) p; patterns = s.patterns + patterns_opened r; ended = false })
-taking s r p own low high goes fits =
-    let i = collection_of r - 1 in
-    let o = place_after (place_at s.places i) r in
-    let u : Reading = record { places = with_place s.places i p; patterns = s.patterns + patterns_opened r; ended = false } in
-    let pass : (ltb 0 (collection_of r) && leb (collection_of r) count_limit) ≡ true = both-and _ _ (lt-ltb _ _ low) (le-leb _ _ high) in
-    let small : ltb (s.patterns + patterns_opened r) (2 ^ 64) ≡ true = lt-ltb _ _ fits in
-    section-is-step s r own
-    ∙ ap (λ v. if v then gone_on s i (patterns_opened r) o else None) pass
-    ∙ ap (λ (w : Option Place). gone_on s i (patterns_opened r) w) goes
-    ∙ ap (λ v. if v then Some u else None) small
+taken s t r own h = section-taken s t r (sym (own-step s r own) ∙ h)
 
 -- # Under other numbers
 
@@ -146,16 +78,6 @@ opened-numbered n (Emits c i e code k) = refl
 opened-numbered n (Code c rule code k) = refl
 opened-numbered n (Close c m a b d) = refl
 opened-numbered n (End m k) = refl
-
-pub end-numbered : (n : ℕ) (r : Row) → is_end (numbered n r) ≡ is_end r
-end-numbered n (Open c m name) = refl
-end-numbered n (Line c i o name) = refl
-end-numbered n (Part c i code k) = refl
-end-numbered n (Engine c i e p x y k) = refl
-end-numbered n (Emits c i e code k) = refl
-end-numbered n (Code c rule code k) = refl
-end-numbered n (Close c m a b d) = refl
-end-numbered n (End m k) = refl
 
 -- # Collections that are closed
 

@@ -25,13 +25,13 @@ if-some true x t h = (refl, h)
 if-some false x t h = absurd (cc)
 
 -- a row of a collection that was taken
-record Taken (s t : Reading) (r : Row) : Type 0 where
-  place : Place
-  low : 0 < collection_of r
-  high : collection_of r ≤ count_limit
-  goes : place_after (place_at s.places (collection_of r - 1)) r ≡ Some place
-  fits : s.patterns + patterns_opened r < 2 ^ 64
-  is : t ≡ record { places = with_place s.places (collection_of r - 1) place; patterns = s.patterns + patterns_opened r; ended = false }
+pub record Taken (s t : Reading) (r : Row) : Type 0 where
+  pub place : Place
+  pub low : 0 < collection_of r
+  pub high : collection_of r ≤ count_limit
+  pub goes : place_after (place_at s.places (collection_of r - 1)) r ≡ Some place
+  pub fits : s.patterns + patterns_opened r < 2 ^ 64
+  pub is : t ≡ record { places = with_place s.places (collection_of r - 1) place; patterns = s.patterns + patterns_opened r; ended = false }
 
 gone-some : (s t : Reading) (i n : ℕ) (o : Option Place) → gone_on s i n o ≡ Some t
     → (p : Place) × (o ≡ Some p) × (s.patterns + n < 2 ^ 64) × (t ≡ record { places = with_place s.places i p; patterns = s.patterns + n; ended = false })
@@ -42,7 +42,7 @@ gone-some s t i n (Some p) h =
     let same : t ≡ u = (let e : Some u ≡ Some t = k.1 in cc) in
     (p, refl, ltb-true _ _ k.0, same)
 
-taken : (s t : Reading) (r : Row) → section_step s r ≡ Some t → Taken s t r
+pub taken : (s t : Reading) (r : Row) → section_step s r ≡ Some t → Taken s t r
 taken s t r h =
     let i = collection_of r - 1 in
     let o = place_after (place_at s.places i) r in
@@ -59,7 +59,7 @@ taken s t r h =
     }
 
 -- a row of a collection that may stand is taken
-taking : (s : Reading) (r : Row) (p : Place) → 0 < collection_of r → collection_of r ≤ count_limit
+pub taking : (s : Reading) (r : Row) (p : Place) → 0 < collection_of r → collection_of r ≤ count_limit
     → place_after (place_at s.places (collection_of r - 1)) r ≡ Some p → s.patterns + patterns_opened r < 2 ^ 64
     → section_step s r ≡ Some (record { places = with_place s.places (collection_of r - 1) p; patterns = s.patterns + patterns_opened r; ended = false })
 taking s r p low high goes fits =
@@ -73,7 +73,7 @@ taking s r p low high goes fits =
     ∙ ap (λ v. if v then Some u else None) small
 
 -- a row with a collection's number is no `end` row
-section-is-step : (s : Reading) (r : Row) → 0 < collection_of r → step s r ≡ section_step s r
+pub section-is-step : (s : Reading) (r : Row) → 0 < collection_of r → step s r ≡ section_step s r
 section-is-step s (Open c n name) h = refl
 section-is-step s (Line c i o name) h = refl
 section-is-step s (Part c i code k) h = refl
@@ -268,11 +268,9 @@ body v w s n seen (r ∷ rows) rest most told kept owned few runs fits =
       ap (telling s n r (rows ++ rest)) first.1 ∙ ap (stepping first.0 n (rows ++ rest)) is ∙ others.3,
     )
 
-all-behind : (xs : List Place) → ((k : ℕ) → k < length xs → place_at xs k ≡ Behind) → list_all is_behind xs ≡ true
+pub all-behind : (xs : List Place) → ((i : ℕ) → i < length xs → is_behind (place_at xs i) ≡ true) → list_all is_behind xs ≡ true
 all-behind [] h = refl
-all-behind (x ∷ xs) h =
-    let first : x ≡ Behind = h 0 (omega arith) in
-    ap (λ w. is_behind w && list_all is_behind xs) first ∙ all-behind xs (λ k less. h (suc k) (omega arith))
+all-behind (x ∷ xs) h = both-and (is_behind x) (list_all is_behind xs) (h 0 (omega arith)) (all-behind xs (λ i less. h (suc i) (omega arith)))
 
 -- so many places at least, where each of them is the last of a section
 enough : (xs : List Place) (n : ℕ) → ((j : ℕ) → j < n → place_at xs j ≡ Behind) → n ≤ length xs
@@ -299,7 +297,7 @@ report s n rows rest kept is =
     let most : length t.places ≤ is.collections = b.2.under is.collections is.owned in
     let least : is.collections ≤ length t.places = enough t.places is.collections here in
     let size : length t.places ≡ is.collections = omega arith in
-    let all = all-behind t.places (λ j less. here j (omega arith)) in
+    let all = all-behind t.places (λ j less. ap is_behind (here j (omega arith))) in
     let pass : (list_all is_behind t.places && (eqb (length t.places) is.collections && eqb t.patterns k)) ≡ true =
     both-and _ _ all (both-and _ _ (eq-eqb _ _ size) (eq-eqb _ _ b.2.sum)) in
     let taken_end : step t last ≡ Some u = ap (λ v. if v then Some u else None) pass in (

@@ -30,10 +30,10 @@ padded-size xs n = length-append xs (replicate (n - length xs) Before) ∙ ap (�
 pub put-size : (xs : List Place) (i : ℕ) (p : Place) → length (with_place xs i p) ≡ length xs + ((i + 1) - length xs)
 put-size xs i p = length-set (padded_places xs (i + 1)) i p ∙ padded-size xs (i + 1)
 
-put-same : (xs : List Place) (i : ℕ) (p : Place) → place_at (with_place xs i p) i ≡ p
+pub put-same : (xs : List Place) (i : ℕ) (p : Place) → place_at (with_place xs i p) i ≡ p
 put-same xs i p = get_or-set_same (padded_places xs (i + 1)) i p Before (omega (arith, padded-size xs (i + 1)))
 
-put-other : (xs : List Place) (i k : ℕ) (p : Place) → k ≢ i → place_at (with_place xs i p) k ≡ place_at xs k
+pub put-other : (xs : List Place) (i k : ℕ) (p : Place) → k ≢ i → place_at (with_place xs i p) k ≡ place_at xs k
 put-other xs i k p other = get_or-set_other (padded_places xs (i + 1)) i k p Before other ∙ get-padded xs ((i + 1) - length xs) k
 
 -- # Rows
