@@ -23,6 +23,15 @@ no-end (Code c rule code k) h = refl
 no-end (Close c n a b d) h = refl
 no-end (End n k) h = absurd (omega arith)
 
+pub collections-body : (here body : List Row) (n k m : ℕ) (rest : List Row) → AreOfCollections m body
+    → collections_of here (body ++ End n k ∷ rest) ≡ sections_of 1 n (here ++ body) ++ collections_of [] rest
+collections-body here [] n k m rest h = ap (λ (w : List Row). sections_of 1 n w ++ collections_of [] rest) (sym (append-nil here))
+collections-body here (r ∷ body) n k m rest h =
+    let back = body ++ End n k ∷ rest in
+    let step : collections_of here (r ∷ back) ≡ collections_of (here ++ r ∷ []) back =
+    ap (λ (o : Option ℕ). elim o as (λ _. List (List Row)) [ Nothing ↦ collections_of (here ++ r ∷ []) back | Some count ↦ sections_of 1 count here ++ collections_of [] back ]) (no-end r h.0) in
+    step ∙ collections-body (here ++ r ∷ []) body n k m rest h.2 ∙ ap (λ (w : List Row). sections_of 1 n w ++ collections_of [] rest) (append_assoc here (r ∷ []) body)
+
 of-one : (n : ℕ) (xs : List Row) (r : Row) → AreOfCollections n xs → 0 < collection_of r → collection_of r ≤ n → AreOfCollections n (xs ++ r ∷ [])
 of-one n [] r h low high = (low, high, tt)
 of-one n (x ∷ xs) r h low high = (h.0, h.1, of-one n xs r h.2 low high)

@@ -46,17 +46,14 @@ rows-append c (x ∷ xs) ys =
       | false ↦ rows-append c xs ys
     ]
 
-rows-one-same : (c : ℕ) (x : Row) (rows : List Row) → eqb (collection_of x) c ≡ true → rows_of c (x ∷ rows) ≡ x ∷ rows_of c rows
-rows-one-same c x rows e = ap (λ v. if v then x ∷ rows_of c rows else rows_of c rows) e
-
-rows-one-other : (c : ℕ) (x : Row) (rows : List Row) → eqb (collection_of x) c ≡ false → rows_of c (x ∷ rows) ≡ rows_of c rows
-rows-one-other c x rows e = ap (λ v. if v then x ∷ rows_of c rows else rows_of c rows) e
+pub rows-one : (c : ℕ) (x : Row) (rows : List Row) (b : Bool) → eqb (collection_of x) c ≡ b → rows_of c (x ∷ rows) ≡ if b then x ∷ rows_of c rows else rows_of c rows
+rows-one c x rows b e = ap (λ (v : Bool). if v then x ∷ rows_of c rows else rows_of c rows) e
 
 pub rows-here : (c : ℕ) (xs : List Row) (x : Row) (ys : List Row) → eqb (collection_of x) c ≡ true → rows_of c (xs ++ x ∷ ys) ≡ rows_of c xs ++ x ∷ rows_of c ys
-rows-here c xs x ys e = rows-append c xs (x ∷ ys) ∙ ap (λ w. rows_of c xs ++ w) (rows-one-same c x ys e)
+rows-here c xs x ys e = rows-append c xs (x ∷ ys) ∙ ap (λ w. rows_of c xs ++ w) (rows-one c x ys true e)
 
 pub rows-elsewhere : (c : ℕ) (xs : List Row) (x : Row) (ys : List Row) → eqb (collection_of x) c ≡ false → rows_of c (xs ++ x ∷ ys) ≡ rows_of c xs ++ rows_of c ys
-rows-elsewhere c xs x ys e = rows-append c xs (x ∷ ys) ∙ ap (λ w. rows_of c xs ++ w) (rows-one-other c x ys e)
+rows-elsewhere c xs x ys e = rows-append c xs (x ∷ ys) ∙ ap (λ w. rows_of c xs ++ w) (rows-one c x ys false e)
 
 pub patterns-append : (xs ys : List Row) → patterns_in (xs ++ ys) ≡ patterns_in xs + patterns_in ys
 patterns-append [] ys = omega arith

@@ -15,3 +15,4 @@ pub mod Compared
 pub mod Counted
 pub mod Walks
 pub mod Filling
+pub mod Totals

@@ -10,13 +10,13 @@ use Rattle.census_merge.specs.Merged.{merged_rows, numbered_on, renumbered_row}
 use Rattle.census_readback.specs.Steps.{collection_of}
 use Rattle.census_readback.specs.Shapes.{AreOfCollections, AreReports, AreWhole, IsWholeReport, all_rows, patterns_in, rows_of}
 use Rattle.census_readback.specs.Grouped.{collections_of, sections_of}
-use Rattle.census_readback.proofs.Kept.{of-append, rows-append}
+use Rattle.census_readback.proofs.Cutting.{collections-body}
+use Rattle.census_readback.proofs.Kept.{of-append, rows-append, rows-one}
 use Rattle.census_readback.proofs.Sorted.{sections-size}
 use Rattle.census_table.specs.Entries.{entries_of, entry_of_row}
 use Rattle.census_table.specs.Lists.{told_before}
 use Rattle.census_table.specs.Patterns.{Pattern, all_patterns, pattern_before, pattern_of_row, patterns_of, patterns_under, section_patterns}
 use Rattle.census_table.specs.declared.entry.Entry.{Entry}
-use Rattle.census_table.proofs.Counts.{collections-body, rows-one}
 use Rattle.census_table.proofs.Patterned.{entries_in, patterns-append, patterns-entries}
 use Rattle.census_reports.proofs.SameLists.{before-same}
 

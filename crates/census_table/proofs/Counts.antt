@@ -1,13 +1,13 @@
 -- A table has as many rows as a report has `line` rows.
-use Rattle.std.proofs.Common.{◌≡◌, ℕ, zero, suc, ◌+◌, ◌<◌, ◌≤◌, Bool, true, false, eqb, if◌then◌else◌, Option, Some, None as Nothing, List, [], ◌∷◌, ◌++◌, ap, ◌∙◌, sym, refl, arith, subst, length, append_assoc, inl, inr}
+use Rattle.std.proofs.Common.{◌≡◌, ℕ, zero, suc, ◌+◌, ◌<◌, ◌≤◌, List, [], ◌∷◌, ◌++◌, ap, ◌∙◌, sym, refl, arith, subst, length, append_assoc}
 use Rattle.std.specs.Borrow.{Bor}
-use Rattle.std.proofs.lemmas.Bool.{cases_Bool}
-use Rattle.std.proofs.lemmas.List.{append-nil, length-append}
+use Rattle.std.proofs.lemmas.List.{length-append}
 use Rattle.census_rows.specs.declared.row.Row.{Row}
 use Rattle.census_rows.specs.declared.row.Row.TheVariants.{Open, Line, Part, Engine, Emits, Code, Close, End}
-use Rattle.census_readback.specs.Steps.{collection_of}
-use Rattle.census_readback.specs.Shapes.{AreOfCollections, AreReports, AreWhole, IsOpenRow, IsSection, any_outcome, all_rows, lines_that, patterns_in, rows_of}
-use Rattle.census_readback.specs.Grouped.{collections_of, end_of, sections_of}
+use Rattle.census_readback.specs.Shapes.{AreReports, AreWhole, IsOpenRow, IsSection, any_outcome, all_rows, lines_that, patterns_in, rows_of}
+use Rattle.census_readback.specs.Grouped.{collections_of, sections_of}
+use Rattle.census_readback.proofs.Cutting.{collections-body}
+use Rattle.census_readback.proofs.Totals.{AddsUp, count-append, total, total-all}
 use Rattle.census_table.specs.Entries.{all_entries, entries_of, lines_under, section_entries}
 
 zero-plus : (n : ℕ) → n ≡ 0 + n
@@ -16,9 +16,8 @@ zero-plus n = omega arith
 one-plus : (n : ℕ) → suc n ≡ 1 + n
 one-plus n = omega arith
 
-lines-append : (xs ys : List Row) → lines_that any_outcome (xs ++ ys) ≡ lines_that any_outcome xs + lines_that any_outcome ys
-lines-append [] ys = zero-plus (lines_that any_outcome ys)
-lines-append (x ∷ xs) ys = (let inner = lines-append xs ys in omega (arith, inner))
+lines-add : AddsUp (lines_that any_outcome)
+lines-add = record { none = refl; more = λ r rows. omega arith }
 
 under-size : (m n k : ℕ) (title : Bor (List ℕ)) (rows : List Row) → length (lines_under m (Open n k title) rows) ≡ lines_that any_outcome rows
 under-size m n k title [] = refl
@@ -51,76 +50,14 @@ all-append m (x ∷ xs) ys =
     ∙ sym (append_assoc (section_entries m x) (all_entries (m + 1) xs) (all_entries (m + 1 + length xs) ys))
     ∙ ap (λ k. (section_entries m x ++ all_entries (m + 1) xs) ++ all_entries k ys) (let e : m + 1 + length xs ≡ m + suc (length xs) = omega arith in e)
 
--- how many `line` rows so many collections have, from this one on
-abbrev pub total : ℕ → ℕ → List Row → ℕ
-total first zero rows = 0
-total first (suc count) rows = lines_that any_outcome (rows_of first rows) + total (suc first) count rows
-
 sections-total : (m first count : ℕ) (rows : List Row) → ((c : ℕ) → first ≤ c → c < first + count → IsSection (rows_of c rows))
-    → length (all_entries m (sections_of first count rows)) ≡ total first count rows
+    → length (all_entries m (sections_of first count rows)) ≡ total (lines_that any_outcome) first count rows
 sections-total m first zero rows each = refl
 sections-total m first (suc count) rows each =
     let here = section-size m (rows_of first rows) (each first (omega arith) (omega arith)) in
     let others = sections-total (m + 1) (suc first) count rows (λ c low high. each c (omega arith) (omega arith)) in
     let whole = length-append (section_entries m (rows_of first rows)) (all_entries (m + 1) (sections_of (suc first) count rows)) in
     omega (arith, here, others, whole)
-
-total-nil : (first count : ℕ) → total first count [] ≡ 0
-total-nil first zero = refl
-total-nil first (suc count) = sym (zero-plus (total (suc first) count [])) ∙ total-nil (suc first) count
-
-pub rows-one : (c : ℕ) (r : Row) (rows : List Row) (b : Bool) → eqb (collection_of r) c ≡ b → rows_of c (r ∷ rows) ≡ if b then r ∷ rows_of c rows else rows_of c rows
-rows-one c r rows b e = ap (λ (x : Bool). if x then r ∷ rows_of c rows else rows_of c rows) e
-
-total-passed : (first count : ℕ) (r : Row) (rows : List Row) → collection_of r < first → total first count (r ∷ rows) ≡ total first count rows
-total-passed first zero r rows less = refl
-total-passed first (suc count) r rows less =
-    let other : eqb (collection_of r) first ≡ false = grind arith in
-    let here = ap (lines_that any_outcome) (rows-one first r rows false other) in
-    let others = total-passed (suc first) count r rows (omega arith) in
-    omega (arith, here, others)
-
-total-here : (first count : ℕ) (r : Row) (rows : List Row) → first ≤ collection_of r → collection_of r < first + count
-    → total first count (r ∷ rows) ≡ lines_that any_outcome (r ∷ []) + total first count rows
-total-here first zero r rows low high = absurd (omega arith)
-total-here first (suc count) r rows low high = elim (cases_Bool (eqb (collection_of r) first)) [
-  | inl same ↦
-      let equal : collection_of r ≡ first = grind arith in
-      let here = ap (lines_that any_outcome) (rows-one first r rows true same) in
-      let others = total-passed (suc first) count r rows (omega (arith, equal)) in
-      omega (arith, here, others)
-  | inr other ↦
-      let further : first < collection_of r = grind arith in
-      let here = ap (lines_that any_outcome) (rows-one first r rows false other) in
-      let others = total-here (suc first) count r rows further (omega arith) in
-      omega (arith, here, others)
-]
-
-total-all : (n : ℕ) (rows : List Row) → AreOfCollections n rows → total 1 n rows ≡ lines_that any_outcome rows
-total-all n [] h = total-nil 1 n
-total-all n (r ∷ rows) h =
-    let here = total-here 1 n r rows (omega (arith, h.0)) (omega (arith, h.1)) in
-    let others = total-all n rows h.2 in
-    omega (arith, here, others)
-
-no-end : (r : Row) → 0 < collection_of r → end_of r ≡ Nothing
-no-end (Open c n name) h = refl
-no-end (Line c i o name) h = refl
-no-end (Part c i code k) h = refl
-no-end (Engine c i e p x y k) h = refl
-no-end (Emits c i e code k) h = refl
-no-end (Code c rule code k) h = refl
-no-end (Close c n a b d) h = refl
-no-end (End n k) h = absurd (omega arith)
-
-pub collections-body : (here body : List Row) (n k m : ℕ) (rest : List Row) → AreOfCollections m body
-    → collections_of here (body ++ End n k ∷ rest) ≡ sections_of 1 n (here ++ body) ++ collections_of [] rest
-collections-body here [] n k m rest h = ap (λ (w : List Row). sections_of 1 n w ++ collections_of [] rest) (sym (append-nil here))
-collections-body here (r ∷ body) n k m rest h =
-    let back = body ++ End n k ∷ rest in
-    let step : collections_of here (r ∷ back) ≡ collections_of (here ++ r ∷ []) back =
-    ap (λ (o : Option ℕ). elim o as (λ _. List (List Row)) [ Nothing ↦ collections_of (here ++ r ∷ []) back | Some count ↦ sections_of 1 count here ++ collections_of [] back ]) (no-end r h.0) in
-    step ∙ collections-body (here ++ r ∷ []) body n k m rest h.2 ∙ ap (λ (w : List Row). sections_of 1 n w ++ collections_of [] rest) (append_assoc here (r ∷ []) body)
 
 reports-size : (m : ℕ) (reports : List (List Row)) → AreWhole reports → length (all_entries m (collections_of [] (all_rows reports))) ≡ lines_that any_outcome (all_rows reports)
 reports-size m [] h = refl
@@ -136,9 +73,9 @@ reports-size m (rows ∷ reports) h =
     let apart = ap length (all-append m here behind) in
     let sum = length-append (all_entries m here) (all_entries (m + length here) behind) in
     let first = sections-total m 1 n is.body (λ c low high. is.sections c (omega arith) (omega arith)) in
-    let each = total-all n is.body is.owned in
+    let each = total-all (lines_that any_outcome) lines-add n is.body is.owned in
     let others = reports-size (m + length here) reports h.1 in
-    let lines = lines-append is.body (last ∷ all_rows reports) in
+    let lines = count-append (lines_that any_outcome) lines-add is.body (last ∷ all_rows reports) in
     let whole : length (all_entries m (collections_of [] (is.body ++ last ∷ all_rows reports))) ≡ lines_that any_outcome (is.body ++ last ∷ all_rows reports) =
     omega (arith, cut, apart, sum, first, each, others, lines) in
     subst (λ w. length (all_entries m (collections_of [] w)) ≡ lines_that any_outcome w) (sym e) whole
