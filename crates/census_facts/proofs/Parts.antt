@@ -1,6 +1,7 @@
 -- Parts and engines that are gone over one after another.
-use Rattle.std.proofs.Common.{◌≡◌, ℕ, zero, suc, ◌+◌, ◌<◌, List, [], ◌∷◌, ◌++◌, length, map, take, Some, refl, sym, ap, ◌∙◌, append_assoc, append-nil, slice_get, arith}
-use Rattle.std.proofs.lemmas.List.{length-take, map-append}
+use Rattle.std.proofs.Common.{◌≡◌, ℕ, suc, ◌+◌, ◌<◌, List, [], ◌∷◌, ◌++◌, length, map, take, Some, refl, sym, ap, ◌∙◌, append_assoc, append-nil, slice_get, arith}
+use Rattle.std.proofs.lemmas.List.{length-take, map-append, take_more}
+use Rattle.std.proofs.lemmas.Option.{get_or_from_slice_get, slice_get_within}
 use Rattle.life_answer.specs.declared.part.Part.{Part}
 use Rattle.life_answer.specs.declared.tale.Engines.{Engines}
 use Rattle.census_names.specs.Names.{Entry}
@@ -10,20 +11,14 @@ text_of-append : (ls ms : List Line) → text_of (ls ++ ms) ≡ text_of ls ++ te
 text_of-append [] ms = refl
 text_of-append (l ∷ ls) ms = ap (λ t. l ++ t) (text_of-append ls ms) ∙ sym (append_assoc l (text_of ls) (text_of ms))
 
-take_more : {X : Type 0} (xs : List X) (i : ℕ) (x : X) → slice_get xs i ≡ Some x → take (i + 1) xs ≡ take i xs ++ x ∷ []
-take_more [] i x at = absurd (cc)
-take_more (y ∷ ys) zero x at =
-    let same : y ≡ x = cc in
-    ap (λ z. z ∷ []) same
-take_more (y ∷ ys) (suc i) x at =
-    let n : suc i + 1 ≡ suc (i + 1) = omega arith in
-    ap (λ m. take m (y ∷ ys)) n ∙ ap (λ zs. y ∷ zs) (take_more ys i x at)
+take_one_more : {X : Type 0} (xs : List X) (i : ℕ) (x : X) → slice_get xs i ≡ Some x → take (i + 1) xs ≡ take i xs ++ x ∷ []
+take_one_more xs i x at = take_more xs i x (slice_get_within xs i x at) ∙ ap (λ y. take i xs ++ y ∷ []) (get_or_from_slice_get xs i x x at)
 
 -- one line more
 pub lines_taken : (line : Part → Line) (parts : List Part) (i : ℕ) (part : Part) → slice_get parts i ≡ Some part
     → text_of (map line (take (i + 1) parts)) ≡ text_of (map line (take i parts)) ++ line part
 lines_taken line parts i part at =
-    ap (λ ps. text_of (map line ps)) (take_more parts i part at)
+    ap (λ ps. text_of (map line ps)) (take_one_more parts i part at)
     ∙ ap text_of (map-append line (take i parts) (part ∷ []))
     ∙ text_of-append (map line (take i parts)) (line part ∷ [])
     ∙ ap (λ t. text_of (map line (take i parts)) ++ t) (append-nil (line part))
@@ -49,7 +44,7 @@ pub engines_taken : (names : List Entry) (lines : List Engines) (n : ℕ) (engin
     ≡ text_of (engines_lines names 1 (take n lines)) ++ (engine_line (n + 1) engines ++ text_of (map (emits_line names (n + 1)) engines.tale.emits))
 engines_taken names lines n engines below at =
     let long : length (take n lines) ≡ n = let e = length-take n lines in omega arith in
-    ap (λ ls. text_of (engines_lines names 1 ls)) (take_more lines n engines at)
+    ap (λ ls. text_of (engines_lines names 1 ls)) (take_one_more lines n engines at)
     ∙ ap text_of (lines-append names 1 (take n lines) engines
     ∙ ap (λ k. engines_lines names 1 (take n lines) ++ block names k engines) (let same : 1 + length (take n lines) ≡ n + 1 = omega arith in same))
     ∙ text_of-append (engines_lines names 1 (take n lines)) (block names (n + 1) engines)

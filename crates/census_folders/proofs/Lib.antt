@@ -3,6 +3,5 @@ pub mod Totals
 pub mod Reaches
 pub mod Walked
 pub mod Planted
-pub mod Places
 pub mod Keeps
 pub mod Quiet

@@ -1,6 +1,7 @@
 -- Parts that are gone over one after another.
-use Rattle.std.proofs.Common.{◌≡◌, ℕ, zero, suc, ◌+◌, ◌≤◌, List, [], ◌∷◌, ◌++◌, length, map, take, drop, replicate, Some, refl, sym, ap, ◌∙◌, arith, append_assoc, append-nil, slice_get, zero-add, Result, Ok, Err, OnOk}
-use Rattle.std.proofs.lemmas.List.{length-append, length-replicate, map-append, take-append-drop}
+use Rattle.std.proofs.Common.{◌≡◌, ℕ, ◌+◌, ◌≤◌, List, [], ◌∷◌, ◌++◌, length, map, take, drop, replicate, Some, refl, sym, ap, ◌∙◌, arith, append_assoc, append-nil, slice_get, zero-add, Result, Ok, Err, OnOk}
+use Rattle.std.proofs.lemmas.List.{length-append, length-replicate, map-append, take-append-drop, take_more}
+use Rattle.std.proofs.lemmas.Option.{get_or_from_slice_get, slice_get_within}
 use Rattle.life_answer.specs.declared.finding.Answer.{Answer}
 use Rattle.life_answer.specs.declared.finding.Answer.TheVariants.{Found}
 use Rattle.life_answer.specs.declared.finding.Finding.{Finding}
@@ -14,17 +15,11 @@ use Rattle.census_rows.proofs.Texts.{text-append}
 use Rattle.census_format.specs.Objects.{object, objects, outcome_objects, part_objects}
 use Rattle.census_format.proofs.Tallies.{objects-append}
 
-pub take_more : {A : Type 0} (xs : List A) (i : ℕ) (x : A) → slice_get xs i ≡ Some x → take (i + 1) xs ≡ take i xs ++ x ∷ []
-take_more [] i x at = absurd (cc)
-take_more (y ∷ ys) zero x at =
-    let same : y ≡ x = cc in
-    ap (λ z. z ∷ []) same
-take_more (y ∷ ys) (suc i) x at =
-    let n : suc i + 1 ≡ suc (i + 1) = omega arith in
-    ap (λ m. take m (y ∷ ys)) n ∙ ap (λ zs. y ∷ zs) (take_more ys i x at)
+pub take_one_more : {X : Type 0} (xs : List X) (i : ℕ) (x : X) → slice_get xs i ≡ Some x → take (i + 1) xs ≡ take i xs ++ x ∷ []
+take_one_more xs i x at = take_more xs i x (slice_get_within xs i x at) ∙ ap (λ y. take i xs ++ y ∷ []) (get_or_from_slice_get xs i x x at)
 
 pub map_taken : {A B : Type 0} (f : A → B) (xs : List A) (i : ℕ) (x : A) → slice_get xs i ≡ Some x → map f (take (i + 1) xs) ≡ map f (take i xs) ++ f x ∷ []
-map_taken f xs i x at = ap (map f) (take_more xs i x at) ∙ map-append f (take i xs) (x ∷ [])
+map_taken f xs i x at = ap (map f) (take_one_more xs i x at) ∙ map-append f (take i xs) (x ∷ [])
 
 pub ok_always : {X E P : Type 0} (r : Result X E) → P → OnOk r P
 ok_always (Ok x) p = p
@@ -37,7 +32,7 @@ objects_in-append (p ∷ ps) qs = let e = objects_in-append ps qs in omega arith
 -- one part more
 pub objects_taken : (parts : List Part) (i : ℕ) (part : Part) → slice_get parts i ≡ Some part → objects_in (take (i + 1) parts) ≡ objects_in (take i parts) + part.count
 objects_taken parts i part at =
-    let e : objects_in (take (i + 1) parts) ≡ objects_in (take i parts ++ part ∷ []) = ap objects_in (take_more parts i part at) in
+    let e : objects_in (take (i + 1) parts) ≡ objects_in (take i parts ++ part ∷ []) = ap objects_in (take_one_more parts i part at) in
     let f = objects_in-append (take i parts) (part ∷ []) in
     omega arith
 
@@ -58,7 +53,7 @@ part_objects-append rule (p ∷ ps) qs =
 pub part_objects_taken : (rule : Rule) (parts : List Part) (i : ℕ) (part : Part) → slice_get parts i ≡ Some part
     → part_objects rule (take (i + 1) parts) ≡ part_objects rule (take i parts) ++ replicate part.count (object rule part.code)
 part_objects_taken rule parts i part at =
-    ap (part_objects rule) (take_more parts i part at) ∙ part_objects-append rule (take i parts) (part ∷ [])
+    ap (part_objects rule) (take_one_more parts i part at) ∙ part_objects-append rule (take i parts) (part ∷ [])
     ∙ ap (λ ks. part_objects rule (take i parts) ++ ks) (append-nil (replicate part.count (object rule part.code)))
 
 pub length-part_objects : (rule : Rule) (parts : List Part) → length (part_objects rule parts) ≡ objects_in parts

@@ -5,7 +5,7 @@ use Rattle.life_answer.specs.declared.tale.Engines.{Engines}
 use Rattle.census_rows.specs.Lines.{text_of}
 use Rattle.census_rows.proofs.Texts.{text-append}
 use Rattle.census_format.specs.Lines.{engine_rows, rows_of_engines}
-use Rattle.census_format.proofs.AshParts.{take_more}
+use Rattle.census_format.proofs.AshParts.{take_one_more}
 
 module _ (c i : ℕ) where
   rows-append : (e : ℕ) (lines : List Engines) (engines : Engines) →
@@ -28,7 +28,7 @@ module _ (c i : ℕ) where
       ≡ text_of (rows_of_engines c i 1 (take n lines)) ++ text_of (engine_rows c i (n + 1) engines)
   rows_taken lines n engines below at =
       let long : length (take n lines) ≡ n = let e = length-take n lines in omega arith in
-      ap (λ ls. text_of (rows_of_engines c i 1 ls)) (take_more lines n engines at)
+      ap (λ ls. text_of (rows_of_engines c i 1 ls)) (take_one_more lines n engines at)
       ∙ ap text_of (rows-append 1 (take n lines) engines
       ∙ ap (λ k. rows_of_engines c i 1 (take n lines) ++ engine_rows c i k engines)
       (let same : 1 + length (take n lines) ≡ n + 1 = omega arith in same))

@@ -1,11 +1,11 @@
 -- One text written or told after another.
-use Rattle.std.proofs.Common.{◌≡◌, ℕ, ◌+◌, ◌≤◌, Bool, true, false, List, [], ◌++◌, length, take, Option, Result, Ok, Err, MatchBool, MatchResult, refl, sym, subst, arith, length-append}
+use Rattle.std.proofs.Common.{◌≡◌, ℕ, ◌+◌, Bool, true, false, List, [], ◌++◌, length, take, Option, Result, Ok, Err, MatchBool, MatchResult, refl, sym, subst, arith, length-append}
 use Rattle.std.proofs.KnownBytes.{Appends-nil, Appends-trans}
 use Rattle.std.proofs.Math.Seq.{take-append-add}
-use Rattle.std.proofs.lemmas.List.{take-append-le}
 use Rattle.std.specs.Io.KnownBytes.{Appends}
 use Rattle.watched.specs.Watching.{AppendsFront}
 use Rattle.watched.specs.Streams.{PutsBytes, PutsMoreBytes, PutsPrefix, Sink, Writes, WritesBetween}
+use Rattle.watched.proofs.Telling.{front_before}
 
 -- a prefix of the second text stands after the whole first one
 behind_whole : (a b c : Option (List ℕ)) (xs ys : List ℕ) (n : ℕ) → Appends a b xs → Appends b c (take n ys) → Appends a c (take (length xs + n) (xs ++ ys))
@@ -13,12 +13,6 @@ behind_whole a b c xs ys n p q = subst (Appends a c) (sym (take-append-add xs ys
 
 pub front_behind : (a b c : Option (List ℕ)) (xs ys : List ℕ) → Appends a b xs → AppendsFront b c ys → AppendsFront a c (xs ++ ys)
 front_behind a b c xs ys p q = (length xs + q.0, (let h = q.1 in omega (arith, length-append xs ys)), behind_whole a b c xs ys q.0 p q.2)
-
--- a prefix of a text is one of a longer text
-pub front_before : (a b : Option (List ℕ)) (xs ys : List ℕ) → AppendsFront a b xs → AppendsFront a b (xs ++ ys)
-front_before a b xs ys q =
-    let within : q.0 ≤ length xs = q.1 in
-    (q.0, omega (arith, length-append xs ys), subst (Appends a b) (sym (take-append-le q.0 xs ys within)) q.2)
 
 -- # Standard output
 

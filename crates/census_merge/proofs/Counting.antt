@@ -9,6 +9,7 @@ use Rattle.census_readback.specs.Limits.{count_limit}
 use Rattle.census_readback.specs.Shapes.{AreOfCollections, patterns_in}
 use Rattle.census_readback.specs.Steps.{collection_of, patterns_opened}
 use Rattle.census_readback.proofs.Shaped.{and-both, both-and}
+use Rattle.census_readback.proofs.Sorted.{of-at}
 use Rattle.census_merge.specs.Kept.{closed_to, closes, is_closed, is_end, kept_of, numbered, whole_count}
 use Rattle.census_merge.specs.Numbers.{AreFlags, AreNumbers, closed_index, kept_as, kept_by, marked, number_in}
 use Rattle.census_merge.proofs.Ranks.{number-least}
@@ -221,12 +222,6 @@ module _ (rows : List Row) (n : ℕ) (numbers : List ℕ) (count : ℕ) (are : N
       }
 
 -- # Rows that are kept
-
-pub of-at : (n : ℕ) (rows : List Row) (i : ℕ) (d : Row) → AreOfCollections n rows → i < length rows
-    → (0 < collection_of (get_or rows i d)) × (collection_of (get_or rows i d) ≤ n)
-of-at n [] i d h less = absurd (omega arith)
-of-at n (r ∷ rows) zero d h less = (h.0, h.1)
-of-at n (r ∷ rows) (suc i) d h less = of-at n rows i d h.2 (omega arith)
 
 pub of-high : (n m : ℕ) (rows : List Row) (i : ℕ) (d : Row) → AreOfCollections n rows → i < length rows → m ≡ n → collection_of (get_or rows i d) ≤ m
 of-high n m rows i d h less e = (let most = (of-at n rows i d h less).1 in omega (arith, most, e))

@@ -9,6 +9,7 @@ use Rattle.census_readback.specs.Limits.{count_limit}
 use Rattle.census_readback.specs.Shapes.{patterns_in}
 use Rattle.census_readback.specs.Steps.{collection_of}
 use Rattle.census_readback.specs.Texts.{AllLines, HasNoFeed, IsLine}
+use Rattle.census_readback.proofs.Walks.{lines-append}
 use Rattle.census_merge.specs.Kept.{closed_to, is_closed, is_end, kept_of, kept_rows, most, numbered, report_of, whole_count}
 use Rattle.census_merge.proofs.Ranks.{most-is, number-most}
 
@@ -75,10 +76,6 @@ line-again n (Code c rule code k) small h = (row-again n (Code c rule code k) sm
 line-again n (Close c k a b d) small h = (row-again n (Close c k a b d) small h.0, flat-again n (spelling (Close c k a b d)) small h.1)
 
 -- # Rows that are kept
-
-lines-append : (xs ys : List Row) → AllLines xs → AllLines ys → AllLines (xs ++ ys)
-lines-append [] ys h k = k
-lines-append (x ∷ xs) ys h k = (h.0, lines-append xs ys h.1 k)
 
 lines-front : (n : ℕ) (xs : List Row) → AllLines xs → AllLines (take n xs)
 lines-front zero xs h = tt

@@ -8,7 +8,6 @@ use Rattle.census_rows.specs.declared.row.Row.{Row}
 use Rattle.census_rows.specs.declared.row.Row.TheVariants.{Open, Line, Part, Engine, Emits, Code, Close, End}
 use Rattle.census_rows.specs.Kinds.{Said, said, texts_of, value_text}
 use Rattle.census_rows.specs.Lines.{SameFields, SameRow, SameSaid, SameValue, line_of, outcome_fields, spelled, spelling_text}
-use Rattle.census_readback.specs.Steps.{collection_of}
 use Rattle.census_merge.specs.Merged.{renumbered_row}
 use Rattle.census_merge.specs.Sums.{sums_of}
 
@@ -76,14 +75,3 @@ ends-same (Close c k a b d) (Close c2 k2 a2 b2 d2) h = refl
 ends-same (End k p) (End k2 p2) h =
     ap (λ m. sums_of (End m p)) h.0 ∙ ap (λ m. sums_of (End k2 m)) h.1
 ends-same r q h = absurd h
-
-pub collection-same : (r q : Row) → SameRow r q → collection_of r ≡ collection_of q
-collection-same (Open c k name) (Open c2 k2 name2) h = h.0
-collection-same (Line c i o name) (Line c2 i2 o2 name2) h = h.0
-collection-same (Part c i code k) (Part c2 i2 code2 k2) h = h.0
-collection-same (Engine c i e p x y k) (Engine c2 i2 e2 p2 x2 y2 k2) h = h.0
-collection-same (Emits c i e code k) (Emits c2 i2 e2 code2 k2) h = h.0
-collection-same (Code c rule code k) (Code c2 rule2 code2 k2) h = h.0
-collection-same (Close c k a b d) (Close c2 k2 a2 b2 d2) h = h.0
-collection-same (End k p) (End k2 p2) h = refl
-collection-same r q h = absurd h

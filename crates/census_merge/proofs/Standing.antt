@@ -7,6 +7,7 @@ use Rattle.census_rows.specs.declared.row.Row.TheVariants.{Open, Line, Part, Eng
 use Rattle.census_readback.specs.Steps.{Reading, first_stray, is_behind, step}
 use Rattle.census_readback.specs.Told.{Told, nothing_told, told_after}
 use Rattle.census_readback.proofs.Telling.{told-end}
+use Rattle.census_readback.proofs.Alike.{stepping, telling}
 use Rattle.std.specs.List.{list_all}
 use Rattle.std.specs.Prelude.{◌&&◌}
 use Rattle.census_merge.specs.Kept.{is_end, whole_count}
@@ -15,12 +16,6 @@ use Rattle.census_merge.specs.Kept.{is_end, whole_count}
 abbrev pub Stand : Told → Reading → List Row → Told → Reading → Type 0
 Stand t s [] u v = (t ≡ u) × (s ≡ v)
 Stand t s (row ∷ rows) u v = (m : Told) × (k : Reading) × (told_after t row ≡ Some m) × (step s row ≡ Some k) × Stand m k rows u v
-
-abbrev stepping : Told → ℕ → List Row → Option Reading → Option ℕ
-stepping u n rows o = elim o as (λ _. Option ℕ) [ Nothing ↦ Some n | Some t ↦ first_stray u t (n + 1) rows ]
-
-abbrev telling : Reading → ℕ → Row → List Row → Option Told → Option ℕ
-telling s n r rows o = elim o as (λ _. Option ℕ) [ Nothing ↦ Some n | Some u ↦ stepping u n rows (step s r) ]
 
 -- no row is wrong, but for the one that is missing
 abbrev pub NoneWrong : ℕ → List Row → Option ℕ → Type 0

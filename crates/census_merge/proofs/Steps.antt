@@ -10,13 +10,14 @@ use Rattle.census_readback.specs.Limits.{count_limit}
 use Rattle.census_readback.specs.Steps.{collection_of}
 use Rattle.census_readback.specs.Texts.{AllLines, IsLine, IsStuck}
 use Rattle.census_readback.proofs.Reached.{stuck-at-end}
+use Rattle.census_readback.proofs.Alike.{collection-same}
 use Rattle.census_merge.specs.declared.merging.Counted.{Counted}
 use Rattle.census_merge.specs.declared.report_sums.Sums.{Sums}
 use Rattle.census_merge.specs.Counting.{Counts, Exceeds, counted_end, counted_with}
 use Rattle.census_merge.specs.Merged.{AreFew, numbered_on, renumbered_row}
 use Rattle.census_merge.specs.Putting.{PutsEnd, PutsRow, PutsRows}
 use Rattle.census_merge.specs.Sums.{first_excess, sums_plus, sums_in, sums_of, with_more}
-use Rattle.census_merge.proofs.Same.{collection-same, ends-same, line-same}
+use Rattle.census_merge.proofs.Same.{ends-same, line-same}
 
 -- ---- rows that are read
 

@@ -1,5 +1,5 @@
 -- Rows of a collection by their numbers.
-use Rattle.std.proofs.Common.{◌≡◌, ℕ, zero, suc, ◌+◌, ◌<◌, Bool, true, false, if◌then◌else◌, List, [], ◌∷◌, ◌++◌, length, take, drop, map, refl, sym, ap, ◌∙◌, arith, append_assoc}
+use Rattle.std.proofs.Common.{◌≡◌, ℕ, ◌+◌, ◌<◌, Bool, true, false, if◌then◌else◌, List, [], ◌∷◌, ◌++◌, length, drop, map, refl, sym, ap, ◌∙◌, arith, append_assoc}
 use Rattle.std.specs.Prelude.{filter, Option, Some, None as Nothing}
 use Rattle.std.specs.Cmp.{IsStrictWeakOrder}
 use Rattle.std.specs.List.{All}
@@ -12,6 +12,7 @@ use Rattle.std.proofs.lemmas.List.Elements.{All-cons, All-tail}
 use Rattle.std.proofs.lemmas.List.Sorted.{All-permutation, ranks_by}
 use Rattle.census_rows.specs.declared.row.Row.{Row}
 use Rattle.census_kept.specs.Placed.{AreWithin, IsWithin, row_numbered, rows_numbered}
+use Rattle.census_kept.proofs.Placing.{within-take}
 use Rattle.census_page.specs.Sorting.{put_by, row_cmp, sorted_by}
 use Rattle.census_page.specs.declared.holder.Holder.{Holder}
 use Rattle.census_page.specs.declared.options.Sort.{Sort}
@@ -81,11 +82,6 @@ numbers-sorted sort holders rows old new up stable =
     ∙ sorted-map (row_numbered rows) (λ one other. is_lt (row_cmp sort holders one other)) old
 
 -- # The first of them
-
-within-take : (rows : List Row) (numbers : List ℕ) (count : ℕ) → AreWithin rows numbers → AreWithin rows (take count numbers)
-within-take rows numbers zero are = tt
-within-take rows [] (suc count) are = tt
-within-take rows (number ∷ numbers) (suc count) are = (are.0, within-take rows numbers count are.1)
 
 pub within-most : (rows : List Row) (top : Option ℕ) (numbers : List ℕ) → AreWithin rows numbers → AreWithin rows (at_most top numbers)
 within-most rows Nothing numbers are = are

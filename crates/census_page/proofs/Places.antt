@@ -2,7 +2,7 @@
 use Rattle.std.proofs.Common.{◌≡◌, ℕ, zero, suc, ◌+◌, ◌<◌, ◌≤◌, Bool, true, false, not, ◌&&◌, List, [], ◌∷◌, length, take, drop, get_or, refl, sym, ap, ap₂, ◌∙◌, arith, true≢false, length-drop}
 use Rattle.std.specs.Prelude.{cond, nat_eq}
 use Rattle.std.specs.Cmp.Lexicographic.{on_texts, pointwise, slice_cmp, texts_ties}
-use Rattle.std.specs.Cmp.{both_tied, IsTotalOrder}
+use Rattle.std.specs.Cmp.{both_tied, IsTotalOrder, Equal-is}
 use Rattle.std.specs.List.{All}
 use Rattle.std.specs.List.Sorted.{ties, IsPartitionedBy, IsPartitionPoint}
 use Rattle.std.specs.Ordering.{is_eq, is_lt, nat_cmp, ordering_reverse}
@@ -32,11 +32,6 @@ not-equal : (r : Ordering) → is_lt r ≡ true → is_eq r ≡ false
 not-equal Less h = refl
 not-equal Equal h = absurd (true≢false (sym h))
 not-equal Greater h = refl
-
-equal : (r : Ordering) → is_eq r ≡ true → r ≡ Equal
-equal Less h = absurd (true≢false (sym h))
-equal Equal h = refl
-equal Greater h = absurd (true≢false (sym h))
 
 -- neither before nor there: behind
 behind : (r : Ordering) → is_lt r ≡ false → is_eq r ≡ false → r ≡ Greater
@@ -168,7 +163,7 @@ tied rule code h =
 -- patterns tie with one that has a code where they have it
 pub tied-with : (rule code : List ℕ) (one h : Holder) → has_code rule code one ≡ true → ties (λ one two. is_lt (key_cmp (holder_key one) (holder_key two))) one h ≡ has_code rule code h
 tied-with rule code one h has =
-    let here = equal (key_cmp (holder_key one) (code, rule)) (sym (has_is rule code one) ∙ has) in
+    let here = (Equal-is (key_cmp (holder_key one) (code, rule))).0 (sym (has_is rule code one) ∙ has) in
     let there = key_total.congr (holder_key one) (code, rule) (holder_key h) here in
     let back = key_total.antisymm (holder_key h) (holder_key one) ∙ ap ordering_reverse there ∙ sym (key_total.antisymm (holder_key h) (code, rule)) in
     ap₂ (λ r s. not (is_lt r) && not (is_lt s)) there back ∙ tied rule code h

@@ -1,24 +1,22 @@
 -- The rows of a table of codes in order.
-use Rattle.std.proofs.Common.{◌≡◌, ℕ, List, length, refl, ap}
+use Rattle.std.proofs.Common.{◌≡◌, ℕ, List, refl, ap}
 use Rattle.std.specs.Prelude.{filter}
 use Rattle.std.specs.Cmp.{IsTotalOrder}
 use Rattle.std.specs.Cmp.Lexicographic.{on_texts, slice_cmp}
 use Rattle.std.specs.Ordering.{is_lt, nat_cmp}
-use Rattle.std.proofs.lemmas.Cmp.{back_total, nat_cmp_total, nat_list_cmp_total, on_total, then_total}
+use Rattle.std.proofs.lemmas.Cmp.{back_total, nat_cmp_total, on_total, then_total}
 use Rattle.census_rows.specs.declared.row.Row.{Row}
 use Rattle.census_page_pieces.specs.Kinds.{period_told}
 use Rattle.census_page.specs.Holders.{having}
 use Rattle.census_page.specs.Options.{Options}
 use Rattle.census_page.specs.Pages.{at_most, chosen, is_code}
-use Rattle.census_page.specs.Sorting.{code_in, count_in, first_name, name_in, row_cmp, rule_in, shorter_cmp, sorted_by, sorted_rows}
+use Rattle.census_page.specs.Sorting.{code_in, count_in, first_name, name_in, row_cmp, rule_in, sorted_by, sorted_rows}
 use Rattle.census_page.specs.declared.holder.Holder.{Holder}
 use Rattle.census_page.specs.declared.options.Sort.{Sort}
 use Rattle.census_page.specs.declared.options.Sort.TheVariants as by
+use Rattle.life_shape.proofs.TextOrders.{shorter_total}
 
 -- # Each is an order
-
-shorter_total : IsTotalOrder shorter_cmp
-shorter_total = then_total (on_total (λ (text : List ℕ). length text) nat_cmp_total) nat_list_cmp_total
 
 pub row_total : (sort : Sort) (holders : List Holder) → IsTotalOrder (row_cmp sort holders)
 row_total by.Report holders = record { antisymm = λ x y. refl; trans = λ x y z one other. one; congr = λ x y z alike. refl }

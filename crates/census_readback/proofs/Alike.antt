@@ -135,7 +135,7 @@ next-same Before r q h = first-same r q h
 next-same (Within t) r q h = within-same t r q h
 next-same Behind r q h = refl
 
-collection-same : (r q : Row) → SameRow r q → collection_of r ≡ collection_of q
+pub collection-same : (r q : Row) → SameRow r q → collection_of r ≡ collection_of q
 collection-same (Open c n name) (Open c2 n2 name2) h = h.0
 collection-same (Line c i o name) (Line c2 i2 o2 name2) h = h.0
 collection-same (Part c i code k) (Part c2 i2 code2 k2) h = h.0
@@ -252,10 +252,10 @@ after-same t r q h =
 
 -- # Rows one after the other
 
-abbrev stepping : Told → ℕ → List Row → Option Reading → Option ℕ
+abbrev pub stepping : Told → ℕ → List Row → Option Reading → Option ℕ
 stepping u n rows o = elim o as (λ _. Option ℕ) [ Nothing ↦ Some n | Some t ↦ first_stray u t (n + 1) rows ]
 
-abbrev telling : Reading → ℕ → Row → List Row → Option Told → Option ℕ
+abbrev pub telling : Reading → ℕ → Row → List Row → Option Told → Option ℕ
 telling s n r rows o = elim o as (λ _. Option ℕ) [ Nothing ↦ Some n | Some u ↦ stepping u n rows (step s r) ]
 
 pub stray-same : (v : Told) (s : Reading) (n : ℕ) (xs ys : List Row) → SameRows xs ys → first_stray v s n xs ≡ first_stray v s n ys

@@ -4,19 +4,14 @@ use Rattle.std.specs.List.{position_or_len}
 use Rattle.std.specs.Prelude.{position}
 use Rattle.std.proofs.lemmas.Bool.{eqb-true, eqb-false}
 use Rattle.census_readback.specs.Texts.{HasNoFeed}
-
-one_more : (n : ℕ) (b : ℕ) (bs : List ℕ) → take (1 + n) (b ∷ bs) ≡ b ∷ take n bs
-one_more n b bs = let e : 1 + n ≡ suc n = omega arith in rw e refl
-
-one_less : (n : ℕ) (b : ℕ) (bs : List ℕ) → drop (1 + n) (b ∷ bs) ≡ drop n bs
-one_less n b bs = let e : 1 + n ≡ suc n = omega arith in rw e refl
+use Rattle.census_rows.proofs.Blanks.{drop-one_more, take-one_more}
 
 no-feed-before : (bs : List ℕ) → HasNoFeed (take (position_or_len (λ b. eqb b 10) bs) bs)
 no-feed-before [] = tt
 no-feed-before (b ∷ bs) =
     let cases : (v : Bool) → eqb b 10 ≡ v → HasNoFeed (take (cond (not v) (1 + position_or_len (λ b. eqb b 10) bs) 0) (b ∷ bs)) = λ v. elim v as (λ v. eqb b 10 ≡ v → HasNoFeed (take (cond (not v) (1 + position_or_len (λ b. eqb b 10) bs) 0) (b ∷ bs))) [
       | true ↦ λ e. tt
-      | false ↦ λ e. rw (one_more (position_or_len (λ b. eqb b 10) bs) b bs) (eqb-false b 10 e, no-feed-before bs)
+      | false ↦ λ e. rw (take-one_more (position_or_len (λ b. eqb b 10) bs) b bs) (eqb-false b 10 e, no-feed-before bs)
     ] in
     cases (eqb b 10) refl
 
@@ -31,7 +26,7 @@ feed-at (b ∷ bs) h =
     let cases : (v : Bool) → eqb b 10 ≡ v → ltb (cond (not v) (1 + n) 0) (suc (length bs)) ≡ true → BeginsFeed (drop (cond (not v) (1 + n) 0) (b ∷ bs)) =
     λ v. elim v as (λ v. eqb b 10 ≡ v → ltb (cond (not v) (1 + n) 0) (suc (length bs)) ≡ true → BeginsFeed (drop (cond (not v) (1 + n) 0) (b ∷ bs))) [
       | true ↦ λ e k. ap (λ w. w ∷ bs) (eqb-true b 10 e)
-      | false ↦ λ e k. rw (one_less n b bs) (feed-at bs (let less : ltb n (length bs) ≡ true = grind arith in less))
+      | false ↦ λ e k. rw (drop-one_more n b bs) (feed-at bs (let less : ltb n (length bs) ≡ true = grind arith in less))
     ] in
     cases (eqb b 10) refl h
 

@@ -8,6 +8,7 @@ use Rattle.census_rows.specs.Lines.{SameRow, row_text, line_of, text_of}
 use Rattle.census_rows.proofs.Texts.{text-append}
 use Rattle.census_readback.specs.Texts.{AllLines, Ends, IsLine, IsStuck, SameRows}
 use Rattle.census_readback.specs.Steps.{Reading, first_stray, initial_reading, step}
+use Rattle.census_readback.specs.Shapes.{all_rows}
 use Rattle.census_readback.specs.Told.{Told, nothing_told, told_after}
 use Rattle.census_readback.specs.Reports.{IsFault, ReadsAsReports}
 use Rattle.census_readback.proofs.Alike.{stray-same}
@@ -50,9 +51,13 @@ passed-whole text rest p stuck = (passed-end text rest p stuck, refl)
 
 -- ---- lists of rows
 
-lines-append : (xs ys : List Row) → AllLines xs → AllLines ys → AllLines (xs ++ ys)
+pub lines-append : (xs ys : List Row) → AllLines xs → AllLines ys → AllLines (xs ++ ys)
 lines-append [] ys h k = k
 lines-append (x ∷ xs) ys h k = (h.0, lines-append xs ys h.1 k)
+
+pub joined-append : (xs ys : List (List Row)) → all_rows (xs ++ ys) ≡ all_rows xs ++ all_rows ys
+joined-append [] ys = refl
+joined-append (x ∷ xs) ys = ap (λ z. x ++ z) (joined-append xs ys) ∙ sym (append_assoc x (all_rows xs) (all_rows ys))
 
 same-append : (xs ys zs ws : List Row) → SameRows xs ys → SameRows zs ws → SameRows (xs ++ zs) (ys ++ ws)
 same-append [] [] zs ws h k = k

@@ -1,19 +1,16 @@
 -- The rows of one text more.
-use Rattle.std.proofs.Common.{◌≡◌, ℕ, suc, ◌+◌, ◌<◌, ◌≤◌, List, [], ◌∷◌, ◌++◌, length, take, drop, get_or, refl, sym, ap, subst, ◌∙◌, append_assoc, append-nil, drop-cons, length-append, Option, Some, None, Result, Err, MatchResult, arith}
+use Rattle.std.proofs.Common.{◌≡◌, ℕ, suc, ◌+◌, ◌<◌, ◌≤◌, List, [], ◌∷◌, ◌++◌, length, take, drop, get_or, refl, sym, ap, subst, ◌∙◌, append-nil, drop-cons, length-append, Option, Some, None, Result, Err, MatchResult, arith}
 use Rattle.std.specs.Prelude.{MatchOption}
 use Rattle.std.specs.List.{AllZip}
 use Rattle.std.proofs.lemmas.List.{length-take, length-take-le, take-append-drop, take_more}
 use Rattle.census_rows.specs.declared.row.Row.{Row}
 use Rattle.census_readback.specs.Reports.{IsFault, ReadsAsReports}
 use Rattle.census_readback.specs.Shapes.{AreReports, AreWhole, all_rows}
+use Rattle.census_readback.proofs.Walks.{joined-append}
 use Rattle.census_reports.specs.Rows.{AreRowsOf, HasReportFault}
 
 pub rows_none : AreRowsOf [] []
 rows_none = record { parts = []; whole = refl; each = tt }
-
-joined-append : (xs ys : List (List Row)) → all_rows (xs ++ ys) ≡ all_rows xs ++ all_rows ys
-joined-append [] ys = refl
-joined-append (x ∷ xs) ys = ap (λ l. x ++ l) (joined-append xs ys) ∙ sym (append_assoc x (all_rows xs) (all_rows ys))
 
 zip_more : (parts : List (List Row)) (texts : List (List ℕ)) (own : List Row) (text : List ℕ) → AllZip ReadsAsReports parts texts → ReadsAsReports own text
     → AllZip ReadsAsReports (parts ++ own ∷ []) (texts ++ text ∷ [])

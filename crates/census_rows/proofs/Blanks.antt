@@ -14,18 +14,18 @@ use Rattle.census_rows.specs.Lines.{HasNoBlank, EndsField}
 abbrev is_blank : ℕ → Bool
 is_blank b = eqb b 32
 
-one_more : (n : ℕ) (b : ℕ) (bs : List ℕ) → take (1 + n) (b ∷ bs) ≡ b ∷ take n bs
-one_more n b bs = let e : 1 + n ≡ suc n = omega arith in rw e refl
+pub take-one_more : (n : ℕ) (b : ℕ) (bs : List ℕ) → take (1 + n) (b ∷ bs) ≡ b ∷ take n bs
+take-one_more n b bs = let e : 1 + n ≡ suc n = omega arith in rw e refl
 
-one_less : (n : ℕ) (b : ℕ) (bs : List ℕ) → drop (1 + n) (b ∷ bs) ≡ drop n bs
-one_less n b bs = let e : 1 + n ≡ suc n = omega arith in rw e refl
+pub drop-one_more : (n : ℕ) (b : ℕ) (bs : List ℕ) → drop (1 + n) (b ∷ bs) ≡ drop n bs
+drop-one_more n b bs = let e : 1 + n ≡ suc n = omega arith in rw e refl
 
 pub no-blank-before : (bs : List ℕ) → HasNoBlank (take (position_or_len (λ b. eqb b 32) bs) bs)
 no-blank-before [] = tt
 no-blank-before (b ∷ bs) =
     let cases : (v : Bool) → eqb b 32 ≡ v → HasNoBlank (take (cond (not v) (1 + position_or_len (λ b. eqb b 32) bs) 0) (b ∷ bs)) = λ v. elim v as (λ v. eqb b 32 ≡ v → HasNoBlank (take (cond (not v) (1 + position_or_len (λ b. eqb b 32) bs) 0) (b ∷ bs))) [
       | true ↦ λ e. tt
-      | false ↦ λ e. rw (one_more (position_or_len (λ b. eqb b 32) bs) b bs) (eqb-false b 32 e, no-blank-before bs)
+      | false ↦ λ e. rw (take-one_more (position_or_len (λ b. eqb b 32) bs) b bs) (eqb-false b 32 e, no-blank-before bs)
     ] in
     cases (eqb b 32) refl
 
@@ -34,7 +34,7 @@ blank-at [] = tt
 blank-at (b ∷ bs) =
     let cases : (v : Bool) → eqb b 32 ≡ v → EndsField (drop (cond (not v) (1 + position_or_len (λ b. eqb b 32) bs) 0) (b ∷ bs)) = λ v. elim v as (λ v. eqb b 32 ≡ v → EndsField (drop (cond (not v) (1 + position_or_len (λ b. eqb b 32) bs) 0) (b ∷ bs))) [
       | true ↦ λ e. eqb-true b 32 e
-      | false ↦ λ e. rw (one_less (position_or_len (λ b. eqb b 32) bs) b bs) (blank-at bs)
+      | false ↦ λ e. rw (drop-one_more (position_or_len (λ b. eqb b 32) bs) b bs) (blank-at bs)
     ] in
     cases (eqb b 32) refl
 

@@ -1,23 +1,17 @@
 -- Places that are put in the order of the keys of their patterns.
-use Rattle.std.proofs.Common.{◌≡◌, true, false, List, [], ◌∷◌, refl, sym, ap, ◌∙◌, map}
+use Rattle.std.proofs.Common.{◌≡◌, true, false, List, [], ◌∷◌, sym, ap, ◌∙◌, map}
 use Rattle.std.specs.Prelude.{filter}
 use Rattle.std.specs.List.{AllByRecursion}
-use Rattle.std.specs.Ordering.{is_gt, is_lt, ordering_reverse}
-use Rattle.std.specs.declared.cmp.Ordering.{Ordering}
-use Rattle.std.specs.declared.cmp.Ordering.TheVariants.{Less, Equal, Greater}
+use Rattle.std.specs.Ordering.{is_gt, is_lt}
+use Rattle.std.specs.declared.cmp.Ordering.TheVariants.{Equal}
 use Rattle.std.proofs.lemmas.List.Elements.{All-from_recursion}
 use Rattle.census_table.specs.Places.{Rises}
 use Rattle.census_table.specs.declared.place.Place.{Place}
-use Rattle.census_table.proofs.Ties.{filter-of}
+use Rattle.census_table.proofs.Ties.{filter-of, lt-back}
 use Rattle.census_same.specs.KeyLaws.{key_total}
 use Rattle.census_same.specs.Order.{Key, has_key, key_cmp, key_of, AreInOrder}
 use Rattle.census_same.specs.declared.told.Told.{Told}
 use Rattle.census_same.proofs.Keys.{has-key, key-itself}
-
-lt-back : (r : Ordering) → is_lt (ordering_reverse r) ≡ is_gt r
-lt-back Less = refl
-lt-back Equal = refl
-lt-back Greater = refl
 
 not-before : (x y : Key) → is_gt (key_cmp x y) ≡ false → is_lt (key_cmp y x) ≡ false
 not-before x y h = ap is_lt (key_total.antisymm y x) ∙ lt-back (key_cmp x y) ∙ h

@@ -2,7 +2,7 @@
 use Rattle.std.proofs.Common.{◌≡◌, ℕ, ◌+◌, ◌<◌, zero, suc, Bool, true, false, not, ◌&&◌, ◌||◌, eqb, if◌then◌else◌, List, [], ◌∷◌, length, refl, sym, ap, ap₂, ◌∙◌, subst, arith, true≢false, map}
 use Rattle.std.specs.Prelude.{filter, count_by, nat_eq, cond, reverse, slice_index_or}
 use Rattle.std.specs.Cmp.Lexicographic.{as_long, pointwise, slice_cmp, texts_ties}
-use Rattle.std.specs.Cmp.{both_tied, unsigned_tied, IsTotalOrder, IsEquivalence, IsStrictWeakOrder}
+use Rattle.std.specs.Cmp.{both_tied, unsigned_tied, IsTotalOrder, IsEquivalence, IsStrictWeakOrder, Equal-is}
 use Rattle.std.specs.List.{All, AllByRecursion, list_any, sum_by}
 use Rattle.std.specs.List.Sorted.{ties, IsPermutation, IsSorted, IsSortedBy}
 use Rattle.std.specs.Ordering.{eq_by_cmp, is_eq, is_gt, is_lt, nat_cmp, ordering_reverse, ordering_then}
@@ -319,12 +319,7 @@ module _ (told : Place → Object) where
       behind p (q ∷ qs) h = (h.0, behind p qs h.1)
 
   one-kind : (kind o p : Object) → same_kind kind o ≡ true → same_kind kind p ≡ true → kind_cmp o p ≡ Equal
-  one-kind kind o p a b = equal (kind_cmp o p) (sym (same_is o p) ∙ sym (same-alike kind o p a) ∙ b)
-    where
-      equal : (r : Ordering) → is_eq r ≡ true → r ≡ Equal
-      equal Less h = absurd (true≢false (sym h))
-      equal Equal h = refl
-      equal Greater h = absurd (true≢false (sym h))
+  one-kind kind o p a b = (Equal-is (kind_cmp o p)).0 (sym (same_is o p) ∙ sym (same-alike kind o p a) ∙ b)
 
   pub kind-level : (kind : Object) (p q : Place) → same_kind kind (told p) ≡ true → same_kind kind (told q) ≡ true → kind_cmp (told p) (told q) ≡ Equal
   kind-level kind p q = one-kind kind (told p) (told q)

@@ -179,7 +179,7 @@ module _ {X : Type 0} (cmp : X → X → Ordering) (total : IsTotalOrder cmp) wh
 
 -- ---- lists that do not fall
 
-lt-back : (r : Ordering) → is_lt (ordering_reverse r) ≡ is_gt r
+pub lt-back : (r : Ordering) → is_lt (ordering_reverse r) ≡ is_gt r
 lt-back Less = refl
 lt-back Equal = refl
 lt-back Greater = refl

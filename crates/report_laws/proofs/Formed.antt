@@ -25,13 +25,10 @@ use Rattle.life_answer.specs.declared.question.Question.{Question}
 use Rattle.life_answer.specs.declared.tale.Engines.{Engines}
 use Rattle.life_model.specs.Rule.{Rule}
 use Rattle.census_readback.proofs.Kept.{patterns-append}
+use Rattle.census_readback.proofs.Walks.{joined-append}
 use Rattle.report_laws.proofs.Counted.{codes-open-none, lines-open-none}
 use Rattle.report_laws.proofs.Rowed.{close_row, code_groups, counted_in, open_row, row_outcome, section-is}
 use Rattle.report_laws.proofs.Tallied.{section-tallied}
-
-joined-append : (xs ys : List (List Row)) → all_rows (xs ++ ys) ≡ all_rows xs ++ all_rows ys
-joined-append [] ys = refl
-joined-append (x ∷ xs) ys = ap (λ w. x ++ w) (joined-append xs ys) ∙ sym (append_assoc x (all_rows xs) (all_rows ys))
 
 -- ---- `line` lines and those after them
 

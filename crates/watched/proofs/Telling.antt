@@ -16,7 +16,7 @@ behind_whole a b c xs ys p q = (
 )
 
 -- a prefix of a text is one of a longer text
-front_before : (a b : Option (List ℕ)) (xs ys : List ℕ) → AppendsFront a b xs → AppendsFront a b (xs ++ ys)
+pub front_before : (a b : Option (List ℕ)) (xs ys : List ℕ) → AppendsFront a b xs → AppendsFront a b (xs ++ ys)
 front_before a b xs ys q =
     let within : q.0 ≤ length xs = q.1 in
     (q.0, omega (arith, length-append xs ys), subst (Appends a b) (sym (take-append-le q.0 xs ys within)) q.2)

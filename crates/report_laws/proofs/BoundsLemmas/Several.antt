@@ -1,10 +1,10 @@
 -- Several reports, read back as one text.
-use Rattle.std.proofs.Common.{◌≡◌, ℕ, ◌<◌, List, [], ◌∷◌, ◌++◌, length, refl, sym, ap, ◌∙◌, subst, arith, append_assoc, append-nil}
+use Rattle.std.proofs.Common.{ℕ, ◌<◌, List, [], ◌∷◌, ◌++◌, length, sym, ap, ◌∙◌, subst, arith, append-nil}
 use Rattle.census_bundle.specs.declared.bundle.Folder.{Folder}
 use Rattle.census_format.specs.Reports.{IsReport}
 use Rattle.census_readback.specs.Reports.{ReadsAsReports}
 use Rattle.census_readback.specs.Shapes.{AreReports, AreWhole, all_rows}
-use Rattle.census_readback.specs.Texts.{AllLines}
+use Rattle.census_readback.proofs.Walks.{joined-append, lines-append}
 use Rattle.census_rows.specs.Lines.{text_of}
 use Rattle.census_rows.specs.declared.row.Row.{Row}
 use Rattle.life_answer.specs.declared.question.Question.{Question}
@@ -13,14 +13,6 @@ use Rattle.census_rows.proofs.Texts.{text-append}
 use Rattle.report_laws.specs.Bounds.Merging.{AreMade}
 use Rattle.report_laws.specs.Joining.{AreBundles, EachIsReport, IsBundle, texts}
 use Rattle.report_laws.specs.Ranges.{Readable}
-
-lines-append : (xs ys : List Row) → AllLines xs → AllLines ys → AllLines (xs ++ ys)
-lines-append [] ys first second = second
-lines-append (x ∷ xs) ys first second = (first.0, lines-append xs ys first.1 second)
-
-joined-append : (xs ys : List (List Row)) → all_rows (xs ++ ys) ≡ all_rows xs ++ all_rows ys
-joined-append [] ys = refl
-joined-append (x ∷ xs) ys = ap (λ z. x ++ z) (joined-append xs ys) ∙ sym (append_assoc x (all_rows xs) (all_rows ys))
 
 whole-append : (xs ys : List (List Row)) → AreWhole xs → AreWhole ys → AreWhole (xs ++ ys)
 whole-append [] ys first second = second

@@ -1,7 +1,7 @@
 use Rattle.std.proofs.Common.{◌≡◌, ◌-◌, length, sym, ap, ◌∙◌, refl, arith}
 use Rattle.census_bundle.specs.declared.bundle.Folder.{Folder}
 use Rattle.census_bundle.specs.Growing.{last_entries}
-use Rattle.census_folders.proofs.Places.{last_entries-get_or}
+use Rattle.census_bundle.proofs.Growth.{last_entries-get_or}
 use Rattle.census_folders.proofs.loss.last_place.Goals as goal
 
 pub returns-in-len1-up : goal.returns-in-len1-up

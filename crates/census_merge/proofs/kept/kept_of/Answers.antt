@@ -1,6 +1,7 @@
 use Rattle.std.proofs.Common.{sym, ◌∙◌}
 use Rattle.census_readback.specs.Limits.{count_limit}
-use Rattle.census_merge.proofs.Counting.{gathers-more, gathers-same, of-at, of-high}
+use Rattle.census_readback.proofs.Sorted.{of-at}
+use Rattle.census_merge.proofs.Counting.{gathers-more, gathers-same, of-high}
 use Rattle.census_merge.proofs.kept.kept_of.Goals as goal
 use Rattle.census_merge.proofs.kept.kept_of.Goals.{in-Some+in_ok-push, in_default}
 
