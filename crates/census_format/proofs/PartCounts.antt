@@ -20,6 +20,7 @@ use Rattle.life_answer.specs.declared.part.Part.{Part}
 use Rattle.life_answer.specs.declared.question.Question.TheVariants as question
 use Rattle.life_answer.specs.declared.tale.Engines.{Engines}
 use Rattle.life_answer.proofs.Growing.{growing-else}
+use Rattle.life_answer.proofs.Texts.{same_finding}
 use Rattle.life_model.specs.Evolution.{generation}
 use Rattle.life_model.specs.Generation.{Generation}
 use Rattle.life_model.specs.Rule.{Rule}
@@ -50,9 +51,6 @@ module _ (onset period : ℕ) (dx dy : ℤ) (code : List ℕ) where
 
   recurs_no_growth : (lines : List Engines) → Recurs onset period dx dy code ≡ Grows lines → ⊥
   recurs_no_growth lines e = cc
-
-  same_finding : (r s : Rule) (f g : Finding) → Found r f ≡ Found s g → f ≡ g
-  same_finding r s f g e = cc
 
   answer_apart : (bound : ℕ) (most : Option ℕ) (near : Bool) (horizon : ℕ) (rule : Rule) (finding : Finding) (r : Result Picture RleFault) → answer_to (question.Objects bound most near horizon) r ≡ Found rule finding
       → finding.outcome ≡ Recurs onset period dx dy code → ⊥

@@ -15,9 +15,9 @@ use Rattle.life_answer.specs.CountedTales.{counted_tales, engines_in, same_tale,
 use Rattle.life_answer.specs.declared.tale.Engines.{Engines}
 use Rattle.life_answer.specs.declared.tale.Tale.{Tale}
 use Rattle.life_answer.proofs.Permuted.{sum_by-map}
-use Rattle.life_cells.proofs.Sorted.{second_holds}
 use Rattle.life_answer.proofs.TaleCounts.{Line, Tally, below, count-cons, counted, counted-is, engines_of, found, found_line, line_found, none_found, once_more, pairs_rise, rising, tally_is, tally_of}
 use Rattle.life_answer.proofs.TaleOrders.{same_by_test, tale_exact, tale_total, test_by_same}
+use Rattle.life_model.proofs.Tests.{second_holds}
 
 pub counted-any_order : (ts us : List Tale) → IsPermutation ts us → counted_tales ts ≡ counted_tales us
 counted-any_order ts us order =

@@ -1,5 +1,5 @@
 -- What becomes of a set is its onset, period and displacement, where it settles, and none where it doesn't.
-use Rattle.std.proofs.Common.{◌≡◌, ℕ, zero, suc, ◌+◌, ◌-◌, ◌<◌, ◌≤◌, ◌⊎◌, inl, inr, Bool, true, false, cond, Decides, Option, Some, None, is_some, sym, refl, ap, subst, ◌∙◌, true≢false, ℤ, List, [], arith}
+use Rattle.std.proofs.Common.{◌≡◌, ℕ, zero, suc, ◌+◌, ◌-◌, ◌<◌, ◌≤◌, ◌⊎◌, inl, inr, Bool, true, false, cond, Decides, Option, Some, None, is_some, sym, refl, ap, subst, ◌∙◌, true≢false, ℤ, List, arith}
 use Rattle.std.proofs.lemmas.Slice.Eq.{slice_eq-Decides}
 use Rattle.std.proofs.lemmas.Bool.{cases_Bool, cases_lt}
 use Rattle.std.proofs.lemmas.Bool.Decides.{Decides-like}
@@ -7,12 +7,12 @@ use Rattle.life_model.specs.Cell.{origin, plus, opposite}
 use Rattle.life_model.specs.Rule.{Rule}
 use Rattle.life_model.specs.Generation.{Generation, cells, from_list, empty}
 use Rattle.life_model.specs.Evolution.{generation}
-use Rattle.life_model.specs.Symmetry.{normal, translate_of, corner, corner_of}
+use Rattle.life_model.specs.Symmetry.{normal, translate_of, corner}
 use Rattle.life_model.specs.Recurrence.{SettlesAt, Recurrence, Settles}
 use Rattle.life_model.proofs.Cells.{same_cell-is, pair}
-use Rattle.life_model.proofs.Generations.{from_list-cells, cells-from_list}
+use Rattle.life_model.proofs.Generations.{from_list-cells}
 use Rattle.life_model.proofs.Moves.{moved-empty}
-use Rattle.life_model.proofs.Recurrences.{shape, way, move_from_shape, settles_from_shape, recurs_from_shape, shape_from_move, shape_from_recurs, Settles-one, Settles-other_bound, onset-period-least}
+use Rattle.life_model.proofs.Recurrences.{shape, way, move_from_shape, settles_from_shape, recurs_from_shape, shape_from_move, shape_from_recurs, Settles-one, Settles-other_bound, onset-period-least, corner-empty}
 use Rattle.life_answer.specs.declared.finding.Outcome.TheVariants.{Recurs, Unresolved, Large, Ash}
 use Rattle.life_answer.specs.declared.part.Part.{Part}
 use Rattle.life_answer.specs.Recurrence.{same_shape, first_from, comes_again, first_return, first_onset}
@@ -95,10 +95,6 @@ is_none None e = refl
 is_none (Some n) e = absurd (true≢false e)
 
 -- ---- generations that come again
-
-corner-empty : corner empty ≡ origin
-unfolding corner
-corner-empty = ap corner_of (cells-from_list [] tt)
 
 module _ (R : Rule) (G : Generation) where
   comes_again-is : (g n : ℕ) → Decides (comes_again R G g n) (shape R G (g + n) ≡ shape R G g)

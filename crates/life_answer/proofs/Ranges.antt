@@ -144,7 +144,7 @@ module _ (R : Rule) where
 
 -- ---- answers
 
-wider : (h b : ℕ) (line : Engines) → h ≤ b → IsInRange h line → IsInRange b line
+pub wider : (h b : ℕ) (line : Engines) → h ≤ b → IsInRange h line → IsInRange b line
 wider h b line le range =
     let soon : line.tale.period ≤ h = range.soon in
     record {

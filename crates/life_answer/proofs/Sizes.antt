@@ -10,7 +10,7 @@ use Rattle.life_model.proofs.Generations.{size-cells, size-empty}
 use Rattle.life_model.proofs.Moves.{normal_decides}
 use Rattle.life_model.proofs.Objects.{turned-undone}
 use Rattle.life_model.proofs.Symmetries.{undone}
-use Rattle.life_growth.proofs.Sizes.{size-moved}
+use Rattle.life_model.proofs.Lists.{size-moved}
 
 at_most : (b : Bool) (n : ℕ) → cond b n (n + 1) ≤ n + 1
 at_most true n = omega arith

@@ -11,12 +11,12 @@ use Rattle.std.proofs.lemmas.List.Kept.{AllPairs-cons}
 use Rattle.std.proofs.lemmas.List.Sums.{sum_by-cons}
 use Rattle.std.proofs.lemmas.Option.{none-some, same_Some}
 use Rattle.life_objects.proofs.Lists.{AllPairs-nil, Contains-head, Contains-later, head_or_later}
-use Rattle.life_cells.proofs.Sorted.{first_holds, second_holds}
 use Rattle.life_answer.specs.CountedTales.{counted_tales, same_tale, tale_cmp, with_tale, with_tale_by_order}
 use Rattle.life_answer.specs.declared.tale.Engines.{Engines}
 use Rattle.life_answer.specs.declared.tale.Tale.{Tale}
 use Rattle.life_growth.proofs.FatesLemmas.Finding.{cases_Option}
 use Rattle.life_answer.proofs.TaleOrders.{same_by_test, tale_total, test_by_same}
+use Rattle.life_model.proofs.Tests.{first_holds, second_holds}
 
 abbrev pub Tally : Type 0
 Tally = finmap.FinMap tale_cmp ℕ

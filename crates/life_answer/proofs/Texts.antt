@@ -136,7 +136,7 @@ answer-numbered q text number e =
 
 -- ---- neither ash nor growth
 
-same_finding : (r s : Rule) (f g : Finding) → Found r f ≡ Found s g → f ≡ g
+pub same_finding : (r s : Rule) (f g : Finding) → Found r f ≡ Found s g → f ≡ g
 same_finding r s f g e = cc
 
 settled_no_growth : (R : Rule) (G : Generation) (r : Recurrence) (lines : List Engines) → recurrence_outcome R G r ≡ Grows lines → ⊥

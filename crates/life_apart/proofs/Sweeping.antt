@@ -1,16 +1,15 @@
 -- Sets of which any two stay apart for ever, band by band where they stay where they are.
-use Rattle.std.proofs.Common.{◌≡◌, ◌⊎◌, ℕ, ◌<◌, List, length, get_or, map}
+use Rattle.std.proofs.Common.{◌≡◌, ◌⊎◌, ℕ, ◌<◌, List, length, get_or}
 use Rattle.std.proofs.Common.{Bool, true, false, inl, inr, refl, sym, subst, ◌∙◌, true≢false, arith}
 use Rattle.std.specs.List.{All, AllPairs, Contains}
 use Rattle.std.specs.List.Sorted.{IsPermutation}
 use Rattle.std.proofs.lemmas.Bool.{cases_lt}
-use Rattle.std.proofs.lemmas.List.{get_or-map, length-map}
 use Rattle.std.proofs.lemmas.List.Sorted.{All-permutation, Contains-permutation}
 use Rattle.life_model.specs.Cell.{Cell, origin, same_cell}
 use Rattle.life_model.specs.Rule.{Rule}
 use Rattle.life_model.proofs.Cells.{same_cell-is}
 use Rattle.life_objects.specs.Apart.{AreApartForEver}
-use Rattle.life_objects.proofs.Lists.{AllPairs-map}
+use Rattle.life_objects.proofs.Lists.{AllPairs-map, AllPairs-unmap}
 use Rattle.life_objects.proofs.Times.{AreApartForEver-swap}
 use Rattle.life_orbit.specs.Course.{Course}
 use Rattle.life_orbit.proofs.Clearances.{apart_at_rest}
@@ -18,14 +17,6 @@ use Rattle.life_apart.specs.Sets.{IsCourseBy, sets_of}
 use Rattle.life_apart.specs.Spans.{AreApartInOrder, AreMoversApart, ArePlacesApart, AreSpans, HasSpans, IsPlacedIn}
 use Rattle.life_apart.specs.declared.span.Span.{Span}
 use Rattle.life_apart.proofs.Bands.{close_apart, far_or_close}
-
-AllPairs-unmap : {X Y : Type 0} (R : Y → Y → Type 0) (f : X → Y) (xs : List X) → AllPairs R (map f xs) →
-    AllPairs (λ x y. R (f x) (f y)) xs
-AllPairs-unmap R f xs all i j d before within =
-    let early : i < length xs = omega arith in
-    subst (λ y. R y (f (get_or xs j d))) (get_or-map f xs i d (f d) early)
-    (subst (R (get_or (map f xs) i (f d))) (get_or-map f xs j d (f d) within)
-    (all i j (f d) before (omega (arith, length-map xs f))))
 
 -- where any two sets stay apart for ever, so do those in two places
 pub places_apart : (R : Rule) (os : List Course) → AllPairs (AreApartForEver R) (sets_of os) → (i j : ℕ) → i < length os →

@@ -15,10 +15,10 @@ use Rattle.life_classes.proofs.Groups.{union_from_cells}
 use Rattle.life_orbit.specs.Course.{Course}
 use Rattle.life_apart.specs.Sets.{sets_of}
 
-abbrev same_places : Cell → Cell → Bool
+abbrev pub same_places : Cell → Cell → Bool
 same_places a b = int_eq a.0 b.0 && int_eq a.1 b.1
 
-same_places-is : (a b : Cell) → Decides (same_places a b) (a ≡ b)
+pub same_places-is : (a b : Cell) → Decides (same_places a b) (a ≡ b)
 same_places-is a b =
     Decides-like {P = (a.0 ≡ b.0) × (a.1 ≡ b.1)} {Q = a ≡ b} _ (λ e. pair e.0 e.1)
     (λ e. (ap (λ c. c.0) e, ap (λ c. c.1) e))

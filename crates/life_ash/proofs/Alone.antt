@@ -21,6 +21,7 @@ use Rattle.life_objects.specs.Union.{IsSubsetOf, generations, union, union_of}
 use Rattle.life_objects.specs.Whole.{StaysWhole}
 use Rattle.life_objects.proofs.Ashes.{IsAsh-later, object_of}
 use Rattle.life_objects.proofs.Distances.{near_itself}
+use Rattle.life_objects.proofs.DecidedLemmas.Kept.{Contains-map}
 use Rattle.life_objects.proofs.Members.{found_now, in_list_now}
 use Rattle.life_objects.proofs.OneList.{apart_from_rest, rest_of, with_rest}
 use Rattle.life_objects.proofs.Sides.{within_each_other}
@@ -36,7 +37,6 @@ use Rattle.life_apart.proofs.Loners.{in_others, in_set_or_others, together}
 use Rattle.life_ash.specs.Newcomers.{IsWholeIn}
 use Rattle.life_ash.specs.Parts.{IsEnd, ash_age_limit}
 use Rattle.life_ash.proofs.Finding.{of_some}
-use Rattle.life_ash.proofs.Lists.{Contains-map}
 use Rattle.life_ash.proofs.Places.{generation_within, itself_within, subset_within}
 
 -- a list has what its elements were made of

@@ -13,12 +13,12 @@ use Rattle.life_objects.specs.Union.{generations, union_of}
 use Rattle.life_objects.specs.Whole.{StaysWhole}
 use Rattle.life_objects.proofs.Cores.{core_of, part_around}
 use Rattle.life_objects.proofs.Lists.{AllPairs-map, AllPairs-weaker}
+use Rattle.life_objects.proofs.DecidedLemmas.Kept.{Contains-filter, Contains-map}
 use Rattle.life_orbit.specs.Course.{Course}
 use Rattle.life_ash.specs.Living.{has_cells}
 use Rattle.life_apart.specs.Sets.{sets_of}
 use Rattle.life_ash.specs.Parts.{AreEndsOfCourses, IsEnd, ash_age_limit}
 use Rattle.life_ash.proofs.Ends.{IsPartOfEnd, ash_of_ends, part_is_end}
-use Rattle.life_ash.proofs.Lists.{Contains-filter, Contains-map}
 use Rattle.life_ash.proofs.Survivors.{ends, some_by_test, test_by_some}
 
 module _ (R : Rule) (b : ℕ) (G : Generation) (Ls : List Generation) (whole : union_of Ls ≡ G)

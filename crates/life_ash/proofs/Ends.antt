@@ -13,6 +13,7 @@ use Rattle.life_objects.specs.Ash.{IsAsh, IsObject}
 use Rattle.life_objects.specs.Union.{union_of}
 use Rattle.life_objects.proofs.Ashes.{object_lives, object_of}
 use Rattle.life_objects.proofs.Distances.{disjoint_from_apart}
+use Rattle.life_objects.proofs.DecidedLemmas.Kept.{Contains-map}
 use Rattle.life_objects.proofs.Lists.{AllPairs-map, related_or_same}
 use Rattle.life_objects.proofs.Members.{found_now, in_list_now}
 use Rattle.life_objects.proofs.Sides.{within_each_other}
@@ -20,7 +21,6 @@ use Rattle.life_objects.proofs.Times.{AreApartForEver-swap}
 use Rattle.life_orbit.specs.Course.{Course}
 use Rattle.life_apart.specs.Sets.{sets_of}
 use Rattle.life_ash.specs.Parts.{AreEndsOfCourses, IsEnd, ash_age_limit}
-use Rattle.life_ash.proofs.Lists.{Contains-map}
 use Rattle.life_ash.proofs.Places.{subset_within}
 
 module _ (R : Rule) (b ago : ℕ) (G : Generation) (parts : List Generation) (ash : IsAsh R b G parts) where

@@ -7,9 +7,9 @@ use Rattle.life_model.specs.Generation.{Generation, cells, contains}
 use Rattle.life_cells.specs.Limits.{IsWithin}
 use Rattle.life_objects.specs.Union.{union_of}
 use Rattle.life_objects.proofs.Members.{in_list_now}
+use Rattle.life_objects.proofs.DecidedLemmas.Kept.{Contains-map}
 use Rattle.life_classes.specs.Tracking.{first_sets}
 use Rattle.life_classes.specs.declared.class.Class.{Class}
-use Rattle.life_ash.proofs.Lists.{Contains-map}
 use Rattle.life_ash.proofs.Places.{subset_within}
 
 -- the classes of a set stand where it may

@@ -1,9 +1,9 @@
 -- Orbits that are found one by one, each for a set, and looked at one by one.
-use Rattle.std.proofs.Common.{◌≡◌, ℕ, zero, suc, ◌+◌, ◌<◌, ◌≤◌, List, [], ◌∷◌, ◌++◌, ◌↔◌, length, get_or, inl, inr}
-use Rattle.std.proofs.Common.{refl, sym, ap, subst, ◌∙◌, arith}
+use Rattle.std.proofs.Common.{◌≡◌, ℕ, ◌+◌, ◌<◌, ◌≤◌, List, [], ◌∷◌, ◌++◌, ◌↔◌, length, get_or, inl, inr}
+use Rattle.std.proofs.Common.{sym, ap, subst, ◌∙◌, arith}
 use Rattle.std.specs.List.{All, AllPairs, Contains}
 use Rattle.std.proofs.lemmas.Bool.{cases_lt}
-use Rattle.std.proofs.lemmas.List.{get_or_default, length-append}
+use Rattle.std.proofs.lemmas.List.{get_or_append_left, get_or_default, length-append}
 use Rattle.std.proofs.lemmas.List.Elements.{All-contains_itself, All-filter, All-map, All-weaker}
 use Rattle.std.proofs.lemmas.List.Kept.{AllPairs-cons}
 use Rattle.life_model.specs.Rule.{Rule}
@@ -14,22 +14,11 @@ use Rattle.life_objects.specs.Union.{generations, union_of}
 use Rattle.life_objects.proofs.Lists.{AllPairs-tail}
 use Rattle.life_objects.proofs.Members.{in_list_now}
 use Rattle.life_orbit.specs.Course.{Course}
+use Rattle.life_orbit.proofs.Walking.{get_or-last}
 use Rattle.life_ash.specs.Living.{has_cells}
 use Rattle.life_ash.specs.Parts.{IsOnlyOne}
 use Rattle.life_ash.proofs.Places.{generation_within, itself_within, subset_within}
 use Rattle.life_ash.proofs.Survivors.{ends}
-
-get_or-last : {X : Type 0} (xs : List X) (x d : X) (k : ℕ) → k ≡ length xs → get_or (xs ++ x ∷ []) k d ≡ x
-get_or-last [] x d zero e = refl
-get_or-last [] x d (suc k) e = absurd (omega arith)
-get_or-last (y ∷ ys) x d zero e = absurd (omega arith)
-get_or-last (y ∷ ys) x d (suc k) e = get_or-last ys x d k (omega arith)
-
-get_or-early : {X : Type 0} (xs : List X) (x d : X) (k : ℕ) → k < length xs →
-    get_or (xs ++ x ∷ []) k d ≡ get_or xs k d
-get_or-early [] x d k h = absurd (omega arith)
-get_or-early (y ∷ ys) x d zero h = refl
-get_or-early (y ∷ ys) x d (suc k) h = get_or-early ys x d k (omega arith)
 
 -- one orbit more, for the next set
 pub only_more : (R : Rule) (b ago : ℕ) (Qs : List Generation) (os : List Course) (o : Course) →
@@ -38,7 +27,7 @@ pub only_more : (R : Rule) (b ago : ℕ) (Qs : List Generation) (os : List Cours
     k < length os + 1 → IsOnlyOne R b ago (get_or Qs k d) (get_or (os ++ o ∷ []) k e)
 only_more R b ago Qs os o so_far here k e d h =
     elim (cases_lt k (length os)) [
-      | inl before ↦ subst (IsOnlyOne R b ago (get_or Qs k d)) (sym (get_or-early os o e k before)) (so_far k e d before)
+      | inl before ↦ subst (IsOnlyOne R b ago (get_or Qs k d)) (sym (get_or_append_left os (o ∷ []) e k before)) (so_far k e d before)
       | inr after ↦
           let last : k ≡ length os = omega arith in
           subst (IsOnlyOne R b ago (get_or Qs k d)) (sym (get_or-last os o e k last))

@@ -13,11 +13,11 @@ use Rattle.life_objects.specs.Union.{generations}
 use Rattle.life_objects.proofs.Ashes.{IsAsh-later}
 use Rattle.life_objects.proofs.Lists.{AllPairs-weaker, Contains-head, Contains-later, head_or_later}
 use Rattle.life_objects.proofs.OneList.{part_of_both}
+use Rattle.life_objects.proofs.DecidedLemmas.Kept.{Contains-map}
 use Rattle.life_orbit.specs.Course.{Course}
 use Rattle.life_apart.specs.Sets.{sets_of}
 use Rattle.life_ash.specs.Parts.{AreEndsOfCourses, IsEnd, ash_age_limit}
 use Rattle.life_ash.proofs.Ends.{IsPartOfEnd, ash_of_ends, part_is_end}
-use Rattle.life_ash.proofs.Lists.{Contains-map}
 
 -- a later generation is one of a set of the list
 set_of_later : (R : Rule) (n : ℕ) (Ps : List Generation) (Q : Generation) → Contains (generations R Ps n) Q →

@@ -13,8 +13,8 @@ use Rattle.life_cells.proofs.Sorted.{empty_from_cells, cells_of_empty}
 use Rattle.life_objects.specs.Union.{generations}
 use Rattle.life_objects.proofs.Lists.{AllPairs-nil, AllPairs-map}
 use Rattle.life_objects.proofs.Staying.{NotBothLive}
+use Rattle.life_objects.proofs.DecidedLemmas.Kept.{Contains-filter, Contains-map}
 use Rattle.life_ash.specs.Living.{has_cells}
-use Rattle.life_ash.proofs.Lists.{Contains-filter, Contains-map}
 
 some_length : {X : Type 0} (xs : List X) → not (length xs == 0) ≡ true → xs ≢ []
 some_length xs h e = true≢false (sym h ∙ ap (λ l. not (length l == 0)) e)

@@ -7,8 +7,8 @@ use Rattle.life_model.specs.Rule.{Rule}
 use Rattle.life_model.specs.Generation.{Generation, cells, size}
 use Rattle.life_model.specs.Evolution.{generation}
 use Rattle.life_model.proofs.Generations.{size-cells, size-empty}
+use Rattle.life_model.proofs.Lists.{size-moved}
 use Rattle.life_answer.proofs.Sizes.{size-from_list}
-use Rattle.life_growth.proofs.Sizes.{size-moved}
 use Rattle.life_objects.specs.Ash.{IsAsh}
 use Rattle.life_objects.specs.Drift.{multiple_of}
 use Rattle.life_objects.specs.Union.{generations, union, union_of}

@@ -1,34 +1,17 @@
 -- What a set was that comes again and again.
-use Rattle.std.proofs.Common.{◌≡◌, ℕ, ◌+◌, ◌-◌, ◌*◌, ◌/◌, ◌%◌, ◌<◌, ◌≤◌, sym, ap, subst, ◌∙◌, div-add-mod', mod-lt, arith}
+use Rattle.std.proofs.Common.{◌≡◌, ℕ, ◌+◌, ◌-◌, ◌/◌, ◌%◌, ◌≤◌, sym, ap, subst, ◌∙◌, arith}
 use Rattle.life_model.specs.Cell.{Cell, opposite}
 use Rattle.life_model.specs.Rule.{Rule}
 use Rattle.life_model.specs.Generation.{Generation}
 use Rattle.life_model.specs.Evolution.{generation}
 use Rattle.life_model.specs.Symmetry.{translate_of}
 use Rattle.life_model.specs.Recurrence.{RecursBy}
-use Rattle.life_model.proofs.Recurrences.{generation-add}
 use Rattle.life_objects.specs.Drift.{multiple_of}
-use Rattle.life_objects.proofs.Moving.{RecursBy-times}
-use Rattle.life_objects.proofs.Recurring.{RecursBy-later, RecursBy-sooner, moved_back}
+use Rattle.life_objects.proofs.Recurring.{RecursBy-later, RecursBy-sooner}
 use Rattle.life_objects.specs.Ash.{RecursWithin}
 use Rattle.life_orbit.specs.Course.{Course, IsCourse}
+use Rattle.life_orbit.proofs.Backwards.{moved_to_before, rounds_back}
 use Rattle.life_ash.specs.Parts.{IsEnd}
-
--- P becomes the set in b generations, and after k more it stands again
-pub moved_to_before : (R : Rule) (P : Generation) (p : ℕ) (d : Cell) → RecursBy R P p d → (b k m : ℕ) (set : Generation) →
-    b + k ≡ m * p → 1 ≤ m → generation R P b ≡ set → translate_of (generation R set k) (opposite (multiple_of m d)) ≡ P
-moved_to_before R P p d r b k m set e one end =
-    ap (λ H. translate_of (generation R H k) (opposite (multiple_of m d))) (sym end)
-    ∙ ap (λ H. translate_of H (opposite (multiple_of m d)))
-    (generation-add R P b k ∙ ap (generation R P) e ∙ (RecursBy-times R P p d r m one).again)
-    ∙ moved_back P (multiple_of m d)
-
--- how many whole periods reach back so far, and how far on it then is
-pub rounds_back : (n p : ℕ) → 1 ≤ n → 1 ≤ p → n + ((p - 1) - (n - 1) % p) ≡ ((n - 1) / p + 1) * p
-rounds_back n p one some =
-    let parts = div-add-mod' (n - 1) p in
-    let rest : (n - 1) % p < p = mod-lt (n - 1) some in
-    omega arith
 
 -- P becomes the set of an orbit, and recurs as this does
 module _ (o : Course) (P : Generation) (ago : ℕ) (one : 1 ≤ ago) (some : 1 ≤ o.period)

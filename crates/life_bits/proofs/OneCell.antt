@@ -35,7 +35,7 @@ pub bits_from_zero : (n x : ℕ) → n ≡ 0 → bit_at n x ≡ 0
 bits_from_zero n x is = ap (λ w. bit_at w x) is ∙ bit_at-zero x
 
 -- a list of zeros has no bit
-zero_in : (n y a : ℕ) → a ≡ 0 → get_or (replicate n a) y 0 ≡ 0
+pub zero_in : (n y a : ℕ) → a ≡ 0 → get_or (replicate n a) y 0 ≡ 0
 zero_in n y a is =
     ⊎_elim
     (λ inside. get_or-replicate n y a 0 inside ∙ is)

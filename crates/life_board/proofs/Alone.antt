@@ -1,9 +1,8 @@
 -- The rows of a tile with empty ones around it, and what becomes of them.
-use Rattle.std.proofs.Common.{◌≡◌, ℕ, ◌+◌, ◌*◌, ◌-◌, ◌<◌, ◌≤◌, ⊎_elim, replicate, length, get_or, slice_index, refl, sym, ap, ◌∙◌, arith}
+use Rattle.std.proofs.Common.{◌≡◌, ℕ, ◌+◌, ◌*◌, ◌-◌, ◌<◌, ◌≤◌, ⊎_elim, slice_index, refl, sym, ap, ◌∙◌, arith}
 use Rattle.std.specs.Int.{bit_at}
 use Rattle.std.proofs.lemmas.Bool.{cases_lt}
 use Rattle.std.proofs.lemmas.Nat.Bits.{bit_at-lt, bit_at-zero}
-use Rattle.std.proofs.lemmas.List.{get_or-replicate, get_or_past, length-replicate}
 use Rattle.life_model.specs.Rule.{Rule, born}
 use Rattle.life_bits.specs.declared.tile.Tile.{Tile}
 use Rattle.life_bits.specs.Bits.{wide_row, next_state}
@@ -11,18 +10,12 @@ use Rattle.life_bits.specs.Area.{Nine, area_row, area_cell, sum_around, next_in_
 use Rattle.life_bits.specs.Rows.{IsRowSumsOf}
 use Rattle.life_bits.specs.declared.row_sums.RowSums.{RowSums}
 use Rattle.life_bits.proofs.Joining.{area_first, area_second, area_third}
+use Rattle.life_bits.proofs.OneCell.{zero_in}
 use Rattle.life_slots.specs.Slots.{empty_tile}
 use Rattle.life_board.specs.Squares.{alone, around_in, IsVoidOutside}
 
-none_in : (n y a : ℕ) → a ≡ 0 → get_or (replicate n a) y 0 ≡ 0
-none_in n y a is =
-    ⊎_elim
-    (λ inside. get_or-replicate n y a 0 inside ∙ is)
-    (λ past. get_or_past (replicate n a) y 0 (let count : length (replicate n a) ≡ n = length-replicate n a in omega arith))
-    (cases_lt y n)
-
 pub empty_row : (y : ℕ) → slice_index empty_tile.rows y ≡ 0
-empty_row y = none_in 64 y 0 refl
+empty_row y = zero_in 64 y 0 refl
 
 -- a row of the tile
 pub row_is : (tile : Tile) (y : ℕ) → y < 64 → area_row (alone tile) (y + 64) ≡ wide_row 0 (slice_index tile.rows y) 0

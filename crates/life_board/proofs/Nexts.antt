@@ -11,6 +11,7 @@ use Rattle.life_model.proofs.Generations.{same_members}
 use Rattle.life_model.proofs.Near.{next_near}
 use Rattle.life_bits.specs.declared.tile.Tile.{Tile}
 use Rattle.life_cells.specs.Limits.{IsWithin}
+use Rattle.life_cells.proofs.Within.{within_near}
 use Rattle.life_bits.specs.Bits.{next_state}
 use Rattle.life_bits.specs.Area.{three_wide, area_cell, sum_around, tile_cell, next_in_area}
 use Rattle.life_bits.proofs.Strips.{strip_low, strip_middle, strip_high}
@@ -200,12 +201,4 @@ pub within_next : (rule : Rule) (G H : Generation) (age : ℕ) → H ≡ next ru
     (q : Cell) → contains H q ≡ true → IsWithin (age + 1) q
 within_next rule G H age is before q live =
     let near = next_near rule G q (sym (ap (λ (K : Generation). contains K q) is) ∙ live) in
-    one_more near.0 (before near.0 near.1) near.2
-  where
-    one_more : (g : Cell) → IsWithin age g → IsNear q g → IsWithin (age + 1) q
-    one_more g within near = record {
-      left = omega (arith, ints, within.left, near.left);
-      right = omega (arith, ints, within.right, near.right);
-      above = omega (arith, ints, within.above, near.above);
-      below = omega (arith, ints, within.below, near.below);
-    }
+    within_near age near.0 q (before near.0 near.1) near.2

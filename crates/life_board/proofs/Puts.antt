@@ -1,6 +1,7 @@
 -- Cells put into a square one after another.
 use Rattle.std.proofs.Common.{◌≡◌, ◌≢◌, ℕ, ℤ, pos, ◌+ℤ◌, ◌<◌, ⊎_elim, ◌⊎◌, inl, inr, Bool, true, false, ◌||◌, [], refl, sym, subst, ap, ◌∙◌, ◌≤◌, ◌+◌, min, max, List, slice_index, arith}
 use Rattle.std.proofs.lemmas.Bool.{cases_eq}
+use Rattle.std.specs.Cmp.{both_ways}
 use Rattle.life_model.specs.Cell.{Cell, same_cell}
 use Rattle.life_model.specs.Generation.{Generation, contains, empty, from_list, insert}
 use Rattle.life_model.proofs.Generations.{same_members, contains-insert, contains-empty}
@@ -17,11 +18,6 @@ use Rattle.life_cells.specs.Limits.{IsWithin}
 use Rattle.life_board.specs.Squares.{shown, IsVoidOutside}
 use Rattle.life_board.proofs.Alone.{empty_row}
 use Rattle.life_board.proofs.States.{live_at, is_live}
-
-both_ways : (a b : Bool) → (a ≡ true → b ≡ true) → (b ≡ true → a ≡ true) → a ≡ b
-both_ways true b there back = sym (there refl)
-both_ways false true there back = back refl
-both_ways false false there back = refl
 
 -- no cell is live in the empty tile
 pub shown_none : (left top : ℤ) (tile : Tile) → tile ≡ empty_tile → (q : Cell) → contains (shown left top tile) q ≡ true → ⊥

@@ -4,3 +4,4 @@ pub mod Sorted
 pub mod PrintLemmas
 pub mod Corners
 pub mod Readings
+pub mod Within

@@ -14,6 +14,7 @@ use Rattle.std.proofs.lemmas.Map.Keys.{sorted_from_all_adjacent}
 use Rattle.std.proofs.lemmas.Bool.Decides.{nat_tests, same_from_decides, Decides-like, Decides-and, Decides-int_eq}
 use Rattle.life_model.proofs.Cells.{pair, cell_cmp_total, same_cell-is}
 use Rattle.life_model.proofs.Generations.{same_members, cells-from_list, from_list-cells, contains-from_list}
+use Rattle.life_model.proofs.Tests.{first_holds, second_holds}
 use Rattle.life_model.specs.Cell.{Cell, cell_cmp, same_cell}
 use Rattle.life_model.specs.Generation.{Generation, below_all, cells, empty, from_list, is_rising}
 
@@ -73,15 +74,6 @@ module _ (sorted : List Cell) (left : List Cell) (filtered : IsFiltered (Differs
 
   pub left_all : (P : Cell → Type 0) → All P sorted → All P left
   left_all P all = subst (λ cs. All P cs) (sym left_is) (All-dedup same_pair P sorted all)
-
--- each of two that hold together
-pub first_holds : (a b : Bool) → T (a && b) → T a
-first_holds true b h = tt
-first_holds false b h = h
-
-pub second_holds : (a b : Bool) → T (a && b) → T b
-second_holds true b h = h
-second_holds false b h = absurd h
 
 is_less : (r : Ordering) → T (is_lt r) → r ≡ Less
 is_less Less h = refl

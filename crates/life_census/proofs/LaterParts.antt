@@ -8,10 +8,9 @@ use Rattle.life_objects.specs.Ash.{HasFallenApart, IsAsh}
 use Rattle.life_objects.specs.Onset.{IsAshOnset}
 use Rattle.life_objects.specs.Union.{generations}
 use Rattle.life_objects.proofs.Ashes.{IsAsh-until}
-use Rattle.life_objects.proofs.DecidedLemmas.Deciding.{none_if_no_ash}
 use Rattle.life_objects.proofs.DecidedLemmas.Lasting.{parts_found}
 use Rattle.life_answer.specs.Census.{ash_onset, census_found, census_of, counted_parts}
-use Rattle.life_answer.specs.declared.finding.Outcome.TheVariants.{Ash, Unresolved}
+use Rattle.life_answer.specs.declared.finding.Outcome.TheVariants.{Ash}
 use Rattle.life_answer.specs.declared.part.Part.{Part}
 use Rattle.life_answer.proofs.CountedSets.{counted_in_any_order}
 use Rattle.life_answer.proofs.Onsets.{onset_only}
@@ -45,7 +44,3 @@ module _ (near : Bool) (R : Rule) (b : ℕ) (G : Generation) where
   census_is_ash age sets by_then ash =
       let found = parts_found R b (generation R G b) (generations R sets (b - age)) (IsAsh-until R b age b G sets by_then ash) in
       (ash_onset R G b, counted_parts near R b found.0, ap (census_found near R b (ash_onset R G b)) found.1)
-
-  pub census_none : ((parts : List Generation) → HasFallenApart R b G parts → ⊥) → census_of near R G b ≡ Unresolved
-  unfolding census_of
-  census_none none = ap (census_found near R b (ash_onset R G b)) (none_if_no_ash R b (generation R G b) none)

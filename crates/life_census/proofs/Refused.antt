@@ -13,10 +13,10 @@ use Rattle.life_answer.specs.declared.finding.Outcome.TheVariants.{Unresolved}
 use Rattle.life_answer.specs.declared.question.Question.TheVariants.{Objects}
 use Rattle.life_answer.proofs.Growing.{allowed_within, outcome_by}
 use Rattle.life_answer.proofs.Told.{told_nothing}
+use Rattle.life_answer.proofs.Ashes.{census_none}
 use Rattle.life_ash.specs.Fates.{IsSmallEnough}
 use Rattle.life_census.specs.Grown.{NeverGrowsThen}
 use Rattle.life_census.proofs.Early.{never_sooner}
-use Rattle.life_census.proofs.LaterParts.{census_none}
 
 pub told_unresolved : (near : Bool) (R : Rule) (G : Generation) (limit : Option ℕ) (b horizon : ℕ) →
     IsSmallEnough R G b limit → ((parts : List Generation) → HasFallenApart R b G parts → ⊥) →

@@ -1,17 +1,13 @@
 -- At first each cell is a class of its own.
-use Rattle.std.proofs.Common.{◌≡◌, ℕ, true, ◌||◌, List, [], ◌∷◌, map, get_or, sym, refl, ap, ◌∙◌, arith}
-use Rattle.std.specs.List.{All, AllPairs}
-use Rattle.std.proofs.lemmas.List.{get_or_default}
+use Rattle.std.proofs.Common.{◌≡◌, ℕ, ◌||◌, List, [], ◌∷◌, map, sym, refl, ap, ◌∙◌, arith}
+use Rattle.std.specs.List.{AllPairs}
 use Rattle.std.proofs.lemmas.List.Elements.{All-map}
-use Rattle.std.proofs.lemmas.List.Folds.{list_any_at}
-use Rattle.life_model.specs.Cell.{Cell, same_cell}
+use Rattle.life_model.specs.Cell.{Cell}
 use Rattle.life_model.specs.Rule.{Rule}
 use Rattle.life_model.specs.Generation.{Generation, cells, contains, from_list}
 use Rattle.life_model.specs.Evolution.{generation}
-use Rattle.life_model.proofs.Cells.{same_cell-is}
-use Rattle.life_model.proofs.Generations.{contains-cells, contains-from_list, from_list-cells, same_members}
+use Rattle.life_model.proofs.Generations.{cells-contained, contains-from_list, contains-one, from_list-cells, same_members}
 use Rattle.life_model.proofs.Recurrences.{generation-zero}
-use Rattle.life_model.proofs.Tests.{or-false}
 use Rattle.life_objects.specs.Union.{union_of}
 use Rattle.life_objects.specs.Whole.{StaysWhole}
 use Rattle.life_objects.specs.Apart.{AreApartBefore}
@@ -20,23 +16,12 @@ use Rattle.life_objects.proofs.Unions.{contains-union}
 use Rattle.life_classes.specs.declared.class.Class.{Class}
 use Rattle.life_classes.specs.Tracking.{AreTracked, class_of_cell, first_sets}
 
-pub contains-one : (c q : Cell) → contains (from_list (c ∷ [])) q ≡ same_cell q c
-contains-one c q = contains-from_list (c ∷ []) q ∙ or-false (same_cell q c)
-
 all_together : (cs : List Cell) → union_of (first_sets (map class_of_cell cs)) ≡ from_list cs
 all_together [] = refl
 all_together (c ∷ cs) = same_members _ _ (λ q.
     contains-union (from_list (c ∷ [])) (union_of (first_sets (map class_of_cell cs))) q
     ∙ (λ i. contains-one c q i || (ap (λ H. contains H q) (all_together cs) ∙ contains-from_list cs q) i)
     ∙ sym (contains-from_list (c ∷ cs) q))
-
--- each listed cell is a member
-pub listed : (G : Generation) → All (λ c. contains G c ≡ true) (cells G)
-listed G k d h =
-    let c = get_or (cells G) k d in
-    contains-cells G c
-    ∙ list_any_at (same_cell c) (cells G) k c h
-    ((same_cell-is c (get_or (cells G) k c)).1 (get_or_default (cells G) k d c h))
 
 module _ (R : Rule) (b : ℕ) (G : Generation) where
   nothing_before : (cs : List Class) → AllPairs (λ c d. AreApartBefore R 0 c.first d.first) cs
@@ -46,7 +31,7 @@ module _ (R : Rule) (b : ℕ) (G : Generation) where
   alone_tracked = record {
     together = all_together (cells G) ∙ from_list-cells G;
     whole =
-        All-map (λ c. StaysWhole R b G c.first) class_of_cell (cells G) (λ k d h. cell_stays R b G _ (listed G k d h));
+        All-map (λ c. StaysWhole R b G c.first) class_of_cell (cells G) (λ k d h. cell_stays R b G _ (cells-contained G k d h));
     before = nothing_before (map class_of_cell (cells G));
     later =
         All-map (λ c. c.last ≡ generation R c.first 0) class_of_cell (cells G)

@@ -4,13 +4,13 @@ use Rattle.std.proofs.lemmas.Int.{ints}
 use Rattle.std.proofs.lemmas.List.{get_or_default}
 use Rattle.life_model.specs.Cell.{Cell, origin}
 use Rattle.life_model.specs.Generation.{cells, contains}
+use Rattle.life_model.proofs.Generations.{cells-contained}
 use Rattle.life_cells.specs.Limits.{IsPlace}
 use Rattle.life_classes.specs.declared.labels.Labelled.{Labelled}
 use Rattle.life_classes.specs.declared.tags.Tag.{Tag}
 use Rattle.life_classes.specs.Labels.{IsLabelOf, IsTagged}
 use Rattle.life_classes.specs.Nearness.{reaches}
 use Rattle.life_classes.specs.Tags.{HasNoneBeside, IsBeside, IsFrom, place_number}
-use Rattle.life_classes.proofs.Beginning.{listed}
 use Rattle.life_classes.proofs.Inherited.{stands_in}
 use Rattle.life_classes.proofs.Lookups.{either}
 use Rattle.life_classes.proofs.Numbers.{cell_by_number, near_by_number, number_at, place_at}
@@ -53,7 +53,7 @@ module _ (l : Labelled) (tagged : IsTagged l) (c : Cell) (placed : IsPlace c) (t
       let one : get_or (cells l.cells) place origin ≡ c =
       cell_by_number (get_or (cells l.cells) place origin) c (place_at l tagged place origin inside) placed
       (sym at ∙ ap (λ (s : Tag). s.number) (sym here) ∙ same ∙ is) in
-      subst (λ d. contains l.cells d ≡ true) one (listed l.cells place origin (omega arith))
+      subst (λ d. contains l.cells d ≡ true) one (cells-contained l.cells place origin (omega arith))
 
   pub some_beside : HasNoneBeside ts number → reaches 1 l.cells c ≡ true → ⊥
   some_beside has_none reached =
@@ -64,7 +64,7 @@ module _ (l : Labelled) (tagged : IsTagged l) (c : Cell) (placed : IsPlace c) (t
       let at = stands_in l.cells g one.1 in
       let k = at.0 in
       let count = tagged.count in
-      let listed = at.1 in
+      let cells-contained = at.1 in
       let inside : k < length l.tags.items = omega arith in
       let its : (get_or l.tags.items k t).number ≡ place_number g = number_at l tagged k t origin inside ∙ ap place_number at.2 in
       let left = one.2.left in

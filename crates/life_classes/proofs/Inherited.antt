@@ -6,7 +6,7 @@ use Rattle.std.proofs.lemmas.List.Folds.{Any-from_list_any}
 use Rattle.life_model.specs.Cell.{Cell, origin, same_cell}
 use Rattle.life_model.specs.Generation.{Generation, cells, contains, keep}
 use Rattle.life_model.proofs.Cells.{same_cell-is}
-use Rattle.life_model.proofs.Generations.{contains-cells, contains-keep}
+use Rattle.life_model.proofs.Generations.{cells-contained, contains-cells, contains-keep}
 use Rattle.life_objects.specs.Apart.{AreNear}
 use Rattle.life_objects.proofs.Distances.{AreNear-swap, near_through}
 use Rattle.life_objects.proofs.Sides.{within_each_other}
@@ -17,7 +17,6 @@ use Rattle.life_classes.specs.Forest.{root}
 use Rattle.life_classes.specs.Labels.{AreHeirs, AreLabelled, IsLabelOf, class_of_root, classes_by}
 use Rattle.life_classes.specs.Nearness.{reaches}
 use Rattle.life_classes.specs.Tracking.{AreApartNow, moved_on}
-use Rattle.life_classes.proofs.Beginning.{listed}
 use Rattle.life_classes.proofs.Chosen.{class_at, count_classes, in_root, of_root}
 use Rattle.life_classes.proofs.Forests.{root-le}
 use Rattle.life_classes.proofs.Joined.{set_of_root}
@@ -83,7 +82,7 @@ module _ (a old new : Labelled) (f : List ℕ) (before : AreLabelled old f) (aft
       let root_is : root f heir.label ≡ r = sym heir.same ∙ w.label tag in
       contains-keep H (reaches 1 P) c
       ∙ and_from (contains H c) (reaches 1 P c)
-      (subst (λ d. contains H d ≡ true) here (listed H w.place origin w.inside))
+      (subst (λ d. contains H d ≡ true) here (cells-contained H w.place origin w.inside))
       (subst (λ d. reaches 1 P d ≡ true) here
       (touching P (get_or (cells H) w.place origin) (get_or (cells old.cells) from.by origin)
       (subst (λ s. contains (set_of_root old f s) (get_or (cells old.cells) from.by origin) ≡ true) root_is

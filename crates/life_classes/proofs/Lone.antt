@@ -8,6 +8,7 @@ use Rattle.life_model.specs.Rule.{Rule}
 use Rattle.life_model.specs.Generation.{Generation, cells, contains, empty}
 use Rattle.life_model.specs.Evolution.{generation}
 use Rattle.life_model.proofs.Moves.{nothing_or_some}
+use Rattle.life_model.proofs.Generations.{cells-contained}
 use Rattle.life_objects.proofs.Sides.{within_each_other}
 use Rattle.life_objects.proofs.Times.{generation-empty}
 use Rattle.life_objects.proofs.Unions.{in_empty}
@@ -16,7 +17,6 @@ use Rattle.life_classes.specs.declared.tags.Tag.{Tag}
 use Rattle.life_classes.specs.Forest.{root}
 use Rattle.life_classes.specs.Labels.{AreLabelled, HasOneRoot, IsTagged, classes_by}
 use Rattle.life_classes.specs.Tracking.{after}
-use Rattle.life_classes.proofs.Beginning.{listed}
 use Rattle.life_classes.proofs.Chosen.{class_at, count_classes, in_root, of_root}
 use Rattle.life_classes.proofs.Inherited.{stands_in}
 use Rattle.life_classes.proofs.Joined.{set_of_root}
@@ -26,7 +26,7 @@ tag = record { number = pos 0; label = 0 }
 
 pub none_in_none : (G : Generation) → G ≡ empty → (k : ℕ) → k < length (cells G) → ⊥
 none_in_none G gone k h =
-    in_empty (get_or (cells G) k origin) (ap (λ H. contains H (get_or (cells G) k origin)) (sym gone) ∙ listed G k origin h)
+    in_empty (get_or (cells G) k origin) (ap (λ H. contains H (get_or (cells G) k origin)) (sym gone) ∙ cells-contained G k origin h)
 
 module _ (l : Labelled) (f : List ℕ) (tagged : IsTagged l) where
   pub none_of_none : l.cells ≡ empty → (r : ℕ) → set_of_root l f r ≡ empty
@@ -40,7 +40,7 @@ module _ (l : Labelled) (f : List ℕ) (tagged : IsTagged l) where
         within_each_other (set_of_root l f r) l.cells
         (λ c h.
         let w = in_root l f r c h in
-        subst (λ d. contains l.cells d ≡ true) (w.is origin) (listed l.cells w.place origin w.inside))
+        subst (λ d. contains l.cells d ≡ true) (w.is origin) (cells-contained l.cells w.place origin w.inside))
         (λ c h.
         let at = stands_in l.cells c h in
         let inside = at.1 in

@@ -1,6 +1,7 @@
 -- Of sets that are apart, which one a cell of the next generation comes from.
-use Rattle.std.proofs.Common.{◌≡◌, ◌<◌, Bool, true, false, ◌&&◌, List, [], ◌∷◌, inl, inr, sym, refl, ap, ◌∙◌}
-use Rattle.std.proofs.Common.{true≢false, arith}
+use Rattle.std.proofs.Common.{◌≡◌, ◌<◌, true, List, [], ◌∷◌, inl, inr, sym, ap, ◌∙◌}
+use Rattle.std.proofs.Common.{arith}
+use Rattle.std.proofs.lemmas.Bool.{and_from}
 use Rattle.std.specs.List.{AllPairs, Contains}
 use Rattle.life_model.specs.Cell.{Cell, IsNear}
 use Rattle.life_model.specs.Rule.{Rule}
@@ -12,10 +13,11 @@ use Rattle.life_objects.specs.Apart.{AreApart}
 use Rattle.life_objects.specs.Union.{union, union_of}
 use Rattle.life_objects.proofs.Alone.{next-union}
 use Rattle.life_objects.proofs.Distances.{apart_from_union_of, near_through}
+use Rattle.life_objects.proofs.DecidedLemmas.Tests.{both}
 use Rattle.life_objects.proofs.Lists.{AllPairs-head, AllPairs-tail, head_or_later}
-use Rattle.life_objects.proofs.Members.{in_list_now}
+use Rattle.life_objects.proofs.Members.{in_list_now, next_within}
 use Rattle.life_objects.proofs.Sides.{within_each_other}
-use Rattle.life_objects.proofs.Unions.{in_union, in_first, in_second}
+use Rattle.life_objects.proofs.Unions.{in_union}
 use Rattle.life_classes.specs.Nearness.{reaches}
 use Rattle.life_classes.proofs.Reached.{touched_by, touching}
 
@@ -49,26 +51,6 @@ module _ (R : Rule) where
         ]
       ]
 
-  pub next_within : (Ps : List Generation) → AllPairs AreApart Ps → (P : Generation) → Contains Ps P → (c : Cell) →
-      contains (next R P) c ≡ true → contains (next R (union_of Ps)) c ≡ true
-  next_within [] far P one c h = let none : one.0 < 0 = one.1 in absurd (omega arith)
-  next_within (Q ∷ Qs) far P one c h =
-      ap (λ H. contains H c) (step Q Qs far)
-      ∙ elim (head_or_later Q P Qs one.0 one.1 one.2) [
-        | inl same ↦ in_first (next R Q) (next R (union_of Qs)) c (ap (λ H. contains (next R H) c) same ∙ h)
-        | inr later ↦
-            in_second (next R Q) (next R (union_of Qs)) c
-            (next_within Qs (AllPairs-tail AreApart Q Qs far) P later c h)
-      ]
-
-  both : (a b : Bool) → (a && b) ≡ true → (a ≡ true) × (b ≡ true)
-  both true b h = (refl, h)
-  both false b h = absurd (true≢false (sym h))
-
-  together : (a b : Bool) → a ≡ true → b ≡ true → (a && b) ≡ true
-  together true b h k = k
-  together false b h k = h
-
   -- the next generation of one of the sets, from that of all
   pub next_by_touch : (Ps : List Generation) → AllPairs AreApart Ps → (P : Generation) → Contains Ps P →
       keep (next R (union_of Ps)) (reaches 1 P) ≡ next R P
@@ -82,5 +64,5 @@ module _ (R : Rule) where
       (λ c h.
       let g = next_near R P c h in
       contains-keep (next R (union_of Ps)) (reaches 1 P) c
-      ∙ together (contains (next R (union_of Ps)) c) (reaches 1 P c) (next_within Ps far P one c h)
+      ∙ and_from (contains (next R (union_of Ps)) c) (reaches 1 P c) (next_within R Ps far P one c h)
       (touching P c g.0 g.1 g.2))

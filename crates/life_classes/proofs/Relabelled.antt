@@ -10,7 +10,7 @@ use Rattle.std.proofs.lemmas.List.Elements.{All-from_recursion}
 use Rattle.life_model.specs.Cell.{Cell, cell_cmp, origin}
 use Rattle.life_model.specs.Generation.{Generation, cells, contains}
 use Rattle.life_model.proofs.Cells.{cell_cmp_total}
-use Rattle.life_model.proofs.Generations.{cells-rise}
+use Rattle.life_model.proofs.Generations.{cells-contained, cells-rise}
 use Rattle.life_cells.specs.Limits.{IsPlace}
 use Rattle.life_cells.proofs.Sorted.{sorted_from_rising}
 use Rattle.life_classes.specs.declared.labels.Labelled.{Labelled}
@@ -19,7 +19,6 @@ use Rattle.life_classes.specs.Forest.{root}
 use Rattle.life_classes.specs.Labels.{AreLabelled, IsTagged}
 use Rattle.life_classes.specs.Parted.{AreLabelsOr, HasLabel}
 use Rattle.life_classes.specs.Tags.{AreFrom, AreLess, place_number}
-use Rattle.life_classes.proofs.Beginning.{listed}
 use Rattle.life_classes.proofs.Chosen.{in_root, of_root}
 use Rattle.life_classes.proofs.Inherited.{stands_in}
 use Rattle.life_classes.proofs.Joined.{set_of_root}
@@ -149,7 +148,7 @@ module _ (new from : Labelled) (other : ℕ) (f : List ℕ) (tagged : IsTagged n
   pub is_kept : (r : ℕ) (c : Cell) → contains (set_of_root new f r) c ≡ true → contains new.cells c ≡ true
   is_kept r c h =
       let w = in_root new f r c h in
-      subst (λ d. contains new.cells d ≡ true) (w.is origin) (listed new.cells w.place origin w.inside)
+      subst (λ d. contains new.cells d ≡ true) (w.is origin) (cells-contained new.cells w.place origin w.inside)
 
   pub root_then : (r : ℕ) (c : Cell) → contains new.cells c ≡ true → contains (set_of_root from f r) c ≡ true →
       contains (set_of_root new f r) c ≡ true
@@ -169,7 +168,7 @@ module _ (new from : Labelled) (other : ℕ) (f : List ℕ) (tagged : IsTagged n
             (ap (root f) (sym (v.same tag) ∙ ap (λ k. (get_or from.tags.items k tag).label) one) ∙ w.label tag))
         | inr v ↦
             absurd (subst (λ d. contains from.cells d ≡ true → ⊥) at.2 v.0
-            (subst (λ d. contains from.cells d ≡ true) (w.is origin) (listed from.cells w.place origin w.inside)))
+            (subst (λ d. contains from.cells d ≡ true) (w.is origin) (cells-contained from.cells w.place origin w.inside)))
       ]
 
   pub other_then : (r : ℕ) (c : Cell) → contains new.cells c ≡ true → (contains from.cells c ≡ true → ⊥) →
@@ -183,7 +182,7 @@ module _ (new from : Labelled) (other : ℕ) (f : List ℕ) (tagged : IsTagged n
             let count_too = tagged_too.count in
             let within = v.inside in
             absurd (none (subst (λ d. contains from.cells d ≡ true) (v.is origin ∙ at.2)
-            (listed from.cells v.place origin (omega arith))))
+            (cells-contained from.cells v.place origin (omega arith))))
         | inr v ↦
             subst (λ d. contains (set_of_root new f r) d ≡ true) at.2
             (of_root new f r at.0 tag origin inside (omega arith) (ap (root f) v.1 ∙ is))

@@ -7,7 +7,7 @@ use Rattle.std.proofs.lemmas.List.Elements.{All-contains, All-from_recursion}
 use Rattle.life_model.specs.Cell.{Cell, cell_cmp, same_cell}
 use Rattle.life_model.specs.Generation.{Generation, cells, from_list}
 use Rattle.life_model.proofs.Cells.{cell_cmp_total, same_cell-is}
-use Rattle.life_model.proofs.Generations.{cells-rise, contains-cells, contains-from_list}
+use Rattle.life_model.proofs.Generations.{cells-rise, contains-cells, contains-from_list, contains-one}
 use Rattle.life_cells.proofs.Sorted.{sorted_from_rising}
 use Rattle.life_objects.specs.Apart.{AreApart}
 use Rattle.life_objects.specs.Union.{union}
@@ -17,11 +17,10 @@ use Rattle.life_objects.proofs.Unions.{in_first, in_union}
 use Rattle.life_classes.specs.declared.class.Class.{Class}
 use Rattle.life_classes.specs.Nearness.{lists_cell}
 use Rattle.life_classes.specs.Tracking.{LeadTo, class_of_cell}
-use Rattle.life_classes.proofs.Beginning.{contains-one}
-use Rattle.life_classes.proofs.Kept.{has-filter}
 use Rattle.life_classes.proofs.Leading.{lead_front, lead_joined, lead_same}
 use Rattle.life_classes.proofs.Lookups.{has_contains}
 use Rattle.life_classes.proofs.Merging.{halves_tracked, in_turn}
+use Rattle.life_plane.proofs.Later.{has-filter}
 
 abbrev singles : List Cell → List Class
 singles cs = map class_of_cell cs

@@ -1,8 +1,8 @@
 -- Cells that were there before and are near each other have one root, since no two classes were near each other before.
 use Rattle.std.proofs.Common.{◌≡◌, ℕ, ◌<◌, true, List, length, get_or, inl, inr, sym, refl, subst, ◌∙◌, arith}
-use Rattle.std.proofs.lemmas.Int.{ints}
-use Rattle.life_model.specs.Cell.{Cell, IsNear, origin}
+use Rattle.life_model.specs.Cell.{Cell, origin}
 use Rattle.life_model.specs.Generation.{cells, contains}
+use Rattle.life_model.proofs.Near.{near_itself}
 use Rattle.life_objects.proofs.Distances.{near_through}
 use Rattle.life_classes.specs.declared.labels.Labelled.{Labelled}
 use Rattle.life_classes.specs.declared.tags.Tag.{Tag}
@@ -15,14 +15,6 @@ use Rattle.life_classes.proofs.Forests.{root-le}
 use Rattle.life_classes.proofs.Inherited.{label_within, of_label, one_set, stands_in}
 use Rattle.life_classes.proofs.Joined.{set_of_root}
 use Rattle.life_classes.proofs.Level.{no_tag}
-
-near_itself : (c : Cell) → IsNear c c
-near_itself c = record {
-  left = omega (arith, ints);
-  right = omega (arith, ints);
-  above = omega (arith, ints);
-  below = omega (arith, ints);
-}
 
 module _ (a old new : Labelled) (f : List ℕ) (before : AreLabelled old f) (after : AreLabelled new f)
     (apart : AreApartNow (classes_by a old f))

@@ -4,6 +4,7 @@ use Rattle.std.proofs.lemmas.List.{get_or-map, length-map, same_lists}
 use Rattle.life_model.specs.Cell.{origin}
 use Rattle.life_model.specs.Generation.{Generation, cells, contains, from_list}
 use Rattle.life_model.proofs.Cells.{same_cell-is}
+use Rattle.life_model.proofs.Generations.{contains-one}
 use Rattle.life_objects.proofs.Sides.{within_each_other}
 use Rattle.life_classes.specs.declared.labels.Labelled.{Labelled}
 use Rattle.life_classes.specs.declared.tags.Tag.{Tag}
@@ -11,7 +12,6 @@ use Rattle.life_classes.specs.Forest.{root}
 use Rattle.life_classes.specs.Labels.{IsTagged, classes_by}
 use Rattle.life_classes.specs.Tags.{AreOwnLabels}
 use Rattle.life_classes.specs.Tracking.{class_of_cell}
-use Rattle.life_classes.proofs.Beginning.{contains-one}
 use Rattle.life_classes.proofs.Chosen.{class_at, count_classes, in_root, of_root}
 use Rattle.life_classes.proofs.Joined.{set_of_root}
 

@@ -13,6 +13,7 @@ use Rattle.life_objects.specs.Apart.{AreApart, AreApartBefore}
 use Rattle.life_objects.specs.Union.{union_of}
 use Rattle.life_objects.specs.Whole.{StaysWhole}
 use Rattle.life_objects.proofs.Distances.{AreNear-swap}
+use Rattle.life_objects.proofs.DecidedLemmas.Tests.{member_passes}
 use Rattle.life_objects.proofs.Lists.{AllPairs-map}
 use Rattle.life_objects.proofs.Members.{found_now, in_list_now}
 use Rattle.life_objects.proofs.Sides.{within_each_other}
@@ -32,7 +33,7 @@ use Rattle.life_classes.proofs.Later.{apart_until_now}
 use Rattle.life_classes.proofs.Lived.{firsts-after}
 use Rattle.life_classes.proofs.Merging.{led}
 use Rattle.life_classes.proofs.Owners.{next_by_touch}
-use Rattle.life_classes.proofs.Reached.{member_passes, reaching}
+use Rattle.life_classes.proofs.Reached.{reaching}
 use Rattle.life_classes.proofs.Taken.{root_within}
 
 abbrev tag : Tag

@@ -6,6 +6,7 @@ use Rattle.std.proofs.lemmas.List.{same_lists}
 use Rattle.std.proofs.lemmas.List.Edits.{get_or-remove_above, get_or-remove_below, length-remove}
 use Rattle.life_model.specs.Cell.{Cell, origin}
 use Rattle.life_model.specs.Generation.{Generation, cells, contains, empty}
+use Rattle.life_model.proofs.Generations.{cells-contained}
 use Rattle.life_objects.specs.Union.{IsSubsetOf}
 use Rattle.life_objects.proofs.Sides.{within_each_other}
 use Rattle.life_objects.proofs.Unions.{in_empty}
@@ -16,7 +17,6 @@ use Rattle.life_classes.specs.Forest.{root}
 use Rattle.life_classes.specs.Labels.{IsTagged, class_of_root, classes_by}
 use Rattle.life_classes.specs.Parted.{AreLabelsOr, AreOthers, IsRest}
 use Rattle.life_classes.specs.Tracking.{LeadTo}
-use Rattle.life_classes.proofs.Beginning.{listed}
 use Rattle.life_classes.proofs.Chosen.{class_at, count_classes, in_root}
 use Rattle.life_classes.proofs.Inherited.{stands_in}
 use Rattle.life_classes.proofs.Joined.{set_of_root}
@@ -35,7 +35,7 @@ module _ (l rest : Labelled) (f : List ℕ) (m : ℕ) (before : IsTagged l) (tag
   of_old : (c : Cell) → contains rest.cells c ≡ true → contains l.cells c ≡ true
   of_old c h =
       let w = others.sound c h in
-      subst (λ d. contains l.cells d ≡ true) (w.is origin) (listed l.cells w.place origin w.inside)
+      subst (λ d. contains l.cells d ≡ true) (w.is origin) (cells-contained l.cells w.place origin w.inside)
 
   not_of_main : (c : Cell) → contains rest.cells c ≡ true → contains (set_of_root l f m) c ≡ true → ⊥
   not_of_main c h k =
@@ -70,13 +70,13 @@ module _ (l rest : Labelled) (f : List ℕ) (m : ℕ) (before : IsTagged l) (tag
 
 pub kept_within : (P : Cell → Type 0) (G H : Generation) → IsSubsetOf H G → All P (cells G) → All P (cells H)
 kept_within P G H within all k d h =
-    let w = stands_in G (get_or (cells H) k d) (within (get_or (cells H) k d) (listed H k d h)) in
+    let w = stands_in G (get_or (cells H) k d) (within (get_or (cells H) k d) (cells-contained H k d h)) in
     subst P w.2 (all w.0 origin w.1)
 
 pub root_within : (l : Labelled) (f : List ℕ) (r : ℕ) → IsSubsetOf (set_of_root l f r) l.cells
 root_within l f r c h =
     let w = in_root l f r c h in
-    subst (λ d. contains l.cells d ≡ true) (w.is origin) (listed l.cells w.place origin w.inside)
+    subst (λ d. contains l.cells d ≡ true) (w.is origin) (cells-contained l.cells w.place origin w.inside)
 
 -- ---- the lists of classes
 

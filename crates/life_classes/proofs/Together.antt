@@ -5,6 +5,7 @@ use Rattle.std.proofs.lemmas.Bool.{cases_lt}
 use Rattle.std.proofs.lemmas.List.{append-nil, get_or_append_left, get_or_push, length_push, same_lists}
 use Rattle.life_model.specs.Cell.{Cell, origin}
 use Rattle.life_model.specs.Generation.{Generation, cells, contains}
+use Rattle.life_model.proofs.Generations.{cells-contained}
 use Rattle.life_objects.specs.Apart.{AreDisjoint}
 use Rattle.life_objects.specs.Union.{union}
 use Rattle.life_objects.proofs.Sides.{within_each_other}
@@ -16,7 +17,6 @@ use Rattle.life_classes.specs.Forest.{root}
 use Rattle.life_classes.specs.Labels.{AreLabelled, IsTagged, classes_by}
 use Rattle.life_classes.specs.Parted.{AreLabelsOr}
 use Rattle.life_classes.specs.Tracking.{LeadTo}
-use Rattle.life_classes.proofs.Beginning.{listed}
 use Rattle.life_classes.proofs.Chosen.{class_at, count_classes, in_root, of_root}
 use Rattle.life_classes.proofs.Forests.{by_steps, root-le, root-stays, root-up}
 use Rattle.life_classes.proofs.Inherited.{stands_in}
@@ -30,7 +30,7 @@ tag = record { number = pos 0; label = 0 }
 pub within_both : (P : Cell → Type 0) (G H : Generation) → All P (cells G) → All P (cells H) → All P (cells (union G H))
 within_both P G H first second k d h =
     let c = get_or (cells (union G H)) k d in
-    elim (in_union G H c (listed (union G H) k d h)) [
+    elim (in_union G H c (cells-contained (union G H) k d h)) [
       | inl here ↦ let w = stands_in G c here in subst P w.2 (first w.0 origin w.1)
       | inr here ↦ let w = stands_in H c here in subst P w.2 (second w.0 origin w.1)
     ]
@@ -109,7 +109,7 @@ module _ (f : List ℕ) where
           ])
           (λ c h.
           let w = in_root rest f r c h in
-          let here = subst (λ d. contains rest.cells d ≡ true) (w.is origin) (listed rest.cells w.place origin w.inside) in
+          let here = subst (λ d. contains rest.cells d ≡ true) (w.is origin) (cells-contained rest.cells w.place origin w.inside) in
           root_then new rest (length f) more tagged labelled.tagged labels r c
           (ap (λ H. contains H c) is ∙ in_second herd rest.cells c here) (rest_before r c h))
 

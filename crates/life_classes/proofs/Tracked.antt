@@ -1,13 +1,12 @@
 -- Classes that are followed stay so where their order changes, and where two of them that are near become one.
-use Rattle.std.proofs.Common.{◌≡◌, ℕ, ◌≤◌, Bool, true, false, ◌||◌, List, [], ◌∷◌, ◌++◌, get_or}
+use Rattle.std.proofs.Common.{◌≡◌, ℕ, ◌≤◌, List, [], ◌∷◌, ◌++◌, get_or}
 use Rattle.std.proofs.Common.{sym, refl, ap, subst, ◌∙◌, arith}
 use Rattle.std.specs.List.{All}
 use Rattle.std.proofs.lemmas.List.Elements.{All-head, All-tail, All-cons, All-map}
 use Rattle.std.proofs.lemmas.List.Kept.{AllPairs-cons}
 use Rattle.life_model.specs.Rule.{Rule}
-use Rattle.life_model.specs.Generation.{Generation, contains}
+use Rattle.life_model.specs.Generation.{Generation}
 use Rattle.life_model.specs.Evolution.{generation}
-use Rattle.life_model.proofs.Generations.{same_members}
 use Rattle.life_objects.specs.Apart.{AreApart, AreApartBefore}
 use Rattle.life_objects.specs.Union.{union, union_of}
 use Rattle.life_objects.specs.Whole.{StaysWhole}
@@ -15,32 +14,10 @@ use Rattle.life_objects.proofs.Distances.{AreApart-swap, apart_from_union}
 use Rattle.life_objects.proofs.Lists.{AllPairs-head, AllPairs-tail, AllPairs-map, Contains-head, Contains-later}
 use Rattle.life_objects.proofs.Staying.{meeting_stays}
 use Rattle.life_objects.proofs.Times.{generation-union}
-use Rattle.life_objects.proofs.Unions.{contains-union}
+use Rattle.life_objects.proofs.Unions.{union-assoc, union-swap}
 use Rattle.life_classes.specs.declared.class.Class.{Class}
 use Rattle.life_classes.specs.Tracking.{AreTracked, first_sets}
 use Rattle.life_objects.proofs.DecidedLemmas.Orders.{All-to_front, All-from_front, pairs_to_front, pairs_from_front}
-
-or-swap : (a b c : Bool) → (a || (b || c)) ≡ (b || (a || c))
-or-swap true true c = refl
-or-swap true false c = refl
-or-swap false true c = refl
-or-swap false false c = refl
-
-or-assoc : (a b c : Bool) → ((a || b) || c) ≡ (a || (b || c))
-or-assoc true b c = refl
-or-assoc false b c = refl
-
-pub union-swap : (P Q S : Generation) → union P (union Q S) ≡ union Q (union P S)
-union-swap P Q S = same_members _ _ (λ c.
-    contains-union P (union Q S) c ∙ ap (λ b. contains P c || b) (contains-union Q S c)
-    ∙ or-swap (contains P c) (contains Q c) (contains S c)
-    ∙ sym (contains-union Q (union P S) c ∙ ap (λ b. contains Q c || b) (contains-union P S c)))
-
-pub union-assoc : (P Q S : Generation) → union (union P Q) S ≡ union P (union Q S)
-union-assoc P Q S = same_members _ _ (λ c.
-    contains-union (union P Q) S c ∙ ap (λ b. b || contains S c) (contains-union P Q c)
-    ∙ or-assoc (contains P c) (contains Q c) (contains S c)
-    ∙ sym (contains-union P (union Q S) c ∙ ap (λ b. contains P c || b) (contains-union Q S c)))
 
 union-to_front : (c : Class) (cs ds : List Class) →
     union_of (first_sets (cs ++ (c ∷ ds))) ≡ union_of (first_sets (c ∷ (cs ++ ds)))

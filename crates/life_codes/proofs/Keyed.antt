@@ -1,23 +1,20 @@
 -- Keys as cells are marked in them, and the texts that their columns tell.
-use Rattle.std.proofs.Common.{◌≡◌, ◌≢◌, ℕ, zero, suc, ◌+◌, ◌-◌, ◌*◌, ◌/◌, ◌%◌, ◌^◌, ◌<◌, pos, ℤ, ◌-ℤ◌, Bool, true, false, ◌||◌, List, [], ◌∷◌, ◌++◌, map, length, get_or, ◌⊎◌, inl, inr, if◌then◌else◌, w32, take, subst, sym, refl, ap, ◌∙◌, arith}
+use Rattle.std.proofs.Common.{◌≡◌, ℕ, zero, suc, ◌+◌, ◌-◌, ◌*◌, ◌/◌, ◌%◌, ◌^◌, ◌<◌, pos, ◌-ℤ◌, Bool, true, false, List, [], ◌∷◌, ◌++◌, map, length, get_or, inl, inr, if◌then◌else◌, w32, take, subst, sym, refl, ap, ◌∙◌, arith}
 use Rattle.std.specs.Prelude.{nat_abs}
 use Rattle.std.specs.Int.{bit_at}
 use Rattle.std.specs.Int.Bits.{bit_or}
 use Rattle.std.specs.List.{range_with_len}
 use Rattle.std.proofs.Math.Pow.{pow-lt}
-use Rattle.std.proofs.lemmas.Bool.{or_right}
 use Rattle.std.proofs.lemmas.Bool.Decides.{eqb_tells}
 use Rattle.std.proofs.lemmas.Int.{ints}
 use Rattle.std.proofs.lemmas.List.{map-append, take_more}
-use Rattle.std.proofs.lemmas.List.Folds.{list_any-append}
 use Rattle.std.proofs.lemmas.Nat.{one_shl, or_lt, pow_pos, shr-shr}
 use Rattle.std.proofs.lemmas.Nat.Bits.{bit_at-zero, bit_at_set_same, bit_at_set_other}
-use Rattle.life_model.specs.Cell.{Cell, same_cell, origin}
+use Rattle.life_model.specs.Cell.{Cell, origin}
 use Rattle.life_model.specs.Generation.{from_list}
 use Rattle.life_model.specs.Symmetry.{normal, Orientation, Same, FlipX, FlipY, Half, Swap, SwapFlipX, SwapFlipY, SwapHalf, image_under}
-use Rattle.life_model.proofs.Cells.{same_cell-is}
+use Rattle.life_model.proofs.Cells.{cells_differ, same_cell-is}
 use Rattle.life_model.proofs.Objects.{then_turned, turned-turned}
-use Rattle.life_model.proofs.Tests.{or-false}
 use Rattle.life_shape.specs.Wechsler.{column_value, columns_text, digit, strip_text, strips_text, body}
 use Rattle.life_shape.proofs.Weights.{live_value}
 use Rattle.life_answer.specs.Apgcode.{turned_bodies}
@@ -29,18 +26,12 @@ use Rattle.life_lengths.specs.Words.{is_at}
 use Rattle.life_lengths.proofs.Bodies.{column-mirror, contains-normal_placed, framed_cells, strip_number}
 use Rattle.life_lengths.proofs.Framed.{Framed, framed_turned, range_ordered, width_framed}
 use Rattle.life_lengths.proofs.Written.{one_more}
+use Rattle.life_lengths.proofs.Rows.{at_last, not_at_last}
 
 -- ---- one cell after another
 
 pub nothing_in_key : (wide : ℕ) → IsKey 0 wide []
 nothing_in_key wide = record { bits = bit_at-zero; below = pow_pos (5 * wide) }
-
-apart : (a b : Cell) → a ≢ b → same_cell a b ≡ false
-apart a b h = elim (false_or (same_cell a b)) [ inl e ↦ e | inr e ↦ absurd (h ((same_cell-is a b).0 e)) ]
-  where
-    false_or : (t : Bool) → (t ≡ false) ⊎ (t ≡ true)
-    false_or true = inr refl
-    false_or false = inl refl
 
 module _ (key p r : ℕ) (ds : List Cell) (column : p < 5) (row : r < 5) where
   abbrev one : Cell
@@ -48,12 +39,6 @@ module _ (key p r : ℕ) (ds : List Cell) (column : p < 5) (row : r < 5) where
 
   abbrev marked : ℕ
   marked = bit_or key (1 * 2 ^ (5 * p + r) % 2 ^ 32)
-
-  there : (x : ℕ) (z : ℤ) → same_cell (pos x, z) one ≡ true → is_at (ds ++ one ∷ []) x z ≡ true
-  there x z e = list_any-append (same_cell (pos x, z)) ds (one ∷ []) ∙ (λ i. is_at ds x z || (e i || false)) ∙ or_right (is_at ds x z) true refl
-
-  not_there : (x : ℕ) (z : ℤ) → same_cell (pos x, z) one ≡ false → is_at (ds ++ one ∷ []) x z ≡ is_at ds x z
-  not_there x z e = list_any-append (same_cell (pos x, z)) ds (one ∷ []) ∙ (λ i. is_at ds x z || (e i || false)) ∙ or-false (is_at ds x z)
 
   bits_more : ((s : ℕ) → bit_at key s ≡ (if is_at ds (s / 5) (pos (s % 5)) then 1 else 0)) → (s : ℕ) → bit_at marked s ≡ (if is_at (ds ++ one ∷ []) (s / 5) (pos (s % 5)) then 1 else 0)
   bits_more held s =
@@ -65,11 +50,11 @@ module _ (key p r : ℕ) (ds : List Cell) (column : p < 5) (row : r < 5) where
             let down : s % 5 ≡ r = omega arith in
             let at : ◌≡◌ {A = Cell} (pos (s / 5), pos (s % 5)) one = λ i. (pos (across i), pos (down i)) in
             ap (bit_at marked) is ∙ bit_at_set_same w32 key spot (omega arith)
-            ∙ ap (λ t. if t then 1 else 0) (sym (there (s / 5) (pos (s % 5)) ((same_cell-is (pos (s / 5), pos (s % 5)) one).1 at)))
+            ∙ ap (λ t. if t then 1 else 0) (sym (at_last ds one (s / 5) (pos (s % 5)) ((same_cell-is (pos (s / 5), pos (s % 5)) one).1 at)))
         | inr e ↦
             let differ = e.1 in
             bit_at_set_other w32 key spot (omega arith) s differ ∙ held s
-            ∙ ap (λ t. if t then 1 else 0) (sym (not_there (s / 5) (pos (s % 5)) (apart (pos (s / 5), pos (s % 5)) one (λ l.
+            ∙ ap (λ t. if t then 1 else 0) (sym (not_at_last ds one (s / 5) (pos (s % 5)) (cells_differ (pos (s / 5), pos (s % 5)) one (λ l.
             let across : s / 5 ≡ p = let x = ap (λ q. q.0) l in omega (arith, ints) in
             let down : s % 5 ≡ r = let y = ap (λ q. q.1) l in omega (arith, ints) in
             differ (omega arith)))))

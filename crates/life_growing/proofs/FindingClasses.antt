@@ -1,16 +1,12 @@
 -- What lists of cells tell of sets, and what the classes of films tell of the cores of a track.
-use Rattle.std.proofs.Common.{◌≡◌, ◌&&◌, ℕ, ◌-◌, ◌<◌, ◌≤◌, Bool, true, List, [], ◌∷◌, get_or, length, sym, ap, subst, ◌∙◌, arith}
-use Rattle.std.specs.Bool.{Decides}
+use Rattle.std.proofs.Common.{◌≡◌, ℕ, ◌-◌, ◌<◌, ◌≤◌, Bool, true, List, [], ◌∷◌, get_or, length, sym, ap, subst, ◌∙◌, arith}
 use Rattle.std.specs.Cmp.Lexicographic.{pointwise, pointwise_decides}
 use Rattle.std.specs.List.{Contains}
-use Rattle.std.specs.Ordering.{int_eq}
-use Rattle.std.proofs.lemmas.Bool.Decides.{Decides-and, Decides-int_eq, Decides-like}
 use Rattle.std.proofs.lemmas.List.Elements.{Contains-get_or}
 use Rattle.life_model.specs.Cell.{Cell}
 use Rattle.life_model.specs.Evolution.{generation}
 use Rattle.life_model.specs.Generation.{Generation, cells, from_list}
 use Rattle.life_model.specs.Rule.{Rule}
-use Rattle.life_model.proofs.Cells.{pair}
 use Rattle.life_model.proofs.Generations.{from_list-cells}
 use Rattle.life_model.proofs.Recurrences.{generation-zero}
 use Rattle.life_objects.proofs.Lists.{Contains-head}
@@ -21,15 +17,7 @@ use Rattle.life_growth.proofs.Endless.{IsUnsplit-wider}
 use Rattle.life_tracks.specs.declared.frames.film.Film.{Film}
 use Rattle.life_tracks.specs.Frames.Frames.{IsFilm, classes_at}
 use Rattle.life_tracks.proofs.Classes.{class_is_unsplit}
-
-abbrev same_places : Cell → Cell → Bool
-same_places a b = int_eq a.0 b.0 && int_eq a.1 b.1
-
-same_places-is : (a b : Cell) → Decides (same_places a b) (a ≡ b)
-same_places-is a b =
-    Decides-like {P = (a.0 ≡ b.0) × (a.1 ≡ b.1)} {Q = a ≡ b} _ (λ e. pair e.0 e.1)
-    (λ e. (ap (λ c. c.0) e, ap (λ c. c.1) e))
-    (Decides-and _ _ (Decides-int_eq a.0 b.0) (Decides-int_eq a.1 b.1))
+use Rattle.life_apart.proofs.Together.{same_places, same_places-is}
 
 -- sets whose cells are told alike are one
 pub same_by_cells : (r : Bool) (cs ds : List Cell) (G H : Generation) → r ≡ pointwise same_places cs ds → r ≡ true →

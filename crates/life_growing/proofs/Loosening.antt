@@ -28,6 +28,7 @@ use Rattle.life_objects.proofs.DecidedLemmas.Kept.{Contains-filter}
 use Rattle.life_growth.proofs.EnginesLemmas.Classes.{are_classes}
 use Rattle.life_growth.proofs.FatesLemmas.Classes.{is_class, same_class}
 use Rattle.life_tracks.specs.Frames.Frames.{with_cells}
+use Rattle.life_tracks.proofs.FramesLemmas.Near.{has_cell, some_cell, union-with_cells}
 use Rattle.life_growth.specs.Engine.{FallsApart, IsEngineWithin}
 use Rattle.life_growth.specs.Growth.{IsGrowth}
 use Rattle.life_growth.specs.Unsplit.{AreClasses}
@@ -35,7 +36,7 @@ use Rattle.life_growth.proofs.OneGrowth.{IsPart-growth, cell_of, engine_of}
 use Rattle.life_growth.proofs.Parts.{IsPart, disjoint_now}
 use Rattle.life_growth.proofs.Settling.{settles_empty}
 use Rattle.life_growing.specs.Loose.{HasLoose, IsLoose}
-use Rattle.life_growing.proofs.PickingGrowth.{cell_in, classes_with_cells, has_cell, some_cell, union-with_cells}
+use Rattle.life_growing.proofs.PickingGrowth.{cell_in, classes_with_cells}
 
 module _ (R : Rule) (b : ℕ) (S C D : Generation) (settles : FallsApart R b S) (split : IsSplit R (2 * b) S C D) where
   abbrev G : Generation

@@ -1,22 +1,20 @@
 -- What is found is a growth, and where nothing is found there is none.
-use Rattle.std.proofs.Common.{◌≡◌, ◌≢◌, ◌==◌, ℕ, zero, suc, ◌*◌, ◌<◌, ◌≤◌, Bool, true, false, not, List, [], ◌∷◌, cond, get_or, length, inl, inr, sym, refl, ap, subst, ◌∙◌, true≢false, eq-eqb, eqb-true, arith}
+use Rattle.std.proofs.Common.{◌≡◌, ◌≢◌, ℕ, zero, suc, ◌*◌, ◌<◌, ◌≤◌, true, List, [], ◌∷◌, get_or, length, inl, inr, sym, refl, ap, subst, ◌∙◌, arith}
 use Rattle.std.specs.List.{All, AllPairs, Contains}
 use Rattle.std.proofs.lemmas.Bool.{cases_Bool}
 use Rattle.std.proofs.lemmas.List.Elements.{All-contains, All-contains_itself, All-filter, All-weaker, Contains-get_or, filter_passes}
 use Rattle.std.proofs.lemmas.List.Kept.{AllPairs-filter}
 use Rattle.std.proofs.lemmas.List.{get_or-map, get_or_default, length-map}
-use Rattle.life_model.specs.Generation.{Generation, cells, contains, empty, size}
+use Rattle.life_model.specs.Generation.{Generation, cells, contains, empty}
 use Rattle.life_model.specs.Rule.{Rule}
-use Rattle.life_model.proofs.Generations.{size-empty}
 use Rattle.life_objects.specs.Apart.{AreApartFor, AreApartForEver}
-use Rattle.life_objects.specs.Union.{union, union_of}
+use Rattle.life_objects.specs.Union.{union_of}
 use Rattle.life_objects.specs.Whole.{StaysWhole}
 use Rattle.life_objects.proofs.Lists.{Contains-head, Contains-later, head_or_later}
 use Rattle.life_objects.proofs.Members.{found_now, in_list_now}
 use Rattle.life_objects.proofs.Sides.{within_each_other}
-use Rattle.life_objects.proofs.Unions.{union-comm, union-empty}
 use Rattle.life_objects.proofs.DecidedLemmas.Kept.{Contains-filter, of_filter}
-use Rattle.life_growth.proofs.EnginesLemmas.Lists.{of_map}
+use Rattle.life_objects.proofs.IndependentLemmas.Found.{of_map}
 use Rattle.life_growth.specs.Engine.{IsEngineWithin}
 use Rattle.life_growth.specs.Growth.{IsGrowth}
 use Rattle.life_growth.specs.Things.{IsMadeOf}
@@ -25,7 +23,7 @@ use Rattle.life_growth.proofs.Things.{apart_by_things, things_by_apart}
 use Rattle.life_cells.specs.Limits.{IsWithin}
 use Rattle.life_ash.proofs.Places.{subset_within}
 use Rattle.life_tracks.specs.Frames.Frames.{with_cells}
-use Rattle.life_tracks.proofs.FramesLemmas.Near.{none_is_empty}
+use Rattle.life_tracks.proofs.FramesLemmas.Near.{has_cell, no_cell, some_cell, union-with_cells}
 use Rattle.life_growth.specs.Fates.Picked.{ArePicked}
 use Rattle.life_growth.proofs.FatesLemmas.Classes.{picked_growth}
 use Rattle.life_settled.specs.Settling.{IsSettling, Settling}
@@ -40,36 +38,10 @@ use Rattle.life_growing.proofs.PickingClasses.{engine_has_cell}
 
 -- ---- sets without a cell
 
-abbrev pub some_cell : Generation → Bool
-some_cell P = not (size P == 0)
-
-no_cell : (P : Generation) → some_cell P ≡ false → P ≡ empty
-no_cell P e = elim (cases_Bool (size P == 0)) [
-  | inl none ↦ none_is_empty P (eqb-true (size P) 0 none)
-  | inr some ↦ absurd (true≢false (sym (ap not some) ∙ e))
-]
-
-pub has_cell : (P : Generation) → some_cell P ≡ true → P ≢ empty
-has_cell P e gone = true≢false (sym e ∙ ap not (eq-eqb (size P) 0 (ap size gone ∙ size-empty)))
-
 pub cell_in : (P : Generation) → P ≢ empty → some_cell P ≡ true
 cell_in P some = elim (cases_Bool (some_cell P)) [
   | inl has ↦ has
   | inr none ↦ absurd (some (no_cell P none))
-]
-
-chosen : (b : Bool) (P : Generation) (Ps : List Generation) → some_cell P ≡ b →
-    with_cells (P ∷ Ps) ≡ cond b (P ∷ with_cells Ps) (with_cells Ps)
-chosen b P Ps e = ap (λ t. cond t (P ∷ with_cells Ps) (with_cells Ps)) e
-
--- what has no cell adds none
-pub union-with_cells : (Ps : List Generation) → union_of (with_cells Ps) ≡ union_of Ps
-union-with_cells [] = refl
-union-with_cells (P ∷ Ps) = elim (cases_Bool (some_cell P)) [
-  | inl some ↦ ap union_of (chosen true P Ps some) ∙ ap (union P) (union-with_cells Ps)
-  | inr none ↦
-      ap union_of (chosen false P Ps none) ∙ union-with_cells Ps ∙ sym (union-empty (union_of Ps))
-      ∙ union-comm (union_of Ps) empty ∙ ap (λ H. union H (union_of Ps)) (sym (no_cell P none))
 ]
 
 -- sets that no split tears, and that stay apart, are classes where they have a cell

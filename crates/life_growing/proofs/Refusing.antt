@@ -6,12 +6,12 @@ use Rattle.life_model.specs.Generation.{Generation, size}
 use Rattle.life_model.specs.Recurrence.{RecursBy}
 use Rattle.life_model.specs.Rule.{Rule}
 use Rattle.life_model.proofs.Recurrences.{generation-zero}
+use Rattle.life_model.proofs.Lists.{size-moved}
 use Rattle.life_objects.specs.Drift.{multiple_of}
 use Rattle.life_objects.proofs.Moving.{generation-times}
 use Rattle.life_orbit.specs.Course.{Course, IsCourse}
 use Rattle.life_growth.specs.Engine.{IsEngine, IsEngineWithin, Way}
 use Rattle.life_growth.proofs.Outgrowing.{outgrows_itself}
-use Rattle.life_growth.proofs.Sizes.{size-moved}
 use Rattle.life_growing.specs.Populations.{ArePopulations, FallsBack}
 
 module _ (R : Rule) (b : ℕ) (E : Generation) where

@@ -18,9 +18,10 @@ use Rattle.life_objects.proofs.Ashes.{IsAsh-bound}
 use Rattle.life_objects.proofs.Phases as phases
 use Rattle.life_objects.proofs.Phases.{turned-same}
 use Rattle.life_objects.proofs.OneList.{one_list}
+use Rattle.life_objects.proofs.Recurring.{RecursBy-moved}
 use Rattle.life_growth.specs.Engine.{joined}
 use Rattle.life_objects.specs.Kinds.{AreAlike, IsKind}
-use Rattle.life_growth.proofs.Settling.{RecursBy-moved, all_moved, settles_later, settles_moved}
+use Rattle.life_growth.proofs.Settling.{all_moved, settles_later, settles_moved}
 
 pub count_by-append : {X : Type 0} (p : X → Bool) (xs ys : List X) → count_by p (xs ++ ys) ≡ count_by p xs + count_by p ys
 count_by-append {X} p xs ys = sum_by-append (λ (x : X). cond (p x) 1 0) xs ys

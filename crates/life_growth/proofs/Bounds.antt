@@ -10,6 +10,7 @@ use Rattle.life_model.specs.Evolution.{generation}
 use Rattle.life_model.specs.Recurrence.{RecursBy}
 use Rattle.life_model.proofs.Generations.{size-empty}
 use Rattle.life_model.proofs.Recurrences.{generation-add}
+use Rattle.life_model.proofs.Lists.{size-moved}
 use Rattle.life_objects.specs.Apart.{AreApartForEver}
 use Rattle.life_objects.specs.Ash.{IsAsh, IsObject}
 use Rattle.life_objects.specs.Drift.{multiple_of}
@@ -21,7 +22,7 @@ use Rattle.life_objects.proofs.Times.{disjoint_ever, generation-empty, generatio
 use Rattle.life_growth.specs.Engine.{FallsApart}
 use Rattle.life_growth.specs.Population.{HasBound, HasNoBound}
 use Rattle.life_growth.proofs.Parts.{IsPart}
-use Rattle.life_growth.proofs.Sizes.{size-union, size-moved}
+use Rattle.life_growth.proofs.Sizes.{size-union}
 
 module _ (R : Rule) where
   -- how many cells the generations before the n-th have, counted together

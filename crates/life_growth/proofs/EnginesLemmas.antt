@@ -1,4 +1,3 @@
-pub mod Lists
 pub mod Classes
 pub mod Tracks
 pub mod Ways

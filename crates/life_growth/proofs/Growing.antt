@@ -1,9 +1,8 @@
 -- What becomes of an engine: its core, and what has left it, which grows beyond every bound.
-use Rattle.std.proofs.Common.{◌≡◌, ◌≢◌, ℕ, zero, suc, ◌+◌, ◌-◌, ◌*◌, ◌<◌, ◌≤◌, Bool, true, false, ◌||◌, List, [], ◌++◌, sym, refl, ap, subst, ◌∙◌, arith}
+use Rattle.std.proofs.Common.{◌≡◌, ◌≢◌, ℕ, zero, suc, ◌+◌, ◌-◌, ◌*◌, ◌<◌, ◌≤◌, List, [], ◌++◌, sym, ap, subst, ◌∙◌, arith}
 use Rattle.life_model.specs.Rule.{Rule}
 use Rattle.life_model.specs.Generation.{Generation, contains, empty, size}
 use Rattle.life_model.specs.Evolution.{next, generation}
-use Rattle.life_model.proofs.Generations.{same_members}
 use Rattle.life_model.proofs.Recurrences.{generation-add, generation-next, generation-zero}
 use Rattle.life_objects.specs.Apart.{AreApartForEver}
 use Rattle.life_objects.specs.Ash.{HasFallenApart}
@@ -11,7 +10,7 @@ use Rattle.life_objects.specs.Union.{generations, union}
 use Rattle.life_objects.proofs.Alone.{next-union}
 use Rattle.life_objects.proofs.Ashes.{AreApartForEver-later}
 use Rattle.life_objects.proofs.Times.{AreApartForEver-swap, generation-empty}
-use Rattle.life_objects.proofs.Unions.{contains-union, in_empty, union-comm, union-empty}
+use Rattle.life_objects.proofs.Unions.{in_empty, union-assoc, union-comm, union-empty}
 use Rattle.life_objects.specs.Piece.{LivesThrough}
 use Rattle.life_growth.specs.Engine.{Way}
 use Rattle.life_growth.specs.Onward.{accumulated}
@@ -22,16 +21,6 @@ use Rattle.life_growth.proofs.Endless.{GoesOn, GoesOn-from, emitting_times, from
 use Rattle.life_growth.proofs.Parts.{IsPart, apart_from_both, part_apart}
 use Rattle.life_growth.proofs.Settling.{lives_on, settles_empty, settles_next, settles_together}
 use Rattle.life_growth.proofs.Sizes.{some_size}
-
-or-assoc : (a b c : Bool) → ((a || b) || c) ≡ (a || (b || c))
-or-assoc true b c = refl
-or-assoc false b c = refl
-
-pub union-assoc : (P Q S : Generation) → union (union P Q) S ≡ union P (union Q S)
-union-assoc P Q S = same_members _ _ (λ c.
-    contains-union (union P Q) S c ∙ ap (λ x. x || contains S c) (contains-union P Q c)
-    ∙ or-assoc (contains P c) (contains Q c) (contains S c)
-    ∙ ap (λ x. contains P c || x) (sym (contains-union Q S c)) ∙ sym (contains-union P (union Q S) c))
 
 module _ (R : Rule) where
   pub generation-one : (P : Generation) → generation R P 1 ≡ next R P

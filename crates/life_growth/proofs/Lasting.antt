@@ -14,14 +14,14 @@ use Rattle.life_objects.proofs.Ashes.{AreApartForEver-later}
 use Rattle.life_objects.proofs.Lists.{AllPairs-head, AllPairs-nil, AllPairs-tail}
 use Rattle.life_objects.proofs.OneList.{apart_from_list}
 use Rattle.life_objects.proofs.Times.{AreApartForEver-swap, generation-empty, generation-union_ever}
-use Rattle.life_objects.proofs.Unions.{union-comm, union-empty}
+use Rattle.life_objects.proofs.Unions.{union-assoc, union-comm, union-empty}
 use Rattle.life_growth.specs.Engine.{FallsApart, IsEngine, IsEngineWithin, Way}
 use Rattle.life_growth.specs.Growth.{IsGrowth}
 use Rattle.life_growth.specs.Onward.{IsCoreAfter, IsDebrisAfter, debris_after, endless, onward}
 use Rattle.life_growth.specs.Told.{AreToldAlike}
 use Rattle.life_growth.proofs.Emitting.{IsEngine-wider, all_told_alike-wider, phases_are_told_alike, steady_ashes, steady_ashes-are}
 use Rattle.life_growth.proofs.Endless.{core_first, goes_on}
-use Rattle.life_growth.proofs.Growing.{apart_from_empty, becomes, core_apart, debris_settles, remains, union-assoc}
+use Rattle.life_growth.proofs.Growing.{apart_from_empty, becomes, core_apart, debris_settles, remains}
 use Rattle.life_growth.proofs.OneGrowth.{IsPart-list}
 use Rattle.life_growth.proofs.OneWay.{IsEngine-phase}
 use Rattle.life_growth.proofs.Parts.{IsPart, apart_part, both_apart, apart_from_both, part_apart}

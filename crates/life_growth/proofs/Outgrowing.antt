@@ -5,12 +5,12 @@ use Rattle.life_model.specs.Generation.{Generation, size}
 use Rattle.life_model.specs.Evolution.{generation}
 use Rattle.life_model.specs.Symmetry.{translate_of}
 use Rattle.life_model.proofs.Symmetries.{generation-moved}
+use Rattle.life_model.proofs.Lists.{size-moved}
 use Rattle.life_objects.specs.Piece.{LivesThrough}
 use Rattle.life_growth.specs.Engine.{IsEngine, Way}
 use Rattle.life_growth.specs.Onward.{endless}
 use Rattle.life_growth.proofs.Endless.{core_first, goes_on, left_first}
 use Rattle.life_growth.proofs.Growing.{more_than_core}
-use Rattle.life_growth.proofs.Sizes.{size-moved}
 
 module _ (R : Rule) (b : ℕ) (E : Generation) (way : Way) (engine : IsEngine R b E way) where
   -- the endless way begins with E, and after a period with E, moved

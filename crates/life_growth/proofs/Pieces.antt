@@ -20,12 +20,12 @@ use Rattle.life_objects.proofs.Lists.{AllPairs-map, AllPairs-nil, AllPairs-weake
 use Rattle.life_objects.proofs.Many.{next-union_of}
 use Rattle.life_objects.proofs.Moving.{AreApart-moved, union-moved}
 use Rattle.life_model.proofs.Symmetries.{next-moved}
-use Rattle.life_objects.proofs.Unions.{in_first, union-empty}
+use Rattle.life_objects.proofs.Unions.{in_first, union-assoc, union-empty}
 use Rattle.life_growth.specs.Engine.{IsEngine, Way}
 use Rattle.life_growth.specs.Onward.{AreNeverNear, IsNeverNear, LeavesCores, LeavesLefts, at_step, endless, accumulated}
 use Rattle.life_growth.specs.Unsplit.{Leaves}
 use Rattle.life_growth.proofs.Endless.{GoesOn, at_again, at_first, at_first_or_last, at_next, core_first, goes_on, left_first}
-use Rattle.life_growth.proofs.Growing.{becomes, core_apart, generation-one, left_part, union-assoc}
+use Rattle.life_growth.proofs.Growing.{becomes, core_apart, generation-one, left_part}
 use Rattle.life_growth.proofs.Parts.{IsPart, part_within, part_within_later}
 use Rattle.life_growth.proofs.Velocities.{core_then, left_then}
 

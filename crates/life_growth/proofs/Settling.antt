@@ -6,7 +6,6 @@ use Rattle.life_model.specs.Cell.{Cell, opposite}
 use Rattle.life_model.specs.Rule.{Rule}
 use Rattle.life_model.specs.Generation.{Generation, contains, empty}
 use Rattle.life_model.specs.Evolution.{generation, next}
-use Rattle.life_model.specs.Recurrence.{RecursBy}
 use Rattle.life_model.specs.Symmetry.{translate_of}
 use Rattle.life_model.proofs.Moves.{moved-empty, nothing_or_some}
 use Rattle.life_model.proofs.Recurrences.{generation-add, generation-next, generation-zero}
@@ -20,7 +19,7 @@ use Rattle.life_objects.proofs.Lists.{AllPairs-append, AllPairs-map, AllPairs-we
 use Rattle.life_objects.proofs.Members.{found_now}
 use Rattle.life_objects.proofs.Moving.{IsUndivided-moved, apart_moved_at, union-moved}
 use Rattle.life_objects.proofs.OneList.{apart_from_rest, in_whole, rest_of, with_rest}
-use Rattle.life_objects.proofs.Recurring.{RecursBy-unmoved, moved_back}
+use Rattle.life_objects.proofs.Recurring.{RecursBy-moved, moved_back}
 use Rattle.life_objects.proofs.Times.{generation-empty, generation-union_ever}
 use Rattle.life_objects.proofs.Unions.{in_empty, union_of-append}
 use Rattle.life_growth.specs.Engine.{FallsApart}
@@ -104,10 +103,6 @@ module _ (R : Rule) where
 
   -- ---- moves
 
-  pub RecursBy-moved : (P : Generation) (n : ℕ) (d e : Cell) → RecursBy R P n d → RecursBy R (translate_of P e) n d
-  RecursBy-moved P n d e r =
-      RecursBy-unmoved R (translate_of P e) n d (opposite e) (subst (λ H. RecursBy R H n d) (sym (moved_back P e)) r)
-
   pub AreApartForEver-moved : (d : Cell) (P Q : Generation) → AreApartForEver R P Q →
       AreApartForEver R (translate_of P d) (translate_of Q d)
   AreApartForEver-moved d P Q far n = apart_moved_at R n P Q d (far n)
@@ -123,7 +118,7 @@ module _ (R : Rule) where
       steps = object.recurs.steps;
       by = object.recurs.by;
       within = object.recurs.within;
-      recurs = RecursBy-moved P object.recurs.steps object.recurs.by d object.recurs.recurs;
+      recurs = RecursBy-moved R P object.recurs.steps object.recurs.by d object.recurs.recurs;
     };
     whole = λ n. subst (IsUndivided R b) (sym (generation-moved R P d n))
         (IsUndivided-moved R b (generation R P n) d (object.whole n));

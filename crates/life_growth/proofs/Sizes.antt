@@ -5,16 +5,14 @@ use Rattle.std.specs.List.Sorted.{IsPermutation}
 use Rattle.std.specs.Ordering.{is_lt}
 use Rattle.std.specs.Cmp as cmp
 use Rattle.std.proofs.lemmas.Bool.{or_cases, or_left, or_right}
-use Rattle.std.proofs.lemmas.List.{length-append, length-map}
+use Rattle.std.proofs.lemmas.List.{length-append}
 use Rattle.std.proofs.lemmas.List.Elements.{All-nil, All-cons, Contains-append_cases, Contains-append_left, Contains-append_right}
 use Rattle.std.proofs.lemmas.List.Kept.{AllPairs-cons}
 use Rattle.std.proofs.lemmas.List.Sorted.{length_permutation}
-use Rattle.life_model.specs.Cell.{Cell, cell_cmp, same_cell, plus}
+use Rattle.life_model.specs.Cell.{Cell, cell_cmp, same_cell}
 use Rattle.life_model.specs.Generation.{Generation, contains, empty, cells, size, below_all, is_rising}
-use Rattle.life_model.specs.Symmetry.{translate_of}
 use Rattle.life_model.proofs.Cells.{cell_cmp_total, same_cell-is}
 use Rattle.life_model.proofs.Generations.{cells-rise, contains-cells, size-cells}
-use Rattle.life_model.proofs.Lists.{cells-moved}
 use Rattle.life_model.proofs.Moves.{nothing_or_some}
 use Rattle.life_objects.specs.Apart.{AreDisjoint}
 use Rattle.life_objects.specs.Union.{union}
@@ -86,10 +84,6 @@ size-union P Q disjoint =
     ]) in
     size-cells (union P Q) ∙ sym (length_permutation (cells (union P Q)) (cells P ++ cells Q) order)
     ∙ length-append (cells P) (cells Q) ∙ (λ i. sym (size-cells P) i + sym (size-cells Q) i)
-
-pub size-moved : (G : Generation) (d : Cell) → size (translate_of G d) ≡ size G
-size-moved G d =
-    size-cells (translate_of G d) ∙ ap length (cells-moved G d) ∙ length-map (cells G) (λ c. plus c d) ∙ sym (size-cells G)
 
 pub some_size : (P : Generation) → P ≢ empty → 1 ≤ size P
 some_size P some =

@@ -10,7 +10,7 @@ use Rattle.life_model.specs.Evolution.{generation, next}
 use Rattle.life_model.specs.Recurrence.{RecursBy}
 use Rattle.life_model.specs.Symmetry.{translate_of}
 use Rattle.life_model.proofs.Cells.{pair}
-use Rattle.life_model.proofs.Moves.{moved-moved, moved-origin}
+use Rattle.life_model.proofs.Moves.{moved-moved, moved-origin, moved-plus_origin}
 use Rattle.life_model.proofs.Recurrences.{generation-add}
 use Rattle.life_model.proofs.Symmetries.{contains-moved, generation-moved}
 use Rattle.life_objects.specs.Apart.{AreApart, AreApartForEver}
@@ -21,7 +21,7 @@ use Rattle.life_objects.proofs.Unions.{in_union}
 use Rattle.life_objects.proofs.Ashes.{object_of}
 use Rattle.life_objects.proofs.Members.{found_in, found_now}
 use Rattle.life_objects.proofs.Many.{list_ever}
-use Rattle.life_objects.proofs.Moving.{AreApart-moved, generation-times, generation-wrapped}
+use Rattle.life_objects.proofs.Moving.{AreApart-moved, generation-wrapped, rounds_later}
 use Rattle.life_objects.proofs.Recurring.{moved_back}
 use Rattle.life_objects.proofs.OneList.{in_whole}
 use Rattle.life_objects.proofs.Distances.{AreNear-swap}
@@ -52,15 +52,10 @@ module _ (R : Rule) where
         (k : ℕ) → IsSubsetOf (translate_of (generation R part m) (multiple_of k e)) (generation R P ((a + m) + k * q))
     part_within_then part one q e m again k c h =
         let later : generation R part (k * q + m) ≡ translate_of (generation R part m) (multiple_of k e) =
-        sym (generation-add R part (k * q) m) ∙ ap (λ K. generation R K m) (generation-times R part q e again k)
-        ∙ generation-moved R part (multiple_of k e) m in
+        rounds_later R part q e again k m in
         ap (λ K. contains K c) (ap (generation R P) (let z : (a + m) + k * q ≡ a + (k * q + m) = omega arith in z)
         ∙ sym (generation-add R P a (k * q + m)))
         ∙ in_whole R b H parts ash part one (k * q + m) c (ap (λ K. contains K c) later ∙ h)
-
-    moved_none : (A : Generation) (d : Cell) → translate_of A (plus d origin) ≡ translate_of A d
-    moved_none A d =
-        ap (translate_of A) (let z : plus d origin ≡ d = pair (omega (arith, ints)) (omega (arith, ints)) in z)
 
     part_often : (part : Generation) → Contains parts part → (q : ℕ) (e : Cell) (m : ℕ) → RecursBy R part q e →
         (often : List ℕ) →
@@ -72,7 +67,7 @@ module _ (R : Rule) where
     part_often part one q e m again (k ∷ often) c h =
         ap (λ K. contains K c) (ap (generation R P) (let z : (a + m) + (k * q + 0) ≡ (a + m) + k * q = omega arith in z))
         ∙ part_within_then part one q e m again k c
-        (ap (λ K. contains K c) (sym (moved_none (generation R part m) (multiple_of k e))) ∙ h)
+        (ap (λ K. contains K c) (sym (moved-plus_origin (generation R part m) (multiple_of k e))) ∙ h)
 
     settled_each : (thing : Thing) → IsIts thing → (often : List ℕ) →
         IsSubsetOf (set_then thing often) (generation R P (time_then thing often))
@@ -112,7 +107,7 @@ module _ (R : Rule) where
                 inr (Q.0, Q.1, q, again.by, m % q, again.recurs, mod-lt m again.recurs.later, refl),
                 m / q ∷ [],
                 omega arith,
-                ap (λ K. contains K c) (moved_none (generation R Q.0 (m % q)) (multiple_of (m / q) again.by)
+                ap (λ K. contains K c) (moved-plus_origin (generation R Q.0 (m % q)) (multiple_of (m / q) again.by)
                     ∙ sym (generation-wrapped R Q.0 q again.by again.recurs m)) ∙ Q.2,
               )
         ]

@@ -7,6 +7,7 @@ use Rattle.life_model.specs.Cell.{Cell, IsNear}
 use Rattle.life_model.specs.Rule.{Rule, born}
 use Rattle.life_model.specs.Generation.{Generation, contains, empty}
 use Rattle.life_model.specs.Evolution.{count_at, generation, next}
+use Rattle.life_model.proofs.Near.{near_itself}
 use Rattle.life_objects.specs.Parts.Groups.{ColoursIslands, IsAround, IsFair, bears, in_group}
 use Rattle.life_objects.specs.Parts.Ties.{AreTied, bearing, meeting, swapped, through}
 use Rattle.life_objects.proofs.PartsLemmas.Around.{near_swapped, next-born}
@@ -15,7 +16,7 @@ use Rattle.life_islands.specs.declared.colours.Seat.{Seat}
 use Rattle.life_islands.specs.Seats.{AreAllSound, AreOfOne, AreSeats, IsBorneBy, IsColouring, IsFairAround, IsOf, IsSeatLink, bears_at, cell_at, count_colour, is_born_by, seat, set_at}
 use Rattle.life_islands.specs.Splits.{AreLaidOut, AreTiedWithin, IsLink, IsSettled}
 use Rattle.life_islands.proofs.Colouring.{count_to-alike}
-use Rattle.life_islands.proofs.Neighbours.{near_itself, seated}
+use Rattle.life_islands.proofs.Neighbours.{seated}
 use Rattle.life_islands.proofs.Placing.{both_in_place, placed}
 use Rattle.life_islands.proofs.Seated.{count-numbered, each_fair, first-found, first_below, near_cell, set_by_islands}
 

@@ -12,9 +12,6 @@ small (pos (suc (suc n))) h k = absurd (omega (arith, ints))
 small (negsuc zero) h k = inl refl
 small (negsuc (suc n)) h k = absurd (omega (arith, ints))
 
-pub near_itself : (c : Cell) → IsNear c c
-near_itself c = record { left = omega (arith, ints); right = omega (arith, ints); above = omega (arith, ints); below = omega (arith, ints) }
-
 -- a cell near a place other than it is one of the eight around
 pub seated : (x c : Cell) → IsNear c x → (c ≡ x → ⊥) → (n : ℕ) × (n < 8) × (cell_at x n ≡ c)
 seated x c near other =

@@ -3,9 +3,10 @@ use Rattle.std.proofs.Common.{◌≡◌, ◌≢◌, ℕ, zero, suc, pos, ◌+ℤ
 use Rattle.std.proofs.lemmas.Bool.{cases_eq}
 use Rattle.std.proofs.lemmas.Int.{ints}
 use Rattle.std.proofs.lemmas.List.{take_more}
-use Rattle.life_model.specs.Cell.{Cell, same_cell}
+use Rattle.std.specs.Cmp.{both_ways}
+use Rattle.life_model.specs.Cell.{Cell}
 use Rattle.life_model.specs.Generation.{Generation, contains, from_list, insert}
-use Rattle.life_model.proofs.Cells.{pair, same_cell-is}
+use Rattle.life_model.proofs.Cells.{cells_differ, pair, same_cell-is}
 use Rattle.life_model.proofs.Generations.{contains-insert, contains-empty}
 use Rattle.life_bits.specs.Flags.{as_bit}
 use Rattle.life_leaves.specs.Kernels.Rows.{state}
@@ -19,7 +20,7 @@ use Rattle.life_leaps.specs.Squares.{View, half, width, beyond, Shows, IsAt, IsK
 use Rattle.life_leaps.specs.Cells.{IsInside, IsListed}
 use Rattle.life_leaps.specs.Sites.{AreInside, IsPartOf, IsQuarterOf, corner}
 use Rattle.life_leaps.proofs.RowLemmas.{moved, made, from_made}
-use Rattle.life_leaps.proofs.CellLemmas.{Overlap, agree, both_ways, from_has, overlap, shows_none, to_has}
+use Rattle.life_leaps.proofs.CellLemmas.{Overlap, agree, from_has, overlap, shows_none, to_has}
 use Rattle.life_leaps.proofs.Growth.{forth}
 use Rattle.life_leaps.specs.Places.{empty_at}
 
@@ -37,14 +38,7 @@ inserted_here : (G : Generation) (c : Cell) → contains (insert G c) c ≡ true
 inserted_here G c = contains-insert G c c ∙ ap (λ b. b || contains G c) ((same_cell-is c c).1 refl)
 
 inserted_else : (G : Generation) (c q : Cell) → (q ≡ c → ⊥) → contains (insert G c) q ≡ contains G q
-inserted_else G c q other = contains-insert G c q ∙ ap (λ b. b || contains G q) (apart q c other)
-  where
-    apart : (a b : Cell) → (a ≡ b → ⊥) → same_cell a b ≡ false
-    apart a b other =
-        elim (same_cell a b) as (λ s. same_cell a b ≡ s → s ≡ false) [
-          | true ↦ λ is. absurd (other ((same_cell-is a b).0 is))
-          | false ↦ λ _. refl
-        ] refl
+inserted_else G c q other = contains-insert G c q ∙ ap (λ b. b || contains G q) (cells_differ q c other)
 
 pub leaf_none : (leaf : Leaf) (p : Cell) → ((x y : ℕ) → leaf_cell leaf x y ≡ 0) → ShowsLeaf leaf (from_list []) p
 leaf_none leaf p none = λ x y wide high. none x y ∙ sym (ap as_bit (contains-empty (beyond p x y)))

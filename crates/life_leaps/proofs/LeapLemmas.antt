@@ -1,13 +1,14 @@
 -- Leaps of a set that one square shows.
 use Rattle.std.proofs.Common.{◌≡◌, ℕ, zero, suc, ℤ, pos, negsuc, neg_ℤ, ◌+ℤ◌, ◌≤ℤ◌, ◌<ℤ◌, ◌+◌, ◌-◌, ◌*◌, ◌^◌, ◌%◌, ◌<◌, ◌≤◌, ◌⊎◌, inl, inr, ⊎_elim, min, true, false, sym, refl, subst, ap, ◌∙◌, arith}
 use Rattle.std.proofs.lemmas.Int.{ints}
-use Rattle.life_model.specs.Cell.{Cell, IsNear}
+use Rattle.life_model.specs.Cell.{Cell}
 use Rattle.life_model.specs.Rule.{Rule}
 use Rattle.life_model.specs.Generation.{Generation, contains, from_list, cells}
 use Rattle.life_model.specs.Evolution.{generation, next}
 use Rattle.life_model.proofs.Cells.{pair}
 use Rattle.life_model.proofs.Near.{next_near}
 use Rattle.life_cells.specs.Limits.{IsWithin}
+use Rattle.life_cells.proofs.Within.{within_near}
 use Rattle.life_leaps.specs.Planes.{farthest_age}
 use Rattle.life_slots.proofs.Orders.{true_or_false}
 use Rattle.life_leaps.specs.declared.leaping.Leaper.{Leaper}
@@ -37,15 +38,7 @@ same_cells v w kept extends n i at p =
 pub within_next : (rule : Rule) (G : Generation) (age : ℕ) → ((q : Cell) → contains G q ≡ true → IsWithin age q) → (q : Cell) → contains (next rule G) q ≡ true → IsWithin (suc age) q
 within_next rule G age before q live =
     let near = next_near rule G q live in
-    one_more near.0 (before near.0 near.1) near.2
-  where
-    one_more : (g : Cell) → IsWithin age g → IsNear q g → IsWithin (suc age) q
-    one_more g within near = record {
-      left = omega (arith, ints, within.left, near.left);
-      right = omega (arith, ints, within.right, near.right);
-      above = omega (arith, ints, within.above, near.above);
-      below = omega (arith, ints, within.below, near.below);
-    }
+    subst (λ a. IsWithin a q) (let e : age + 1 ≡ suc age = omega arith in e) (within_near age near.0 q (before near.0 near.1) near.2)
 
 pub within_generation : (rule : Rule) (G : Generation) (age t : ℕ) → ((q : Cell) → contains G q ≡ true → IsWithin age q) →
     (q : Cell) → contains (generation rule G t) q ≡ true → IsWithin (t + age) q

@@ -2,6 +2,7 @@
 use Rattle.std.proofs.Common.{◌≡◌, ℕ, suc, ℤ, pos, ◌+ℤ◌, ◌+◌, ◌^◌, ◌<◌, ◌≤◌, ⊎_elim, Bool, true, false, ◌||◌, List, ◌++◌, reverse, slice_index, sym, refl, subst, ap, ◌∙◌, arith, add-one}
 use Rattle.std.specs.Int.{bit_at}
 use Rattle.std.specs.List.{list_any}
+use Rattle.std.specs.Cmp.{both_ways}
 use Rattle.std.proofs.lemmas.List.Folds.{list_any-append}
 use Rattle.std.proofs.lemmas.Nat.Bits.{bit_at_above}
 use Rattle.std.proofs.lemmas.Int.{ints}
@@ -18,7 +19,7 @@ use Rattle.life_leaps.specs.Places.{empty_at}
 use Rattle.life_leaps.specs.Squares.{View, beyond, width, IsAt, IsKept}
 use Rattle.life_leaps.specs.Cells.{cells_of, rows_cells, IsInside, IsListed}
 use Rattle.life_leaps.proofs.Growth.{either}
-use Rattle.life_leaps.proofs.CellLemmas.{both_ways, cells_inside, from_has, one, shows_cells, shows_none}
+use Rattle.life_leaps.proofs.CellLemmas.{cells_inside, from_has, one, shows_cells, shows_none}
 use Rattle.life_leaps.proofs.BuildLemmas.{has_listed, listed_has}
 
 -- a row of 32 bits has no cell beyond them

@@ -1,9 +1,10 @@
 -- Words of 64 bits made of two halves, and the middle of a word.
-use Rattle.std.proofs.Common.{◌≡◌, ℕ, ◌+◌, ◌-◌, ◌*◌, ◌/◌, ◌%◌, ◌^◌, ◌<◌, bit_or, bit_and, sym, ap, ◌∙◌, arith}
+use Rattle.std.proofs.Common.{◌≡◌, ℕ, ◌+◌, ◌-◌, ◌*◌, ◌/◌, ◌%◌, ◌^◌, ◌<◌, bit_or, bit_and, ap, ◌∙◌, add_comm, arith}
 use Rattle.std.specs.Int.{bit_at}
 use Rattle.std.proofs.lemmas.Nat.{pow_pos}
 use Rattle.std.proofs.lemmas.Nat.Bits.{bit_at-lt, bit_at_and, bit_at_or, bit_at_above, bit_at_cat_low, bit_at_cat_high, bit_at_ones, bit_at-zero}
 use Rattle.life_bits.proofs.Strips.{bit_at_mod}
+use Rattle.life_slots.proofs.Bits.{bit_at_rest}
 
 -- a bit of the eastern half, moved up
 moved_low : (east x : ℕ) → x < 32 → bit_at (east * 2 ^ 32 % 2 ^ 64) x ≡ 0
@@ -28,17 +29,8 @@ joined_east west east x fits small =
     bit_at_or west (east * 2 ^ 32 % 2 ^ 64) (x + 32)
     ∙ omega (arith, moved_high east x small, bit_at_above west 32 (x + 32) fits (omega arith))
 
--- the bits from bit b on
-bit_at_rest : (n b j : ℕ) → bit_at (n / 2 ^ b) j ≡ bit_at n (j + b)
-bit_at_rest n b j =
-    let some : 0 < 2 ^ b = pow_pos b in
-    let small : n % 2 ^ b < 2 ^ b = omega arith in
-    let whole : n / 2 ^ b * 2 ^ b + n % 2 ^ b ≡ n = omega arith in
-    let back : j + b - b ≡ j = omega arith in
-    sym (ap (λ w. bit_at w (j + b)) (sym whole) ∙ bit_at_cat_high (n / 2 ^ b) b (n % 2 ^ b) (j + b) small (omega arith) ∙ ap (bit_at (n / 2 ^ b)) back)
-
 pub middle_bit : (row x : ℕ) → x < 32 → bit_at (bit_and (row / 2 ^ 16) (2 ^ 32 - 1)) x ≡ bit_at row (x + 16)
 middle_bit row x small =
     bit_at_and (row / 2 ^ 16) (2 ^ 32 - 1) x
     ∙ omega (arith, bit_at_ones 32 x small, bit_at-lt (row / 2 ^ 16) x)
-    ∙ bit_at_rest row 16 x
+    ∙ bit_at_rest row 16 x ∙ ap (bit_at row) (add_comm 16 x)

@@ -1,5 +1,5 @@
 -- The next state of a cell depends on the cell and the eight around it alone.
-use Rattle.std.proofs.Common.{◌≡◌, ℕ, ℤ, pos, neg_ℤ, ◌+ℤ◌, ◌-ℤ◌, ◌+◌, ◌<◌, Bool, true, false, cond, List, [], ◌∷◌, count_by, refl, sym, ap, ◌∙◌, arith}
+use Rattle.std.proofs.Common.{◌≡◌, ℕ, ℤ, pos, neg_ℤ, ◌+ℤ◌, ◌-ℤ◌, ◌+◌, ◌<◌, cond, List, [], ◌∷◌, count_by, refl, sym, ap, ◌∙◌, arith}
 use Rattle.std.proofs.lemmas.Int.{ints}
 use Rattle.std.proofs.lemmas.List.Sums.{sum_by-cons}
 use Rattle.life_model.specs.Rule.{Rule, born, stays}
@@ -9,12 +9,7 @@ use Rattle.life_model.specs.Evolution.{count, lives, next}
 use Rattle.life_model.proofs.Evolution.{contains-next}
 use Rattle.life_bits.specs.Flags.{as_bit}
 use Rattle.life_leaves.specs.Kernels.Rows.{state}
-
-same_flag : (a b : Bool) → as_bit a ≡ as_bit b → a ≡ b
-same_flag true true same = refl
-same_flag true false same = absurd (omega arith)
-same_flag false true same = absurd (omega arith)
-same_flag false false same = refl
+use Rattle.life_slots.proofs.Splits.{same_flag}
 
 -- three by three cells, whose middle one is at a place, are the same in two sets
 pub record AreAlikeAround (G H : Generation) (X Y : ℤ) : Type 0 where

@@ -1,5 +1,5 @@
 -- Rows as cells are marked in them, and strips of five of them.
-use Rattle.std.proofs.Common.{◌≡◌, ◌≢◌, ℕ, ◌+◌, ◌-◌, ◌*◌, ◌%◌, ◌^◌, ◌<◌, ◌≤◌, ℤ, pos, ◌-ℤ◌, max, Bool, true, false, ◌||◌, List, [], ◌∷◌, ◌++◌, map, length, get_or, set, ◌⊎◌, inl, inr, if◌then◌else◌, w64, take, subst, sym, refl, ap, ◌∙◌, arith}
+use Rattle.std.proofs.Common.{◌≡◌, ◌≢◌, ℕ, ◌+◌, ◌-◌, ◌*◌, ◌%◌, ◌^◌, ◌<◌, ◌≤◌, ℤ, pos, ◌-ℤ◌, max, Bool, true, false, ◌||◌, List, [], ◌∷◌, ◌++◌, map, length, get_or, set, inl, inr, if◌then◌else◌, w64, take, subst, sym, refl, ap, ◌∙◌, arith}
 use Rattle.std.specs.Prelude.{All}
 use Rattle.std.specs.Int.{bit_at}
 use Rattle.std.specs.Int.Bits.{bit_or}
@@ -10,7 +10,7 @@ use Rattle.std.proofs.lemmas.List.{get_or-set_other, get_or-set_same, length-set
 use Rattle.std.proofs.lemmas.List.Folds.{list_any-append}
 use Rattle.std.proofs.lemmas.Nat.Bits.{bit_at-zero, bit_at_or, bit_at_set_same, bit_at_set_other}
 use Rattle.life_model.specs.Cell.{Cell, same_cell, origin}
-use Rattle.life_model.proofs.Cells.{same_cell-is}
+use Rattle.life_model.proofs.Cells.{cells_differ, same_cell-is}
 use Rattle.life_model.proofs.Symmetries.{AreInverse, same_cell-forth}
 use Rattle.life_model.proofs.Tests.{list_any-map, list_any-alike, or-false}
 use Rattle.life_shape.proofs.Weights.{live_value}
@@ -28,12 +28,12 @@ nothing_in_rows rows none y x h = dark rows none y x h
 pub nothing_within : (words : List ℕ) (wide : ℕ) → All (λ w. w ≡ 0) words → AreWithinColumns words wide
 nothing_within words wide none k x h l = dark words none k x h
 
-apart : (a b : Cell) → a ≢ b → same_cell a b ≡ false
-apart a b h = elim (false_or (same_cell a b)) [ inl e ↦ e | inr e ↦ absurd (h ((same_cell-is a b).0 e)) ]
-  where
-    false_or : (t : Bool) → (t ≡ false) ⊎ (t ≡ true)
-    false_or true = inr refl
-    false_or false = inl refl
+module _ (ds : List Cell) (one : Cell) (x : ℕ) (z : ℤ) where
+  pub at_last : same_cell (pos x, z) one ≡ true → is_at (ds ++ one ∷ []) x z ≡ true
+  at_last e = list_any-append (same_cell (pos x, z)) ds (one ∷ []) ∙ (λ i. is_at ds x z || (e i || false)) ∙ or_right (is_at ds x z) true refl
+
+  pub not_at_last : same_cell (pos x, z) one ≡ false → is_at (ds ++ one ∷ []) x z ≡ is_at ds x z
+  not_at_last e = list_any-append (same_cell (pos x, z)) ds (one ∷ []) ∙ (λ i. is_at ds x z || (e i || false)) ∙ or-false (is_at ds x z)
 
 module _ (ds : List Cell) (rows : List ℕ) (p r : ℕ) (column : p < 64) (room : length rows ≡ 69) (row : r < 64) where
   abbrev marked : ℕ
@@ -41,12 +41,6 @@ module _ (ds : List Cell) (rows : List ℕ) (p r : ℕ) (column : p < 64) (room 
 
   abbrev one : Cell
   one = (pos p, pos r)
-
-  there : (x : ℕ) (z : ℤ) → same_cell (pos x, z) one ≡ true → is_at (ds ++ one ∷ []) x z ≡ true
-  there x z e = list_any-append (same_cell (pos x, z)) ds (one ∷ []) ∙ (λ i. is_at ds x z || (e i || false)) ∙ or_right (is_at ds x z) true refl
-
-  not_there : (x : ℕ) (z : ℤ) → same_cell (pos x, z) one ≡ false → is_at (ds ++ one ∷ []) x z ≡ is_at ds x z
-  not_there x z e = list_any-append (same_cell (pos x, z)) ds (one ∷ []) ∙ (λ i. is_at ds x z || (e i || false)) ∙ or-false (is_at ds x z)
 
   bit_here : (y x : ℕ) → y ≡ r + 4 → bit_at (get_or (set rows (r + 4) marked) y 0) x ≡ bit_at marked x
   bit_here y x e = ap (λ n. bit_at (get_or (set rows (r + 4) marked) n 0) x) e ∙ ap (λ w. bit_at w x) (get_or-set_same rows (r + 4) marked 0 (omega arith))
@@ -62,7 +56,7 @@ module _ (ds : List Cell) (rows : List ℕ) (p r : ℕ) (column : p < 64) (room 
       let long = length-set rows (r + 4) marked in
       let known : y < length rows = omega arith in
       let z = pos y -ℤ pos 4 in
-      let old : same_cell (pos x, z) one ≡ false → bit_at (get_or rows y 0) x ≡ (if is_at (ds ++ one ∷ []) x z then 1 else 0) = λ e. held y x known ∙ ap (λ t. if t then 1 else 0) (sym (not_there x z e)) in
+      let old : same_cell (pos x, z) one ≡ false → bit_at (get_or rows y 0) x ≡ (if is_at (ds ++ one ∷ []) x z then 1 else 0) = λ e. held y x known ∙ ap (λ t. if t then 1 else 0) (sym (not_at_last ds one x z e)) in
       elim (eqb_tells y (r + 4)) [
         | inl e ↦
             elim (eqb_tells x p) [
@@ -70,12 +64,12 @@ module _ (ds : List Cell) (rows : List ℕ) (p r : ℕ) (column : p < 64) (room 
                   let here : z ≡ pos r = let same = e.1 in omega (arith, ints) in
                   let at : ◌≡◌ {A = Cell} (pos x, z) one = λ i. (pos (f.1 i), here i) in
                   bit_here y x e.1 ∙ ap (bit_at marked) f.1 ∙ bit_at_set_same w64 (get_or rows (r + 4) 0) p column
-                  ∙ ap (λ t. if t then 1 else 0) (sym (there x z ((same_cell-is (pos x, z) one).1 at)))
+                  ∙ ap (λ t. if t then 1 else 0) (sym (at_last ds one x z ((same_cell-is (pos x, z) one).1 at)))
               | inr f ↦
-                  bit_beside y x e.1 f.1 ∙ old (apart (pos x, z) one (λ l. f.1 (let across = ap (λ q. q.0) l in omega (arith, ints))))
+                  bit_beside y x e.1 f.1 ∙ old (cells_differ (pos x, z) one (λ l. f.1 (let across = ap (λ q. q.0) l in omega (arith, ints))))
             ]
         | inr e ↦
-            bit_other y x e.1 ∙ old (apart (pos x, z) one (λ l. e.1 (let down = ap (λ q. q.1) l in omega (arith, ints))))
+            bit_other y x e.1 ∙ old (cells_differ (pos x, z) one (λ l. e.1 (let down = ap (λ q. q.1) l in omega (arith, ints))))
       ]
 
   pub within_more : (wide : ℕ) → p < wide → AreWithinColumns rows wide → AreWithinColumns (set rows (r + 4) marked) wide

@@ -1,5 +1,5 @@
 -- Cells that are near each other, and sets that are apart.
-use Rattle.std.proofs.Common.{List, [], ◌∷◌, inl, inr, arith}
+use Rattle.std.proofs.Common.{List, [], ◌∷◌, inl, inr, ◌≡◌, ◌-ℤ◌, arith}
 use Rattle.std.specs.List.{All}
 use Rattle.std.proofs.lemmas.Int.{ints}
 use Rattle.std.proofs.lemmas.List.Elements.{All-head, All-tail}
@@ -24,6 +24,20 @@ AreNear-swap c d h = record {
   above = omega (arith, ints);
   below = omega (arith, ints);
 }
+
+-- two cells that are as far from each other, and the same way, as two that are near
+pub AreNear-alike : (c d e f : Cell) → c.0 -ℤ d.0 ≡ e.0 -ℤ f.0 → c.1 -ℤ d.1 ≡ e.1 -ℤ f.1 → AreNear c d → AreNear e f
+AreNear-alike c d e f across along near =
+    let left = near.left in
+    let right = near.right in
+    let above = near.above in
+    let below = near.below in
+    record {
+      left = omega (arith, ints);
+      right = omega (arith, ints);
+      above = omega (arith, ints);
+      below = omega (arith, ints);
+    }
 
 -- two cells within one of a third are within two of each other
 pub near_through : (c g h : Cell) → IsNear c g → IsNear c h → AreNear g h

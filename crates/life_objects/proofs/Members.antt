@@ -1,13 +1,14 @@
 -- Which set of a list has a cell.
 use Rattle.std.proofs.Common.{◌≡◌, ℕ, ◌<◌, true, List, [], ◌∷◌, inl, inr, sym, ap, ◌∙◌, arith}
-use Rattle.std.specs.List.{Contains}
+use Rattle.std.specs.List.{AllPairs, Contains}
 use Rattle.life_model.specs.Cell.{Cell}
 use Rattle.life_model.specs.Rule.{Rule}
 use Rattle.life_model.specs.Generation.{Generation, contains}
-use Rattle.life_model.specs.Evolution.{generation}
+use Rattle.life_model.specs.Evolution.{generation, next}
 use Rattle.life_objects.specs.Union.{generations, union_of}
+use Rattle.life_objects.specs.Apart.{AreApart}
 use Rattle.life_objects.proofs.Lists.{Contains-head, Contains-later, head_or_later}
-use Rattle.life_objects.proofs.Many.{generations-zero}
+use Rattle.life_objects.proofs.Many.{generations-zero, next-union_of}
 use Rattle.life_objects.proofs.Unions.{in_union, in_empty, in_first, in_second}
 
 module _ (R : Rule) where
@@ -39,3 +40,14 @@ module _ (R : Rule) where
       contains P c ≡ true → contains (union_of Ps) c ≡ true
   unfolding generation
   in_list_now Ps P c one h = ap (λ Qs. contains (union_of Qs) c) (sym (generations-zero R Ps)) ∙ in_list 0 Ps P c one h
+
+  -- the next generation of a list of sets that are apart, cell by cell
+  pub next_found : (Ps : List Generation) → AllPairs AreApart Ps → (c : Cell) → contains (next R (union_of Ps)) c ≡ true →
+      (P : Generation) × Contains Ps P × (contains (next R P) c ≡ true)
+  unfolding generation
+  next_found Ps pairs c h = found_in 1 Ps c (ap (λ H. contains H c) (sym (next-union_of R Ps pairs)) ∙ h)
+
+  pub next_within : (Ps : List Generation) → AllPairs AreApart Ps → (P : Generation) → Contains Ps P → (c : Cell) →
+      contains (next R P) c ≡ true → contains (next R (union_of Ps)) c ≡ true
+  unfolding generation
+  next_within Ps pairs P one c h = ap (λ H. contains H c) (next-union_of R Ps pairs) ∙ in_list 1 Ps P c one h

@@ -1,10 +1,10 @@
 -- Moves keep what is apart and what is in one piece, so one period decides for all time.
-use Rattle.std.proofs.Common.{◌≡◌, ℕ, zero, suc, ◌+◌, ◌*◌, ◌/◌, ◌%◌, ◌<◌, ◌≤◌, ◌||◌, sym, ap, subst, ◌∙◌, mod-lt}
+use Rattle.std.proofs.Common.{◌≡◌, ℕ, zero, suc, ◌+◌, ◌*◌, ◌/◌, ◌%◌, ◌<◌, ◌≤◌, ◌||◌, sym, ap, subst, ◌∙◌, mod-lt, true}
 use Rattle.std.proofs.Common.{div-add-mod', mul-le-mul_left, arith}
 use Rattle.std.proofs.lemmas.Int.{ints}
 use Rattle.life_model.specs.Cell.{Cell, plus, opposite}
 use Rattle.life_model.specs.Rule.{Rule}
-use Rattle.life_model.specs.Generation.{Generation, empty}
+use Rattle.life_model.specs.Generation.{Generation, contains, empty}
 use Rattle.life_model.specs.Evolution.{generation}
 use Rattle.life_model.specs.Symmetry.{translate_of}
 use Rattle.life_model.specs.Recurrence.{RecursBy}
@@ -20,7 +20,7 @@ use Rattle.life_objects.specs.Union.{union}
 use Rattle.life_objects.proofs.Recurring.{moved_back}
 use Rattle.life_objects.proofs.Unions.{contains-union}
 
-near_moved : (c d e : Cell) → AreNear c d → AreNear (plus c e) (plus d e)
+pub near_moved : (c d e : Cell) → AreNear c d → AreNear (plus c e) (plus d e)
 near_moved c d e h = record {
   left = omega (arith, ints);
   right = omega (arith, ints);
@@ -28,9 +28,13 @@ near_moved c d e h = record {
   below = omega (arith, ints);
 }
 
+-- the cell that has moved to c
+pub in_unmoved : (P : Generation) (e c : Cell) → contains (translate_of P e) c ≡ true → contains P (plus c (opposite e)) ≡ true
+in_unmoved P e c h = sym (contains-moved P e c) ∙ h
+
 pub AreApart-moved : (P Q : Generation) (e : Cell) → AreApart P Q → AreApart (translate_of P e) (translate_of Q e)
 AreApart-moved P Q e far c d h k near =
-    far (plus c (opposite e)) (plus d (opposite e)) (sym (contains-moved P e c) ∙ h) (sym (contains-moved Q e d) ∙ k)
+    far (plus c (opposite e)) (plus d (opposite e)) (in_unmoved P e c h) (in_unmoved Q e d k)
     (near_moved c d (opposite e) near)
 
 pub union-moved : (A B : Generation) (e : Cell) → translate_of (union A B) e ≡ union (translate_of A e) (translate_of B e)
@@ -80,6 +84,12 @@ module _ (R : Rule) where
         ∙ ap (λ H. translate_of H (multiple_of k d)) r.again ∙ moved-moved P d (multiple_of k d)
         ∙ ap (translate_of P) (let e : plus d (multiple_of k d) ≡ plus (multiple_of k d) d = pair (omega (arith, ints))
         (omega (arith, ints)) in e)
+
+    -- so many times p generations later
+    pub rounds_later : (k m : ℕ) → generation R P (k * p + m) ≡ translate_of (generation R P m) (multiple_of k d)
+    rounds_later k m =
+        sym (generation-add R P (k * p) m) ∙ ap (λ H. generation R H m) (generation-times k)
+        ∙ generation-moved R P (multiple_of k d) m
 
     pub RecursBy-times : (k : ℕ) → 1 ≤ k → RecursBy R P (k * p) (multiple_of k d)
     RecursBy-times k h = record {

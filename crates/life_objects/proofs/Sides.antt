@@ -1,6 +1,7 @@
 -- A list of sets, each of which lies in one of the two sets of a split, falls into a list for each side.
-use Rattle.std.proofs.Common.{◌≡◌, ℕ, Bool, true, false, List, [], ◌∷◌, ◌⊎◌, inl, inr, sym, refl, ap, subst, ◌∙◌, arith}
+use Rattle.std.proofs.Common.{◌≡◌, ℕ, true, List, [], ◌∷◌, ◌⊎◌, inl, inr, sym, ap, subst, ◌∙◌, arith}
 use Rattle.std.specs.List.{All, AllPairs, Contains}
+use Rattle.std.specs.Cmp.{both_ways}
 use Rattle.std.proofs.lemmas.List.Elements.{All-nil, All-head, All-tail, All-cons, All-contains, All-weaker}
 use Rattle.std.proofs.lemmas.List.Elements.{All-contains_itself}
 use Rattle.std.proofs.lemmas.List.Kept.{AllPairs-cons}
@@ -101,13 +102,8 @@ module _ (S : Generation → Generation → Type 0) where
           }
         ]
 
-same_tests : (a b : Bool) → (a ≡ true → b ≡ true) → (b ≡ true → a ≡ true) → a ≡ b
-same_tests true b to back = sym (to refl)
-same_tests false true to back = back refl
-same_tests false false to back = refl
-
 pub within_each_other : (P Q : Generation) → IsSubsetOf P Q → IsSubsetOf Q P → P ≡ Q
-within_each_other P Q to back = same_members P Q (λ c. same_tests _ _ (to c) (back c))
+within_each_other P Q to back = same_members P Q (λ c. both_ways _ _ (to c) (back c))
 
 module _ (R : Rule) (b : ℕ) (G A B : Generation) (split : IsSplit R b G A B) where
   pub split_disjoint : AreDisjoint A B

@@ -3,6 +3,7 @@ use Rattle.std.proofs.Common.{◌≡◌, true, ◌||◌, List, [], ◌∷◌, �
 use Rattle.std.specs.List.{list_any}
 use Rattle.std.proofs.lemmas.Bool.{or_cases, or_left, or_right}
 use Rattle.std.proofs.lemmas.List.Folds.{list_any-append}
+use Rattle.std.proofs.Math.Bool.{or_assoc}
 use Rattle.life_model.specs.Cell.{Cell, same_cell}
 use Rattle.life_model.specs.Generation.{Generation, contains, empty, cells}
 use Rattle.life_model.proofs.Generations.{contains-empty, contains-from_list, contains-cells, same_members}
@@ -28,6 +29,15 @@ union_of-append Ps Qs = same_members _ _ (λ c.
 pub union-comm : (P Q : Generation) → union P Q ≡ union Q P
 union-comm P Q = same_members _ _ (λ c.
     contains-union P Q c ∙ or-comm (contains P c) (contains Q c) ∙ sym (contains-union Q P c))
+
+pub union-assoc : (P Q S : Generation) → union (union P Q) S ≡ union P (union Q S)
+union-assoc P Q S = same_members _ _ (λ c.
+    contains-union (union P Q) S c ∙ ap (λ b. b || contains S c) (contains-union P Q c)
+    ∙ or_assoc (contains P c) (contains Q c) (contains S c)
+    ∙ sym (contains-union P (union Q S) c ∙ ap (λ b. contains P c || b) (contains-union Q S c)))
+
+pub union-swap : (P Q S : Generation) → union P (union Q S) ≡ union Q (union P S)
+union-swap P Q S = sym (union-assoc P Q S) ∙ ap (λ H. union H S) (union-comm P Q) ∙ union-assoc Q P S
 
 pub union-empty : (P : Generation) → union P empty ≡ P
 union-empty P = same_members _ _ (λ c.

@@ -1,26 +1,24 @@
 -- Two sets that recur, some generations ago.
 use Rattle.std.proofs.Common.{◌≡◌, ℕ, ℤ, pos, neg_ℤ, ◌+ℤ◌, ◌≤ℤ◌, ◌+◌, ◌-◌, ◌*◌, ◌/◌, ◌%◌, ◌<◌, ◌≤◌, true, inl, inr}
-use Rattle.std.proofs.Common.{length, sym, refl, ap, subst, ◌∙◌, div-add-mod', mod-lt, mul-le-mul_left, mul-le-mul_right, arith}
+use Rattle.std.proofs.Common.{sym, refl, ap, subst, ◌∙◌, div-add-mod', mod-lt, mul-le-mul_left, mul-le-mul_right, arith}
 use Rattle.std.specs.Int.{int_max, int_min}
 use Rattle.std.proofs.lemmas.Bool.{cases_lt}
 use Rattle.std.proofs.lemmas.Int.{ints, clamps}
 use Rattle.std.proofs.Math.Nat.{div-lt_iff_lt-mul}
 use Rattle.life_model.specs.Cell.{Cell, opposite, plus}
 use Rattle.life_model.specs.Evolution.{generation}
-use Rattle.life_model.specs.Generation.{Generation, cells, contains, size}
+use Rattle.life_model.specs.Generation.{Generation, contains, size}
 use Rattle.life_model.specs.Recurrence.{RecursBy}
 use Rattle.life_model.specs.Rule.{Rule}
 use Rattle.life_model.specs.Symmetry.{translate_of}
 use Rattle.life_model.proofs.Cells.{pair, plus-opposite}
-use Rattle.life_model.proofs.Generations.{size-cells}
-use Rattle.life_model.proofs.Lists.{cells-moved}
+use Rattle.life_model.proofs.Lists.{size-moved}
 use Rattle.life_model.proofs.Recurrences.{generation-add}
-use Rattle.std.proofs.lemmas.List.{length-map}
 use Rattle.life_model.proofs.Symmetries.{contains-moved}
 use Rattle.life_objects.specs.Apart.{AreApart, AreApartForEver, AreNear}
 use Rattle.life_objects.specs.Drift.{multiple_of}
 use Rattle.life_objects.proofs.Distances.{AreApart-swap}
-use Rattle.life_objects.proofs.Moving.{RecursBy-times}
+use Rattle.life_objects.proofs.Moving.{RecursBy-times, near_moved, rounds_later}
 use Rattle.life_objects.proofs.Recurring.{RecursBy-later, moved_back}
 use Rattle.life_orbit.specs.Course.{Course, IsCourse}
 use Rattle.life_orbit.specs.Hulls.{AreFar, IsHullOf}
@@ -28,7 +26,7 @@ use Rattle.life_orbit.specs.Passing.{AreApartBetween, IsAheadBefore, IsPassed, I
 use Rattle.life_orbit.specs.Past.{AreApartSince, IsPast}
 use Rattle.life_orbit.specs.declared.hull.Hull.{Hull}
 use Rattle.life_orbit.proofs.Clearances.{AreApartBy, apart_back, apart_forth}
-use Rattle.life_orbit.proofs.Gaps.{bound_left, bound_right, rounds_later, whole_first, whole_second}
+use Rattle.life_orbit.proofs.Gaps.{bound_left, bound_right, whole_first, whole_second}
 use Rattle.life_orbit.proofs.Reaching.{x_axis, y_axis}
 use Rattle.life_orbit.proofs.Shifts.{IsAxis, widens}
 use Rattle.life_orbit.proofs.Watching.{Holds, IsPair, IsPair-swap, course_recurs, further, lane_of, near_across, near_down, no_gap, watch_of}
@@ -36,7 +34,7 @@ use Rattle.life_orbit.proofs.Watching.{Holds, IsPair, IsPair-swap, course_recurs
 -- ---- a phase, moved back
 
 -- P becomes the set in b generations, and after k more it stands again
-moved_to_before : (R : Rule) (P : Generation) (p : ℕ) (d : Cell) → RecursBy R P p d → (b k m : ℕ) (set : Generation) →
+pub moved_to_before : (R : Rule) (P : Generation) (p : ℕ) (d : Cell) → RecursBy R P p d → (b k m : ℕ) (set : Generation) →
     b + k ≡ m * p → 1 ≤ m → generation R P b ≡ set → translate_of (generation R set k) (opposite (multiple_of m d)) ≡ P
 moved_to_before R P p d r b k m set e one end =
     ap (λ H. translate_of (generation R H k) (opposite (multiple_of m d))) (sym end)
@@ -45,7 +43,7 @@ moved_to_before R P p d r b k m set e one end =
     ∙ moved_back P (multiple_of m d)
 
 -- how many whole periods reach back so far, and how far on it then is
-rounds_back : (n p : ℕ) → 1 ≤ n → 1 ≤ p → n + ((p - 1) - (n - 1) % p) ≡ ((n - 1) / p + 1) * p
+pub rounds_back : (n p : ℕ) → 1 ≤ n → 1 ≤ p → n + ((p - 1) - (n - 1) % p) ≡ ((n - 1) / p + 1) * p
 rounds_back n p one some =
     let parts = div-add-mod' (n - 1) p in
     let rest : (n - 1) % p < p = mod-lt (n - 1) some in
@@ -315,14 +313,6 @@ module _ (R : Rule) (P Q E F : Generation) (p q a b : ℕ) (d e : Cell) (age : �
 
 -- ---- sets of one velocity
 
-near_moved : (c d e : Cell) → AreNear c d → AreNear (plus c e) (plus d e)
-near_moved c d e h = record {
-  left = omega (arith, ints);
-  right = omega (arith, ints);
-  above = omega (arith, ints);
-  below = omega (arith, ints);
-}
-
 module _ (R : Rule) (E F : Generation) (n : ℕ) (d : Cell) (first : RecursBy R E n d) (second : RecursBy R F n d)
     (age : ℕ) where
   round_after : (H : Generation) → RecursBy R H n d → (t : ℕ) →
@@ -472,11 +462,6 @@ between_back R P Q t high so_far here n late before =
       | inl more ↦ so_far n (let h : t + 1 ≤ n = omega arith in h) before
       | inr most ↦ subst (λ m. AreApart (generation R P m) (generation R Q m)) (let e : t ≡ n = omega arith in e) here
     ]
-
--- a set that is moved keeps its number of cells
-size-moved : (G : Generation) (d : Cell) → size (translate_of G d) ≡ size G
-size-moved G d =
-    size-cells (translate_of G d) ∙ ap length (cells-moved G d) ∙ length-map (cells G) (λ c. plus c d) ∙ sym (size-cells G)
 
 pub size_then : (o : Course) (P : Generation) (ago : ℕ) → 1 ≤ ago → IsCourse o → IsPast ago o P →
     size (generation o.rule o.set ((o.period - 1) - (ago - 1) % o.period)) ≡ size P

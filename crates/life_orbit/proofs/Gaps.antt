@@ -9,20 +9,14 @@ use Rattle.life_model.specs.Evolution.{generation}
 use Rattle.life_model.specs.Generation.{Generation, contains}
 use Rattle.life_model.specs.Recurrence.{RecursBy}
 use Rattle.life_model.specs.Rule.{Rule}
-use Rattle.life_model.specs.Symmetry.{translate_of}
 use Rattle.life_model.proofs.Cells.{plus-opposite_first}
-use Rattle.life_model.proofs.Recurrences.{generation-add}
-use Rattle.life_model.proofs.Symmetries.{contains-moved, generation-moved}
 use Rattle.life_objects.specs.Drift.{multiple_of}
-use Rattle.life_objects.proofs.Moving.{generation-times, generation-wrapped, RecursBy-times}
+use Rattle.life_objects.proofs.Moving.{generation-wrapped, RecursBy-times, in_unmoved, rounds_later}
 use Rattle.life_orbit.proofs.Shifts.{IsAxis, not_left, not_right, widens}
 
 -- c is what stands after a move by x, and before the move it stood at b
 before_move : (f : Cell → ℤ) → IsAxis f → (c x : Cell) → f c ≡ f (plus c (opposite x)) +ℤ f x
 before_move f axis c x = ap f (sym (plus-opposite_first c x)) ∙ axis.adds (plus c (opposite x)) x
-
-unmoved : (P : Generation) (x c : Cell) → contains (translate_of P x) c ≡ true → contains P (plus c (opposite x)) ≡ true
-unmoved P x c h = sym (contains-moved P x c) ∙ h
 
 low_sum : (l low z y x : ℤ) → l ≤ℤ y → low ≤ℤ z → x ≡ y +ℤ z → (l +ℤ low) ≤ℤ x
 low_sum l low z y x h k e = omega (arith, ints)
@@ -49,7 +43,7 @@ module _ (f : Cell → ℤ) (axis : IsAxis f) (R : Rule) (P : Generation) (p : �
   in_phase : (m : ℕ) (c : Cell) → contains (generation R P m) c ≡ true →
       contains (generation R P (m % p)) (plus c (opposite (multiple_of (m / p) d))) ≡ true
   in_phase m c h =
-      unmoved (generation R P (m % p)) (multiple_of (m / p) d) c
+      in_unmoved (generation R P (m % p)) (multiple_of (m / p) d) c
       (ap (λ H. contains H c) (sym (generation-wrapped R P p d r m)) ∙ h)
 
   module _ (a m : ℕ) (h : m < a * p) (c : Cell) (in_it : contains (generation R P m) c ≡ true) where
@@ -66,13 +60,6 @@ module _ (f : Cell → ℤ) (axis : IsAxis f) (R : Rule) (P : Generation) (p : �
         high_sum l _ (f (multiple_of (m / p) d)) (f (plus c (opposite (multiple_of (m / p) d)))) (f c)
         (each (m % p) _ (mod-lt m r.later) (in_phase m c in_it)) (not_right f axis (m / p) a d (early m a p r.later h))
         (before_move f axis c (multiple_of (m / p) d))
-
--- so many times n generations later
-pub rounds_later : (R : Rule) (P : Generation) (n : ℕ) (d : Cell) → RecursBy R P n d → (k m : ℕ) →
-    generation R P (k * n + m) ≡ translate_of (generation R P m) (multiple_of k d)
-rounds_later R P n d r k m =
-    sym (generation-add R P (k * n) m) ∙ ap (λ H. generation R H m) (generation-times R P n d r k)
-    ∙ generation-moved R P (multiple_of k d) m
 
 module _ (f : Cell → ℤ) (axis : IsAxis f) (R : Rule) (P Q : Generation) (p q a b : ℕ) (d e : Cell)
     (r : RecursBy R P p d) (s : RecursBy R Q q e) (same : a * p ≡ b * q) (one_a : 1 ≤ a) (one_b : 1 ≤ b) where
@@ -102,9 +89,9 @@ module _ (f : Cell → ℤ) (axis : IsAxis f) (R : Rule) (P Q : Generation) (p q
     -- in round k each cell of P is as far past each of Q as the ends of their places are
     gap_in : ((high +ℤ other_moved) +ℤ pos 3) ≤ℤ (low +ℤ moved) → (f y +ℤ pos 3) ≤ℤ f x
     gap_in enough =
-        let x_there = unmoved (generation R P m) (multiple_of k (multiple_of a d)) x
+        let x_there = in_unmoved (generation R P m) (multiple_of k (multiple_of a d)) x
         (ap (λ H. contains H x) (sym (rounds_later R P (a * p) (multiple_of a d) whole_first k m)) ∙ in_P) in
-        let y_there = unmoved (generation R Q m) (multiple_of k (multiple_of b e)) y
+        let y_there = in_unmoved (generation R Q m) (multiple_of k (multiple_of b e)) y
         (ap (λ H. contains H y) (sym (rounds_later R Q (a * p) (multiple_of b e) whole_second k m)) ∙ in_Q) in
         gap_sum low high (f (plus x (opposite (multiple_of k (multiple_of a d)))))
         (f (plus y (opposite (multiple_of k (multiple_of b e))))) moved other_moved (f x) (f y) enough

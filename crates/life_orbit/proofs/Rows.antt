@@ -13,6 +13,7 @@ use Rattle.life_model.specs.Cell.{Cell, cell_cmp, plus}
 use Rattle.life_model.specs.Generation.{is_rising}
 use Rattle.life_cells.proofs.Sorted.{sorted_from_rising}
 use Rattle.life_objects.specs.Apart.{AreNear}
+use Rattle.life_objects.proofs.Distances.{AreNear-alike, AreNear-swap}
 use Rattle.life_orbit.specs.Clear.{AreClear, IsClearOf, IsFree, comes_before}
 use Rattle.life_orbit.proofs.Watching.{further}
 
@@ -227,16 +228,7 @@ free_from_clear c n ds row left right few a b e clear k d h here from to =
 
 near_turned : (c d by x : Cell) → by.0 +ℤ x.0 ≡ pos 0 → by.1 +ℤ x.1 ≡ pos 0 → AreNear (plus d x) c → AreNear (plus c by) d
 near_turned c d by x across down near =
-    let left = near.left in
-    let right = near.right in
-    let above = near.above in
-    let below = near.below in
-    record {
-      left = omega (arith, ints);
-      right = omega (arith, ints);
-      above = omega (arith, ints);
-      below = omega (arith, ints);
-    }
+    AreNear-alike c (plus d x) (plus c by) d (omega (arith, ints)) (omega (arith, ints)) (AreNear-swap (plus d x) c near)
 
 pub clear_turned : (cs ds : List Cell) (by x : Cell) → by.0 +ℤ x.0 ≡ pos 0 → by.1 +ℤ x.1 ≡ pos 0 → AreClear cs by ds →
     AreClear ds x cs

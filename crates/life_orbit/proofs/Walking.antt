@@ -1,8 +1,10 @@
 -- A walk along the generations of a set, until it comes again.
-use Rattle.std.proofs.Common.{◌≡◌, ℕ, zero, suc, ◌+◌, ◌<◌, ◌≤◌, List, [], ◌∷◌, ◌++◌, length, get_or}
+use Rattle.std.proofs.Common.{◌≡◌, ℕ, ◌+◌, ◌<◌, ◌≤◌, List, [], ◌∷◌, ◌++◌, length, get_or}
 use Rattle.std.proofs.Common.{inl, inr, sym, refl, ap, subst, ◌∙◌, arith}
 use Rattle.std.specs.List.{All}
 use Rattle.std.proofs.lemmas.Bool.{cases_lt}
+use Rattle.std.proofs.lemmas.List.{get_or_append_left}
+use Rattle.std.proofs.Math.Seq.{get_or-append_seam}
 use Rattle.life_model.specs.Cell.{Cell}
 use Rattle.life_model.specs.Evolution.{next, generation}
 use Rattle.life_model.specs.Generation.{Generation, cells, empty}
@@ -16,17 +18,8 @@ use Rattle.life_objects.specs.Limits.{objects_bound_limit}
 use Rattle.life_plane.specs.Offsets.{AreNotTranslates, IsOffset}
 use Rattle.life_orbit.specs.Kept.{ArePhases, ArePhasesOfOrbit, IsOrbitWalk, orbit_age_limit}
 
-get_or-last : (xs : List Generation) (x d : Generation) (k : ℕ) → k ≡ length xs → get_or (xs ++ x ∷ []) k d ≡ x
-get_or-last [] x d zero e = refl
-get_or-last [] x d (suc k) e = absurd (omega arith)
-get_or-last (y ∷ ys) x d zero e = absurd (omega arith)
-get_or-last (y ∷ ys) x d (suc k) e = get_or-last ys x d k (omega arith)
-
-get_or-early : (xs : List Generation) (x d : Generation) (k : ℕ) → k < length xs →
-    get_or (xs ++ x ∷ []) k d ≡ get_or xs k d
-get_or-early [] x d k h = absurd (omega arith)
-get_or-early (y ∷ ys) x d zero h = refl
-get_or-early (y ∷ ys) x d (suc k) h = get_or-early ys x d k (omega arith)
+pub get_or-last : {X : Type 0} (xs : List X) (x d : X) (k : ℕ) → k ≡ length xs → get_or (xs ++ x ∷ []) k d ≡ x
+get_or-last xs x d k e = ap (λ n. get_or (xs ++ x ∷ []) n d) e ∙ get_or-append_seam xs x [] d
 
 length-more : (xs : List Generation) (x : Generation) → length (xs ++ x ∷ []) ≡ length xs + 1
 length-more [] x = refl
@@ -37,7 +30,7 @@ module _ (R : Rule) (G : Generation) where
       here ≡ generation R G (length list) → ArePhases R G (list ++ here ∷ [])
   phases_more list here so_far reached k h =
       elim (cases_lt k (length list)) [
-        | inl before ↦ get_or-early list here empty k before ∙ so_far k before
+        | inl before ↦ get_or_append_left list (here ∷ []) empty k before ∙ so_far k before
         | inr after ↦
             let more = length-more list here in
             let last : k ≡ length list = omega arith in

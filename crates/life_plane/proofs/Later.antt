@@ -27,7 +27,7 @@ has-cond true xs ys c = refl
 has-cond false xs ys c = refl
 
 -- the members of a list that pass the test
-has-filter : (p : Cell → Bool) (cs : List Cell) (c : Cell) → has (filter p cs) c ≡ (has cs c && p c)
+pub has-filter : (p : Cell → Bool) (cs : List Cell) (c : Cell) → has (filter p cs) c ≡ (has cs c && p c)
 has-filter p [] c = refl
 has-filter p (d ∷ ds) c =
     has-cond (p d) (d ∷ filter p ds) (filter p ds) c

@@ -2,16 +2,14 @@
 use Rattle.std.proofs.Common.{◌≡◌, ℕ, ◌+◌, ◌-◌, ◌*◌, ◌%◌, ◌/◌, true, List, [], ◌∷◌, length, get_or, inl, inr, sym, ap, subst, ◌∙◌, mod-lt, div-add-mod', arith}
 use Rattle.std.specs.List.{Contains}
 use Rattle.std.proofs.lemmas.Bool.{cases_lt}
-use Rattle.std.proofs.lemmas.Int.{ints}
 use Rattle.std.proofs.lemmas.List.Elements.{All-contains, Contains-append_cases, Contains-append_left, Contains-append_right}
-use Rattle.life_model.specs.Cell.{Cell, origin, plus}
+use Rattle.life_model.specs.Cell.{Cell}
 use Rattle.life_model.specs.Evolution.{generation}
 use Rattle.life_model.specs.Generation.{Generation, contains, empty}
 use Rattle.life_model.specs.Recurrence.{RecursBy}
 use Rattle.life_model.specs.Rule.{Rule}
 use Rattle.life_model.specs.Symmetry.{translate_of}
-use Rattle.life_model.proofs.Cells.{pair}
-use Rattle.life_model.proofs.Moves.{moved-origin}
+use Rattle.life_model.proofs.Moves.{moved-origin, moved-plus_origin}
 use Rattle.life_model.proofs.Recurrences.{generation-add}
 use Rattle.life_objects.specs.Drift.{multiple_of}
 use Rattle.life_objects.specs.Union.{generations, union_of}
@@ -19,7 +17,7 @@ use Rattle.life_objects.proofs.Many.{list_ever}
 use Rattle.life_objects.proofs.Members.{found_in}
 use Rattle.life_objects.proofs.Moving.{generation-wrapped}
 use Rattle.life_objects.proofs.DecidedLemmas.Kept.{Contains-map}
-use Rattle.life_growth.proofs.EnginesLemmas.Lists.{Contains-flat_map, of_flat_map, of_map}
+use Rattle.life_objects.proofs.IndependentLemmas.Found.{Contains-flat_map, of_flat_map, of_map}
 use Rattle.life_growth.specs.Things.{IsMadeOf, IsSettledThing, Thing, set_then, time_then}
 use Rattle.life_growth.proofs.Things.{settled_is_made}
 use Rattle.life_orbit.specs.Course.{Course, IsCourse}
@@ -31,10 +29,6 @@ use Rattle.life_settled.proofs.Listing.{Contains-first, of_first}
 -- a thing of these
 abbrev thing : ℕ → Generation → List (ℕ × Cell) → Thing
 thing time set ways = record { time = time; set = set; ways = ways }
-
-moved_none : (A : Generation) (d : Cell) → translate_of A (plus d origin) ≡ translate_of A d
-moved_none A d =
-    ap (translate_of A) (let z : plus d origin ≡ d = pair (omega (arith, ints)) (omega (arith, ints)) in z)
 
 module _ (R : Rule) (b : ℕ) (P : Generation) (s : Settling) (settles : IsSettling R b P s) where
   abbrev a : ℕ
@@ -92,7 +86,7 @@ module _ (R : Rule) (b : ℕ) (P : Generation) (s : Settling) (settles : IsSettl
   phase_stands : (o : Course) → Contains s.parts o → (m : ℕ) →
       set_then (phase_thing a o (m % o.period)) (m / o.period ∷ []) ≡ generation R o.set m
   phase_stands o one m =
-      moved_none (generation o.rule o.set (m % o.period)) (multiple_of (m / o.period) o.displacement)
+      moved-plus_origin (generation o.rule o.set (m % o.period)) (multiple_of (m / o.period) o.displacement)
       ∙ ap (λ S. translate_of (generation S o.set (m % o.period)) (multiple_of (m / o.period) o.displacement)) (rule_of o one)
       ∙ sym (generation-wrapped R o.set o.period o.displacement (recurs_of o one) m)
 

@@ -1,21 +1,21 @@
 -- The box of a set, and where the cells of a normal form stand.
-use Rattle.std.proofs.Common.{◌≡◌, ℕ, length, get_or, take, ◌+◌, ◌<◌, ◌≤◌, ℤ, pos, negsuc, neg_ℤ, ◌+ℤ◌, ◌≤ℤ◌, ◌<ℤ◌, true, List, [], ◌∷◌, map, inl, inr, sym, refl, ap, subst, ◌∙◌, true≢false, arith}
+use Rattle.std.proofs.Common.{◌≡◌, ℕ, length, get_or, take, ◌+◌, ◌<◌, ◌≤◌, ℤ, pos, negsuc, neg_ℤ, ◌+ℤ◌, ◌≤ℤ◌, ◌<ℤ◌, true, List, [], ◌∷◌, map, sym, refl, ap, subst, ◌∙◌, arith}
 use Rattle.std.specs.Prelude.{All, nat_abs, max}
-use Rattle.std.specs.List.{list_any, AllByRecursion}
-use Rattle.std.proofs.lemmas.Bool.{or_cases}
+use Rattle.std.specs.List.{AllByRecursion}
 use Rattle.std.proofs.lemmas.Int.{ints}
 use Rattle.std.proofs.lemmas.List.Elements.{All-from_recursion, All-map, All-weaker}
 use Rattle.std.proofs.lemmas.List.{take_all, take_more}
 use Rattle.std.proofs.lemmas.List.Recursion.{max_push}
 use Rattle.life_model.specs.Box.{extent, width, height}
-use Rattle.life_model.specs.Cell.{Cell, same_cell, origin, plus, opposite}
+use Rattle.life_model.specs.Cell.{Cell, origin, plus, opposite}
 use Rattle.life_model.specs.Generation.{Generation, contains, cells, from_list}
 use Rattle.life_model.specs.Symmetry.{IsCorner, corner, corner_of, normal, Orientation, Same, FlipX, FlipY, Half, Swap, SwapFlipX, SwapFlipY, SwapHalf, turn, image_under, image}
 use Rattle.life_model.proofs.Lists.{cells-moved}
-use Rattle.life_model.proofs.Cells.{pair, same_cell-is, plus-opposite_first}
+use Rattle.life_model.proofs.Cells.{pair, plus-opposite_first}
 use Rattle.life_model.proofs.Generations.{contains-cells}
 use Rattle.life_model.proofs.Symmetries.{contains-moved, contains-turned, undone}
 use Rattle.life_model.proofs.Moves.{corner-is, normal-corner, normal-moved}
+use Rattle.life_model.proofs.Boxes.{below_extent}
 use Rattle.life_cells.specs.Limits.{IsPlace, IsWithin, extent_limit, place_limit}
 use Rattle.life_shape.specs.Dots.{IsInField}
 use Rattle.life_shape.specs.NormalForms.{IsAhead}
@@ -23,24 +23,10 @@ use Rattle.life_shape.proofs.Members.{member_has, all_members}
 
 -- ---- the greatest of some places
 
-below_first : (a b c : ℕ) → a ≡ b → a < max (b + 1) c
-below_first a b c h = omega arith
-
-below_others : (a b c : ℕ) → a < c → a < max (b + 1) c
-below_others a b c h = omega arith
-
 both_within : (b c n : ℕ) → b < n → c ≤ n → max (b + 1) c ≤ n
 both_within b c n h k = omega arith
 
 module _ (f : Cell → ℤ) where
-  pub below_extent : (cs : List Cell) (c : Cell) → list_any (same_cell c) cs ≡ true → nat_abs (f c) < extent (map (λ b. nat_abs (f b)) cs)
-  below_extent [] c e = absurd (true≢false (sym e))
-  below_extent (d ∷ ds) c e =
-      elim (or_cases (same_cell c d) _ e) [
-        | inl h ↦ below_first _ _ _ (ap (λ b. nat_abs (f b)) ((same_cell-is c d).0 h))
-        | inr h ↦ below_others _ _ _ (below_extent ds c h)
-      ]
-
   pub extent_within : (cs : List Cell) (n : ℕ) → AllByRecursion (λ c. nat_abs (f c) < n) cs → extent (map (λ b. nat_abs (f b)) cs) ≤ n
   extent_within [] n h = omega arith
   extent_within (d ∷ ds) n h = both_within _ _ _ h.0 (extent_within ds n h.1)
@@ -76,9 +62,9 @@ normal_in_box G c h =
     let listed = sym (contains-cells (normal G) c) ∙ h in
     record {
       left = k.left c h;
-      right = below_size _ _ (k.left c h) (below_extent (λ b. b.0) (cells (normal G)) c listed);
+      right = below_size _ _ (k.left c h) (below_extent (λ b. nat_abs b.0) (cells (normal G)) c listed);
       above = k.above c h;
-      below = below_size _ _ (k.above c h) (below_extent (λ b. b.1) (cells (normal G)) c listed);
+      below = below_size _ _ (k.above c h) (below_extent (λ b. nat_abs b.1) (cells (normal G)) c listed);
     }
 
 plus-opposite_opposite : (k c : Cell) → plus c (opposite (opposite k)) ≡ plus c k

@@ -1,12 +1,12 @@
 -- The cells of marks, by strip and column.
-use Rattle.std.proofs.Common.{◌≡◌, ◌≢◌, ◌⊎◌, ℕ, suc, ◌+◌, ◌-◌, ◌*◌, ◌/◌, ◌%◌, ◌^◌, ◌<◌, ◌≤◌, min, Bool, true, false, not, cond, ◌||◌, List, [], ◌∷◌, ◌++◌, length, drop, map, Option, Some, None, Result, Ok, Err, if◌then◌else◌, sym, refl, ap, ◌∙◌, arith, add-zero, append_assoc}
+use Rattle.std.proofs.Common.{◌≡◌, ◌≢◌, ◌⊎◌, ℕ, suc, ◌+◌, ◌-◌, ◌*◌, ◌/◌, ◌%◌, ◌^◌, ◌<◌, ◌≤◌, min, Bool, true, false, cond, ◌||◌, List, [], ◌∷◌, ◌++◌, map, Option, Some, None, Result, Ok, Err, if◌then◌else◌, sym, refl, ap, ◌∙◌, arith, add-zero, append_assoc}
 use Rattle.std.specs.Prelude.{nat_le, ◌==◌}
-use Rattle.std.specs.List.{after_last, suffix_len, prefix_len, list_any, sum_by, filter, range_with_len}
+use Rattle.std.specs.List.{after_last, list_any, sum_by, filter, range_with_len}
 use Rattle.std.specs.Option.{option_or}
 use Rattle.std.specs.Int.{bit_at}
 use Rattle.std.proofs.lemmas.Bool.{or_parts}
 use Rattle.std.proofs.lemmas.Bool.Decides.{nat_tests}
-use Rattle.std.proofs.lemmas.List.{reverse-append, drop-append-le, length-append, drop_all, map-append}
+use Rattle.std.proofs.lemmas.List.{map-append}
 use Rattle.std.proofs.lemmas.List.Sums.{sum_by-append}
 use Rattle.life_model.specs.Cell.{Cell}
 use Rattle.life_cells.specs.Limits.{place_limit}
@@ -15,24 +15,9 @@ use Rattle.life_shape.specs.declared.reader.CodeFault.TheVariants.{TooFar}
 use Rattle.life_shape.specs.Reading.{Mark, Column, Zeros, NextStrip, Offence, is_next_strip, columns_in, strip_number, column, mark_cells, mark_fault, column_cells, live_rows, is_far, cells_after, first_fault, marks_of}
 use Rattle.life_shape.specs.Drawing.{strip_behind, column_behind, cells_from, fault_from, cells_unless, cells_drawn, rows_left, cells_left, marks_at}
 use Rattle.life_cells.specs.Readings.{cell_of_pair, with_prefix}
-use Rattle.life_cells.proofs.Readings.{with_prefix-twice}
+use Rattle.life_cells.proofs.Readings.{after_last-hit, after_last-miss, with_prefix-twice}
 
 -- ---- sums over the marks before, step by step
-
-suffix_len-push : (p : Mark → Bool) (xs : List Mark) (x : Mark) → suffix_len p (xs ++ x ∷ []) ≡ cond (p x) (1 + suffix_len p xs) 0
-suffix_len-push p xs x = ap (prefix_len p) (reverse-append xs (x ∷ []))
-
-after_last-hit : (p : Mark → Bool) (xs : List Mark) (x : Mark) → p x ≡ true → after_last p (xs ++ x ∷ []) ≡ []
-after_last-hit p xs x h =
-    let none : suffix_len (λ y. not (p y)) (xs ++ x ∷ []) ≡ 0 = suffix_len-push (λ y. not (p y)) xs x ∙ ap (λ b. cond (not b) (1 + suffix_len (λ y. not (p y)) xs) 0) h in
-    drop_all _ (xs ++ x ∷ []) (omega arith)
-
-after_last-miss : (p : Mark → Bool) (xs : List Mark) (x : Mark) → p x ≡ false → after_last p (xs ++ x ∷ []) ≡ after_last p xs ++ x ∷ []
-after_last-miss p xs x h =
-    let more : suffix_len (λ y. not (p y)) (xs ++ x ∷ []) ≡ 1 + suffix_len (λ y. not (p y)) xs = suffix_len-push (λ y. not (p y)) xs x ∙ ap (λ b. cond (not b) (1 + suffix_len (λ y. not (p y)) xs) 0) h in
-    let n = length-append xs (x ∷ []) in
-    let same : length (xs ++ x ∷ []) - suffix_len (λ y. not (p y)) (xs ++ x ∷ []) ≡ length xs - suffix_len (λ y. not (p y)) xs = omega arith in
-    ap (λ k. drop k (xs ++ x ∷ [])) same ∙ drop-append-le (length xs - suffix_len (λ y. not (p y)) xs) xs (x ∷ []) (omega arith)
 
 strip-push : (before : List Mark) (m : Mark) → strip_number (before ++ m ∷ []) ≡ strip_behind (strip_number before) m
 strip-push before (Column at v) = sum_by-append _ before (Column at v ∷ []) ∙ add-zero (strip_number before)

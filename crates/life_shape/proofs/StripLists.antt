@@ -17,7 +17,7 @@ use Rattle.life_model.specs.Box.{width, height}
 use Rattle.life_model.specs.Cell.{Cell, cell_cmp}
 use Rattle.life_model.specs.Generation.{Generation, cells, contains, below_all, is_rising}
 use Rattle.life_model.specs.Symmetry.{normal}
-use Rattle.life_cells.proofs.Sorted.{first_holds, second_holds}
+use Rattle.life_model.proofs.Tests.{first_holds, second_holds}
 use Rattle.life_cells.specs.Limits.{extent_limit}
 use Rattle.life_shape.specs.Wechsler.{column_value, strips_text, body}
 use Rattle.life_shape.proofs.Members.{member_has, all_members}

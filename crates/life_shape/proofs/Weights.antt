@@ -2,30 +2,18 @@
 use Rattle.std.proofs.Common.{◌≡◌, ◌≢◌, ℕ, zero, suc, ◌+◌, ◌-◌, ◌*◌, ◌^◌, ◌<◌, ◌≤◌, pos, negsuc, ◌≤ℤ◌, ◌<ℤ◌, Bool, true, false, ◌&&◌, ◌||◌, T, List, [], ◌∷◌, map, if◌then◌else◌, sym, refl, ap, ◌∙◌, arith, add-zero}
 use Rattle.std.specs.Prelude.{◌==◌}
 use Rattle.std.specs.List.{list_any, range_with_len, sum_by, AllByRecursion}
-use Rattle.std.specs.Ordering.{is_lt, is_eq}
-use Rattle.std.specs.declared.cmp.Ordering.{Ordering}
-use Rattle.std.specs.declared.cmp.Ordering.TheVariants.{Less, Equal, Greater}
 use Rattle.std.proofs.lemmas.Int.{ints}
 use Rattle.std.proofs.lemmas.Bool.Decides.{nat_tests, same_from_decides, Decides-like, Decides-and, Decides-eqb}
 use Rattle.std.proofs.lemmas.List.Sums.{sum_by-cons, sum_by-le-sum_by}
-use Rattle.life_model.specs.Cell.{Cell, cell_cmp, same_cell}
+use Rattle.life_model.specs.Cell.{Cell, same_cell}
 use Rattle.life_model.specs.Generation.{Generation, cells, below_all, is_rising}
 use Rattle.life_model.proofs.Cells.{same_cell-is}
-use Rattle.life_model.proofs.Generations.{contains-cells, cells-rise}
-use Rattle.life_cells.proofs.Sorted.{first_holds, second_holds}
+use Rattle.life_model.proofs.Generations.{contains-cells, cells-rise, none_below}
+use Rattle.life_model.proofs.Tests.{first_holds, second_holds}
 use Rattle.life_shape.specs.Wechsler.{column_value}
 use Rattle.life_shape.specs.Dots.{weight, weights, dot, dots_value, IsInStrip}
 
 -- ---- each cell of a list in order stands in it once
-
-unlike : (r : Ordering) → T (is_lt r) → is_eq r ≡ false
-unlike Less h = refl
-unlike Equal h = absurd h
-unlike Greater h = absurd h
-
-pub none_below : (c : Cell) (cs : List Cell) → T (below_all c cs) → list_any (same_cell c) cs ≡ false
-none_below c [] h = refl
-none_below c (d ∷ ds) h = λ i. unlike (cell_cmp c d) (first_holds _ _ h) i || none_below c ds (second_holds (is_lt (cell_cmp c d)) _ h) i
 
 apart : (a b : Bool) (w : ℕ) → (a ≡ true → b ≡ false) → (if a || b then w else 0) ≡ (if a then w else 0) + (if b then w else 0)
 apart true b w h = sym (add-zero w) ∙ ap (λ t. w + (if t then w else 0)) (sym (h refl))

@@ -7,9 +7,8 @@ use Rattle.std.proofs.lemmas.Nat.{pow_pos, mod-pow-add}
 use Rattle.std.proofs.lemmas.Nat.Bits.{bit_at-lt}
 use lib.Count.{ones, ones_in, ones_cat}
 use Rattle.life_model.specs.Cell.{Cell}
-use Rattle.life_model.specs.Generation.{Generation, contains, insert, from_list, size}
-use Rattle.life_model.proofs.Cells.{cell_cmp_total}
-use Rattle.life_model.proofs.Generations.{contains-from_list, size-empty}
+use Rattle.life_model.specs.Generation.{contains, insert, from_list, size}
+use Rattle.life_model.proofs.Generations.{contains-from_list, size-empty, size-insert}
 use Rattle.life_slots.specs.Cells.{row_cells, block_cells, IsCountFrom}
 use Rattle.life_slots.proofs.Orders.{true_or_false}
 use Rattle.life_slots.proofs.Members.{Has}
@@ -20,10 +19,6 @@ use Rattle.life_slots.proofs.Splits.{not_one}
 abbrev pub IsFresh : List Cell → Type 0
 IsFresh [] = Unit {0}
 IsFresh (c ∷ cs) = (Has cs c → ⊥) × IsFresh cs
-
-size-insert : (G : Generation) (c : Cell) → contains G c ≡ false → size (insert G c) ≡ size G + 1
-unfolding size insert contains
-size-insert G c new = finmap.len-insert cell_cmp_total G c tt ∙ ap (λ (b : Bool). cond b (finmap.len G) (finmap.len G + 1)) new
 
 lacks : (cs : List Cell) (c : Cell) → (Has cs c → ⊥) → contains (from_list cs) c ≡ false
 unfolding Has

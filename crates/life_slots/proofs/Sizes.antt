@@ -94,6 +94,7 @@ below_has c (d ∷ ds) below q has =
     (λ later. below_has c ds parts.1 q later)
     (has_cases d q ds has)
 
+-- no more cells than there are places from the least one on
 few_from : (age : ℕ) → age ≤ age_limit → (cs : List Cell) → T (is_rising cs) → ((q : Cell) → Has cs q → IsWithin age q) →
     (low : ℤ) → low ≤ℤ pos 90000000000000 → ((q : Cell) → Has cs q → low ≤ℤ rank q) → (low +ℤ pos (length cs)) ≤ℤ pos 90000000000000
 few_from age young [] rising within low below least = omega (arith, ints)
@@ -117,15 +118,18 @@ member_has G q has = contains-cells G q ∙ has
 lowest : (age : ℕ) (q : Cell) → age ≤ age_limit → IsWithin age q → negsuc 80000000000000 ≤ℤ rank q
 lowest age q young within = omega (arith, ints, within.left, within.above)
 
-few_cells : (n : ℕ) → (negsuc 80000000000000 +ℤ pos n) ≤ℤ pos 90000000000000 → n < 2 ^ 64
-few_cells n few = omega (arith, ints)
+count_small : (n : ℕ) → (negsuc 80000000000000 +ℤ pos n) ≤ℤ pos 90000000000000 → n ≤ 2 ^ 48
+count_small n few = omega (arith, ints)
 
-pub size_fits : (G : Generation) (age : ℕ) → age ≤ age_limit → ((q : Cell) → contains G q ≡ true → IsWithin age q) → size G < 2 ^ 64
-size_fits G age young each =
+pub few_cells : (G : Generation) (age : ℕ) → age ≤ age_limit → ((q : Cell) → contains G q ≡ true → IsWithin age q) → size G ≤ 2 ^ 48
+few_cells G age young each =
     let within : (q : Cell) → Has (cells G) q → IsWithin age q = λ q has. each q (member_has G q has) in
     let few : (negsuc 80000000000000 +ℤ pos (length (cells G))) ≤ℤ pos 90000000000000 =
     few_from age young (cells G) (cells-rise G) within (negsuc 80000000000000) (omega (arith, ints))
     (λ q has. lowest age q young (within q has)) in
     let is : size G ≡ length (cells G) = size-cells G in
-    let small : length (cells G) < 2 ^ 64 = few_cells (length (cells G)) few in
+    let small : length (cells G) ≤ 2 ^ 48 = count_small (length (cells G)) few in
     omega arith
+
+pub size_fits : (G : Generation) (age : ℕ) → age ≤ age_limit → ((q : Cell) → contains G q ≡ true → IsWithin age q) → size G < 2 ^ 64
+size_fits G age young each = let few = few_cells G age young each in omega arith

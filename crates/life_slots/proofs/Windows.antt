@@ -51,7 +51,7 @@ third_row nine b more =
     let past_both : nat_lt b 128 ≡ false = grind arith in
     rw (past, past_both)
 
-bit_is : (b : Bool) → (cond b 1 0) ≡ as_bit b
+pub bit_is : (b : Bool) → (cond b 1 0) ≡ as_bit b
 bit_is true = refl
 bit_is false = refl
 
@@ -68,7 +68,7 @@ pub regrouped : (a b c d e f g h a' b' c' d' e' f' g' h' : ℕ) → a ≡ a' →
     a + (b + (c + (d + (e + (f + (g + (h + 0))))))) ≡ a' + b' + c' + d' + e' + f' + g' + h'
 regrouped a b c d e f g h a' b' c' d' e' f' g' h' p1 p2 p3 p4 p5 p6 p7 p8 = omega arith
 
-lives_bit : (rule : Rule) (live : Cell → Bool) (c : Cell) → as_bit (lives rule live c) ≡ next_state rule (as_bit (live c)) (count_at live c)
+pub lives_bit : (rule : Rule) (live : Cell → Bool) (c : Cell) → as_bit (lives rule live c) ≡ next_state rule (as_bit (live c)) (count_at live c)
 unfolding lives
 lives_bit rule live c =
     elim (live c) as (λ b. as_bit (cond b (stays rule (count_at live c)) (born rule (count_at live c))) ≡ next_state rule (as_bit b) (count_at live c)) [

@@ -5,7 +5,7 @@ use Rattle.std.proofs.lemmas.Int.{ints}
 use Rattle.life_growth.proofs.RelationsLemmas.Products.{spreads}
 
 -- how much further on one number is
-ahead : (x y : ℤ) → x ≤ℤ y → (v : ℕ) × (y ≡ x +ℤ pos v)
+pub ahead : (x y : ℤ) → x ≤ℤ y → (v : ℕ) × (y ≡ x +ℤ pos v)
 ahead x y h =
     elim (y -ℤ x) as (λ z. y -ℤ x ≡ z → (v : ℕ) × (y ≡ x +ℤ pos v)) [
       | pos n ↦ λ e. (n, omega (arith, ints))

@@ -1,5 +1,5 @@
 -- Classes as islands, and islands that are followed.
-use Rattle.std.proofs.Common.{◌≡◌, ◌≢◌, ℕ, suc, ◌+◌, ◌*◌, ◌<◌, List, [], ◌∷◌, map, inl, inr, sym, ap, subst, ◌∙◌, arith, add-one}
+use Rattle.std.proofs.Common.{◌≡◌, ◌≢◌, ℕ, suc, ◌+◌, ◌*◌, ◌<◌, List, inl, inr, sym, ap, subst, ◌∙◌, arith, add-one}
 use Rattle.std.specs.List.{Contains}
 use Rattle.std.proofs.lemmas.Bool.{cases_lt}
 use Rattle.std.proofs.lemmas.List.Elements.{All-contains}
@@ -9,22 +9,14 @@ use Rattle.life_model.specs.Generation.{Generation, contains, empty}
 use Rattle.life_model.proofs.Moves.{nothing_or_some}
 use Rattle.life_model.proofs.Recurrences.{generation-zero}
 use Rattle.life_objects.specs.Whole.{StaysWhole}
-use Rattle.life_objects.proofs.Lists.{Contains-head, Contains-later, head_or_later}
 use Rattle.life_objects.proofs.Members.{in_list_now}
 use Rattle.life_objects.proofs.Unions.{in_empty}
+use Rattle.life_objects.proofs.DecidedLemmas.Kept.{Contains-map}
 use Rattle.life_classes.specs.declared.class.Class.{Class}
 use Rattle.life_classes.specs.Tracking.{AreTracked, first_sets}
 use Rattle.life_plane.specs.Offsets.{HasNoneWithin}
 use Rattle.life_strays.specs.declared.stray.Stray.{Stray}
 use Rattle.life_strays.specs.Strays.{AreHeirs, ComesBackNowhere, HangsOn, IsIslandNow, IsStray}
-
-Contains-map : {X Y : Type 0} (f : X → Y) (xs : List X) (x : X) → Contains xs x → Contains (map f xs) (f x)
-Contains-map f [] x one = let none : one.0 < 0 = one.1 in absurd (omega arith)
-Contains-map f (y ∷ ys) x one =
-    elim (head_or_later y x ys one.0 one.1 one.2) [
-      | inl e ↦ subst (λ z. Contains (f y ∷ map f ys) z) (ap f e) (Contains-head (f y) (map f ys))
-      | inr later ↦ Contains-later (f y) (f x) (map f ys) (Contains-map f ys x later)
-    ]
 
 -- a class that has a cell is an island
 pub class_island : (R : Rule) (G : Generation) (cs : List Class) (class : Class) → AreTracked R 0 0 G cs →

@@ -7,7 +7,7 @@ use Rattle.life_model.specs.Evolution.{generation}
 use Rattle.life_model.specs.Generation.{Generation, empty, size}
 use Rattle.life_model.proofs.Generations.{size-empty}
 use Rattle.life_model.proofs.Recurrences.{generation-add}
-use Rattle.life_growth.proofs.Sizes.{size-moved}
+use Rattle.life_model.proofs.Lists.{size-moved}
 use Rattle.life_objects.specs.Apart.{AreApartForEver}
 use Rattle.life_objects.specs.Ash.{IsAsh, IsObject, RecursWithin}
 use Rattle.life_objects.specs.Union.{union, union_of}

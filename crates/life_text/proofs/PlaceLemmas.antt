@@ -16,7 +16,7 @@ use Rattle.life_model.specs.Symmetry.{corner, corner_of, least_by, normal}
 use Rattle.life_model.proofs.Generations.{cells-from_list}
 use Rattle.life_model.proofs.Lists.{cells-moved}
 use Rattle.life_model.proofs.Moves.{same_le}
-use Rattle.life_cells.proofs.Sorted.{first_holds, second_holds}
+use Rattle.life_model.proofs.Tests.{first_holds, second_holds}
 use Rattle.life_text.specs.Places.{place, places}
 use Rattle.life_text.specs.Writer.{places_from}
 use Rattle.life_text.proofs.CornerLemmas.{corner_left, corner_above}

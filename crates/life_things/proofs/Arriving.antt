@@ -1,11 +1,11 @@
 -- When one step comes to a time, and where that is.
-use Rattle.std.proofs.Common.{◌≡◌, ◌≢◌, ℕ, zero, suc, ℤ, pos, negsuc, ◌+ℤ◌, ◌*◌, ◌<◌, ◌≤◌, ◌^◌, [], ◌∷◌, inl, inr, sym, refl, ap, subst, ◌∙◌, mul-le-mul_left, arith}
+use Rattle.std.proofs.Common.{◌≡◌, ◌≢◌, ℕ, zero, suc, ℤ, pos, negsuc, ◌+ℤ◌, ◌*◌, ◌^◌, [], ◌∷◌, sym, refl, ap, subst, ◌∙◌, arith}
 use Rattle.std.proofs.Math.IntN.{◌*ℤ◌}
-use Rattle.std.proofs.lemmas.Bool.{cases_lt}
 use Rattle.std.proofs.lemmas.Int.{ints}
 use Rattle.life_model.specs.Cell.{Cell}
 use Rattle.life_model.specs.Generation.{Generation}
 use Rattle.life_growth.specs.Meeting.Sums.{Step, and_then, times}
+use Rattle.life_growth.proofs.RelationsLemmas.Singles.{same_product}
 use Rattle.life_things.specs.Clear.{IsClear, StaysClear}
 use Rattle.life_things.specs.Fields.{IsFieldOf}
 use Rattle.life_steps.specs.Short.{IsWithin}
@@ -13,25 +13,10 @@ use Rattle.life_things.specs.declared.field.Field.{Field}
 use Rattle.life_things.proofs.Going.{at_another_time, at_no_step, by_numbers, each_number, no_step_at}
 use Rattle.life_steps.proofs.Within.{times_is}
 
-no_less : (m n a : ℕ) → 1 ≤ a → m * a ≡ n * a → m < n → ⊥
-no_less m n a some e less =
-    let more : a * suc m ≤ a * n = mul-le-mul_left a less in
-    omega arith
-
-same_number : (m n a : ℕ) → 1 ≤ a → m * a ≡ n * a → m ≡ n
-same_number m n a some e =
-    elim (cases_lt m n) [
-      | inl less ↦ absurd (no_less m n a some e less)
-      | inr not_less ↦ elim (cases_lt n m) [
-        | inl more ↦ absurd (no_less n m a some (sym e) more)
-        | inr not_more ↦ omega arith
-      ]
-    ]
-
 same_rounds : (m n : ℕ) (z : ℤ) → z ≢ pos 0 → (pos m *ℤ z) ≡ (pos n *ℤ z) → m ≡ n
 same_rounds m n (pos zero) some e = absurd (some refl)
-same_rounds m n (pos (suc a)) some e = same_number m n (suc a) (omega arith) (omega (arith, ints))
-same_rounds m n (negsuc a) some e = same_number m n (suc a) (omega arith) (omega (arith, ints))
+same_rounds m n (pos (suc a)) some e = same_product m n (suc a) (omega arith) (omega (arith, ints))
+same_rounds m n (negsuc a) some e = same_product m n (suc a) (omega arith) (omega (arith, ints))
 
 time_then : (s u : Step) (n : ℕ) → (and_then s (times n u)).0 ≡ (s.0 +ℤ (pos n *ℤ u.0))
 time_then s u n = ap (λ (v : Step). s.0 +ℤ v.0) (times_is n u)

@@ -1,7 +1,7 @@
 -- Places of a field, by how many columns and rows they are from its corner.
 use mir.Syntax.{w128}
 use mir.Val.{of_z, to_z}
-use Rattle.std.proofs.Common.{◌≡◌, ℕ, ℤ, pos, negsuc, ◌+ℤ◌, ◌-ℤ◌, ◌≤ℤ◌, ◌<◌, ◌^◌, List, [], ◌∷◌, sym, refl, ap, subst, ◌∙◌, arith}
+use Rattle.std.proofs.Common.{◌≡◌, ℕ, ℤ, pos, ◌+ℤ◌, ◌≤ℤ◌, ◌<◌, ◌^◌, List, [], ◌∷◌, sym, ap, subst, ◌∙◌, arith}
 use Rattle.std.specs.Prelude.{◌↔◌}
 use Rattle.std.proofs.Math.IntN.{◌*ℤ◌, *ℤ-zero, zero-*ℤ}
 use Rattle.std.proofs.lemmas.Int.{ints}
@@ -12,6 +12,7 @@ use Rattle.life_growth.specs.Relations.Relations.{product}
 use Rattle.life_growth.proofs.RelationsLemmas.Products.{product-stay, product-then, product-times}
 use Rattle.life_steps.specs.Short.{IsWithin}
 use Rattle.life_steps.proofs.Within.{read_back}
+use Rattle.life_steps.proofs.Steady.{ahead}
 use Rattle.life_things.specs.Fields.{IsFieldOf, IsInField}
 use Rattle.life_things.specs.Tries.{AreClear, ClearTowards}
 use Rattle.life_things.specs.declared.field.Field.{Field}
@@ -40,14 +41,6 @@ in_field f m n right below = record {
   above = omega (arith, ints);
   below = below;
 }
-
--- how far on a number is
-ahead : (x y : ℤ) → x ≤ℤ y → (v : ℕ) × (y ≡ x +ℤ pos v)
-ahead x y h =
-    elim (y -ℤ x) as (λ z. y -ℤ x ≡ z → (v : ℕ) × (y ≡ x +ℤ pos v)) [
-      | pos n ↦ λ e. (n, omega (arith, ints))
-      | negsuc n ↦ λ e. absurd (omega (arith, ints))
-    ] refl
 
 -- each place of the field is so many columns and rows from its corner
 pub each_place : (f : Field) (F : Cell → Type 0) →

@@ -7,6 +7,7 @@ use Rattle.life_model.specs.Symmetry.{translate_of}
 use Rattle.life_model.proofs.Cells.{pair}
 use Rattle.life_model.proofs.Symmetries.{contains-moved}
 use Rattle.life_objects.specs.Apart.{AreNear}
+use Rattle.life_objects.proofs.Distances.{AreNear-alike}
 use Rattle.life_growth.specs.Things.{NeverMeet, Thing, move_of, time_then}
 use Rattle.life_growth.specs.Meeting.Meeting.{steps_between}
 use Rattle.life_growth.specs.Meeting.Sums.{Step, and_then}
@@ -43,29 +44,12 @@ module _ (A B : Thing) where
     near_there c e d same near =
         let x = ap (λ (u : Step). u.1.0) same in
         let y = ap (λ (u : Step). u.1.1) same in
-        let left = near.left in
-        let right = near.right in
-        let above = near.above in
-        let below = near.below in
-        record {
-          left = omega (arith, ints);
-          right = omega (arith, ints);
-          above = omega (arith, ints);
-          below = omega (arith, ints);
-        }
+        AreNear-alike (plus c d) e (plus c m) (plus e n) (omega (arith, ints)) (omega (arith, ints)) near
 
     near_here : (g f : Cell) → AreNear g f → AreNear (plus (plus g (opposite m)) (plus m (opposite n))) (plus f (opposite n))
     near_here g f near =
-        let left = near.left in
-        let right = near.right in
-        let above = near.above in
-        let below = near.below in
-        record {
-          left = omega (arith, ints);
-          right = omega (arith, ints);
-          above = omega (arith, ints);
-          below = omega (arith, ints);
-        }
+        AreNear-alike g f (plus (plus g (opposite m)) (plus m (opposite n))) (plus f (opposite n)) (omega (arith, ints))
+        (omega (arith, ints)) near
 
   pub never_by_clear : StaysClear A.set B.set start_of (steps_between A B) → NeverMeet A B
   never_by_clear clear k l e g f in_g in_f near =

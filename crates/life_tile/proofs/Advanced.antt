@@ -2,12 +2,12 @@
 use Rattle.std.proofs.Common.{◌≡◌, ℕ, ℤ, pos, ◌+ℤ◌, ◌+◌, ◌<◌, false, List, length, refl, sym, subst, ap, ◌∙◌, arith}
 use Rattle.std.proofs.lemmas.Int.{ints}
 use Rattle.std.proofs.Math.Path.{transport}
-use Rattle.life_model.specs.Cell.{Cell, IsNear}
 use Rattle.life_model.specs.Rule.{Rule}
 use Rattle.life_model.specs.Generation.{Generation, contains}
 use Rattle.life_model.specs.Evolution.{next}
 use Rattle.life_model.proofs.Near.{next_near}
-use Rattle.life_cells.specs.Limits.{IsWithin, age_limit}
+use Rattle.life_cells.specs.Limits.{age_limit}
+use Rattle.life_cells.proofs.Within.{within_near}
 use Rattle.life_bits.specs.declared.tile.Tile.{Tile}
 use Rattle.life_bits.specs.Area.{tile_cell}
 use Rattle.life_slots.specs.Places.{start_at}
@@ -21,14 +21,6 @@ use Rattle.life_slots.proofs.Marks.{clear_before}
 use Rattle.life_slots.proofs.Steps.{advanced, settled_again, closed_again, closed_idle}
 use Rattle.life_tile.specs.declared.tile_store.TileStore.{TileStore}
 use Rattle.life_tile.specs.TileStores.{members_of, IsKept, IsGrown, IsBegun}
-
-within_near : (age : ℕ) (g c : Cell) → IsWithin age g → IsNear c g → IsWithin (age + 1) c
-within_near age g c within near = record {
-  left = omega (arith, ints, within.left, near.left);
-  right = omega (arith, ints, within.right, near.right);
-  above = omega (arith, ints, within.above, near.above);
-  below = omega (arith, ints, within.below, near.below);
-}
 
 reached_later : (age : ℕ) (place : ℤ × ℤ) → IsReached age place → IsReached (age + 1) place
 reached_later age place reached = record {

@@ -1,6 +1,7 @@
 -- The cells of the tiles of slots, one slot after another: they are the members, and no cell comes twice.
-use Rattle.std.proofs.Common.{◌≡◌, ℕ, zero, suc, ℤ, pos, ◌+ℤ◌, ◌+◌, ◌<◌, ◌≤◌, ⊎_elim, Bool, true, false, List, [], ◌++◌, length, length-append, slice_index, take, refl, sym, subst, ap, ◌∙◌, arith}
+use Rattle.std.proofs.Common.{◌≡◌, ℕ, zero, suc, ℤ, pos, ◌+ℤ◌, ◌+◌, ◌<◌, ◌≤◌, ⊎_elim, List, [], ◌++◌, length, length-append, slice_index, take, refl, sym, subst, ap, ◌∙◌, arith}
 use Rattle.std.specs.List.{sum_by}
+use Rattle.std.specs.Cmp.{both_ways}
 use Rattle.std.proofs.lemmas.Bool.{cases_eq}
 use Rattle.std.proofs.lemmas.List.{take_all}
 use Rattle.std.proofs.lemmas.List.Sums.{sum_by_more}
@@ -25,11 +26,6 @@ use Rattle.life_slots.proofs.EndCells.{one_is_not_none}
 use Rattle.life_tile.specs.declared.tile_store.TileStore.{TileStore}
 use Rattle.life_tile.specs.TileStores.{IsKept, members_of}
 use Rattle.life_tile.proofs.Edges.{member_live, live_member}
-
-both_ways : (a b : Bool) → (a ≡ true → b ≡ true) → (b ≡ true → a ≡ true) → a ≡ b
-both_ways true b there back = sym (there refl)
-both_ways false true there back = back refl
-both_ways false false there back = refl
 
 abbrev slot_cells : List Slot → List Tile → ℕ → List Cell
 slot_cells slots tiles k = block_cells (start_at (place_of slots k).0) (start_at (place_of slots k).1) (tile_of tiles k).rows 64

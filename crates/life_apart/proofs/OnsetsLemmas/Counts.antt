@@ -1,23 +1,19 @@
 -- How many cells sets have together, and which.
-use Rattle.std.proofs.Common.{◌≡◌, ℕ, zero, suc, ◌+◌, ◌<◌, ◌≤◌, true, false, cond, ◌||◌, T}
-use Rattle.std.proofs.Common.{List, [], ◌∷◌, ◌++◌, flat_map, get_or, length, take, inl, inr, sym, refl, ap, subst, ◌∙◌, arith}
+use Rattle.std.proofs.Common.{◌≡◌, ℕ, zero, suc, ◌+◌, ◌<◌, ◌≤◌, true, false, ◌||◌, T}
+use Rattle.std.proofs.Common.{List, [], ◌∷◌, ◌++◌, flat_map, get_or, length, take, inl, inr, sym, ap, subst, ◌∙◌, arith}
 use Rattle.std.specs.FinMap as finmap
 use Rattle.std.specs.List.{All, AllPairs, Contains, list_any}
-use Rattle.std.specs.Ordering.{is_eq, is_lt}
-use Rattle.std.specs.declared.cmp.Ordering.{Ordering}
-use Rattle.std.specs.declared.cmp.Ordering.TheVariants.{Less, Equal, Greater}
 use Rattle.std.proofs.lemmas.Bool.{false_from_ne_true, or_left, or_right}
 use Rattle.std.proofs.lemmas.Grind.{flat_map-append}
 use Rattle.std.proofs.lemmas.List.{append-nil, get_or-map, length-map, map_more}
 use Rattle.std.proofs.lemmas.List.Elements.{All-head, All-tail, Contains-get_or}
 use Rattle.std.proofs.lemmas.List.Folds.{list_any-append}
-use Rattle.life_model.specs.Cell.{Cell, cell_cmp, same_cell}
-use Rattle.life_model.specs.Generation.{Generation, below_all, cells, contains, from_list, insert, is_rising, size}
-use Rattle.life_model.proofs.Cells.{cell_cmp_total}
-use Rattle.life_model.proofs.Generations.{cells-rise, contains-cells, contains-from_list, from_list-cells}
+use Rattle.life_model.specs.Cell.{Cell, same_cell}
+use Rattle.life_model.specs.Generation.{Generation, below_all, cells, contains, from_list, is_rising, size}
+use Rattle.life_model.proofs.Generations.{cells-rise, contains-cells, contains-from_list, from_list-cells, none_below, size-insert}
 use Rattle.life_model.proofs.Generations.{size-cells, size-empty}
 use Rattle.life_model.proofs.Moves.{same_cell_itself}
-use Rattle.life_cells.proofs.Sorted.{first_holds, second_holds}
+use Rattle.life_model.proofs.Tests.{first_holds, second_holds}
 use Rattle.life_objects.specs.Apart.{AreDisjoint}
 use Rattle.life_objects.specs.Union.{union, union_of}
 use Rattle.life_objects.proofs.Lists.{AllPairs-head, AllPairs-tail}
@@ -31,20 +27,6 @@ use Rattle.life_apart.proofs.OnsetsLemmas.Pasts.{past_is}
 use Rattle.life_apart.specs.Onsets.Pasts.{past_of, pasts, total}
 
 -- ---- sizes
-
-size-insert : (G : Generation) (c : Cell) → contains G c ≡ false → size (insert G c) ≡ size G + 1
-unfolding size insert contains
-size-insert G c none =
-    finmap.len-insert cell_cmp_total G c tt ∙ ap (λ b. cond b (finmap.len G) (finmap.len G + 1)) none
-
-unlike : (r : Ordering) → T (is_lt r) → is_eq r ≡ false
-unlike Less h = refl
-unlike Equal h = absurd h
-unlike Greater h = absurd h
-
-none_below : (c : Cell) (cs : List Cell) → T (below_all c cs) → list_any (same_cell c) cs ≡ false
-none_below c [] h = refl
-none_below c (d ∷ ds) h = λ i. unlike (cell_cmp c d) (first_holds _ _ h) i || none_below c ds (second_holds (is_lt (cell_cmp c d)) _ h) i
 
 -- cells in order, and others that are none of them
 size-more : (Q : Generation) (cs : List Cell) → T (is_rising cs) →

@@ -18,13 +18,13 @@ use Rattle.life_objects.proofs.Lists.{AllDiffer, AllPairs-head, AllPairs-nil, Al
 use Rattle.life_objects.proofs.Members.{found_now, in_list_now}
 use Rattle.life_objects.proofs.OneList.{apart_from_list}
 use Rattle.life_objects.proofs.Sides.{within_each_other}
-use Rattle.life_objects.proofs.Unions.{in_first, union-empty}
-use Rattle.life_growth.proofs.Growing.{union-assoc}
+use Rattle.life_objects.proofs.Unions.{in_first, union-assoc, union-empty, union-swap}
 use Rattle.std.proofs.lemmas.List.Sorted.{Contains-permutation}
 use Rattle.life_objects.specs.Decided.Classes.{classes}
 use Rattle.life_objects.specs.Decided.Tests.{each_below}
 use Rattle.life_objects.proofs.DecidedLemmas.Kept.{Contains-filter, Contains-map, of_filter}
 use Rattle.life_objects.proofs.DecidedLemmas.Tests.{both, each_below_tells, true_not, not_true}
+use Rattle.life_objects.proofs.IndependentLemmas.Found.{of_map}
 use Rattle.life_growth.specs.Engine.{FallsApart, IsEngineWithin}
 use Rattle.life_growth.specs.Growth.{IsGrowth}
 use Rattle.life_growth.specs.Unsplit.{AreClasses}
@@ -35,8 +35,7 @@ use Rattle.life_growth.specs.Engines.Tests.{falls_apart}
 use Rattle.life_growth.specs.Engines.Tracks.{engine_tracks}
 use Rattle.life_growth.specs.Engines.Growths.{divisions, growths_of, is_empty_list, may_be_engine, may_be_growth}
 use Rattle.life_growth.proofs.EnginesLemmas.Classes.{are_classes, falls_by_test, test_by_falls}
-use Rattle.life_growth.proofs.EnginesLemmas.Lists.{of_map}
-use Rattle.life_growth.proofs.EnginesLemmas.Tracks.{disjoint_at_once, union-swap}
+use Rattle.life_growth.proofs.EnginesLemmas.Tracks.{disjoint_at_once}
 use Rattle.life_growth.proofs.EnginesLemmas.Ways.{found_by_engine}
 
 not_empty : {X : Type 0} (xs : List X) (x : X) → Contains xs x → is_empty_list xs ≡ true → ⊥

@@ -10,23 +10,19 @@ use Rattle.life_objects.specs.Union.{union, union_of}
 use Rattle.life_objects.proofs.Distances.{disjoint_from_apart}
 use Rattle.life_objects.proofs.Lists.{AllPairs-head, AllPairs-tail, AllPairs-weaker, Contains-head, Contains-later, head_or_later}
 use Rattle.life_objects.proofs.Members.{found_now}
-use Rattle.life_objects.proofs.Unions.{in_union, union-comm}
+use Rattle.life_objects.proofs.Unions.{in_union, union-swap}
 use Rattle.life_objects.specs.Decided.Classes.{classes}
 use Rattle.life_objects.proofs.DecidedLemmas.Kept.{Contains-filter, Contains-map, of_filter}
+use Rattle.life_objects.proofs.IndependentLemmas.Found.{Contains-flat_map, of_flat_map, of_map}
 use Rattle.life_growth.specs.Engine.{FallsApart}
 use Rattle.life_growth.specs.Unsplit.{IsUnsplit, Leaves}
 use Rattle.life_growth.proofs.Classes.{core_is_a_class}
-use Rattle.life_growth.proofs.Growing.{union-assoc}
 use Rattle.life_growth.proofs.Parts.{disjoint_now, rest_is_disjoint}
 use Rattle.life_growth.specs.Engines.Tests.{falls_apart}
 use Rattle.life_growth.specs.Engines.Tracks.{Step, core_along, each_with_others, left_along, steps_from, tracks}
 use Rattle.life_growth.proofs.EnginesLemmas.Classes.{are_classes, falls_by_test, test_by_falls}
-use Rattle.life_growth.proofs.EnginesLemmas.Lists.{Contains-flat_map, of_flat_map, of_map}
 
 -- ---- a set of a list, and the others
-
-pub union-swap : (A P B : Generation) → union A (union P B) ≡ union P (union A B)
-union-swap A P B = sym (union-assoc A P B) ∙ ap (λ H. union H B) (union-comm A P) ∙ union-assoc P A B
 
 abbrev with_first : Generation → Step → Step
 with_first P s = (s.0, union P s.1)

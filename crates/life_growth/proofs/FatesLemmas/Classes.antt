@@ -21,7 +21,7 @@ use Rattle.life_objects.proofs.Members.{found_now, in_list_now}
 use Rattle.life_objects.proofs.OneList.{union_of-IsPermutation}
 use Rattle.life_objects.proofs.Sides.{AreSides, first_side, split_disjoint, within_each_other}
 use Rattle.life_objects.proofs.Times.{AreApartForEver-swap, before_from_while, generation-union}
-use Rattle.life_objects.proofs.Unions.{in_union}
+use Rattle.life_objects.proofs.Unions.{in_union, union-assoc}
 use Rattle.life_objects.proofs.Staying.{the_sides}
 use Rattle.life_objects.specs.Decided.Classes.{classes}
 use Rattle.life_growth.specs.Fates.Picked.{ArePicked}
@@ -34,7 +34,7 @@ use Rattle.life_growth.specs.Unsplit.{AreClasses}
 use Rattle.life_growth.proofs.Bounds.{HasBound-ash, HasBound-sooner, size_part, what_settles_has_a_bound}
 use Rattle.life_growth.proofs.Classes.{engine_is_a_class, unsplit_is_a_class}
 use Rattle.life_growth.proofs.Endless.{goes_on}
-use Rattle.life_growth.proofs.Growing.{core_has_no_bound, union-assoc}
+use Rattle.life_growth.proofs.Growing.{core_has_no_bound}
 use Rattle.life_growth.proofs.Lasting.{IsGrowth-wider, core_from_debris, core_part, debris_part, engine_becomes}
 use Rattle.life_growth.proofs.OneGrowth.{IsPart-growth, cell_of, engine_of, engines_apart, engines_differ, some_element}
 use Rattle.life_growth.proofs.Parts.{IsPart, disjoint_now, part_within, part_within_later}

@@ -6,7 +6,7 @@ use Rattle.std.proofs.lemmas.Bool.{and_from, cases_Bool}
 use Rattle.life_model.specs.Cell.{Cell}
 use Rattle.life_model.specs.Rule.{Rule}
 use Rattle.life_model.specs.Generation.{Generation, contains, empty, keep}
-use Rattle.life_model.specs.Evolution.{generation, next}
+use Rattle.life_model.specs.Evolution.{next}
 use Rattle.life_model.proofs.Generations.{contains-keep}
 use Rattle.life_model.proofs.Moves.{nothing_or_some}
 use Rattle.life_objects.specs.Apart.{AreApart, AreApartFor, AreDisjoint}
@@ -17,8 +17,7 @@ use Rattle.life_objects.proofs.Alone.{next_disjoint}
 use Rattle.life_objects.proofs.Distances.{AreApart-swap, disjoint_from_apart}
 use Rattle.life_objects.proofs.Dividing.{AreApartFor-swap, apart_from_rest}
 use Rattle.life_objects.proofs.Lists.{AllPairs-weaker, related_or_same}
-use Rattle.life_objects.proofs.Many.{next-union_of}
-use Rattle.life_objects.proofs.Members.{found_in, found_now, in_list, in_list_now}
+use Rattle.life_objects.proofs.Members.{found_now, in_list_now, next_found, next_within}
 use Rattle.life_objects.proofs.Sides.{AreSides, first_side, second_side, sides, within_each_other}
 use Rattle.life_objects.proofs.Unions.{in_union}
 use Rattle.life_growth.specs.Unsplit.{AreClasses}
@@ -33,18 +32,29 @@ false_if : (b : Bool) → (b ≡ true → ⊥) → b ≡ false
 false_if true never = absurd (never refl)
 false_if false never = refl
 
+-- a cell of a class of G is one of G
+pub in_classes : (R : Rule) (b : ℕ) (G : Generation) (Qs : List Generation) → AreClasses R b G Qs → (Q : Generation) → Contains Qs Q →
+    IsSubsetOf Q G
+in_classes R b G Qs are Q one c h = ap (λ H. contains H c) (sym are.together) ∙ in_list_now R Qs Q c one h
+
+-- ---- sets that bear no class together
+
+pub AreSeparate-swap : (R : Rule) (Qs : List Generation) (P O : Generation) → AreSeparate R Qs P O → AreSeparate R Qs O P
+AreSeparate-swap R Qs P O s = record {
+  now = AreApart-swap P O s.now;
+  later = λ Q q r one h k there then. s.later Q r q one k h then there;
+}
+
+pub separate_apart : (R : Rule) (Qs Ps : List Generation) → AllPairs (AreSeparate R Qs) Ps → AllPairs AreApart Ps
+separate_apart R Qs Ps separate = AllPairs-weaker (AreSeparate R Qs) AreApart (λ P O s. s.now) Ps separate
+
+-- which of them bears a cell of the next generation
+pub bearer : (R : Rule) (G : Generation) (Qs Ps : List Generation) → union_of Ps ≡ G → AllPairs (AreSeparate R Qs) Ps → (c : Cell) →
+    contains (next R G) c ≡ true → (P : Generation) × Contains Ps P × (contains (next R P) c ≡ true)
+bearer R G Qs Ps together separate c h =
+    next_found R Ps (separate_apart R Qs Ps separate) c (ap (λ H. contains (next R H) c) together ∙ h)
+
 module _ (R : Rule) where
-  -- the next generation of a list of sets that are apart, cell by cell
-  next_found : (Ps : List Generation) → AllPairs AreApart Ps → (c : Cell) → contains (next R (union_of Ps)) c ≡ true →
-      (P : Generation) × Contains Ps P × (contains (next R P) c ≡ true)
-  unfolding generation
-  next_found Ps pairs c h = found_in R 1 Ps c (ap (λ H. contains H c) (sym (next-union_of R Ps pairs)) ∙ h)
-
-  next_within : (Ps : List Generation) → AllPairs AreApart Ps → (P : Generation) → Contains Ps P → (c : Cell) →
-      contains (next R P) c ≡ true → contains (next R (union_of Ps)) c ≡ true
-  unfolding generation
-  next_within Ps pairs P one c h = ap (λ H. contains H c) (next-union_of R Ps pairs) ∙ in_list R 1 Ps P c one h
-
   module _ (b : ℕ) (G : Generation) (pieces Qs Ps : List Generation) (near : AreClasses R 0 G pieces)
       (later : AreClasses R b (next R G) Qs) (joined : AreJoined R G pieces Qs Ps) where
     -- ---- what no split tears
@@ -83,7 +93,7 @@ module _ (R : Rule) where
           elim (parted.either N one) [
             | inl first ↦
                 ap (λ H. contains (next R H) q) (first_side R 0 G A B now (AreApartFor R 0) pieces near.together parted)
-                ∙ next_within parted.first (apart_at_once parted.first parted.first_pairs) N first q there
+                ∙ next_within R parted.first (apart_at_once parted.first parted.first_pairs) N first q there
             | inr second ↦
                 absurd (A_not_B c (inside c h) (All-contains (λ P. IsSubsetOf P B) parted.second N parted.second_within second c h))
           ]
@@ -96,7 +106,7 @@ module _ (R : Rule) where
                 absurd (A_not_B c (All-contains (λ P. IsSubsetOf P A) parted.first N parted.first_within first c h) (inside c h))
             | inr second ↦
                 ap (λ H. contains (next R H) q) (second_side R 0 G A B now (AreApartFor R 0) pieces near.together parted)
-                ∙ next_within parted.second (apart_at_once parted.second parted.second_pairs) N second q there
+                ∙ next_within R parted.second (apart_at_once parted.second parted.second_pairs) N second q there
           ]
 
       not_in_A : (c : Cell) → contains B c ≡ true → contains A c ≡ false
@@ -159,27 +169,12 @@ module _ (R : Rule) where
 
     -- ---- what stays apart
 
-    all_apart : AllPairs AreApart Ps
-    all_apart = AllPairs-weaker (AreSeparate R Qs) AreApart (λ P O s. s.now) Ps joined.separate
-
-    separate-swap : (P O : Generation) → AreSeparate R Qs P O → AreSeparate R Qs O P
-    separate-swap P O s = record {
-      now = AreApart-swap P O s.now;
-      later = λ Q q r one h k there then. s.later Q r q one k h then there;
-    }
-
-    bearer : (c : Cell) → contains (next R G) c ≡ true → (P : Generation) × Contains Ps P × (contains (next R P) c ≡ true)
-    bearer c h = next_found Ps all_apart c (ap (λ H. contains (next R H) c) joined.together ∙ h)
-
-    in_next : (Q : Generation) → Contains Qs Q → (c : Cell) → contains Q c ≡ true → contains (next R G) c ≡ true
-    in_next Q one c h = ap (λ H. contains H c) (sym later.together) ∙ in_list_now R Qs Q c one h
-
     -- a class of which P bears a cell is borne by P alone
     all_borne : (P : Generation) → Contains Ps P → (Q : Generation) → Contains Qs Q → (q : Cell) → contains Q q ≡ true →
         contains (next R P) q ≡ true → IsSubsetOf Q (next R P)
     all_borne P one Q of q h bears r k =
-        let O = bearer r (in_next Q of r k) in
-        elim (related_or_same (AreSeparate R Qs) separate-swap Ps P O.0 one O.1 joined.separate) [
+        let O = bearer R G Qs Ps joined.together joined.separate r (in_classes R b (next R G) Qs later Q of r k) in
+        elim (related_or_same (AreSeparate R Qs) (AreSeparate-swap R Qs) Ps P O.0 one O.1 joined.separate) [
           | inl s ↦ absurd (s.later Q q r of bears O.2 h k)
           | inr same ↦ ap (λ H. contains (next R H) r) same ∙ O.2
         ]
@@ -208,7 +203,7 @@ module _ (R : Rule) where
           | inr some ↦ elim (cases_Bool (contains (next R P) some.0)) [
             | inl bears ↦ inl (all_borne P one Q of some.0 some.1 bears)
             | inr bears_not ↦ inr (λ r k.
-                in_others P r (in_next Q of r k) (λ there.
+                in_others P r (in_classes R b (next R G) Qs later Q of r k) (λ there.
                 true≢false (sym (all_borne P one Q of r k there some.0 some.1) ∙ bears_not)))
           ]
         ]
@@ -226,7 +221,7 @@ module _ (R : Rule) where
         within_each_other (next R P) (union_of s.first)
         (λ c h.
         let Q = found_now R Qs c (ap (λ H. contains H c) later.together
-        ∙ ap (λ H. contains (next R H) c) (sym joined.together) ∙ next_within Ps all_apart P one c h) in
+        ∙ ap (λ H. contains (next R H) c) (sym joined.together) ∙ next_within R Ps (separate_apart R Qs Ps joined.separate) P one c h) in
         elim (s.either Q.0 Q.1) [
           | inl x ↦ in_list_now R s.first Q.0 c x Q.2
           | inr y ↦

@@ -1,45 +1,27 @@
 -- Pieces joined one after the other.
-use Rattle.std.proofs.Common.{◌≡◌, ◌≢◌, Bool, true, false, cond, ◌&&◌, List, [], ◌∷◌, get_or, inl, inr, sym, refl, ap, subst, ◌∙◌, true≢false}
-use Rattle.std.specs.List.{All, AllPairs, Contains, list_any}
+use Rattle.std.proofs.Common.{◌≡◌, ◌≢◌, Bool, true, false, cond, ◌&&◌, List, [], ◌∷◌, inl, inr, sym, refl, ap, subst, ◌∙◌, true≢false}
+use Rattle.std.specs.List.{All, AllPairs, Contains}
 use Rattle.std.proofs.lemmas.Bool.{and_from, cases_Bool}
 use Rattle.std.proofs.lemmas.List.Elements.{All-cons, All-head, All-nil, All-tail}
 use Rattle.std.proofs.lemmas.List.Folds.{Any-from_list_any, list_any_at}
 use Rattle.std.proofs.lemmas.List.Kept.{AllPairs-cons}
-use Rattle.life_model.specs.Cell.{Cell, same_cell}
+use Rattle.life_model.specs.Cell.{Cell}
 use Rattle.life_model.specs.Rule.{Rule}
-use Rattle.life_model.specs.Generation.{Generation, cells, contains, empty}
+use Rattle.life_model.specs.Generation.{Generation, contains, empty}
 use Rattle.life_model.specs.Evolution.{next}
-use Rattle.life_model.proofs.Cells.{same_cell-is}
-use Rattle.life_model.proofs.Generations.{contains-cells}
 use Rattle.life_objects.specs.Apart.{AreApart}
 use Rattle.life_objects.specs.Union.{IsSubsetOf, union, union_of}
 use Rattle.life_objects.proofs.Alone.{next-union}
 use Rattle.life_objects.proofs.Distances.{AreApart-swap, apart_from_union}
 use Rattle.life_objects.proofs.Lists.{AllPairs-head, AllPairs-nil, AllPairs-tail}
-use Rattle.life_objects.proofs.Unions.{in_first, in_second, in_union}
-use Rattle.life_objects.proofs.DecidedLemmas.Tests.{both}
+use Rattle.life_objects.proofs.Unions.{in_first, in_second, in_union, union-assoc, union-swap}
+use Rattle.life_objects.proofs.DecidedLemmas.Tests.{both, member_passes, passing_member}
 use Rattle.life_growth.proofs.Classes.{some_in_union}
-use Rattle.life_growth.proofs.Growing.{union-assoc}
-use Rattle.life_growth.proofs.EnginesLemmas.Tracks.{union-swap}
+use Rattle.life_growth.proofs.FilmLemmas.Joined.{AreSeparate-swap, separate_apart}
 use Rattle.life_growth.specs.Film.Film.{AreLinked, AreSeparate, bearing, swapped, through}
 use Rattle.life_growth.specs.Film.Passes.{bears, joined_with, share}
 
 -- ---- tests
-
-passing_cell : (p : Cell → Bool) (P : Generation) → list_any p (cells P) ≡ true →
-    (c : Cell) × (contains P c ≡ true) × (p c ≡ true)
-passing_cell p P h =
-    let one = Any-from_list_any p (cells P) h in
-    let x = one.1 in
-    let at = get_or (cells P) one.0 x in
-    let same : same_cell x at ≡ true = (same_cell-is x at).1 (sym one.3) in
-    (x, contains-cells P x ∙ list_any_at (same_cell x) (cells P) one.0 x one.2 same, one.4)
-
-cell_passes : (p : Cell → Bool) (P : Generation) (c : Cell) → contains P c ≡ true → p c ≡ true → list_any p (cells P) ≡ true
-cell_passes p P c h k =
-    let one = Any-from_list_any (same_cell c) (cells P) (sym (contains-cells P c) ∙ h) in
-    let x = one.1 in
-    list_any_at p (cells P) one.0 x one.2 (ap p (one.3 ∙ sym ((same_cell-is c x).0 one.4)) ∙ k)
 
 module _ (R : Rule) (pieces Qs : List Generation) where
   abbrev Linked : Cell → Cell → Type 0
@@ -70,8 +52,8 @@ module _ (R : Rule) (pieces Qs : List Generation) where
   shared_by_test P O h =
       let one = Any-from_list_any (λ Q. bears R P Q && bears R O Q) Qs h in
       let parts = both (bears R P one.1) (bears R O one.1) one.4 in
-      let q = passing_cell (contains (next R P)) one.1 parts.0 in
-      let r = passing_cell (contains (next R O)) one.1 parts.1 in
+      let q = passing_member (contains (next R P)) one.1 parts.0 in
+      let r = passing_member (contains (next R O)) one.1 parts.1 in
       record {
         set = one.1;
         of = (one.0, one.2, one.3);
@@ -89,8 +71,8 @@ module _ (R : Rule) (pieces Qs : List Generation) where
     later = λ Q q r of h k there then.
         true≢false (sym (list_any_at (λ Q. bears R P Q && bears R O Q) Qs of.0 Q of.1
         (ap (λ Q. bears R P Q && bears R O Q) of.2
-        ∙ and_from (bears R P Q) (bears R O Q) (cell_passes (contains (next R P)) Q q there h)
-        (cell_passes (contains (next R O)) Q r then k))) ∙ none);
+        ∙ and_from (bears R P Q) (bears R O Q) (member_passes (contains (next R P)) Q q there h)
+        (member_passes (contains (next R O)) Q r then k))) ∙ none);
   }
 
   -- ---- two sets that share one
@@ -201,15 +183,6 @@ module _ (R : Rule) (pieces Qs : List Generation) where
       All (Separate X) Os → All (Separate X) (joined_with R Qs P Os)
   separates_with X = all_with (Separate X) (λ P O far e one two. separate_union X P O far one two)
 
-  pairs_far : (Os : List Generation) → AllPairs Separate Os → AllPairs AreApart Os
-  pairs_far Os pairs i j d h k = (pairs i j d h k).now
-
-  separate-swap : (P O : Generation) → Separate P O → Separate O P
-  separate-swap P O s = record {
-    now = AreApart-swap P O s.now;
-    later = λ Q q r one h k there then. s.later Q r q one k h then there;
-  }
-
   pub separate_with : (P : Generation) (Os : List Generation) → AllPairs Separate Os → All (AreApart P) Os →
       AllPairs Separate (joined_with R Qs P Os)
   separate_with P [] pairs far =
@@ -225,8 +198,8 @@ module _ (R : Rule) (pieces Qs : List Generation) where
         | inr e ↦
             subst (AllPairs Separate) (sym (joined_by false P O Os e))
             (AllPairs-cons Separate O (joined_with R Qs P Os)
-            (separates_with O P Os (pairs_far Os rest) (All-tail (AreApart P) O Os far)
-            (separate-swap P O (separate_by_test P O (All-head (AreApart P) O Os far) e)) from)
+            (separates_with O P Os (separate_apart R Qs Os rest) (All-tail (AreApart P) O Os far)
+            (AreSeparate-swap R Qs P O (separate_by_test P O (All-head (AreApart P) O Os far) e)) from)
             (separate_with P Os rest (All-tail (AreApart P) O Os far)))
       ]
 

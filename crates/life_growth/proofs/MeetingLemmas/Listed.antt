@@ -2,16 +2,13 @@
 use Rattle.std.proofs.Common.{◌≡◌, ℕ, zero, suc, ◌+◌, ◌-◌, ◌*◌, ◌%◌, ◌/◌, ◌<◌, true, List, [], ◌∷◌, map, flat_map, inl, inr, sym, ap, subst, ◌∙◌, mod-lt, div-add-mod', arith}
 use Rattle.std.specs.List.{Contains}
 use Rattle.std.proofs.lemmas.Bool.{cases_lt}
-use Rattle.std.proofs.lemmas.Int.{ints}
 use Rattle.std.proofs.lemmas.List.Elements.{Contains-append_cases, Contains-append_left, Contains-append_right}
-use Rattle.life_model.specs.Cell.{Cell, origin, plus}
+use Rattle.life_model.specs.Cell.{Cell}
 use Rattle.life_model.specs.Rule.{Rule}
 use Rattle.life_model.specs.Generation.{Generation, contains}
 use Rattle.life_model.specs.Evolution.{generation}
-use Rattle.life_model.specs.Symmetry.{translate_of}
 use Rattle.life_model.specs.Recurrence.{RecursBy}
-use Rattle.life_model.proofs.Cells.{pair}
-use Rattle.life_model.proofs.Moves.{moved-origin}
+use Rattle.life_model.proofs.Moves.{moved-origin, moved-plus_origin}
 use Rattle.life_model.proofs.Recurrences.{generation-add}
 use Rattle.life_objects.specs.Ash.{HasFallenApart}
 use Rattle.life_objects.specs.Drift.{multiple_of}
@@ -23,7 +20,7 @@ use Rattle.life_objects.proofs.Members.{found_in}
 use Rattle.life_objects.proofs.Moving.{generation-wrapped}
 use Rattle.life_objects.specs.Decided.Parts.{corner_offset, period}
 use Rattle.life_objects.proofs.DecidedLemmas.Periods.{period_found, recurs}
-use Rattle.life_growth.proofs.EnginesLemmas.Lists.{Contains-flat_map, of_flat_map, of_map}
+use Rattle.life_objects.proofs.IndependentLemmas.Found.{Contains-flat_map, of_flat_map, of_map}
 use Rattle.life_growth.specs.Things.{IsMadeOf, IsSettledThing, Thing, set_then, time_then}
 use Rattle.life_growth.proofs.Things.{settled_is_made}
 use Rattle.life_growth.specs.Meeting.Listed.{first_thing, numbers_below, part_thing, settled_things}
@@ -88,10 +85,6 @@ module _ (R : Rule) (b : ℕ) (P : Generation) (parts : List Generation) where
       (Contains-flat_map things_of parts part (part_thing R b part m) of
       (mapped (part_thing R b part) (numbers_below (period R b part)) m (listed_below (period R b part) m h)))
 
-  moved_none : (A : Generation) (d : Cell) → translate_of A (plus d origin) ≡ translate_of A d
-  moved_none A d =
-      ap (translate_of A) (let z : plus d origin ≡ d = pair (omega (arith, ints)) (omega (arith, ints)) in z)
-
   pub listed_all : HasFallenApart R b P parts → (t : ℕ) (c : Cell) → contains (generation R P t) c ≡ true →
       (thing : Thing) × Contains (settled_things R b P parts) thing × (often : List ℕ) × (time_then thing often ≡ t) ×
       (contains (set_then thing often) c ≡ true)
@@ -120,7 +113,7 @@ module _ (R : Rule) (b : ℕ) (P : Generation) (parts : List Generation) where
               listed_part Q.0 (m % q) Q.1 (mod-lt m again.later),
               m / q ∷ [],
               omega arith,
-              ap (λ K. contains K c) (moved_none (generation R Q.0 (m % q)) (multiple_of (m / q) e)
+              ap (λ K. contains K c) (moved-plus_origin (generation R Q.0 (m % q)) (multiple_of (m / q) e)
                   ∙ sym (generation-wrapped R Q.0 q e again m)) ∙ Q.2,
             )
       ]

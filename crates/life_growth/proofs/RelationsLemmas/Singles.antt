@@ -1,10 +1,15 @@
 -- What a function tells that is 0 of all steps but one.
-use Rattle.std.proofs.Common.{◌≡◌, ◌≢◌, ℕ, zero, suc, ◌+◌, ◌*◌, ◌<◌, ◌≤◌, ◌⊎◌, ℤ, pos, negsuc, neg_ℤ, List, [], ◌∷◌, inl, inr, sym, refl, ap, ◌∙◌, mul-le-mul_left, arith}
-use Rattle.std.proofs.lemmas.Bool.{cases_lt}
+use Rattle.std.proofs.Common.{◌≡◌, ◌≢◌, ℕ, zero, suc, ◌+◌, ◌*◌, ◌<◌, ◌≤◌, ◌⊎◌, ℤ, pos, negsuc, neg_ℤ, List, [], ◌∷◌, inl, inr, sym, refl, ap, ◌∙◌, ◌/◌, arith}
 use Rattle.std.proofs.lemmas.Int.{ints}
+use Rattle.std.proofs.Math.Nat.{mul-div_cancel}
 use Rattle.life_growth.specs.Meeting.Sums.{Step, and_then, times}
 use Rattle.life_growth.specs.Relations.Relations.{IsAdditive, IsSumOf, SinglesOut, left_out, number_at, rest_of, step_at}
 use Rattle.life_growth.proofs.RelationsLemmas.Numbers.{others_sum, skipped, split_at, sum_by, sum_by-numbers, whole_sum}
+
+pub same_product : (m n a : ℕ) → 1 ≤ a → m * a ≡ n * a → m ≡ n
+same_product m n a some e =
+    let more : 0 < a = omega arith in
+    sym (mul-div_cancel m more) ∙ ap (λ b. b / a) e ∙ mul-div_cancel n more
 
 module _ (f : Step → ℤ) (additive : IsAdditive f) where
   times_none : (k : ℕ) (u : Step) → f u ≡ pos 0 → f (times k u) ≡ pos 0
@@ -46,21 +51,6 @@ module _ (f : Step → ℤ) (additive : IsAdditive f) where
   sign (pos zero) some = absurd (some refl)
   sign (pos (suc a)) some = inl (suc a, omega arith, refl)
   sign (negsuc a) some = inr (suc a, omega arith, omega (arith, ints))
-
-  no_less : (m n a : ℕ) → 1 ≤ a → m * a ≡ n * a → m < n → ⊥
-  no_less m n a some e less =
-      let more : a * suc m ≤ a * n = mul-le-mul_left a less in
-      omega arith
-
-  same_product : (m n a : ℕ) → 1 ≤ a → m * a ≡ n * a → m ≡ n
-  same_product m n a some e =
-      elim (cases_lt m n) [
-        | inl less ↦ absurd (no_less m n a some e less)
-        | inr not_less ↦ elim (cases_lt n m) [
-          | inl more ↦ absurd (no_less n m a some (sym e) more)
-          | inr not_more ↦ omega arith
-        ]
-      ]
 
   one_number : (m n : ℕ) (u : Step) → f u ≢ pos 0 → f (times m u) ≡ f (times n u) → m ≡ n
   one_number m n u some e =

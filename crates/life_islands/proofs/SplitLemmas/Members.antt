@@ -8,10 +8,9 @@ use Rattle.life_model.specs.Cell.{Cell, same_cell}
 use Rattle.life_model.specs.Rule.{Rule}
 use Rattle.life_model.specs.Generation.{Generation, cells, contains}
 use Rattle.life_model.proofs.Cells.{same_cell-is}
-use Rattle.life_model.proofs.Generations.{contains-cells}
+use Rattle.life_model.proofs.Generations.{cells-contained, contains-cells}
 use Rattle.life_objects.specs.Union.{IsSubsetOf}
 use Rattle.life_orbit.specs.Course.{Course}
-use Rattle.life_classes.proofs.Beginning.{listed}
 use Rattle.life_objects.specs.Parts.Parts.{AreIndependentParts, IsIndependentPart}
 
 module _ (A : Cell → Type 0) where
@@ -22,7 +21,7 @@ module _ (A : Cell → Type 0) where
 
   pub holds_of_subset : (P Q : Generation) → IsSubsetOf Q P → All A (cells P) → All A (cells Q)
   holds_of_subset P Q within all =
-      All-weaker (λ c. contains Q c ≡ true) A (λ c h. holds_of_cell P all c (within c h)) (cells Q) (listed Q)
+      All-weaker (λ c. contains Q c ≡ true) A (λ c h. holds_of_cell P all c (within c h)) (cells Q) (cells-contained Q)
 
   pub holds_of_parts : (R : Rule) (P : Generation) (Qs : List Generation) → AreIndependentParts R P Qs → All A (cells P) →
       All (λ Q. All A (cells Q)) Qs

@@ -1,20 +1,17 @@
 -- Three rows of a set, one below another, count around the cells of the middle row.
-use Rattle.std.proofs.Common.{◌≡◌, ℕ, ℤ, pos, neg_ℤ, Bool, true, false, cond, List, [], ◌∷◌, count_by, refl, ◌+ℤ◌, ◌-ℤ◌, ◌+◌, ◌<◌, ◌≤◌, sym, ap, ◌∙◌, arith}
+use Rattle.std.proofs.Common.{◌≡◌, ℕ, ℤ, pos, neg_ℤ, cond, List, [], ◌∷◌, count_by, refl, ◌+ℤ◌, ◌-ℤ◌, ◌+◌, ◌<◌, ◌≤◌, sym, ap, ◌∙◌, arith}
 use Rattle.std.specs.Int.{bit_at}
 use Rattle.std.proofs.lemmas.Int.{ints}
 use Rattle.std.proofs.lemmas.List.Sums.{sum_by-cons}
-use Rattle.life_model.specs.Rule.{Rule, born, stays}
+use Rattle.life_model.specs.Rule.{Rule}
 use Rattle.life_model.specs.Cell.{Cell, around}
 use Rattle.life_model.specs.Generation.{Generation, contains}
-use Rattle.life_model.specs.Evolution.{count, count_at, lives, next}
+use Rattle.life_model.specs.Evolution.{count, next}
 use Rattle.life_model.proofs.Evolution.{contains-next}
 use Rattle.life_bits.specs.Bits.{next_state}
 use Rattle.life_bits.specs.Flags.{as_bit}
 use Rattle.life_leaves.specs.Kernels.Rows.{state, IsRowAt}
-
-bit_is : (b : Bool) → (cond b 1 0) ≡ as_bit b
-bit_is true = refl
-bit_is false = refl
+use Rattle.life_slots.proofs.Windows.{bit_is, lives_bit}
 
 abbrev states : Generation → List Cell → ℕ
 states G [] = 0
@@ -62,14 +59,6 @@ three_rows G left y up mid down x column above here below =
     (look G left (y +ℤ pos 1) down (x + 63 + 1) below from_one to_one _ _ middle refl)
     (look G left (y +ℤ pos 1) down (x + 63 + 2) below from_two to_two _ _ east refl)
     ∙ sym (counted G (around (X, y)))
-
-lives_bit : (rule : Rule) (live : Cell → Bool) (c : Cell) → as_bit (lives rule live c) ≡ next_state rule (as_bit (live c)) (count_at live c)
-unfolding lives
-lives_bit rule live c =
-    elim (live c) as (λ b. as_bit (cond b (stays rule (count_at live c)) (born rule (count_at live c))) ≡ next_state rule (as_bit b) (count_at live c)) [
-      | true ↦ refl
-      | false ↦ refl
-    ]
 
 -- the next state, by a bit and a number that are the cell's state and count
 pub next_by_bit : (R : Rule) (G : Generation) (left y : ℤ) (bits number x : ℕ) → x < 64 → IsRowAt G left y bits →

@@ -8,20 +8,13 @@ use Rattle.std.proofs.lemmas.List.Folds.{list_any-append}
 use Rattle.std.proofs.lemmas.Nat.Bits.{bit_at-lt}
 use Rattle.life_model.specs.Cell.{Cell, same_cell}
 use Rattle.life_model.specs.Generation.{Generation, from_list}
-use Rattle.life_model.proofs.Cells.{same_cell-is}
+use Rattle.life_model.proofs.Cells.{cells_differ, same_cell-is}
 use Rattle.life_model.proofs.Generations.{contains-from_list}
 use Rattle.life_bits.specs.Flags.{as_bit}
 use Rattle.life_bits.specs.Area.{Nine, area_row}
 use Rattle.life_bits.specs.declared.window.Window.{Window}
 use Rattle.life_bits.specs.Windows.{window_row}
 use Rattle.life_leaves.specs.Kernels.Rows.{IsRowAt, AreRowsAt, IsWindowAt, IsNineAt}
-
-apart : (a b : Cell) → (a ≡ b → ⊥) → same_cell a b ≡ false
-apart a b other =
-    elim (same_cell a b) as (λ s. same_cell a b ≡ s → s ≡ false) [
-      | true ↦ λ is. absurd (other ((same_cell-is a b).0 is))
-      | false ↦ λ _. refl
-    ] refl
 
 one_more : (p : Cell → Bool) (b : Bool) (c : Cell) (cs : List Cell) → list_any p (cond b (c ∷ cs) cs) ≡ (b && p c || list_any p cs)
 one_more p true c cs = refl
@@ -45,7 +38,7 @@ unfolding line
 line_elsewhere q start y bits zero none = refl
 line_elsewhere q start y bits (suc n) none =
     one_more (same_cell q) (bit_at bits n == 1) (start +ℤ pos n, y) (line start y bits n)
-    ∙ ap (λ (b : Bool). (bit_at bits n == 1) && b || list_any (same_cell q) (line start y bits n)) (apart q _ (none n (omega arith)))
+    ∙ ap (λ (b : Bool). (bit_at bits n == 1) && b || list_any (same_cell q) (line start y bits n)) (cells_differ q _ (none n (omega arith)))
     ∙ passed_over (bit_at bits n == 1) _
     ∙ line_elsewhere q start y bits n (λ k less. none k (omega arith))
 
@@ -62,7 +55,7 @@ line_at start y bits (suc n) a less =
     (λ i. (bit_at bits n == 1) && here i || rest i) ∙ alone (bit_at bits n == 1) ∙ ap (λ (k : ℕ). bit_at bits k == 1) (sym last))
     (λ (other : a ≢ n).
     let here : same_cell (start +ℤ pos a, y) (start +ℤ pos n, y) ≡ false =
-    apart (start +ℤ pos a, y) (start +ℤ pos n, y) (λ same. let across : (start +ℤ pos a) ≡ (start +ℤ pos n) = ap (λ (c : Cell). c.0) same in absurd (omega (arith, ints))) in
+    cells_differ (start +ℤ pos a, y) (start +ℤ pos n, y) (λ same. let across : (start +ℤ pos a) ≡ (start +ℤ pos n) = ap (λ (c : Cell). c.0) same in absurd (omega (arith, ints))) in
     ap (λ (b : Bool). (bit_at bits n == 1) && b || list_any (same_cell (start +ℤ pos a, y)) (line start y bits n)) here
     ∙ passed_over (bit_at bits n == 1) _
     ∙ line_at start y bits n a (omega arith))

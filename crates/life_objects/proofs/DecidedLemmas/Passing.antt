@@ -8,18 +8,15 @@ use Rattle.life_model.specs.Cell.{Cell, origin, opposite, plus}
 use Rattle.life_model.specs.Rule.{Rule}
 use Rattle.life_model.specs.Generation.{Generation, contains}
 use Rattle.life_model.specs.Evolution.{generation}
-use Rattle.life_model.specs.Symmetry.{translate_of}
 use Rattle.life_model.specs.Recurrence.{RecursBy}
 use Rattle.life_model.proofs.Cells.{pair, plus-opposite_first}
 use Rattle.life_model.proofs.Moves.{le_both}
 use Rattle.life_model.proofs.Orbits.{far_enough}
-use Rattle.life_model.proofs.Recurrences.{generation-add}
-use Rattle.life_model.proofs.Symmetries.{contains-moved, generation-moved}
 use Rattle.life_objects.specs.Apart.{AreApartBefore, AreApartForEver}
 use Rattle.life_objects.specs.Drift.{multiple_of}
 use Rattle.life_objects.proofs.Distances.{AreApart-swap}
 use Rattle.life_objects.proofs.Drifting.{apart_by_below, apart_by_right}
-use Rattle.life_objects.proofs.Moving.{apart_by_period, generation-times, RecursBy-times}
+use Rattle.life_objects.proofs.Moving.{apart_by_period, RecursBy-times, in_unmoved, rounds_later}
 use Rattle.life_objects.proofs.Times.{AreApartForEver-swap}
 use Rattle.life_objects.specs.Decided.Tests.{meet}
 use Rattle.life_objects.specs.Decided.Parts.{horizon, reach, period, stay_apart, corner_offset}
@@ -51,16 +48,6 @@ gap_sum : (x y c q s t : ℤ) (k a b m n : ℕ) → neg_ℤ (pos (m + a)) ≤ℤ
     (s +ℤ pos k) ≤ℤ t → a + b + 2 * n + 3 ≤ k → m < n → (q +ℤ pos 3) ≤ℤ c
 gap_sum x y c q s t k a b m n low high e f wide enough h = omega (arith, ints)
 
-unmoved : (P : Generation) (x c : Cell) → contains (translate_of P x) c ≡ true → contains P (plus c (opposite x)) ≡ true
-unmoved P x c h = sym (contains-moved P x c) ∙ h
-
--- so many times n generations later
-rounds_later : (R : Rule) (P : Generation) (n : ℕ) (d : Cell) → RecursBy R P n d → (k m : ℕ) →
-    generation R P (k * n + m) ≡ translate_of (generation R P m) (multiple_of k d)
-rounds_later R P n d r k m =
-    sym (generation-add R P (k * n) m) ∙ ap (λ H. generation R H m) (generation-times R P n d r k)
-    ∙ generation-moved R P (multiple_of k d) m
-
 module _ (f : Cell → ℤ) (axis : IsAxis f) where
   times_wider : (k : ℕ) (d e : Cell) → f e <ℤ f d → (f (multiple_of k e) +ℤ pos k) ≤ℤ f (multiple_of k d)
   times_wider zero d e h = none_wider (f origin) (f origin) axis.starts axis.starts
@@ -80,9 +67,9 @@ module _ (f : Cell → ℤ) (axis : IsAxis f) where
   gap_then R n k P Q d e r s enough faster m h c q in_p in_q =
       let back_c = plus c (opposite (multiple_of k d)) in
       let back_q = plus q (opposite (multiple_of k e)) in
-      let was_c = unmoved (generation R P m) (multiple_of k d) c
+      let was_c = in_unmoved (generation R P m) (multiple_of k d) c
       (ap (λ H. contains H c) (sym (rounds_later R P n d r k m)) ∙ in_p) in
-      let was_q = unmoved (generation R Q m) (multiple_of k e) q
+      let was_q = in_unmoved (generation R Q m) (multiple_of k e) q
       (ap (λ H. contains H q) (sym (rounds_later R Q n e s k m)) ∙ in_q) in
       gap_sum (f back_c) (f back_q) (f c) (f q) (f (multiple_of k e)) (f (multiple_of k d)) k (reach P) (reach Q) m n
       (axis.low (m + reach P) back_c (reached_later R P m back_c was_c))

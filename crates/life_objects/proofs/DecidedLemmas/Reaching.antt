@@ -1,19 +1,15 @@
 -- How far the cells of a set are from the origin, and those of its later generations.
-use Rattle.std.proofs.Common.{◌≡◌, ℕ, zero, suc, ◌+◌, ◌<◌, ◌≤◌, pos, neg_ℤ, ◌≤ℤ◌, true, max, List, [], ◌∷◌}
-use Rattle.std.proofs.Common.{map, inl, inr}
-use Rattle.std.proofs.Common.{sym, ap, subst, ◌∙◌, true≢false, arith}
+use Rattle.std.proofs.Common.{◌≡◌, ℕ, zero, suc, ◌+◌, ◌<◌, ◌≤◌, pos, neg_ℤ, ◌≤ℤ◌, true}
+use Rattle.std.proofs.Common.{sym, subst, ◌∙◌, arith}
 use Rattle.std.specs.Prelude.{unsigned_abs}
-use Rattle.std.specs.List.{list_any}
-use Rattle.std.proofs.lemmas.Bool.{or_cases}
 use Rattle.std.proofs.lemmas.Int.{ints}
-use Rattle.life_model.specs.Box.{extent}
-use Rattle.life_model.specs.Cell.{Cell, IsNear, same_cell}
+use Rattle.life_model.specs.Cell.{Cell, IsNear}
 use Rattle.life_model.specs.Rule.{Rule}
 use Rattle.life_model.specs.Generation.{Generation, cells, contains}
 use Rattle.life_model.specs.Evolution.{generation}
-use Rattle.life_model.proofs.Cells.{same_cell-is}
 use Rattle.life_model.proofs.Generations.{contains-cells}
 use Rattle.life_model.proofs.Near.{next_near}
+use Rattle.life_model.proofs.Boxes.{below_extent}
 use Rattle.life_objects.specs.Decided.Parts.{reach}
 use Rattle.life_objects.proofs.DecidedLemmas.Tests.{abs_small}
 
@@ -23,20 +19,6 @@ pub record IsReached (r : ℕ) (c : Cell) : Type 0 where
   pub right : c.0 ≤ℤ pos r
   pub above : neg_ℤ (pos r) ≤ℤ c.1
   pub below : c.1 ≤ℤ pos r
-
-below_first : (a b c : ℕ) → a ≡ b → a < max (b + 1) c
-below_first a b c h = omega arith
-
-below_others : (a b c : ℕ) → a < c → a < max (b + 1) c
-below_others a b c h = omega arith
-
-below_extent : (f : Cell → ℕ) (cs : List Cell) (c : Cell) → list_any (same_cell c) cs ≡ true → f c < extent (map f cs)
-below_extent f [] c e = absurd (true≢false (sym e))
-below_extent f (d ∷ ds) c e =
-    elim (or_cases (same_cell c d) _ e) [
-      | inl h ↦ below_first _ _ _ (ap f ((same_cell-is c d).0 h))
-      | inr h ↦ below_others _ _ _ (below_extent f ds c h)
-    ]
 
 sum_parts : (a b r : ℕ) → a + b < r → (a ≤ r) × (b ≤ r)
 sum_parts a b r h = (omega arith, omega arith)

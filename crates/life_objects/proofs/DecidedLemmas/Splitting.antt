@@ -1,20 +1,15 @@
 -- Sets that make up a pattern, that no split tears and that were apart: in any order, and with two that meet joined.
-use Rattle.std.proofs.Common.{◌≡◌, ℕ, suc, ◌≤◌, Bool, true, ◌||◌, List, [], ◌∷◌, ◌++◌, get_or, map, inl, inr}
+use Rattle.std.proofs.Common.{◌≡◌, ℕ, suc, ◌≤◌, ◌||◌, List, [], ◌∷◌, ◌++◌, get_or, map, inl, inr}
 use Rattle.std.proofs.Common.{sym, refl, ap, subst, ◌∙◌, arith}
 use Rattle.std.specs.List.{All, AllPairs}
-use Rattle.std.proofs.Math.Bool.{or_assoc}
 use Rattle.std.proofs.lemmas.Bool.{cases_lt}
-use Rattle.std.proofs.lemmas.List.{get_or_default}
 use Rattle.std.proofs.lemmas.List.Elements.{All-head, All-tail, All-cons, All-map}
-use Rattle.std.proofs.lemmas.List.Folds.{list_any_at}
 use Rattle.std.proofs.lemmas.List.Kept.{AllPairs-cons}
-use Rattle.life_model.specs.Cell.{Cell, same_cell}
+use Rattle.life_model.specs.Cell.{Cell}
 use Rattle.life_model.specs.Rule.{Rule}
 use Rattle.life_model.specs.Generation.{Generation, cells, contains, from_list}
 use Rattle.life_model.specs.Evolution.{generation}
-use Rattle.life_model.proofs.Cells.{same_cell-is}
-use Rattle.life_model.proofs.Generations.{contains-cells, contains-from_list, from_list-cells, same_members}
-use Rattle.life_model.proofs.Tests.{or-comm, or-false}
+use Rattle.life_model.proofs.Generations.{cells-contained, contains-from_list, contains-one, from_list-cells, same_members}
 use Rattle.life_objects.specs.Apart.{AreApart, AreApartBefore}
 use Rattle.life_objects.specs.Union.{union, union_of}
 use Rattle.life_objects.specs.Whole.{StaysWhole}
@@ -22,23 +17,8 @@ use Rattle.life_objects.proofs.Distances.{AreApart-swap, apart_from_union}
 use Rattle.life_objects.proofs.Lists.{AllPairs-head, AllPairs-tail, Contains-head, Contains-later}
 use Rattle.life_objects.proofs.Staying.{cell_stays, meeting_stays}
 use Rattle.life_objects.proofs.Times.{generation-union}
-use Rattle.life_objects.proofs.Unions.{contains-union}
+use Rattle.life_objects.proofs.Unions.{contains-union, union-assoc, union-swap}
 use Rattle.life_objects.proofs.DecidedLemmas.Orders.{All-to_front, All-from_front, pairs_to_front, pairs_from_front}
-
-or-swap : (a b c : Bool) → (a || (b || c)) ≡ (b || (a || c))
-or-swap a b c = sym (or_assoc a b c) ∙ ap (λ x. x || c) (or-comm a b) ∙ or_assoc b a c
-
-union-swap : (P Q S : Generation) → union P (union Q S) ≡ union Q (union P S)
-union-swap P Q S = same_members _ _ (λ c.
-    contains-union P (union Q S) c ∙ ap (λ b. contains P c || b) (contains-union Q S c)
-    ∙ or-swap (contains P c) (contains Q c) (contains S c)
-    ∙ sym (contains-union Q (union P S) c ∙ ap (λ b. contains Q c || b) (contains-union P S c)))
-
-union-assoc : (P Q S : Generation) → union (union P Q) S ≡ union P (union Q S)
-union-assoc P Q S = same_members _ _ (λ c.
-    contains-union (union P Q) S c ∙ ap (λ b. b || contains S c) (contains-union P Q c)
-    ∙ or_assoc (contains P c) (contains Q c) (contains S c)
-    ∙ sym (contains-union P (union Q S) c ∙ ap (λ b. contains P c || b) (contains-union Q S c)))
 
 union-to_front : (P : Generation) (Ps Qs : List Generation) → union_of (Ps ++ (P ∷ Qs)) ≡ union_of (P ∷ (Ps ++ Qs))
 union-to_front P [] Qs = refl
@@ -127,9 +107,6 @@ module _ (R : Rule) (b n : ℕ) (G : Generation) where
 
 -- ---- single cells
 
-contains-one : (c q : Cell) → contains (from_list (c ∷ [])) q ≡ same_cell q c
-contains-one c q = contains-from_list (c ∷ []) q ∙ or-false (same_cell q c)
-
 all_together : (cs : List Cell) → union_of (map (λ c. from_list (c ∷ [])) cs) ≡ from_list cs
 all_together [] = refl
 all_together (c ∷ cs) = same_members _ _ (λ q.
@@ -137,19 +114,11 @@ all_together (c ∷ cs) = same_members _ _ (λ q.
     ∙ (λ i. contains-one c q i || (ap (λ H. contains H q) (all_together cs) ∙ contains-from_list cs q) i)
     ∙ sym (contains-from_list (c ∷ cs) q))
 
--- each listed cell is a member
-listed : (G : Generation) → All (λ c. contains G c ≡ true) (cells G)
-listed G k d h =
-    let c = get_or (cells G) k d in
-    contains-cells G c
-    ∙ list_any_at (same_cell c) (cells G) k c h
-    ((same_cell-is c (get_or (cells G) k c)).1 (get_or_default (cells G) k d c h))
-
 pub single_cells : (R : Rule) (b : ℕ) (G : Generation) →
     IsSplitting R b 0 G (map (λ c. from_list (c ∷ [])) (cells G))
 single_cells R b G = record {
   together = all_together (cells G) ∙ from_list-cells G;
   whole =
-      All-map (StaysWhole R b G) (λ c. from_list (c ∷ [])) (cells G) (λ k d h. cell_stays R b G _ (listed G k d h));
+      All-map (StaysWhole R b G) (λ c. from_list (c ∷ [])) (cells G) (λ k d h. cell_stays R b G _ (cells-contained G k d h));
   before = λ i j d h k m l. absurd (omega arith);
 }

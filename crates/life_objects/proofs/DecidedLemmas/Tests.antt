@@ -75,7 +75,7 @@ pub abs_small : (x : ℤ) (r : ℕ) → unsigned_abs x ≤ r → (neg_ℤ (pos r
 abs_small (pos n) r h = (omega (arith, ints), omega (arith, ints))
 abs_small (negsuc n) r h = (omega (arith, ints), omega (arith, ints))
 
-small_abs : (x : ℤ) (r : ℕ) → neg_ℤ (pos r) ≤ℤ x → x ≤ℤ pos r → unsigned_abs x ≤ r
+pub small_abs : (x : ℤ) (r : ℕ) → neg_ℤ (pos r) ≤ℤ x → x ≤ℤ pos r → unsigned_abs x ≤ r
 small_abs (pos n) r h k = omega (arith, ints)
 small_abs (negsuc n) r h k = omega (arith, ints)
 
@@ -114,7 +114,7 @@ test_by_near : (c d : Cell) → AreNear c d → are_near c d ≡ true
 test_by_near c d h =
     within_by 2 c d (omega (arith, ints)) (omega (arith, ints)) (omega (arith, ints)) (omega (arith, ints))
 
-passing_member : (p : Cell → Bool) (P : Generation) → list_any p (cells P) ≡ true →
+pub passing_member : (p : Cell → Bool) (P : Generation) → list_any p (cells P) ≡ true →
     (c : Cell) × (contains P c ≡ true) × (p c ≡ true)
 passing_member p P h =
     let one = Any-from_list_any p (cells P) h in
@@ -123,7 +123,7 @@ passing_member p P h =
     let same : same_cell x at ≡ true = (same_cell-is x at).1 (sym one.3) in
     (x, contains-cells P x ∙ list_any_at (same_cell x) (cells P) one.0 x one.2 same, one.4)
 
-member_passes : (p : Cell → Bool) (P : Generation) (c : Cell) → contains P c ≡ true → p c ≡ true →
+pub member_passes : (p : Cell → Bool) (P : Generation) (c : Cell) → contains P c ≡ true → p c ≡ true →
     list_any p (cells P) ≡ true
 member_passes p P c h k =
     let one = Any-from_list_any (same_cell c) (cells P) (sym (contains-cells P c) ∙ h) in

@@ -1,24 +1,23 @@
 -- What groups make up: a cell is put into one of them, or into one of its own.
-use Rattle.std.proofs.Common.{◌≡◌, ◌≢◌, ◌<◌, Bool, true, false, ◌&&◌, ◌||◌, T, Ordering, Less, Equal, Greater, List, [], ◌∷◌, get_or, map, inl, inr, sym, refl, ap, subst, ◌∙◌, arith}
-use Rattle.std.specs.List.{All, AllPairs, Contains, list_any}
+use Rattle.std.proofs.Common.{◌≡◌, ◌≢◌, ◌<◌, Bool, true, false, ◌||◌, T, List, [], ◌∷◌, get_or, map, inl, inr, sym, refl, ap, subst, ◌∙◌, arith}
+use Rattle.std.specs.List.{All, AllPairs, Contains}
 use Rattle.std.proofs.Math.Bool.{or_assoc}
-use Rattle.std.proofs.lemmas.Bool.{both_ways, cases_Bool, false_from_ne_true, or_cases, or_from, or_left}
+use Rattle.std.proofs.lemmas.Bool.{both_ways, cases_Bool, false_from_ne_true, or_cases, or_left}
 use Rattle.std.proofs.lemmas.List.Elements.{All-cons, All-contains, All-head, All-nil, All-tail, Contains-get_or}
 use Rattle.std.proofs.lemmas.List.Kept.{AllPairs-cons}
-use Rattle.std.specs.Ordering.{is_eq, is_lt}
-use Rattle.life_model.specs.Cell.{Cell, cell_cmp, same_cell}
+use Rattle.life_model.specs.Cell.{Cell, same_cell}
 use Rattle.life_model.specs.Generation.{Generation, below_all, contains, empty, from_list, insert, is_rising}
 use Rattle.life_model.proofs.Cells.{same_cell-is}
-use Rattle.life_model.proofs.Generations.{contains-from_list, contains-insert, same_members}
+use Rattle.life_model.proofs.Generations.{contains-from_list, contains-insert, none_below, same_members}
 use Rattle.life_model.proofs.Moves.{same_cell_itself}
-use Rattle.life_model.proofs.Tests.{or-comm}
+use Rattle.life_model.proofs.Tests.{first_holds, or-comm, second_holds}
 use Rattle.life_objects.specs.Apart.{AreDisjoint}
 use Rattle.life_objects.specs.Union.{union, union_of}
 use Rattle.life_objects.proofs.Lists.{AllPairs-head, AllPairs-nil, AllPairs-tail, Contains-head, Contains-later, head_or_later}
 use Rattle.life_objects.proofs.Unions.{contains-union, in_first, in_second, union-empty}
 use Rattle.life_objects.proofs.PartsLemmas.Lists.{is_some}
 use Rattle.life_objects.specs.Independent.Groupings.{groupings_of, ways_to_add}
-use Rattle.life_objects.proofs.IndependentLemmas.Found.{in_flat_map, of_flat_map, of_map, owned, owner}
+use Rattle.life_objects.proofs.IndependentLemmas.Found.{Contains-flat_map, of_flat_map, of_map, owned, owner}
 use Rattle.life_objects.proofs.DecidedLemmas.Kept.{Contains-map}
 
 -- The second groups are the first with c put in.
@@ -68,7 +67,7 @@ grouping_listed (c ∷ cs) Hs one =
 pub listed_grouping : (cs : List Cell) (Hs : List Generation) → IsGrouping cs Hs → Contains (groupings_of cs) Hs
 listed_grouping _ _ none = Contains-head [] []
 listed_grouping _ _ (more c cs Qs Hs g a) =
-    in_flat_map (ways_to_add c) (groupings_of cs) Qs Hs (listed_grouping cs Qs g) (way_added c Qs Hs a)
+    Contains-flat_map (ways_to_add c) (groupings_of cs) Qs Hs (listed_grouping cs Qs g) (way_added c Qs Hs a)
 
 -- ---- what they make up
 
@@ -155,25 +154,6 @@ module _ (c : Cell) where
             let same : y ≡ c = came_in c Qs Hs a (get_or Hs k d) (Contains-get_or Hs k d l) y m fresh in
             both_ways (contains (union_of (Q ∷ Qs)) c) new (in_first Q (union_of Qs) c (ap (contains Q) (sym same) ∙ h))
       ]) (added_once Qs Hs a (AllPairs-tail AreDisjoint Q Qs pairs) (new_later Q Qs new))
-
-first_holds : (a b : Bool) → T (a && b) → T a
-first_holds true b h = tt
-first_holds false b h = absurd h
-
-pub second_holds : (a b : Bool) → T (a && b) → T b
-second_holds true b h = h
-second_holds false b h = absurd h
-
-unlike : (r : Ordering) → T (is_lt r) → is_eq r ≡ false
-unlike Less h = refl
-unlike Equal h = absurd h
-unlike Greater h = absurd h
-
-none_below : (c : Cell) (cs : List Cell) → T (below_all c cs) → list_any (same_cell c) cs ≡ false
-none_below c [] h = refl
-none_below c (d ∷ ds) h =
-    or_from (same_cell c d) (list_any (same_cell c) ds) (unlike (cell_cmp c d) (first_holds (is_lt (cell_cmp c d)) (below_all c ds) h))
-    (none_below c ds (second_holds (is_lt (cell_cmp c d)) (below_all c ds) h))
 
 pub groups_make_up : (cs : List Cell) (Hs : List Generation) → IsGrouping cs Hs → T (is_rising cs) → AreGroupsOf (from_list cs) Hs
 groups_make_up _ _ none rising = record {

@@ -7,10 +7,11 @@ use Rattle.std.proofs.lemmas.List.Kept.{AllPairs-cons}
 use Rattle.life_model.specs.Cell.{Cell}
 use Rattle.life_model.specs.Generation.{Generation, below_all, contains, empty, from_list, insert, is_rising}
 use Rattle.life_model.proofs.Generations.{contains-empty}
+use Rattle.life_model.proofs.Tests.{second_holds}
 use Rattle.life_objects.specs.Union.{union_of}
 use Rattle.life_objects.proofs.Lists.{AllPairs-head, AllPairs-nil, AllPairs-tail, related_or_same}
 use Rattle.life_objects.proofs.PartsLemmas.Lists.{some_cell}
-use Rattle.life_objects.proofs.IndependentLemmas.Added.{IsAdded, IsGrouping, alone, here, later, none, more, came_in, groups_make_up, insert-is, second_holds}
+use Rattle.life_objects.proofs.IndependentLemmas.Added.{IsAdded, IsGrouping, alone, here, later, none, more, came_in, groups_make_up, insert-is}
 use Rattle.life_objects.proofs.IndependentLemmas.Found.{owner}
 
 -- cells of the set have one colour

@@ -29,13 +29,13 @@ module _ {X Y : Type 0} where
         | inr later ↦ let q = of_flat_map f xs y later in (q.0, Contains-later x q.0 xs q.1, q.2)
       ]
 
-  pub in_flat_map : (f : X → List Y) (xs : List X) (x : X) (y : Y) → Contains xs x → Contains (f x) y →
+  pub Contains-flat_map : (f : X → List Y) (xs : List X) (x : X) (y : Y) → Contains xs x → Contains (f x) y →
       Contains (flat_map f xs) y
-  in_flat_map f [] x y one two = let none : one.0 < 0 = one.1 in absurd (omega arith)
-  in_flat_map f (z ∷ zs) x y one two =
+  Contains-flat_map f [] x y one two = let none : one.0 < 0 = one.1 in absurd (omega arith)
+  Contains-flat_map f (z ∷ zs) x y one two =
       elim (head_or_later z x zs one.0 one.1 one.2) [
         | inl e ↦ Contains-append_left (f z) (flat_map f zs) y (subst (λ w. Contains (f w) y) (sym e) two)
-        | inr later ↦ Contains-append_right (f z) (flat_map f zs) y (in_flat_map f zs x y later two)
+        | inr later ↦ Contains-append_right (f z) (flat_map f zs) y (Contains-flat_map f zs x y later two)
       ]
 
 module _ {X : Type 0} (p : X → Bool) where

@@ -20,7 +20,7 @@ use Rattle.life_growth.specs.Unsplit.{AreClasses}
 use Rattle.life_islands.proofs.Labelled.{place_in_list}
 use Rattle.life_tracks.specs.Frames.Frames.{with_cells}
 
-abbrev some_cell : Generation → Bool
+abbrev pub some_cell : Generation → Bool
 some_cell P = not (size P == 0)
 
 -- what has no cell is the set without a cell
@@ -34,20 +34,20 @@ none_is_empty P none =
           absurd (omega (arith, size-cells P))
     ]
 
-no_cell : (P : Generation) → some_cell P ≡ false → P ≡ empty
+pub no_cell : (P : Generation) → some_cell P ≡ false → P ≡ empty
 no_cell P e = elim (cases_Bool (size P == 0)) [
   | inl none ↦ none_is_empty P (eqb-true (size P) 0 none)
   | inr some ↦ absurd (true≢false (sym (ap not some) ∙ e))
 ]
 
-has_cell : (P : Generation) → some_cell P ≡ true → P ≢ empty
+pub has_cell : (P : Generation) → some_cell P ≡ true → P ≢ empty
 has_cell P e gone =
     true≢false (sym e ∙ ap not (eq-eqb (size P) 0 (ap size gone ∙ size-empty)))
 
 chosen : (b : Bool) (P : Generation) (Ps : List Generation) → some_cell P ≡ b → with_cells (P ∷ Ps) ≡ cond b (P ∷ with_cells Ps) (with_cells Ps)
 chosen b P Ps e = ap (λ t. cond t (P ∷ with_cells Ps) (with_cells Ps)) e
 
-union-with_cells : (Ps : List Generation) → union_of (with_cells Ps) ≡ union_of Ps
+pub union-with_cells : (Ps : List Generation) → union_of (with_cells Ps) ≡ union_of Ps
 union-with_cells [] = refl
 union-with_cells (P ∷ Ps) = elim (cases_Bool (some_cell P)) [
   | inl some ↦ ap union_of (chosen true P Ps some) ∙ ap (union P) (union-with_cells Ps)

@@ -7,17 +7,17 @@ use Rattle.std.proofs.lemmas.List.FromFn.{get_or-range_with_len, length-range_wi
 use Rattle.life_model.specs.Cell.{Cell, origin}
 use Rattle.life_model.specs.Rule.{Rule}
 use Rattle.life_model.specs.Generation.{Generation, cells, contains, empty}
-use Rattle.life_model.specs.Evolution.{generation, next}
+use Rattle.life_model.specs.Evolution.{next}
 use Rattle.life_model.proofs.Near.{next_near}
 use Rattle.life_objects.specs.Apart.{AreApart, AreApartFor, AreDisjoint, AreNear}
 use Rattle.life_objects.specs.Union.{IsSubsetOf, union_of}
 use Rattle.life_objects.proofs.Distances.{AreApart-swap, near_through}
 use Rattle.life_objects.proofs.Lists.{AllPairs-weaker, related_or_same}
-use Rattle.life_objects.proofs.Many.{next-union_of}
-use Rattle.life_objects.proofs.Members.{found_in, found_now, in_list_now}
+use Rattle.life_objects.proofs.Members.{found_now, in_list_now}
 use Rattle.life_classes.proofs.Owners.{owner}
 use Rattle.life_growth.specs.Unsplit.{AreClasses}
 use Rattle.life_growth.proofs.FilmLemmas.Splits.{apart_now}
+use Rattle.life_growth.proofs.FilmLemmas.Joined.{AreSeparate-swap, bearer, in_classes, separate_apart}
 use Rattle.life_growth.specs.Film.Film.{AreLinked, AreSeparate, bearing, itself, swapped, through, within}
 use Rattle.life_growth.specs.Film.Film as film
 use Rattle.life_classes.specs.Forest.{root}
@@ -83,12 +83,6 @@ module _ (G : Generation) (forest : List ℕ) (long : length forest ≡ length (
         (later_joined : (S : Generation) → Contains Qs S → IsJoined G forest S)
         (tied : (Ss : List Generation) → HoldsNear G Ss →
         ((S : Generation) → Contains Qs S → Contains Ss S) → JoinsTied G Ss forest) where
-      in_G : (N : Generation) → Contains pieces N → (c : Cell) → contains N c ≡ true → contains G c ≡ true
-      in_G N one c h = ap (λ H. contains H c) (sym near.together) ∙ in_list_now R pieces N c one h
-
-      in_next : (Q : Generation) → Contains Qs Q → (c : Cell) → contains Q c ≡ true → contains (next R G) c ≡ true
-      in_next Q one c h = ap (λ H. contains H c) (sym later.together) ∙ in_list_now R Qs Q c one h
-
       piece_of : (c : Cell) → contains G c ≡ true → (N : Generation) × Contains pieces N × (contains N c ≡ true)
       piece_of c h = found_now R pieces c (ap (λ H. contains H c) near.together ∙ h)
 
@@ -132,7 +126,7 @@ module _ (G : Generation) (forest : List ℕ) (long : length forest ≡ length (
             N.0,
             N.1,
             N.2,
-            owner R pieces pieces_apart N.0 N.1 q c (ap (λ H. contains (next R H) q) near.together ∙ in_next Q one q h) N.2 bears.near,
+            owner R pieces pieces_apart N.0 N.1 q c (ap (λ H. contains (next R H) q) near.together ∙ in_classes R b (next R G) Qs later Q one q h) N.2 bears.near,
           )
 
       linked_by : (m k : ℕ) → AreTied G (pieces ++ Qs) m k →
@@ -147,8 +141,8 @@ module _ (G : Generation) (forest : List ℕ) (long : length forest ≡ length (
           elim (Contains-append_cases pieces Qs S one) [
             | inl piece ↦
                 within S (get_or (cells G) m origin) (get_or (cells G) k origin) piece
-                (ap (contains S) (bears.own (in_G S piece c h)) ∙ h)
-                (ap (contains S) (too.own (in_G S piece d j)) ∙ j)
+                (ap (contains S) (bears.own (in_classes R 0 G pieces near S piece c h)) ∙ h)
+                (ap (contains S) (too.own (in_classes R 0 G pieces near S piece d j)) ∙ j)
             | inr class ↦
                 let N = bears_cell S class c m h bears in
                 let M = bears_cell S class d k j too in
@@ -205,21 +199,6 @@ module _ (G : Generation) (forest : List ℕ) (long : length forest ≡ length (
 
       -- ---- which of them bears a class
 
-      apart : AllPairs AreApart Ps
-      apart = AllPairs-weaker (AreSeparate R Qs) AreApart (λ P O s. s.now) Ps separate
-
-      separate-swap : (P O : Generation) → AreSeparate R Qs P O → AreSeparate R Qs O P
-      separate-swap P O s = record {
-        now = AreApart-swap P O s.now;
-        later = λ Q q r one h k there then. s.later Q r q one k h then there;
-      }
-
-      bearer_of : (c : Cell) → contains (next R G) c ≡ true → (P : Generation) × Contains Ps P × (contains (next R P) c ≡ true)
-      unfolding generation
-      bearer_of c h =
-          found_in R 1 Ps c (ap (λ H. contains H c) (sym (next-union_of R Ps apart))
-          ∙ ap (λ H. contains (next R H) c) all_together ∙ h)
-
       module _ (Q : Generation) (of : Contains Qs Q) (i : ℕ) (beside : IsBeside G Ps Q i) where
         abbrev P : Generation
         P = get_or Ps i empty
@@ -229,14 +208,14 @@ module _ (G : Generation) (forest : List ℕ) (long : length forest ≡ length (
 
         bears_it : contains (next R P) beside.cell ≡ true
         bears_it =
-            owner R Ps apart P there beside.cell (get_or (cells G) beside.by origin)
-            (ap (λ H. contains (next R H) beside.cell) all_together ∙ in_next Q of beside.cell beside.of) beside.has
+            owner R Ps (separate_apart R Qs Ps separate) P there beside.cell (get_or (cells G) beside.by origin)
+            (ap (λ H. contains (next R H) beside.cell) all_together ∙ in_classes R b (next R G) Qs later Q of beside.cell beside.of) beside.has
             beside.bears.near
 
         bears_all : IsSubsetOf Q (next R P)
         bears_all r k =
-            let O = bearer_of r (in_next Q of r k) in
-            elim (related_or_same (AreSeparate R Qs) separate-swap Ps P O.0 there O.1 separate) [
+            let O = bearer R G Qs Ps all_together separate r (in_classes R b (next R G) Qs later Q of r k) in
+            elim (related_or_same (AreSeparate R Qs) (AreSeparate-swap R Qs) Ps P O.0 there O.1 separate) [
               | inl s ↦ absurd (s.later Q beside.cell r of bears_it O.2 beside.of k)
               | inr same ↦ ap (λ H. contains (next R H) r) same ∙ O.2
             ]

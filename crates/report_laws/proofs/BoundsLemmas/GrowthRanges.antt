@@ -15,7 +15,7 @@ use Rattle.life_answer.specs.declared.part.Part.{Part}
 use Rattle.life_answer.specs.declared.tale.Engines.{Engines}
 use Rattle.life_answer.specs.declared.tale.Tale.{Tale}
 use Rattle.life_answer.proofs.CountedTales.{lines_add_up}
-use Rattle.life_answer.proofs.Ranges.{lines_in_range}
+use Rattle.life_answer.proofs.Ranges.{lines_in_range, wider}
 use Rattle.life_answer.proofs.Tales.{emits_objects, tale_right}
 use Rattle.life_answer.proofs.Tallying.{counted_all}
 use Rattle.life_answer.proofs.Told.{growth_is_so}
@@ -69,20 +69,6 @@ both-each [] coded few = tt
 both-each (p ∷ parts) coded few =
     let here = few.0 in
     ((coded.0, omega (arith, here)), both-each parts coded.1 few.1)
-
-wider : (h : ℕ) (line : Engines) → h ≤ period_limit → IsInRange h line → IsInRange period_limit line
-wider h line le range =
-    let soon : line.tale.period ≤ h = range.soon in
-    record {
-      some = range.some;
-      later = range.later;
-      soon = omega arith;
-      left = range.left;
-      right = range.right;
-      above = range.above;
-      below = range.below;
-      emits = range.emits;
-    }
 
 module _ (R : Rule) (near : Bool) (h c : ℕ) (soon : h ≤ period_limit) (young : c ≤ objects_bound_limit) where
   module _ (E : Generation) (stands : All (IsWithin c) (cells E)) (way : Way) (engine : IsEngine R h E way) where
@@ -156,7 +142,7 @@ module _ (R : Rule) (near : Bool) (h c : ℕ) (soon : h ≤ period_limit) (young
 
   lines-fit : (told : List Engines) → Each (IsInRange h) told → Each (OfEngines (λ parts. Each FitsEmitted parts)) told → Each FitsEngines told
   lines-fit [] range emits = tt
-  lines-fit (line ∷ told) range emits = ((wider h line soon range.0, emits.0), lines-fit told range.1 emits.1)
+  lines-fit (line ∷ told) range emits = ((wider h period_limit line soon range.0, emits.0), lines-fit told range.1 emits.1)
 
   engines-few : (G : Generation) (Es : List Generation) (S : Generation) → IsGrowth R h G Es S → All (IsWithin c) (cells G) → length Es ≤ 2 ^ 48
   engines-few G Es S growth stands =

@@ -45,10 +45,10 @@ use Rattle.life_answer.specs.Growing.{allowed_bound, growing_or}
 use Rattle.life_answer.specs.Told.{growth_told}
 use Rattle.life_answer.specs.declared.tale.Engines.{Engines}
 use Rattle.life_answer.proofs.Growing.{allowed_within}
+use Rattle.life_slots.proofs.Sizes.{few_cells}
 use Rattle.report_laws.specs.Ranges.{FitsOutcome, InRange, IsToldAnswer, IsToldFolder}
 use Rattle.report_laws.proofs.BoundsLemmas.Codes.{counted-coded}
 use Rattle.report_laws.proofs.BoundsLemmas.GrowthRanges.{FitsGrowth, growth-fits}
-use Rattle.report_laws.proofs.BoundsLemmas.CellCounts.{few_cells}
 use Rattle.report_laws.proofs.BoundsLemmas.CountedCells.{few_counted}
 use Rattle.report_laws.proofs.Solid.{each-map}
 

@@ -17,7 +17,7 @@ use Rattle.life_answer.specs.declared.question.Question.TheVariants.{Objects}
 use Rattle.life_answer.specs.declared.tale.Engines.{Engines}
 use Rattle.life_answer.proofs.Growing.{ash_answered, growing-else}
 use Rattle.life_answer.proofs.Limits.{limited-else, limited-same}
-use Rattle.life_answer.proofs.Texts.{answer-found}
+use Rattle.life_answer.proofs.Texts.{answer-found, same_finding}
 use Rattle.life_objects.specs.Decided.Decided.{ash_of}
 use Rattle.life_objects.proofs.DecidedLemmas.Deciding.{ash_if_found}
 use Rattle.life_objects.proofs.DecidedLemmas.Lasting.{parts_found}
@@ -47,9 +47,6 @@ ash_found : (near : Bool) (R : Rule) (G : Generation) (b onset : ℕ) (parts : L
     → (found : List Generation) × (ash_of R b (generation R G b) ≡ Some found)
 unfolding census_of
 ash_found near R G b onset parts e = some_found near R b (ash_onset R G b) onset parts (ash_of R b (generation R G b)) e
-
-pub same_finding : (r s : Rule) (f g : Finding) → Found r f ≡ Found s g → f ≡ g
-same_finding r s f g e = cc
 
 no_growth : (onset : ℕ) (parts : List Part) (lines : List Engines) → Ash onset parts ≡ Grows lines → ⊥
 no_growth onset parts lines e = cc

@@ -6,7 +6,7 @@ use Rattle.census_format.specs.Found.{outcome_of}
 use Rattle.census_format.specs.Lines.{pattern_row, pattern_rows, rows_behind}
 use Rattle.census_format.proofs.Lost.{found_kept, kept_answer}
 use Rattle.report_laws.specs.Runs.Growing.{HasGrown, growing_rows}
-use Rattle.report_laws.proofs.RunsLemmas.Fallen.{answer_by, answer_in, same_finding}
+use Rattle.report_laws.proofs.RunsLemmas.Fallen.{answer_by, answer_in}
 use Rattle.census_rows.specs.Kinds.{said}
 use Rattle.life_answer.specs.Answers.{finding_with}
 use Rattle.life_answer.specs.Questions.{finding_to, outcome_to}
@@ -19,7 +19,7 @@ use Rattle.life_answer.specs.declared.finding.Outcome.TheVariants.{Ash, Grows, L
 use Rattle.life_answer.specs.declared.question.Question.TheVariants.{Objects}
 use Rattle.life_answer.specs.declared.tale.Engines.{Engines}
 use Rattle.life_answer.proofs.Growing.{outcome_is_so, sooner_told}
-use Rattle.life_answer.proofs.Texts.{answer-found}
+use Rattle.life_answer.proofs.Texts.{answer-found, same_finding}
 use Rattle.life_model.specs.Rule.{Rule}
 use Rattle.life_text.specs.declared.rle.RleFault.{RleFault}
 use Rattle.life_text.specs.Picture.{Picture, picture_of}

@@ -1,6 +1,6 @@
 use Rattle.std.proofs.Common.{ap, ◌∙◌, arith}
 use Rattle.life_model.specs.Generation.{size}
-use Rattle.life_growth.proofs.Sizes.{size-moved}
+use Rattle.life_model.proofs.Lists.{size-moved}
 use Rattle.life_ash.proofs.again.are_moved.Goals as goal
 
 pub returns-then-population : goal.returns-then-population

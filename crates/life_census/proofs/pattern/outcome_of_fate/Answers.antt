@@ -6,10 +6,11 @@ use Rattle.life_answer.specs.Growing.{allowed_bound, growing_or}
 use Rattle.life_answer.specs.Limited.{unless_large}
 use Rattle.life_answer.specs.declared.finding.Outcome.{Outcome}
 use Rattle.life_answer.proofs.Growing.{ash_answered, outcome_by}
+use Rattle.life_answer.proofs.Ashes.{census_none}
 use Rattle.life_apart.specs.Sets.{sets_of}
 use Rattle.life_ash.specs.Fates.{EndsLater, IsFate}
 use Rattle.life_census.proofs.Early.{nothing_told}
-use Rattle.life_census.proofs.LaterParts.{census_is_ash, census_none}
+use Rattle.life_census.proofs.LaterParts.{census_is_ash}
 use Rattle.life_census.proofs.pattern.outcome_of_fate.Goals as goal
 
 pub returns-in-Ash : goal.returns-in-Ash

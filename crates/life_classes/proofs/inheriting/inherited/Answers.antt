@@ -6,13 +6,13 @@ use Rattle.std.proofs.lemmas.List.{get_or_default}
 use Rattle.std.proofs.lemmas.List.Elements.{All-push}
 use Rattle.life_model.specs.Cell.{Cell, origin}
 use Rattle.life_model.specs.Generation.{cells, contains}
+use Rattle.life_model.proofs.Generations.{cells-contained}
 use Rattle.life_cells.specs.Limits.{IsPlace}
 use Rattle.life_classes.specs.declared.labels.Labelled.{Labelled}
 use Rattle.life_classes.specs.declared.tags.Tag.{Tag}
 use Rattle.life_classes.specs.Forest.{root}
 use Rattle.life_classes.specs.Labels.{AreBornOrOld, AreHeirs, IsHeir, IsLabelOf}
 use Rattle.life_classes.specs.Tags.{AreNumbersOf, place_number}
-use Rattle.life_classes.proofs.Beginning.{listed}
 use Rattle.life_classes.proofs.Forests.{root-root}
 use Rattle.life_classes.proofs.Lookups.{length_pushed, pushed}
 use Rattle.life_classes.proofs.inheriting.inherited.Goals as goal
@@ -24,15 +24,15 @@ heir_of-heir-requires-clause-reached c =
     let same = c.as_slice-cell-items.ensures.cells in
     c.requires.reached (get_or c.as_slice-cell-items.result.now k origin)
     (subst (λ xs. contains G (get_or xs k origin) ≡ true) (sym same)
-    (listed G k origin (subst (λ xs. k < length xs) same c.loop-cell-test.true)))
+    (cells-contained G k origin (subst (λ xs. k < length xs) same c.loop-cell-test.true)))
 
--- one more cell is born, and listed, or was there before
+-- one more cell is born, and cells-contained, or was there before
 one_more_born : (l : Labelled) (cs : List Cell) (n place : ℕ) (is_born : Bool) (old new : List ℕ) (c : Cell) → place ≡ n →
     ((e : Cell) → c ≡ get_or cs n e) → ((k : ℕ) → Contains old k → Contains new k) →
     (is_born ≡ true → Contains new place) → (is_born ≡ false → contains l.cells c ≡ true) → AreBornOrOld l cs n old →
     AreBornOrOld l cs (n + 1) new
 one_more_born l cs n place is_born old new c same here kept one was all k e below = elim (cases_lt k n) [
-  | inl before ↦ elim (all k e before) [ inl listed ↦ inl (kept k listed) | inr there ↦ inr there ]
+  | inl before ↦ elim (all k e before) [ inl cells-contained ↦ inl (kept k cells-contained) | inr there ↦ inr there ]
   | inr last ↦
       let it : n ≡ k = omega arith in
       elim (cases_Bool is_born) [

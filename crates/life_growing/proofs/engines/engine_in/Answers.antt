@@ -8,8 +8,9 @@ use Rattle.life_tracks.specs.Films.{IsTrackOf}
 use Rattle.life_tracks.specs.Tracks.{way_of}
 use Rattle.life_growing.proofs.FindingEngines.{no_engine, track_start}
 use Rattle.life_growing.proofs.FindingTracks.{placed_along}
-use Rattle.life_growing.proofs.Yielded.{all_in_order, met_in_order, next_in_order}
+use Rattle.life_growing.proofs.Yielded.{all_in_order}
 use Rattle.life_growing.proofs.engines.engine_in.Goals as goal
+use Rattle.life_strays.proofs.Yielded.{met_in_order, next_in_order}
 
 pub engine_along-requires-clause-back : goal.engine_along-requires-clause-back
 engine_along-requires-clause-back g c =

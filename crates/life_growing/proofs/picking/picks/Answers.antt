@@ -9,8 +9,9 @@ use Rattle.life_objects.specs.Apart.{AreApartFor}
 use Rattle.life_growing.specs.Growths.{IsEngineFound, start_of}
 use Rattle.life_growing.specs.Picking.{ArePicks}
 use Rattle.life_growing.proofs.PickingClasses.{engine_picked, first_sets_then, met_class, none_picked, other_picked}
-use Rattle.life_growing.proofs.Yielded.{all_in_order, next_in_order}
+use Rattle.life_growing.proofs.Yielded.{all_in_order}
 use Rattle.life_growing.proofs.picking.picks.Goals as goal
+use Rattle.life_strays.proofs.Yielded.{next_in_order}
 
 pub loop-class-init : goal.loop-class-init
 loop-class-init g c =
