@@ -15,3 +15,4 @@ pub mod Told
 pub mod Counts
 pub mod ObjectCode
 pub mod ObjectLaws
+pub mod Held

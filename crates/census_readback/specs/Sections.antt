@@ -14,9 +14,9 @@ use Rattle.census_readback.specs.declared.place.Tally.{Tally}
 use Rattle.census_readback.specs.Counts.{is_counted, line_counted, nothing_counted, object, part_counted}
 use Rattle.census_readback.specs.Limits.{count_limit}
 
--- one more, as far as 64 bits go
+-- one more, as far as 16 bits go
 abbrev pub next_count : ℕ → ℕ
-next_count n = min (n + 1) (2 ^ 64 - 1)
+next_count n = min (n + 1) (2 ^ 16 - 1)
 
 -- with one more pattern that counts so
 abbrev pub counted : Tally → Class → Tally

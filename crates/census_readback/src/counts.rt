@@ -1,116 +1,16 @@
 //! What the rows of a collection count.
-ghost use Rattle.std.specs.Prelude.{◌≡◌, ◌<◌, ◌^◌, IsTrue, length, slice_get, OnOk};
+ghost use Rattle.std.specs.Prelude.{◌≡◌, ◌+◌, ◌<◌, ◌^◌, IfOk, IsTrue, length, slice_get, OnOk};
 ghost use Rattle.census_rows.specs.Kinds.{said, value_at};
 ghost use Rattle.census_rows.specs.declared.kinds.Label.TheVariants as label;
 ghost use Rattle.census_readback.specs.Lawful.{text_in};
-ghost use Rattle.census_readback.specs.Counts.{bytes_of, is_counted, line_counted, nothing_counted, object, part_counted, sum_with, with_more};
+ghost use Rattle.census_readback.specs.Counts.{bytes_of, is_counted, line_counted, nothing_counted, object, part_counted};
+ghost use Rattle.census_readback.specs.Held.{counts_of};
 
 use crate::lawful::text_at;
+use crate::sums::{Object, Sums};
 use census_rows::{Label, Outcome};
-use indexmap::IndexMap;
 use std::alloc::{AllocError, Global};
-use std::hash::{Hash, Hasher};
 use std::marker::Model;
-
-// A rule, and the code of an object under it, as they are printed.
-#[derive(Drop)]
-struct Object<'a> {
-    rule: &'a [u8],
-    code: &'a [u8],
-}
-
-impl<'a> Model for Object<'a> {
-    ghost use Rattle.census_readback.specs.Counts as counts;
-    ghost use Rattle.census_readback.specs.ObjectCode.{object_code};
-
-    ghost Value = { counts.Object };
-
-    ghost coded = { object_code };
-
-    ghost view = { λ o. record { rule = o.rule.now; code = o.code.now } };
-}
-
-impl<'a> PartialEq for Object<'a> {
-    ghost use Rattle.census_readback.specs.Counts.{same_object};
-    ghost use Rattle.census_readback.specs.ObjectLaws.{same_object_partial};
-
-    ghost eq = { same_object };
-
-    ghost laws = { same_object_partial };
-
-    fn eq(&self, other: &Object<'a>) -> bool {
-        self.rule == other.rule && self.code == other.code
-    }
-}
-
-impl<'a> Eq for Object<'a> {
-    ghost use Rattle.census_readback.specs.ObjectLaws.{same_object_equivalence};
-
-    ghost laws = { same_object_equivalence };
-}
-
-impl<'a> Hash for Object<'a> {
-    ghost use Rattle.census_readback.specs.ObjectLaws.{fed_object, same_object_fed};
-
-    ghost hash_input = { fed_object };
-
-    ghost respects_eq = { same_object_fed };
-
-    fn hash<H: Hasher>(&self, state: &mut H) {
-        self.rule.hash(state);
-        self.code.hash(state);
-    }
-}
-
-impl<'a> Object<'a> {
-    ghost use Rattle.std.specs.Prelude.{◌≡◌};
-    ghost use Rattle.census_readback.specs.Counts.{object};
-
-    fn of(rule: &'a [u8], code: &'a [u8]) -> Object<'a>
-        ensures { result ≡ object rule.now code.now }
-    {
-        Object { rule, code }
-    }
-}
-
-// With so many more, where 64 bits hold the number.
-fn sum_with(sum: Option<u64>, count: u64) -> Option<u64>
-    ensures { result ≡ sum_with sum count }
-{
-    sum?.checked_add(count)
-}
-
-// Counts an object so many times more.
-fn count_object<'a>(
-    sums: &mut IndexMap<Object<'a>, Option<u64>>,
-    object: Object<'a>,
-    count: u64,
-) -> Result<(), AllocError>
-    ensures { OnOk result (sums.new.entries ≡ with_more object.entry count sums.old.entries) }
-{
-    let sum = sums.entry(object)?.or_insert(Some(0));
-    *sum = sum_with(*sum, count);
-    Ok(())
-}
-
-// Whether the object that was counted at this index is this one, and there are so many of it.
-fn has<'a>(
-    sums: &IndexMap<Object<'a>, Option<u64>>,
-    index: usize,
-    object: Object<'a>,
-    count: u64,
-) -> bool
-    ensures value { result ≡ is_counted (slice_get sums.now.entries index) object.entry count }
-    ensures within { IsTrue result → index < 2 ^ 63 }
-{
-    if sums.len() <= index {
-        return false;
-    }
-    match sums.get_index(index) {
-        Some((counted, sum)) => *counted == object && *sum == Some(count),
-        None => false,
-    }
-}
 
 // The rule of an outcome, or no byte.
 fn rule_of<'a>(outcome: &Outcome<'a>) -> &'a [u8]
@@ -122,64 +22,95 @@ fn rule_of<'a>(outcome: &Outcome<'a>) -> &'a [u8]
     }
 }
 
+// What lines have counted.
+#[derive(Drop)]
+struct Held<'a> {
+    // The rule of the last one.
+    rule: &'a [u8],
+    sums: Sums<'a>,
+}
+
 // The objects that were counted, each once, in the order of first appearance.
 #[derive(Drop)]
 pub struct Counts<'a> {
-    // The rule of the last line.
-    rule: &'a [u8],
-    // How many there are of each, where 64 bits hold the number.
-    sums: IndexMap<Object<'a>, Option<u64>>,
+    // Nothing before the first line, which takes no memory.
+    held: Option<Box<Held<'a>>>,
 }
 
 impl<'a> Model for Counts<'a> {
     ghost use Rattle.census_readback.specs.Counts as counts;
+    ghost use Rattle.census_readback.specs.Held.{counts_of};
+    ghost use Rattle.std.specs.Prelude.{None, Some};
 
     ghost Value = { counts.Counts };
 
-    ghost view = { λ c. record { rule = c.rule.now; sums = c.sums.entries } };
+    ghost view = { λ c. elim c.held [ None ↦ counts.nothing_counted | Some h ↦ counts_of h.value ] };
 }
 
 impl<'a> Counts<'a> {
-    // Before any row.
-    pub fn nothing(alloc: Global) -> Self
+    // Before any row. It takes no memory.
+    pub fn nothing() -> Self
         ensures { result ≡ nothing_counted }
     {
-        Counts {
-            rule: &[],
-            sums: IndexMap::new(alloc),
+        Counts { held: None }
+    }
+
+    // Takes out what was counted.
+    fn take(&mut self, alloc: Global) -> Result<Box<Held<'a>>, AllocError>
+        ensures { IfOk result (λ held. counts_of held.value ≡ self.old) }
+    {
+        match self.held.take() {
+            Some(held) => Ok(held),
+            None => Ok(Box::new(alloc, Held {
+                rule: &[],
+                sums: Sums::nothing(alloc),
+            })?),
         }
     }
 
     // Counts what a `line` row tells.
-    pub fn line(&mut self, outcome: &Outcome<'a>) -> Result<(), AllocError>
+    pub fn line(&mut self, alloc: Global, outcome: &Outcome<'a>) -> Result<(), AllocError>
         ensures { OnOk result (self.new ≡ line_counted self.old (said outcome.now)) }
     {
-        self.rule = rule_of(outcome);
-        match text_at(outcome, Label::Code) {
-            Some(code) => count_object(&mut self.sums, Object::of(self.rule, code), 1),
-            None => Ok(()),
+        let mut held = self.take(alloc)?;
+        let rule = rule_of(outcome);
+        held.rule = rule;
+        if let Some(code) = text_at(outcome, Label::Code) {
+            held.sums.count(alloc, Object::of(rule, code), 1)?;
         }
+        self.held = Some(held);
+        Ok(())
     }
 
     // Counts what a `part` row tells.
-    pub fn part(&mut self, code: &'a [u8], count: u64) -> Result<(), AllocError>
+    pub fn part(&mut self, alloc: Global, code: &'a [u8], count: u64) -> Result<(), AllocError>
         ensures { OnOk result (self.new ≡ part_counted self.old code.now count) }
     {
-        count_object(&mut self.sums, Object::of(self.rule, code), count)
+        let mut held = self.take(alloc)?;
+        let object = Object::of(held.rule, code);
+        held.sums.count(alloc, object, count)?;
+        self.held = Some(held);
+        Ok(())
     }
 
     // Whether the object at this index is this one, and there are so many of it.
     pub fn has(&self, index: usize, rule: &'a [u8], code: &'a [u8], count: u64) -> bool
         ensures value { result ≡ is_counted (slice_get self.now.sums index) (object rule.now code.now) count }
-        ensures within { IsTrue result → index < 2 ^ 63 }
+        ensures within { IsTrue result → index + 1 < 2 ^ 64 }
     {
-        has(&self.sums, index, Object::of(rule, code), count)
+        match &self.held {
+            Some(held) => held.sums.has(index, Object::of(rule, code), count),
+            None => false,
+        }
     }
 
     // How many objects were counted.
     pub fn len(&self) -> usize
         ensures { result ≡ length self.now.sums }
     {
-        self.sums.len()
+        match &self.held {
+            Some(held) => held.sums.len(),
+            None => 0,
+        }
     }
 }

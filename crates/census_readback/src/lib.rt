@@ -15,6 +15,7 @@ mod progress;
 mod reading;
 mod rules;
 mod sectioning;
+mod sums;
 mod told;
 
 pub use following::{emits_first, rows_behind};

@@ -1,5 +1,5 @@
 //! How far the section of a collection is read.
-ghost use Rattle.std.specs.Prelude.{◌≡◌, ◌<◌, ◌^◌, IfOk, IsTrue};
+ghost use Rattle.std.specs.Prelude.{◌≡◌, ◌+◌, ◌<◌, ◌^◌, IfOk, IsTrue};
 ghost use Rattle.census_readback.specs.Sections.{closes, counted, place_after, first_place, may_stand, next_within, same_behind, tells_next, with_line, with_part, with_told};
 
 use crate::counts::Counts;
@@ -7,16 +7,16 @@ use crate::limits::COUNT_LIMIT;
 use census_rows::{Behind, Class, Outcome, Row};
 use std::alloc::{AllocError, Global};
 
-// What was read between the `open` and the `close` line.
+// What was read between the `open` and the `close` line. Tens of thousands of collections may be open at once, so it is small.
 #[derive(Drop)]
 pub struct Tally<'a> {
     // How many patterns the collection has.
-    pub patterns: u64,
+    pub patterns: u16,
     // How many of them are read.
-    pub read: u64,
-    pub resolved: u64,
-    pub unresolved: u64,
-    pub refused: u64,
+    pub read: u16,
+    pub resolved: u16,
+    pub unresolved: u16,
+    pub refused: u16,
     // Which lines may stand behind that of the last pattern.
     pub behind: Behind,
     // The objects that the lines count.
@@ -32,37 +32,31 @@ pub enum Place<'a> {
     Behind,
 }
 
-// With one more pattern that counts so.
-fn counted<'a>(tally: Tally<'a>, class: Class) -> Tally<'a>
-    ensures { result ≡ counted tally.entry class }
+// Counts one more pattern, of this class.
+fn count<'a>(tally: &mut Tally<'a>, class: Class)
+    ensures { tally.new ≡ counted tally.old class }
 {
     match class {
-        Class::Resolved => Tally {
-            resolved: tally.resolved.saturating_add(1),
-            ..tally
-        },
-        Class::Unresolved => Tally {
-            unresolved: tally.unresolved.saturating_add(1),
-            ..tally
-        },
-        Class::Refused => Tally {
-            refused: tally.refused.saturating_add(1),
-            ..tally
-        },
+        Class::Resolved => tally.resolved = tally.resolved.saturating_add(1),
+        Class::Unresolved => tally.unresolved = tally.unresolved.saturating_add(1),
+        Class::Refused => tally.refused = tally.refused.saturating_add(1),
     }
 }
 
 // With the line of one more pattern.
-fn with_line<'a>(mut tally: Tally<'a>, outcome: &Outcome<'a>) -> Result<Tally<'a>, AllocError>
+fn with_line<'a>(
+    alloc: Global,
+    mut tally: Tally<'a>,
+    outcome: &Outcome<'a>,
+) -> Result<Tally<'a>, AllocError>
     requires { tally.read < tally.patterns }
     ensures { IfOk result (λ after. after ≡ with_line tally.entry outcome.now) }
 {
-    tally.counts.line(outcome)?;
-    Ok(Tally {
-        read: tally.read + 1,
-        behind: outcome.behind(),
-        ..counted(tally, outcome.class())
-    })
+    tally.counts.line(alloc, outcome)?;
+    count(&mut tally, outcome.class());
+    tally.read += 1;
+    tally.behind = outcome.behind();
+    Ok(tally)
 }
 
 pub fn same_behind(one: Behind, other: Behind) -> bool
@@ -80,28 +74,33 @@ pub fn same_behind(one: Behind, other: Behind) -> bool
 fn may_stand(tally: &Tally, kind: Behind, pattern: u64) -> bool
     ensures { result ≡ may_stand tally.now kind pattern }
 {
-    same_behind(tally.behind, kind) && pattern == tally.read
+    same_behind(tally.behind, kind) && pattern == u64::from(tally.read)
 }
 
 // With so many objects of the last pattern.
-fn with_part<'a>(mut tally: Tally<'a>, code: &'a [u8], count: u64) -> Result<Tally<'a>, AllocError>
+fn with_part<'a>(
+    alloc: Global,
+    mut tally: Tally<'a>,
+    code: &'a [u8],
+    count: u64,
+) -> Result<Tally<'a>, AllocError>
     ensures { IfOk result (λ after. after ≡ with_part tally.entry code.now count) }
 {
-    tally.counts.part(code, count)?;
+    tally.counts.part(alloc, code, count)?;
     Ok(tally)
 }
 
 // Whether the next of the objects that were counted is this one, and there are so many of it.
 fn tells_next<'a>(tally: &Tally<'a>, rule: &'a [u8], code: &'a [u8], count: u64) -> bool
     ensures value { result ≡ tells_next tally.now rule.now code.now count }
-    ensures within { IsTrue result → tally.now.told < 2 ^ 63 }
+    ensures within { IsTrue result → tally.now.told + 1 < 2 ^ 64 }
 {
     tally.counts.has(tally.told, rule, code, count)
 }
 
 // With one more `code` line.
 fn with_told<'a>(tally: Tally<'a>) -> Tally<'a>
-    requires { tally.told < 2 ^ 63 }
+    requires { tally.told + 1 < 2 ^ 64 }
     ensures { result ≡ with_told tally.entry }
 {
     Tally {
@@ -121,15 +120,19 @@ fn closes(tally: &Tally, patterns: u64, resolved: u64, unresolved: u64, refused:
     }) }
 {
     tally.read == tally.patterns
-        && patterns == tally.patterns
-        && resolved == tally.resolved
-        && unresolved == tally.unresolved
-        && refused == tally.refused
+        && patterns == u64::from(tally.patterns)
+        && resolved == u64::from(tally.resolved)
+        && unresolved == u64::from(tally.unresolved)
+        && refused == u64::from(tally.refused)
         && tally.told == tally.counts.len()
 }
 
 // The place after a row that stands between `open` and `close`.
-fn next_within<'a>(tally: Tally<'a>, row: &Row<'a>) -> Result<Option<Place<'a>>, AllocError>
+fn next_within<'a>(
+    alloc: Global,
+    tally: Tally<'a>,
+    row: &Row<'a>,
+) -> Result<Option<Place<'a>>, AllocError>
     ensures { IfOk result (λ place. place ≡ next_within tally.entry row.now) }
 {
     match row {
@@ -137,8 +140,8 @@ fn next_within<'a>(tally: Tally<'a>, row: &Row<'a>) -> Result<Option<Place<'a>>,
             pattern,
             outcome,
             ..
-        } if tally.read < tally.patterns && *pattern == tally.read + 1 => {
-            Ok(Some(Place::Within(with_line(tally, outcome)?)))
+        } if tally.read < tally.patterns && *pattern == u64::from(tally.read) + 1 => {
+            Ok(Some(Place::Within(with_line(alloc, tally, outcome)?)))
         }
         Row::Part {
             pattern,
@@ -146,7 +149,7 @@ fn next_within<'a>(tally: Tally<'a>, row: &Row<'a>) -> Result<Option<Place<'a>>,
             count,
             ..
         } if may_stand(&tally, Behind::Parts, *pattern) => {
-            Ok(Some(Place::Within(with_part(tally, *code, *count)?)))
+            Ok(Some(Place::Within(with_part(alloc, tally, *code, *count)?)))
         }
         Row::Engine { pattern, .. } | Row::Emits { pattern, .. }
             if may_stand(&tally, Behind::Engines, *pattern) => { Ok(Some(Place::Within(tally))) }
@@ -172,18 +175,18 @@ fn next_within<'a>(tally: Tally<'a>, row: &Row<'a>) -> Result<Option<Place<'a>>,
 }
 
 // The place before all rows but `open`.
-fn first_place<'a>(alloc: Global, row: &Row<'a>) -> Option<Place<'a>>
+fn first_place<'a>(row: &Row<'a>) -> Option<Place<'a>>
     ensures { result ≡ first_place row.now }
 {
     match row {
         Row::Open { patterns, .. } if *patterns <= COUNT_LIMIT => Some(Place::Within(Tally {
-            patterns: *patterns,
+            patterns: *patterns as u16,
             read: 0,
             resolved: 0,
             unresolved: 0,
             refused: 0,
             behind: Behind::Nothing,
-            counts: Counts::nothing(alloc),
+            counts: Counts::nothing(),
             told: 0,
         })),
         _ => None,
@@ -199,8 +202,8 @@ pub fn next<'a>(
     ensures { IfOk result (λ after. after ≡ place_after place.entry row.now) }
 {
     match place {
-        Place::Before => Ok(first_place(alloc, row)),
-        Place::Within(tally) => next_within(tally, row),
+        Place::Before => Ok(first_place(row)),
+        Place::Within(tally) => next_within(alloc, tally, row),
         Place::Behind => Ok(None),
     }
 }

@@ -4,7 +4,7 @@ use Rattle.std.specs.Option.{unwrap_or}
 use Rattle.indexmap.specs.IndexMap.{insert_entry}
 use Rattle.census_readback.specs.Counts.{same_object, sum_with}
 use Rattle.census_readback.proofs.Counted.{counted-more}
-use Rattle.census_readback.proofs.counts.count_object.Goals as goal
+use Rattle.census_readback.proofs.sums.count_object.Goals as goal
 
 pub returns : goal.returns
 returns c =
