@@ -2,3 +2,4 @@ pub mod Kept
 pub mod Numbers
 pub mod Packed
 pub mod Placed
+pub mod Paged

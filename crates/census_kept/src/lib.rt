@@ -5,6 +5,7 @@
 #![tactic(auto)]
 
 mod numbers;
+mod page;
 mod reading;
 mod rows;
 mod section;

@@ -1,26 +1,39 @@
-use Rattle.std.proofs.Common.{◌≡◌, ◌<◌, arith, length, get_or, ap, ◌∙◌, drop}
-use Rattle.census_kept.specs.Kept.{row_from}
-use Rattle.census_kept.proofs.Settling.{row-at, place-within, index-within}
-use Rattle.std.proofs.lemmas.List.{get_or_default}
+use Rattle.std.proofs.Common.{◌≡◌, ◌+◌, ◌-◌, ◌*◌, ◌/◌, ◌%◌, ◌<◌, ◌≤◌, ◌++◌, ap, ◌∙◌, sym, arith, get_or, length, length-append}
+use Rattle.census_kept.specs.Paged.{rows_of_pages}
+use Rattle.census_kept.proofs.Paging.{full-size, last-row, page-full, page-row}
 use Rattle.census_kept.proofs.rows.Rows.row.Goals as goal
 
-within : (c : goal.After-as_slice) → c.args.index < length c.self.inside.places.items
-within c = index-within _ c.self.inside.places.items _ c.args.index c.self.view_is c.requires
+pub row-requires : goal.row-requires
+row-requires c =
+    let pages = c.self.inside.pages.items in
+    let within : c.args.index / 64 < length pages = omega (arith, c.if-page-len.true, c.len.ensures, c.self.inside.pages.ok) in
+    let size = page-full pages (c.args.index / 64) c.index.result.now c.self.invariant within in
+    let same = ap length c.index.ensures in
+    omega (arith, size, same)
 
-pub bytes_from-bytes-requires : goal.bytes_from-bytes-requires
-bytes_from-bytes-requires c =
-    let few = place-within c.self.inside.nothing c.self.inside.bytes.items c.self.inside.texts.items c.self.inside.places.items c.args.index c.self.invariant (within c) in
-    let same : get_or c.self.inside.places.items c.args.index c.index-place.result.now ≡ get_or c.self.inside.places.items c.args.index 0 = get_or_default _ _ _ _ (within c) in
-    rw c.as_slice.ensures.value (omega (arith, few, c.index-place.ensures, same))
+pub row-requires-else-page-len : goal.row-requires-else-page-len
+row-requires-else-page-len c =
+    let pages = c.self.inside.pages.items in
+    let size = ap length c.self.view_is in
+    let both = length-append (rows_of_pages pages) c.self.inside.last in
+    let full = full-size pages c.self.invariant in
+    omega (arith, size, both, full, c.if-page-len.false, c.len.ensures, c.len-else-page-len.ensures, c.self.inside.pages.ok, c.requires)
 
-before : (c : goal.After-row_from) → c.args.index < length c.self.inside.places.items
-before c = index-within _ c.self.inside.places.items _ c.args.index c.self.view_is c.requires
+pub returns-then-page-len : goal.returns-then-page-len
+returns-then-page-len c =
+    let pages = c.self.inside.pages.items in
+    let row = c.row.result in
+    let within : c.args.index / 64 < length pages = omega (arith, c.if-page-len.true, c.len.ensures, c.self.inside.pages.ok) in
+    let whole : (c.args.index / 64) * 64 + c.args.index % 64 ≡ c.args.index = omega arith in
+    c.row.ensures ∙ ap (λ w. get_or w (c.args.index % 64) row) c.index.ensures
+    ∙ sym (page-row pages c.self.inside.last (c.args.index / 64) (c.args.index % 64) c.index.result.now row c.self.invariant within (omega arith))
+    ∙ ap (λ k. get_or (rows_of_pages pages ++ c.self.inside.last) k row) whole ∙ ap (λ w. get_or w c.args.index row) c.self.view_is
 
-pub returns : goal.returns
-returns c =
-    let place : c.index-place.result.now ≡ get_or c.self.inside.places.items c.args.index 0 = c.index-place.ensures ∙ get_or_default _ _ _ _ (before c) in
-    let from : c.bytes_from-bytes.result.now ≡ drop c.index-place.result.now c.self.inside.bytes.items = c.bytes_from-bytes.ensures ∙ ap (λ w. drop c.index-place.result.now w) c.as_slice.ensures.value in
-    let is = c.row_from.ensures ∙ ap (λ w. row_from c.self.inside.nothing w c.as_slice-2.result.now) from
-    ∙ ap (λ w. row_from c.self.inside.nothing (drop c.index-place.result.now c.self.inside.bytes.items) w) c.as_slice-2.ensures.value in
-    row-at c.self.inside.nothing c.self.inside.bytes.items c.self.inside.texts.items c.self.inside.places.items c.args.index c.index-place.result.now c.args.self.now
-    c.row_from.result c.row_from.result c.self.view_is c.requires place is
+pub returns-else-page-len : goal.returns-else-page-len
+returns-else-page-len c =
+    let pages = c.self.inside.pages.items in
+    let row = c.row-else-page-len.result in
+    let over : length pages * 64 ≤ c.args.index = omega (arith, c.if-page-len.false, c.len.ensures, c.self.inside.pages.ok) in
+    let behind : c.args.index - c.len-else-page-len.result * 64 ≡ c.args.index - length pages * 64 = omega (arith, c.len-else-page-len.ensures, c.self.inside.pages.ok) in
+    c.row-else-page-len.ensures ∙ ap (λ k. get_or c.self.inside.last k row) behind ∙ sym (last-row pages c.self.inside.last c.args.index row c.self.invariant over)
+    ∙ ap (λ w. get_or w c.args.index row) c.self.view_is

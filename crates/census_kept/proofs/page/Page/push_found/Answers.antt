@@ -2,7 +2,7 @@ use Rattle.std.proofs.Common.{refl, w64, to_z, of_z}
 use Rattle.census_rows.specs.declared.row.Finding.TheVariants as finding
 use Rattle.census_rows.specs.declared.row.Outcome.TheVariants.{Found}
 use Rattle.census_rows.specs.declared.row.Row.TheVariants.{Line}
-use Rattle.census_kept.proofs.rows.Rows.push_found.Goals as goal
+use Rattle.census_kept.proofs.page.Page.push_found.Goals as goal
 
 pub put-requires : goal.put-requires
 put-requires c = (Line c.args.collection c.args.pattern (Found c.args.rule c.args.population (finding.Ok c.in-Ok.onset c.in-Ok.period (to_z w64 (of_z w64 c.in-Ok.dx)) (to_z w64 (of_z w64 c.in-Ok.dy)) c.in-Ok.code)) c.args.name, rw (c.folded.ensures, c.folded-in-Ok.ensures) refl)

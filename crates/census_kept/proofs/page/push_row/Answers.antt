@@ -1,6 +1,6 @@
 use Rattle.std.proofs.Common.{Ok, Err, Result, OnOk}
 use Rattle.census_kept.proofs.Settling.{bytes-pushed}
-use Rattle.census_kept.proofs.rows.push_row.Goals as goal
+use Rattle.census_kept.proofs.page.push_row.Goals as goal
 
 on-ok : {A E : Type 0} (r : Result A E) (P Q : Type 0) → OnOk r P → (P → Q) → OnOk r Q
 on-ok (Ok x) P Q p f = f p

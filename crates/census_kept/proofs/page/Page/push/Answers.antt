@@ -1,6 +1,6 @@
 use Rattle.std.proofs.Common.{refl, w64, to_z, of_z}
 use Rattle.census_rows.specs.declared.row.Row.TheVariants.{Open, Part, Engine, Emits, Code, Close, End}
-use Rattle.census_kept.proofs.rows.Rows.push.Goals as goal
+use Rattle.census_kept.proofs.page.Page.push.Goals as goal
 
 pub put-requires : goal.put-requires
 put-requires c = (Open c.in-Open.collection c.in-Open.patterns c.in-Open.name, refl)

@@ -2,7 +2,7 @@ use Rattle.std.proofs.Common.{◌≡◌, ℕ, ◌-◌, List, ◌∙◌, ap, arit
 use Rattle.census_kept.specs.Numbers.{number_in}
 use Rattle.census_kept.specs.Packed.{row_of}
 use Rattle.census_kept.proofs.Settling.{none-at, some-at}
-use Rattle.census_kept.proofs.rows.row_from.Goals as goal
+use Rattle.census_kept.proofs.page.row_from.Goals as goal
 
 pub returns-in-empty : goal.returns-in-empty
 returns-in-empty c = none-at _ c.args.bytes.now c.args.texts.now (omega arith)

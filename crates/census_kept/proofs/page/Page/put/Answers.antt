@@ -1,7 +1,7 @@
 use Rattle.std.proofs.Common.{◌≡◌, ◌∙◌, ◌++◌, [], ap, arith, length, map, ◌∷◌}
 use Rattle.census_kept.specs.Kept.{row_at, row_bytes}
 use Rattle.census_kept.proofs.Settling.{any-err, none-behind, settled-grown, rows-grown, IsPut, settled-put, rows-put}
-use Rattle.census_kept.proofs.rows.Rows.put.Goals as goal
+use Rattle.census_kept.proofs.page.Page.put.Goals as goal
 
 pub invariant_of-self : goal.invariant_of-self
 invariant_of-self c = settled-grown _ _ _ _ [] _ _ c.self.invariant c.push_row.ensures.grown (none-behind _)
