@@ -1,5 +1,5 @@
-//! Rows of reports, held in little room: each takes its numbers' bytes, its texts' loans, and 10 to
-//! 20 bytes more.
+//! Rows of reports, held in little room: each takes its numbers' bytes, its texts' loans, and some 7
+//! bytes more.
 //!
 //! Tested in `tests_reports`.
 #![tactic(auto)]

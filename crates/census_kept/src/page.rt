@@ -22,8 +22,8 @@ pub struct Page<'a> {
     // The kind of each row, the place of its first text, and its numbers.
     bytes: Vec<u8>,
     texts: Vec<&'a [u8]>,
-    // Where in `bytes` each row begins.
-    places: Vec<usize>,
+    // Where in `bytes` each row begins: those of a page are far fewer than 65,536.
+    places: Vec<u16>,
     // What stands where a text is missing; none is.
     nothing: &'a [u8],
 }
@@ -110,7 +110,7 @@ impl<'a> Page<'a> {
     // How many there are.
     pub fn len(&self) -> usize
         ensures value { result ≡ length self.now }
-        ensures small { result < 2 ^ 60 }
+        ensures small { result < 2 ^ 62 }
     {
         self.places.as_slice().len()
     }
@@ -120,7 +120,7 @@ impl<'a> Page<'a> {
         requires { index < length self.now }
         ensures { result ≡ slice_index_or self.now index result }
     {
-        let place = self.places[index];
+        let place = self.places[index] as usize;
         let bytes = bytes_from(self.bytes.as_slice(), place);
         row_from(self.nothing, bytes, self.texts.as_slice())
     }
@@ -141,7 +141,9 @@ impl<'a> Page<'a> {
             → self.new ≡ self.old ++ row ∷ []) }
         ensures err { OnErr result (self.new ≡ self.old) }
     {
-        let place = self.bytes.len();
+        let Ok(place) = u16::try_from(self.bytes.len()) else {
+            return Err(AllocError);
+        };
         push_row(&mut self.bytes, tag, self.texts.len() as u64, numbers)?;
         self.texts.extend_from_slice(texts)?;
         self.places.push(place)?;

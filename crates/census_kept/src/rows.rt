@@ -11,8 +11,8 @@ use std::mem::replace;
 const PAGE_LEN: usize = 64;
 
 /// Rows, of which each is held as its kind, its numbers in as few bytes as they need, and the loans
-/// of its texts. A row takes 11 bytes, 16 for each text, one for its kind, and as many for each
-/// number as it has digits at most. More rows move none of those before them.
+/// of its texts. A row takes some 7 bytes, 16 for each text, and as many for each number as it has digits
+/// at most. More rows move none of those before them.
 #[derive(Drop)]
 pub struct Rows<'a> {
     // These are full.

@@ -61,10 +61,13 @@ impl<'a> Counts<'a> {
     {
         match self.held.take() {
             Some(held) => Ok(held),
-            None => Ok(Box::new(alloc, Held {
-                rule: &[],
-                sums: Sums::nothing(alloc),
-            })?),
+            None => Ok(Box::new(
+                alloc,
+                Held {
+                    rule: &[],
+                    sums: Sums::nothing(alloc),
+                },
+            )?),
         }
     }
 

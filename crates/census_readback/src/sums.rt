@@ -94,12 +94,7 @@ fn count_object<'a>(
 }
 
 // Whether this is the object, and there are so many of it.
-fn is_counted<'a>(
-    counted: &Object<'a>,
-    sum: &Option<u64>,
-    object: &Object<'a>,
-    count: u64,
-) -> bool
+fn is_counted<'a>(counted: &Object<'a>, sum: &Option<u64>, object: &Object<'a>, count: u64) -> bool
     ensures { result ≡ is_counted (Some (counted.now, sum.now)) object.now count }
 {
     *counted == *object && *sum == Some(count)
@@ -175,12 +170,7 @@ impl<'a> Sums<'a> {
     }
 
     // Counts an object so many times more.
-    pub fn count(
-        &mut self,
-        alloc: Global,
-        object: Object<'a>,
-        count: u64,
-    ) -> Result<(), AllocError>
+    pub fn count(&mut self, alloc: Global, object: Object<'a>, count: u64) -> Result<(), AllocError>
         ensures { OnOk result (self.new ≡ with_more object.entry count self.old) }
     {
         if count_among(self.first.as_mut_slice(), &object, count) {

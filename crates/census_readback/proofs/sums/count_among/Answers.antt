@@ -30,7 +30,7 @@ loop-at-preserved c =
     record {
       same = c.loop-at.invariant.same;
       passed = passed-one c.args.counted.now c.args.object.now c.args.count c.loop-at.at e c.loop-at.invariant.passed c.loop-at-test.true there
-        (ap (λ x. same_object c.args.object.now x.0) c.index-counted-at.is ∙ sym c.eq.ensures ∙ c.if-eq.false);
+          (ap (λ x. same_object c.args.object.now x.0) c.index-counted-at.is ∙ sym c.eq.ensures ∙ c.if-eq.false);
     }
 
 pub returns-clause-no : goal.returns-clause-no

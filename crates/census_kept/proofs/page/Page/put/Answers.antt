@@ -30,22 +30,22 @@ returns-in_err-push-clause-err c =
 
 pushed : (c : goal.In_ok-push) → c.push_row.new.bytes.items ≡ c.self.inside.bytes.items ++ row_bytes c.args.tag (length c.self.inside.texts.items) c.args.numbers.now
 pushed c =
-    let first : c.len.result ≡ length c.self.inside.texts.items = omega (arith, c.len.ensures, c.self.inside.texts.ok) in
+    let first : c.len-2.result ≡ length c.self.inside.texts.items = omega (arith, c.len-2.ensures, c.self.inside.texts.ok) in
     c.in_ok-push_row.ensures.all ∙ ap (λ w. c.self.inside.bytes.items ++ row_bytes c.args.tag w c.args.numbers.now) first
 
-begins : (c : goal.In_ok-push) → c.len-place.result ≡ length c.self.inside.bytes.items
-begins c = omega (arith, c.len-place.ensures, c.self.inside.bytes.ok)
+begins : (c : goal.In_ok-push) → c.in-Ok.place ≡ length c.self.inside.bytes.items
+begins c = omega (arith, c.in-Ok.ensures.1, c.len.ensures, c.self.inside.bytes.ok)
 
 pub invariant_of-self-2 : goal.invariant_of-self-2
 invariant_of-self-2 c =
     let is : IsPut c.requires.0 c.args.tag c.args.numbers.now c.args.texts.now c.self.inside.texts.items =
     record { packs = c.requires.1; small = λ i. omega (arith, c.type_inv.numbers i); few = omega arith } in
-    settled-put c.requires.0 _ _ _ _ _ _ _ _ _ _ c.len-place.result is c.self.invariant (pushed c) c.in_ok-extend_from_slice.ensures.items (begins c) c.in_ok-push.ensures.items
+    settled-put c.requires.0 _ _ _ _ _ _ _ _ _ _ c.in-Ok.place is c.self.invariant (pushed c) c.in_ok-extend_from_slice.ensures.items (begins c) c.in_ok-push.ensures.items
 
 pub returns-clause-ok : goal.returns-clause-ok
 returns-clause-ok c row packs =
     let is : IsPut row c.args.tag c.args.numbers.now c.args.texts.now c.self.inside.texts.items =
     record { packs = packs; small = λ i. omega (arith, c.type_inv.numbers i); few = omega arith } in
     rows-put row c.args.tag c.args.numbers.now c.args.texts.now c.self.inside.nothing c.self.inside.bytes.items c.push_row.new.bytes.items c.self.inside.texts.items c.extend_from_slice.new.self.items
-    c.self.inside.places.items c.push.new.self.items c.len-place.result is c.self.invariant (pushed c) c.in_ok-extend_from_slice.ensures.items (begins c) c.in_ok-push.ensures.items
+    c.self.inside.places.items c.push.new.self.items c.in-Ok.place is c.self.invariant (pushed c) c.in_ok-extend_from_slice.ensures.items (begins c) c.in_ok-push.ensures.items
     ∙ ap (λ w. w ++ row ∷ []) c.self.view_is
