@@ -120,3 +120,29 @@ fn rows_come_back_as_they_were_put_in(rt: HostRuntime) -> Result<(), AllocError>
     }
     Ok(())
 }
+
+#[test]
+fn rows_of_the_largest_numbers_are_kept(rt: HostRuntime) -> Result<(), AllocError> {
+    let row = Row::Line {
+        collection: u64::MAX,
+        pattern: u64::MAX,
+        outcome: Outcome::Found {
+            rule: b"B3/S23",
+            population: u64::MAX,
+            finding: Finding::Ok {
+                onset: u64::MAX,
+                period: u64::MAX,
+                dx: i64::MIN,
+                dy: i64::MIN,
+                code: b"xq4_153",
+            },
+        },
+        name: b"",
+    };
+    let mut rows = Rows::new(rt.alloc());
+    for _ in 0..200 {
+        rows.push(&row)?;
+    }
+    assert!(rt; rows.len() == 200);
+    Ok(())
+}

@@ -36,6 +36,35 @@ end 2 3
 end 0 0
 ";
 
+// More objects than are looked through one by one.
+const MANY: &[u8] = b"open 1 13 many
+line 1 1 ok B3/S23 4 0 1 0 0 xs4_33 p
+line 1 2 ok B3/S23 4 0 2 0 0 xp2_7 p
+line 1 3 ok B3/S23 4 0 1 0 0 xs6_696 p
+line 1 4 ok B3/S23 4 0 1 0 0 xs5_253 p
+line 1 5 ok B3/S23 4 0 1 0 0 xs7_2596 p
+line 1 6 ok B3/S23 4 0 1 0 0 xs8_6996 p
+line 1 7 ok B3/S23 4 0 4 1 -1 xq4_153 p
+line 1 8 ok B3/S23 4 0 1 0 0 xs6_356 p
+line 1 9 ok B3/S23 4 0 2 0 0 xp2_7e p
+line 1 10 ok B3/S23 4 0 1 0 0 xs12_g8o653z11 p
+line 1 11 ok B3/S23 4 0 2 0 0 xp2_7 p
+line 1 12 ok B3/S23 4 0 2 0 0 xp2_7e p
+line 1 13 ok B3/S23 4 0 1 0 0 xs12_g8o653z11 p
+code 1 B3/S23 xs4_33 1
+code 1 B3/S23 xp2_7 2
+code 1 B3/S23 xs6_696 1
+code 1 B3/S23 xs5_253 1
+code 1 B3/S23 xs7_2596 1
+code 1 B3/S23 xs8_6996 1
+code 1 B3/S23 xq4_153 1
+code 1 B3/S23 xs6_356 1
+code 1 B3/S23 xp2_7e 2
+code 1 B3/S23 xs12_g8o653z11 2
+close 1 13 13 0 0
+end 1 13
+";
+
 // The line of the fault, or 0.
 pub fn fault(alloc: Global, text: &[u8]) -> Result<usize, AllocError> {
     let mut rows = Rows::new(alloc);
@@ -47,7 +76,7 @@ pub fn fault(alloc: Global, text: &[u8]) -> Result<usize, AllocError> {
 
 #[test]
 fn reports_are_read_and_written_again(rt: HostRuntime) -> Result<(), AllocError> {
-    for text in [RUN, OBJECTS] {
+    for text in [RUN, OBJECTS, MANY] {
         let rows = rows_read(rt.alloc(), text)?;
         assert!(rt; lines_kept(rt.alloc(), &rows)?.as_slice() == text);
     }
