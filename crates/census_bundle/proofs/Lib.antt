@@ -8,3 +8,4 @@ pub mod LineFaults
 pub mod Splits
 pub mod Sections
 mod Rows
+pub mod Joined

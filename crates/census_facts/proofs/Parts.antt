@@ -1,18 +1,15 @@
 -- Parts and engines that are gone over one after another.
 use Rattle.std.proofs.Common.{◌≡◌, ℕ, suc, ◌+◌, ◌<◌, List, [], ◌∷◌, ◌++◌, length, map, take, Some, refl, sym, ap, ◌∙◌, append_assoc, append-nil, slice_get, arith}
-use Rattle.std.proofs.lemmas.List.{length-take, map-append, take_more}
-use Rattle.std.proofs.lemmas.Option.{get_or_from_slice_get, slice_get_within}
+use Rattle.std.proofs.lemmas.List.{length-take, map-append}
 use Rattle.life_answer.specs.declared.part.Part.{Part}
 use Rattle.life_answer.specs.declared.tale.Engines.{Engines}
+use Rattle.life_answer.proofs.Taken.{take_one_more}
 use Rattle.census_names.specs.Names.{Entry}
 use Rattle.census_facts.specs.Lines.{Line, emits_line, engine_line, engines_lines, text_of}
 
 text_of-append : (ls ms : List Line) → text_of (ls ++ ms) ≡ text_of ls ++ text_of ms
 text_of-append [] ms = refl
 text_of-append (l ∷ ls) ms = ap (λ t. l ++ t) (text_of-append ls ms) ∙ sym (append_assoc l (text_of ls) (text_of ms))
-
-take_one_more : {X : Type 0} (xs : List X) (i : ℕ) (x : X) → slice_get xs i ≡ Some x → take (i + 1) xs ≡ take i xs ++ x ∷ []
-take_one_more xs i x at = take_more xs i x (slice_get_within xs i x at) ∙ ap (λ y. take i xs ++ y ∷ []) (get_or_from_slice_get xs i x x at)
 
 -- one line more
 pub lines_taken : (line : Part → Line) (parts : List Part) (i : ℕ) (part : Part) → slice_get parts i ≡ Some part

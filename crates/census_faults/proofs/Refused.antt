@@ -1,12 +1,8 @@
 -- The lines of what a report of a bundle tells as refused, one after another.
-use Rattle.std.proofs.Common.{◌≡◌, ℕ, ◌+◌, ◌<◌, Bool, false, if◌then◌else◌, List, [], ◌∷◌, ◌++◌, length, get_or, drop, Option, None, Some, option_map, ap, sym, ◌∙◌}
-use Rattle.std.proofs.lemmas.List.{append_assoc, drop_more}
-use Rattle.std.specs.List.{flat_map}
+use Rattle.std.proofs.Common.{◌≡◌, ℕ, Bool, false, if◌then◌else◌, List, [], Option, None, Some, option_map, ap, sym}
 use Rattle.life_text.specs.Rle.{refusal}
 use Rattle.census_bundle.specs.declared.bundle.Entry.{Entry}
 use Rattle.census_faults.specs.BundleRefusals.{entry_lines, fault_lines, lost_line}
-
--- # One
 
 -- a pattern whose text is not lost
 pub entry_read : (collection : List ℕ) (entry : Entry) → entry.is_lost ≡ false
@@ -26,13 +22,3 @@ module _ {V F : Type 0} (f : V → List ℕ) (g : F → List ℕ) (lines : Optio
   pub without_line : (r : Option F) (o : Option V) → lines None ≡ [] → option_map f o ≡ option_map g r → o ≡ None → [] ≡ lines r
   without_line None o none same is = sym none
   without_line (Some x) o none same is = cc
-
--- # Each
-
--- the lines of one more
-pub next_lines : {A : Type 0} (f : A → List ℕ) (xs : List A) (i : ℕ) (x : A) (lines more whole : List ℕ) → i < length xs → x ≡ get_or xs i x
-    → more ≡ lines ++ f x → lines ++ flat_map f (drop i xs) ≡ whole → more ++ flat_map f (drop (i + 1) xs) ≡ whole
-next_lines f xs i x lines more whole within at is before =
-    let rest = flat_map f (drop (i + 1) xs) in
-    let next : flat_map f (drop i xs) ≡ f x ++ rest = ap (flat_map f) (drop_more xs i x within ∙ ap (λ l. l ∷ drop (i + 1) xs) (sym at)) in
-    ap (λ l. l ++ rest) is ∙ append_assoc lines (f x) rest ∙ ap (λ l. lines ++ l) (sym next) ∙ before

@@ -1,22 +1,19 @@
 -- Parts that are gone over one after another.
 use Rattle.std.proofs.Common.{◌≡◌, ℕ, ◌+◌, ◌≤◌, List, [], ◌∷◌, ◌++◌, length, map, take, drop, replicate, Some, refl, sym, ap, ◌∙◌, arith, append_assoc, append-nil, slice_get, zero-add, Result, Ok, Err, OnOk}
-use Rattle.std.proofs.lemmas.List.{length-append, length-replicate, map-append, take-append-drop, take_more}
-use Rattle.std.proofs.lemmas.Option.{get_or_from_slice_get, slice_get_within}
+use Rattle.std.proofs.lemmas.List.{length-append, length-replicate, map-append, take-append-drop}
 use Rattle.life_answer.specs.declared.finding.Answer.{Answer}
 use Rattle.life_answer.specs.declared.finding.Answer.TheVariants.{Found}
 use Rattle.life_answer.specs.declared.finding.Finding.{Finding}
 use Rattle.life_answer.specs.declared.finding.Outcome.TheVariants.{Ash}
 use Rattle.life_answer.specs.declared.part.Part.{Part}
 use Rattle.life_answer.specs.Parts.{objects_in}
+use Rattle.life_answer.proofs.Taken.{take_one_more}
 use Rattle.life_model.specs.Rule.{Rule}
 use Rattle.census_rows.specs.declared.row.Row.{Row}
 use Rattle.census_rows.specs.Lines.{line_of, text_of}
 use Rattle.census_rows.proofs.Texts.{text-append}
 use Rattle.census_format.specs.Objects.{object, objects, outcome_objects, part_objects}
 use Rattle.census_format.proofs.Tallies.{objects-append}
-
-pub take_one_more : {X : Type 0} (xs : List X) (i : ℕ) (x : X) → slice_get xs i ≡ Some x → take (i + 1) xs ≡ take i xs ++ x ∷ []
-take_one_more xs i x at = take_more xs i x (slice_get_within xs i x at) ∙ ap (λ y. take i xs ++ y ∷ []) (get_or_from_slice_get xs i x x at)
 
 pub map_taken : {A B : Type 0} (f : A → B) (xs : List A) (i : ℕ) (x : A) → slice_get xs i ≡ Some x → map f (take (i + 1) xs) ≡ map f (take i xs) ++ f x ∷ []
 map_taken f xs i x at = ap (map f) (take_one_more xs i x at) ∙ map-append f (take i xs) (x ∷ [])

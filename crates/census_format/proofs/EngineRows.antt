@@ -5,7 +5,7 @@ use Rattle.life_answer.specs.declared.tale.Engines.{Engines}
 use Rattle.census_rows.specs.Lines.{text_of}
 use Rattle.census_rows.proofs.Texts.{text-append}
 use Rattle.census_format.specs.Lines.{engine_rows, rows_of_engines}
-use Rattle.census_format.proofs.AshParts.{take_one_more}
+use Rattle.life_answer.proofs.Taken.{take_one_more}
 
 module _ (c i : ℕ) where
   rows-append : (e : ℕ) (lines : List Engines) (engines : Engines) →

@@ -25,3 +25,4 @@ pub mod Rising
 pub mod Growing
 pub mod Moving
 pub mod Ranges
+pub mod Taken

@@ -9,7 +9,7 @@ use Rattle.life_model.specs.Generation.{Generation, cells, contains}
 use Rattle.life_model.proofs.Generations.{contains-cells}
 use Rattle.life_objects.specs.Apart.{AreDisjoint}
 use Rattle.life_objects.specs.Union.{IsSubsetOf}
-use Rattle.life_orbit.proofs.Lists.{of_member}
+use Rattle.life_model.proofs.Members.{of_member}
 use Rattle.life_apart.specs.Alone.{AreFar}
 use Rattle.life_apart.specs.Bounds.{IsFarOff, IsInBounds}
 use Rattle.life_apart.specs.declared.clearance.Bounds.{Bounds}

@@ -27,7 +27,7 @@ use Rattle.life_objects.proofs.OneList.{apart_from_rest, rest_of, with_rest}
 use Rattle.life_objects.proofs.Sides.{within_each_other}
 use Rattle.life_objects.proofs.Times.{disjoint_ever, generation-empty, generation-union}
 use Rattle.life_objects.proofs.Unions.{in_empty, in_first, in_second, in_union, union-empty}
-use Rattle.life_orbit.proofs.Lists.{of_all_members}
+use Rattle.life_model.proofs.Members.{of_all_members}
 use Rattle.life_classes.specs.Nearness.{reaches}
 use Rattle.life_classes.proofs.Reached.{reaches_itself}
 use Rattle.life_classes.specs.declared.class.Class.{Class}

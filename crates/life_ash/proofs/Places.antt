@@ -10,7 +10,7 @@ use Rattle.life_model.proofs.Generations.{contains-cells}
 use Rattle.life_model.proofs.Near.{next_near}
 use Rattle.life_cells.specs.Limits.{IsWithin}
 use Rattle.life_objects.specs.Union.{IsSubsetOf}
-use Rattle.life_orbit.proofs.Lists.{of_member, of_all_members}
+use Rattle.life_model.proofs.Members.{of_member, of_all_members}
 use Rattle.life_plane.proofs.Later.{within_later}
 use Rattle.life_ash.specs.Parts.{ash_age_limit}
 

@@ -1,24 +1,14 @@
 -- Where the cells of sets stand.
-use Rattle.std.proofs.Common.{◌≡◌, ℕ, ◌≤◌, inl, inr, true, List, [], ◌∷◌, All, sym, subst, ap, ◌∙◌, true≢false, arith}
+use Rattle.std.proofs.Common.{◌≡◌, ℕ, ◌≤◌, true, List, All, sym, ap, ◌∙◌, arith}
 use Rattle.std.specs.List.{list_any}
 use Rattle.std.proofs.lemmas.Int.{ints}
-use Rattle.std.proofs.lemmas.List.Elements.{All-head, All-tail}
 use Rattle.life_model.specs.Cell.{Cell, same_cell}
 use Rattle.life_model.specs.Generation.{Generation, cells, contains, from_list}
-use Rattle.life_model.proofs.Cells.{same_cell-is}
+use Rattle.life_model.proofs.Members.{of_member}
 use Rattle.life_model.proofs.Generations.{contains-cells, contains-from_list, same_members}
 use Rattle.life_cells.specs.Limits.{IsPlace, IsWithin}
 use Rattle.life_leaps.specs.Planes.{farthest_age}
 use Rattle.life_slots.proofs.Inserted.{all_listed}
-use Rattle.life_slots.proofs.Orders.{either_true}
-
-pub of_member : (P : Cell → Type 0) (xs : List Cell) → All P xs → (c : Cell) → list_any (same_cell c) xs ≡ true → P c
-of_member P [] all c h = absurd (true≢false (sym h))
-of_member P (x ∷ xs) all c h =
-    elim (either_true (same_cell c x) (list_any (same_cell c) xs) h) [
-      | inl same ↦ subst P (sym ((same_cell-is c x).0 same)) (All-head P x xs all)
-      | inr later ↦ of_member P xs (All-tail P x xs all) c later
-    ]
 
 pub member_within : (age : ℕ) (G : Generation) → All (IsWithin age) (cells G) → (c : Cell) → contains G c ≡ true → IsWithin age c
 member_within age G all c h = of_member (IsWithin age) (cells G) all c (sym (contains-cells G c) ∙ h)

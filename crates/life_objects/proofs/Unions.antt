@@ -1,13 +1,15 @@
 -- Which cells are in a union.
-use Rattle.std.proofs.Common.{◌≡◌, true, ◌||◌, List, [], ◌∷◌, ◌++◌, ◌⊎◌, sym, ap, ◌∙◌, true≢false}
+use Rattle.std.proofs.Common.{◌≡◌, ◌+◌, true, false, ◌||◌, T, List, [], ◌∷◌, ◌++◌, ◌⊎◌, length, sym, ap, ◌∙◌, true≢false, arith}
 use Rattle.std.specs.List.{list_any}
-use Rattle.std.proofs.lemmas.Bool.{or_cases, or_left, or_right}
+use Rattle.std.proofs.lemmas.Bool.{false_from_ne_true, or_cases, or_left, or_right}
 use Rattle.std.proofs.lemmas.List.Folds.{list_any-append}
 use Rattle.std.proofs.Math.Bool.{or_assoc}
 use Rattle.life_model.specs.Cell.{Cell, same_cell}
-use Rattle.life_model.specs.Generation.{Generation, contains, empty, cells}
-use Rattle.life_model.proofs.Generations.{contains-empty, contains-from_list, contains-cells, same_members}
-use Rattle.life_model.proofs.Tests.{or-false, or-comm}
+use Rattle.life_model.specs.Generation.{Generation, below_all, contains, empty, cells, from_list, is_rising, size}
+use Rattle.life_model.proofs.Generations.{cells-rise, contains-empty, contains-from_list, contains-cells, from_list-cells, none_below, same_members, size-cells, size-insert}
+use Rattle.life_model.proofs.Moves.{same_cell_itself}
+use Rattle.life_model.proofs.Tests.{first_holds, or-false, or-comm, second_holds}
+use Rattle.life_objects.specs.Apart.{AreDisjoint}
 use Rattle.life_objects.specs.Union.{union, union_of}
 
 pub contains-union : (P Q : Generation) (c : Cell) → contains (union P Q) c ≡ (contains P c || contains Q c)
@@ -56,3 +58,25 @@ in_first P Q c h = contains-union P Q c ∙ or_left _ _ h
 
 pub in_second : (P Q : Generation) (c : Cell) → contains Q c ≡ true → contains (union P Q) c ≡ true
 in_second P Q c h = contains-union P Q c ∙ or_right _ _ h
+
+-- cells in order, and others that are none of them
+size-more : (Q : Generation) (cs : List Cell) → T (is_rising cs) →
+    ((c : Cell) → list_any (same_cell c) cs ≡ true → contains Q c ≡ true → ⊥) →
+    size (from_list (cs ++ cells Q)) ≡ length cs + size Q
+size-more Q [] rising none =
+    ap size (from_list-cells Q) ∙ (let e : size Q ≡ 0 + size Q = omega arith in e)
+size-more Q (c ∷ cs) rising none =
+    let later = second_holds (below_all c cs) (is_rising cs) rising in
+    let so_far = size-more Q cs later (λ d in_cs in_Q. none d (or_right (same_cell d c) (list_any (same_cell d) cs) in_cs) in_Q) in
+    let new : contains (from_list (cs ++ cells Q)) c ≡ false =
+    contains-from_list (cs ++ cells Q) c ∙ list_any-append (same_cell c) cs (cells Q)
+    ∙ (λ i. none_below c cs (first_holds (below_all c cs) (is_rising cs) rising) i || sym (contains-cells Q c) i)
+    ∙ false_from_ne_true (contains Q c) (λ in_Q. none c (or_left (same_cell c c) (list_any (same_cell c) cs) (same_cell_itself c)) in_Q) in
+    let more = size-insert (from_list (cs ++ cells Q)) c new in
+    omega arith
+
+pub size-disjoint : (P Q : Generation) → AreDisjoint P Q → size (union P Q) ≡ size P + size Q
+unfolding union
+size-disjoint P Q apart =
+    size-more Q (cells P) (cells-rise P) (λ c in_P in_Q. apart c (contains-cells P c ∙ in_P) in_Q)
+    ∙ ap (λ n. n + size Q) (sym (size-cells P))

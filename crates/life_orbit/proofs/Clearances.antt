@@ -21,7 +21,7 @@ use Rattle.life_orbit.specs.Course.{Course, IsCourse}
 use Rattle.life_orbit.specs.Hulls.{AreFar, IsHullOf}
 use Rattle.life_orbit.specs.Passing.{AreApartBetween}
 use Rattle.life_orbit.specs.declared.hull.Hull.{Hull}
-use Rattle.life_orbit.proofs.Lists.{of_all_members, of_member}
+use Rattle.life_model.proofs.Members.{of_all_members, of_member}
 
 -- no cell of P, moved, is near one of Q
 abbrev pub AreApartBy : Generation → Cell → Generation → Type 0

@@ -7,7 +7,7 @@ use Rattle.life_model.specs.Generation.{Generation, cells}
 use Rattle.life_model.proofs.Generations.{contains-cells}
 use Rattle.life_orbit.specs.Hulls.{AreFar, HoldsAllCells, IsInHull, IsPartOf}
 use Rattle.life_orbit.specs.declared.hull.Hull.{Hull}
-use Rattle.life_orbit.proofs.Lists.{of_member}
+use Rattle.life_model.proofs.Members.{of_member}
 
 pub part_itself : (h : Hull) → IsPartOf h h
 part_itself h = record {

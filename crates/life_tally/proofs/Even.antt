@@ -15,9 +15,9 @@ use Rattle.life_objects.proofs.Lists.{AllPairs-head, AllPairs-tail}
 use Rattle.life_objects.proofs.OneList.{apart_from_list}
 use Rattle.life_objects.proofs.Recurring.{RecursBy-later}
 use Rattle.life_objects.proofs.Times.{disjoint_ever, generation-empty, generation-union_ever}
+use Rattle.life_objects.proofs.Unions.{size-disjoint}
 use Rattle.life_tally.specs.Totals.{AreTotals, IsUneven, total}
 use Rattle.life_tally.proofs.Sums.{even, rises}
-use Rattle.life_tally.proofs.Unions.{size-disjoint}
 
 module _ (R : Rule) where
   -- how many cells a set has then

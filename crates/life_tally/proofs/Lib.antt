@@ -1,5 +1,4 @@
 pub mod Sums
-pub mod Unions
 pub mod Even
 pub mod Measures
 pub mod Stretches

@@ -6,7 +6,7 @@ use Rattle.std.proofs.lemmas.List.Elements.{All-more, All-weaker}
 use Rattle.life_model.specs.Cell.{Cell}
 use Rattle.life_model.specs.Generation.{contains, from_list}
 use Rattle.life_model.proofs.Generations.{contains-from_list}
-use Rattle.life_leaps.proofs.Placed.{of_member}
+use Rattle.life_model.proofs.Members.{of_member}
 
 -- a number is one from the first to the last
 pub record IsBetween (first last z : ℤ) : Type 0 where

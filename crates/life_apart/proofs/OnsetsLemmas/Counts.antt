@@ -1,54 +1,28 @@
 -- How many cells sets have together, and which.
-use Rattle.std.proofs.Common.{◌≡◌, ℕ, zero, suc, ◌+◌, ◌<◌, ◌≤◌, true, false, ◌||◌, T}
+use Rattle.std.proofs.Common.{◌≡◌, ℕ, zero, suc, ◌+◌, ◌<◌, ◌≤◌}
 use Rattle.std.proofs.Common.{List, [], ◌∷◌, ◌++◌, flat_map, get_or, length, take, inl, inr, sym, ap, subst, ◌∙◌, arith}
 use Rattle.std.specs.FinMap as finmap
-use Rattle.std.specs.List.{All, AllPairs, Contains, list_any}
-use Rattle.std.proofs.lemmas.Bool.{false_from_ne_true, or_left, or_right}
+use Rattle.std.specs.List.{All, AllPairs, Contains}
 use Rattle.std.proofs.lemmas.Grind.{flat_map-append}
 use Rattle.std.proofs.lemmas.List.{append-nil, get_or-map, length-map, map_more}
 use Rattle.std.proofs.lemmas.List.Elements.{All-head, All-tail, Contains-get_or}
-use Rattle.std.proofs.lemmas.List.Folds.{list_any-append}
-use Rattle.life_model.specs.Cell.{Cell, same_cell}
-use Rattle.life_model.specs.Generation.{Generation, below_all, cells, contains, from_list, is_rising, size}
-use Rattle.life_model.proofs.Generations.{cells-rise, contains-cells, contains-from_list, from_list-cells, none_below, size-insert}
-use Rattle.life_model.proofs.Generations.{size-cells, size-empty}
-use Rattle.life_model.proofs.Moves.{same_cell_itself}
-use Rattle.life_model.proofs.Tests.{first_holds, second_holds}
+use Rattle.life_model.specs.Cell.{Cell}
+use Rattle.life_model.specs.Generation.{Generation, cells, size}
+use Rattle.life_model.proofs.Generations.{contains-cells}
+use Rattle.life_model.proofs.Generations.{size-empty}
 use Rattle.life_objects.specs.Apart.{AreDisjoint}
-use Rattle.life_objects.specs.Union.{union, union_of}
+use Rattle.life_objects.specs.Union.{union_of}
 use Rattle.life_objects.proofs.Lists.{AllPairs-head, AllPairs-tail}
-use Rattle.life_objects.proofs.Unions.{in_empty, in_union}
+use Rattle.life_objects.proofs.Unions.{in_empty, in_union, size-disjoint}
 use Rattle.life_orbit.specs.Course.{Course, IsCourse}
 use Rattle.life_orbit.specs.Past.{IsPast}
-use Rattle.life_orbit.proofs.Lists.{of_all_members, of_member}
+use Rattle.life_model.proofs.Members.{of_all_members, of_member}
 use Rattle.life_cells.specs.Limits.{IsPlace}
 use Rattle.life_objects.proofs.Members.{in_list_now}
 use Rattle.life_apart.proofs.OnsetsLemmas.Pasts.{past_is}
 use Rattle.life_apart.specs.Onsets.Pasts.{past_of, pasts, total}
 
 -- ---- sizes
-
--- cells in order, and others that are none of them
-size-more : (Q : Generation) (cs : List Cell) → T (is_rising cs) →
-    ((c : Cell) → list_any (same_cell c) cs ≡ true → contains Q c ≡ true → ⊥) →
-    size (from_list (cs ++ cells Q)) ≡ length cs + size Q
-size-more Q [] rising none =
-    ap size (from_list-cells Q) ∙ (let e : size Q ≡ 0 + size Q = omega arith in e)
-size-more Q (c ∷ cs) rising none =
-    let later = second_holds (below_all c cs) (is_rising cs) rising in
-    let so_far = size-more Q cs later (λ d in_cs in_Q. none d (or_right (same_cell d c) (list_any (same_cell d) cs) in_cs) in_Q) in
-    let new : contains (from_list (cs ++ cells Q)) c ≡ false =
-    contains-from_list (cs ++ cells Q) c ∙ list_any-append (same_cell c) cs (cells Q)
-    ∙ (λ i. none_below c cs (first_holds (below_all c cs) (is_rising cs) rising) i || sym (contains-cells Q c) i)
-    ∙ false_from_ne_true (contains Q c) (λ in_Q. none c (or_left (same_cell c c) (list_any (same_cell c) cs) (same_cell_itself c)) in_Q) in
-    let more = size-insert (from_list (cs ++ cells Q)) c new in
-    omega arith
-
-pub size-disjoint : (P Q : Generation) → AreDisjoint P Q → size (union P Q) ≡ size P + size Q
-unfolding union
-size-disjoint P Q apart =
-    size-more Q (cells P) (cells-rise P) (λ c in_P in_Q. apart c (contains-cells P c ∙ in_P) in_Q)
-    ∙ ap (λ n. n + size Q) (sym (size-cells P))
 
 apart_from_union : (P : Generation) (Ps : List Generation) → All (AreDisjoint P) Ps → AreDisjoint P (union_of Ps)
 apart_from_union P [] all c in_P in_none = in_empty c in_none

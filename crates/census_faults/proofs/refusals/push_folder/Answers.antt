@@ -1,6 +1,6 @@
 use Rattle.std.proofs.Common.{arith}
 use Rattle.census_faults.specs.BundleRefusals.{entry_lines}
-use Rattle.census_faults.proofs.Refused.{next_lines}
+use Rattle.census_bundle.proofs.Joined.{next_lines}
 use Rattle.census_faults.proofs.refusals.push_folder.Goals as goal
 
 pub loop-entry-preserved : goal.loop-entry-preserved

@@ -1,6 +1,6 @@
 use Rattle.std.proofs.Common.{arith}
 use Rattle.census_faults.specs.BundleRefusals.{folder_lines}
-use Rattle.census_faults.proofs.Refused.{next_lines}
+use Rattle.census_bundle.proofs.Joined.{next_lines}
 use Rattle.census_faults.proofs.refusals.refusal_lines.Goals as goal
 
 pub loop-folder-preserved : goal.loop-folder-preserved

@@ -1,6 +1,6 @@
 use Rattle.std.proofs.Common.{arith}
 use Rattle.census_hints.specs.Hints.{entry_lines}
-use Rattle.census_hints.proofs.Rows.{next_lines}
+use Rattle.census_bundle.proofs.Joined.{next_lines}
 use Rattle.census_hints.proofs.stray.push_folder.Goals as goal
 
 pub loop-entry-preserved : goal.loop-entry-preserved

@@ -1,6 +1,6 @@
 use Rattle.std.proofs.Common.{arith}
 use Rattle.census_hints.specs.Hints.{folder_lines}
-use Rattle.census_hints.proofs.Rows.{next_lines}
+use Rattle.census_bundle.proofs.Joined.{next_lines}
 use Rattle.census_hints.proofs.stray.stray_lines.Goals as goal
 
 pub loop-folder-preserved : goal.loop-folder-preserved

@@ -4,7 +4,7 @@ use Rattle.life_model.specs.Generation.{cells, contains}
 use Rattle.life_model.proofs.Generations.{contains-cells}
 use Rattle.life_model.proofs.Recurrences.{generation-zero, generation-next}
 use Rattle.life_cells.specs.Limits.{IsWithin}
-use Rattle.life_orbit.proofs.Lists.{of_member, of_all_members}
+use Rattle.life_model.proofs.Members.{of_member, of_all_members}
 use Rattle.life_apart.proofs.Loners.{end_then}
 use Rattle.life_apart.proofs.alone.end_alone.Goals as goal
 
