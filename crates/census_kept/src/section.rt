@@ -10,7 +10,7 @@ use std::marker::Model;
 #[derive(Drop)]
 pub struct Section<'b, 'a> {
     rows: &'b Rows<'a>,
-    numbers: &'b [usize],
+    numbers: &'b [u32],
 }
 
 impl<'b, 'a> Model for Section<'b, 'a> {
@@ -28,7 +28,7 @@ impl<'b, 'a> Model for Section<'b, 'a> {
 
 impl<'b, 'a> Section<'b, 'a> {
     /// The rows with these numbers, which count from 0.
-    pub fn new(rows: &'b Rows<'a>, numbers: &'b [usize]) -> Self
+    pub fn new(rows: &'b Rows<'a>, numbers: &'b [u32]) -> Self
         requires { AreWithin rows.now numbers.now }
         ensures { result ≡ rows_numbered rows.now numbers.now }
     {
@@ -49,7 +49,7 @@ impl<'b, 'a> Section<'b, 'a> {
     {
         let numbers = self.numbers;
         let rows = self.rows;
-        rows.row(numbers[index])
+        rows.row(numbers[index] as usize)
     }
 
     /// The first, and those behind it.
