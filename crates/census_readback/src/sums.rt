@@ -39,7 +39,7 @@ impl<'a> PartialEq for Object<'a> {
     ghost laws = { same_object_partial };
 
     fn eq(&self, other: &Object<'a>) -> bool {
-        self.rule == other.rule && self.code == other.code
+        self.code == other.code && self.rule == other.rule
     }
 }
 
