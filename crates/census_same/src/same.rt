@@ -53,7 +53,7 @@ fn put_groups<W: Write>(
 /// `collection_name` and `name`, and with `collection_name_hex` and `name_hex` as tables have them.
 ///
 /// Returns whether there is any such code. The rows are held to the end. Of each pattern that is an object its place among
-/// them is held, in 24 bytes; its row is unpacked again when it is compared or told. The only error is out of memory: a
+/// them is held, in 12 bytes; its row is unpacked again when it is compared or told. The only error is out of memory: a
 /// prefix was told then. To a writer that has failed nothing is written.
 pub fn put_same<W: Write>(
     alloc: Global,

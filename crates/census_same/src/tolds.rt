@@ -16,7 +16,7 @@ use std::alloc::{AllocError, Global};
 use std::cmp::Ordering;
 use std::marker::Model;
 
-/// The patterns of collections that are objects, in an order of their own. Of each its place is held, in 24 bytes.
+/// The patterns of collections that are objects, in an order of their own. Of each its place is held, in 12 bytes.
 #[derive(Drop)]
 pub struct Tolds<'b, 'a> {
     sections: Sections<'b, 'a>,
@@ -79,12 +79,13 @@ fn told_under<'a>(nothing: &Told<'a>, collection: &'a [u8], row: &Row<'a>) -> To
 fn told_at<'a>(nothing: &Told<'a>, sections: &Sections<'_, 'a>, place: Place) -> Told<'a>
     ensures { result ≡ told_at nothing.now sections.now place }
 {
-    let heading = row_at(sections, place.collection, place.under);
-    let collection = opened_by(nothing.collection, &heading);
+    let collection = place.collection as usize;
+    let heading = row_at(sections, collection, place.under as usize);
+    let name = opened_by(nothing.collection, &heading);
     told_under(
         nothing,
-        collection,
-        &row_at(sections, place.collection, place.row),
+        name,
+        &row_at(sections, collection, place.row as usize),
     )
 }
 
@@ -92,7 +93,7 @@ fn told_at<'a>(nothing: &Told<'a>, sections: &Sections<'_, 'a>, place: Place) ->
 fn keyed_at<'a>(nothing: &Told<'a>, sections: &Sections<'_, 'a>, place: Place) -> Told<'a>
     ensures { key_of result ≡ key_of (told_at nothing.now sections.now place) }
 {
-    let row = row_at(sections, place.collection, place.row);
+    let row = row_at(sections, place.collection as usize, place.row as usize);
     told_under(nothing, nothing.collection, &row)
 }
 
@@ -226,11 +227,7 @@ fn add_section(
         opened = collection_after(&opened, &row);
         under = under_after(&row, index, under);
         if told_by(&opened, &row).is_some() {
-            places.push(Place {
-                collection,
-                under,
-                row: index,
-            })?;
+            places.push(Place::of(collection, under, index)?)?;
         }
     }
     Ok(())

@@ -150,7 +150,8 @@ fn grouped(alloc: Global, nothing: &Object, objects: &Objects) -> Result<Vec<Kin
     ensures { IfOk result (λ kinds.
         reverse (map (kind_at nothing.now objects.now) kinds.items) ≡ grouped objects.now) }
 {
-    let mut kinds = Vec::new(alloc);
+    // There is room for a kind of each object, so that none is moved: memory that is not touched costs nothing.
+    let mut kinds = Vec::with_capacity(alloc, objects.len())?;
     let mut left = objects.len();
     while left > 0 {
         left -= 1;

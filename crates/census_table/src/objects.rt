@@ -6,7 +6,7 @@ ghost use Rattle.std.specs.Ordering.{nat_cmp, ordering_then};
 ghost use Rattle.census_table.specs.Grouping.{AreInKinds};
 ghost use Rattle.census_table.specs.Kinds.{capped, kind_cmp, same_kind};
 ghost use Rattle.census_table.specs.Objects.{all_objects, entry_or, object_before, section_objects};
-ghost use Rattle.census_table.specs.Places.{entry_at, key_at, object_at, place_cmp, row_in, told_at, AreBefore, AreRising};
+ghost use Rattle.census_table.specs.Places.{entry_at, key_at, object_at, place_cmp, row_in, told_at, told_in, AreBefore, AreRising};
 ghost use Rattle.census_table.specs.declared.object.Object.{Object};
 
 use crate::entry::{Entry, entry_of_row};
@@ -19,7 +19,7 @@ use std::alloc::{AllocError, Global};
 use std::cmp::Ordering;
 use std::marker::Model;
 
-/// The objects that reports tell of, in an order of their own. Of each its place is held, in 24 bytes.
+/// The objects that reports tell of, in an order of their own. Of each its place is held, in 12 bytes.
 #[derive(Drop)]
 pub struct Objects<'b, 'a> {
     sections: Sections<'b, 'a>,
@@ -74,31 +74,50 @@ fn entry_at<'a>(number: u64, rows: &Section<'_, 'a>, index: usize) -> Option<Ent
     entry_of_row(number, &row_in(rows, 0), &row_in(rows, index))
 }
 
-// The object that is told at a place of collections that are numbered from 1.
+// The object that the row at an index of a collection tells of, under another row of it. Collections are numbered from 1.
+fn told_in<'a>(
+    sections: &Sections<'_, 'a>,
+    collection: usize,
+    under: usize,
+    row: usize,
+) -> Option<Object<'a>>
+    ensures { result ≡ told_in (collection + 1) (slice_index_or sections.now collection []) under row }
+{
+    if collection >= sections.len() {
+        return None;
+    }
+    let rows = sections.section(collection);
+    let number = (collection + 1) as u64;
+    let entry = entry_at(number, &rows, under);
+    object_of_row(&entry, &row_in(&rows, row))
+}
+
+// The object that is told at a place.
 fn told_at<'a>(sections: &Sections<'_, 'a>, place: Place) -> Option<Object<'a>>
     ensures { result ≡ told_at sections.now place }
 {
-    if place.collection >= sections.len() {
-        return None;
-    }
-    let rows = sections.section(place.collection);
-    let number = (place.collection + 1) as u64;
-    let entry = entry_at(number, &rows, place.under);
-    object_of_row(&entry, &row_in(&rows, place.row))
+    told_in(
+        sections,
+        place.collection as usize,
+        place.under as usize,
+        place.row as usize,
+    )
 }
 
 // The code that is told at a place, or that of this object where none is.
 fn code_at<'a>(nothing: &Object<'a>, sections: &Sections<'_, 'a>, place: &Place) -> &'a [u8]
     ensures { result ≡ (key_at nothing.now sections.now place.now).code }
 {
-    code_in(&row_at(sections, place.collection, place.row)).unwrap_or(nothing.code)
+    let row = row_at(sections, place.collection as usize, place.row as usize);
+    code_in(&row).unwrap_or(nothing.code)
 }
 
 // The rule of the line under which something is told at a place, or that of this object where there is none.
 fn rule_at<'a>(nothing: &Object<'a>, sections: &Sections<'_, 'a>, place: &Place) -> &'a [u8]
     ensures { result ≡ (key_at nothing.now sections.now place.now).rule }
 {
-    rule_in(&row_at(sections, place.collection, place.under)).unwrap_or(nothing.rule)
+    let line = row_at(sections, place.collection as usize, place.under as usize);
+    rule_in(&line).unwrap_or(nothing.rule)
 }
 
 // The code that is told at a place, under its rule.
@@ -240,12 +259,13 @@ fn line_at(number: u64, rows: &Section, row: usize, line: usize) -> usize
     }
 }
 
-// How many objects are told at a place.
-fn count_at(sections: &Sections, place: Place) -> usize
-    ensures count { result ≡ length (object_before (told_at sections.now place) []) }
+// How many objects the row at an index of a collection tells of, under another row of it.
+fn count_at(sections: &Sections, collection: usize, under: usize, row: usize) -> usize
+    ensures count { result ≡ length (object_before
+        (told_in (collection + 1) (slice_index_or sections.now collection []) under row) []) }
     ensures few { result ≤ 1 }
 {
-    match told_at(sections, place) {
+    match told_in(sections, collection, under, row) {
         Some(_) => 1,
         None => 0,
     }
@@ -264,12 +284,7 @@ fn count_section(sections: &Sections, collection: usize) -> usize
     let mut line = 0;
     for row in 1..rows.len() {
         line = line_at(number, &rows, row, line);
-        let place = Place {
-            collection,
-            under: line,
-            row,
-        };
-        let more = count_at(sections, place);
+        let more = count_at(sections, collection, line, row);
         count += more;
     }
     count
@@ -325,11 +340,7 @@ fn add_section(
     let mut line = 0;
     for row in 1..rows.len() {
         line = line_at(number, &rows, row, line);
-        let place = Place {
-            collection,
-            under: line,
-            row,
-        };
+        let place = Place::of(collection, line, row)?;
         push_place(nothing, sections, place, places)?;
     }
     Ok(())

@@ -1,5 +1,5 @@
 //! Places in reports.
-ghost use Rattle.std.specs.Prelude.{◌≡◌, ◌<◌, ◌≤◌, Bool, drop, false, filter, length, slice_index_or, take, true};
+ghost use Rattle.std.specs.Prelude.{◌≡◌, ◌<◌, ◌≤◌, Bool, drop, false, filter, length, slice_index_or, take, true, IfOk};
 ghost use Rattle.std.specs.List.{prefix_len};
 ghost use Rattle.std.specs.List.Sorted.{IsPermutation};
 ghost use Rattle.std.specs.Ordering.{is_eq, is_gt, ordering_then};
@@ -7,17 +7,33 @@ ghost use Rattle.std.specs.declared.cmp.Ordering.TheVariants.{Equal};
 ghost use Rattle.census_table.specs.Places.{place_cmp, AreRising, Rises};
 ghost use Rattle.census_table.specs.declared.place.Place.{Place as ModelPlace};
 
+use std::alloc::AllocError;
 use std::cmp::Ordering;
 
-/// Where something is told. Each index counts from 0.
+/// Where something is told, in 12 bytes. Each index counts from 0.
 #[derive(Clone, Copy)]
 pub struct Place {
     /// The index of the collection.
-    pub collection: usize,
+    pub collection: u32,
     /// In the collection, that of the row under which this is told: the line of its pattern, or the row that opens it.
-    pub under: usize,
+    pub under: u32,
     /// That of the row that tells it, which may be the same.
-    pub row: usize,
+    pub row: u32,
+}
+
+impl Place {
+    /// The place that has these indices. The only error is out of memory, where an index is 2^32 or more: that many rows do
+    /// not fit into the memory of a report.
+    pub fn of(collection: usize, under: usize, row: usize) -> Result<Place, AllocError>
+        ensures { IfOk result (λ place.
+            place ≡ record { collection = collection; under = under; row = row }) }
+    {
+        Ok(Place {
+            collection: u32::try_from(collection).map_err(|_| AllocError)?,
+            under: u32::try_from(under).map_err(|_| AllocError)?,
+            row: u32::try_from(row).map_err(|_| AllocError)?,
+        })
+    }
 }
 
 /// Which of two places comes first: by their collections, and then by their rows.

@@ -1,4 +1,4 @@
-use Rattle.std.proofs.Common.{◌≡◌, ◌∙◌, ◌+◌, ◌++◌, [], None, Global, Vec, ap, arith, map, subst, sym}
+use Rattle.std.proofs.Common.{◌≡◌, ◌∙◌, ◌+◌, ◌∷◌, ◌++◌, [], None, Global, Vec, ap, arith, map, subst, sym}
 use Rattle.census_table.specs.Places.{AreBefore}
 use Rattle.census_table.specs.declared.place.Place.{Place}
 use Rattle.census_table.proofs.Rising.{before-later, before-more, before-next}
@@ -6,7 +6,7 @@ use Rattle.census_same.specs.Patterns.{collection_after, told_before, told_from}
 use Rattle.census_same.specs.Places.{told_at}
 use Rattle.census_same.proofs.Placed.{place-more, place-none, row-more, row-there, told-there}
 use Rattle.census_same.proofs.tolds.add_section.Goals as goal
-use Rattle.census_same.proofs.tolds.add_section.Goals.{then-is_some+in_ok-push, else-is_some}
+use Rattle.census_same.proofs.tolds.add_section.Goals.{then-is_some+in_ok-of+in_ok-push, else-is_some}
 
 pub loop-index-preserved : goal.loop-index-preserved
 loop-index-preserved c =
@@ -24,8 +24,9 @@ loop-index-preserved c =
     let opened = c.collection_after-opened.ensures ∙ ap (λ o. collection_after o row) l.invariant.opened ∙ sym (c.under_after-under.ensures rows here) in
     let step : map told c.if-is_some.places.items ≡ map told l.places.items ++ told_before own [] =
     elim c.if-is_some.branch [
-      | then-is_some+in_ok-push w ↦
+      | then-is_some+in_ok-of+in_ok-push w ↦
           ap (λ (v : Vec Place Global). map told v.items) w.places-is ∙ ap (map told) w.in_ok-push.ensures.items
+          ∙ ap (λ (p : Place). map told (l.places.items ++ p ∷ [])) w.in_ok-of.ensures
           ∙ place-more told own l.places.items place (sym w.if-is_some.ensures)
           (λ one some. told-there nothing sections place _ rows next row c.requires c.section-rows.ensures opened here one (sym c.told_by.ensures ∙ some))
       | else-is_some w ↦
@@ -38,8 +39,12 @@ loop-index-preserved c =
       opened = opened;
       placed = λ before.
           elim c.if-is_some.branch [
-            | then-is_some+in_ok-push w ↦
-                subst (AreBefore place.collection (place.row + 1)) (sym (ap (λ (v : Vec Place Global). v.items) w.places-is ∙ w.in_ok-push.ensures.items))
+            | then-is_some+in_ok-of+in_ok-push w ↦
+                subst (AreBefore place.collection (place.row + 1))
+                (sym (
+                ap (λ (v : Vec Place Global). v.items) w.places-is ∙ w.in_ok-push.ensures.items
+                ∙ ap (λ (p : Place). l.places.items ++ p ∷ []) w.in_ok-of.ensures
+                ))
                 (before-more place l.places.items (l.invariant.placed before))
             | else-is_some w ↦
                 subst (AreBefore c.args.collection (l.index + 1)) (sym (ap (λ (v : Vec Place Global). v.items) w.places-is))

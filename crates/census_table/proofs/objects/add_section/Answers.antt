@@ -1,6 +1,7 @@
-use Rattle.std.proofs.Common.{◌+◌, ◌++◌, ap, arith, map}
-use Rattle.census_table.specs.Objects.{section_objects}
-use Rattle.census_table.specs.Places.{object_at}
+use Rattle.std.proofs.Common.{◌∙◌, ◌+◌, ◌++◌, [], ap, arith, map, subst}
+use Rattle.census_table.specs.Objects.{object_before, section_objects}
+use Rattle.census_table.specs.Places.{object_at, told_at, AreBefore}
+use Rattle.census_table.specs.declared.place.Place.{Place}
 use Rattle.census_table.proofs.Placed.{row-more, section-start, section-told, told-here}
 use Rattle.census_table.proofs.Rising.{before-later, before-next}
 use Rattle.census_table.proofs.objects.add_section.Goals as goal
@@ -20,8 +21,11 @@ loop-row-preserved c =
       row-more (c.args.collection + 1) rows l.line l.row c.line_at-line.result _ (map told c.args.places.now.items ++ section_objects (c.args.collection + 1) rows)
           (map told l.places.items) (map told c.push_place.new.places.items) (omega arith) c.line_at-line.ensures
           (told-here c.args.sections.now c.args.collection c.line_at-line.result l.row _ rows c.requires.within c.section-rows.ensures)
-          l.invariant.0 c.in_ok-push_place.ensures.told,
-      λ before. c.in_ok-push_place.ensures.placed (l.invariant.1 before),
+          l.invariant.0
+          (c.in_ok-push_place.ensures.told ∙ ap (λ (p : Place). map told l.places.items ++ object_before (told_at c.args.sections.now p) []) c.in_ok-place.ensures),
+      λ before.
+          subst (λ (p : Place). AreBefore p.collection p.row l.places.items → AreBefore p.collection (p.row + 1) c.push_place.new.places.items) c.in_ok-place.ensures
+          c.in_ok-push_place.ensures.placed (l.invariant.1 before),
     )
 
 pub returns-clause-told : goal.returns-clause-told
