@@ -11,13 +11,27 @@ use census_rows::Row;
 use std::alloc::{AllocError, Global};
 use std::cmp::Ordering;
 
-/// Where the rows of a pattern and of its code stand among those of a collection, counted from 0.
+/// Where the rows of a pattern and of its code stand among those of a collection, counted from 0, in 8
+/// bytes.
 #[derive(Clone, Copy)]
 pub struct Place {
     /// The row of the last pattern that has parts; past the last row where none has parts yet.
-    pub line: usize,
+    pub line: u32,
     /// The row that has the code.
-    pub row: usize,
+    pub row: u32,
+}
+
+impl Place {
+    /// The place that has these indices. The only error is out of memory, where an index is 2^32 or
+    /// more: that many rows do not fit into the memory of a report.
+    pub fn of(line: usize, row: usize) -> Result<Place, AllocError>
+        ensures { IfOk result (λ place. place ≡ record { line = line; row = row }) }
+    {
+        Ok(Place {
+            line: u32::try_from(line).map_err(|_| AllocError)?,
+            row: u32::try_from(row).map_err(|_| AllocError)?,
+        })
+    }
 }
 
 /// The row with this number, or the end of a report where there is none.
@@ -53,11 +67,18 @@ fn line_after(rows: &Section, line: usize, number: usize) -> usize
     }
 }
 
+// The pattern whose code the row at an index has, where the last pattern that has parts is at another.
+fn holder_in<'a>(rows: &Section<'_, 'a>, line: usize, row: usize) -> Option<Holder<'a>>
+    ensures { result ≡ holder_at rows.now (record { line = line; row = row }) }
+{
+    holder_of(&naming_at(rows, line), &row_or_end(rows, row))
+}
+
 /// The pattern at a place, where there is one.
 pub fn holder_at<'a>(rows: &Section<'_, 'a>, place: &Place) -> Option<Holder<'a>>
     ensures { result ≡ holder_at rows.now place.now }
 {
-    holder_of(&naming_at(rows, place.line), &row_or_end(rows, place.row))
+    holder_in(rows, place.line as usize, place.row as usize)
 }
 
 // How many patterns of a collection's rows have codes.
@@ -68,7 +89,7 @@ fn count_held(rows: &Section) -> usize
     let mut line = rows.len();
     for index in 0..rows.len() {
         line = line_after(rows, line, index);
-        if holder_at(rows, &Place { line, row: index }).is_some() {
+        if holder_in(rows, line, index).is_some() {
             count += 1;
         }
     }
@@ -87,9 +108,8 @@ pub fn places(alloc: Global, rows: &Section) -> Result<Vec<Place>, AllocError>
     let mut line = rows.len();
     for index in 0..rows.len() {
         line = line_after(rows, line, index);
-        let place = Place { line, row: index };
-        if holder_at(rows, &place).is_some() {
-            places.push(place)?;
+        if holder_in(rows, line, index).is_some() {
+            places.push(Place::of(line, index)?)?;
         }
     }
     Ok(places)

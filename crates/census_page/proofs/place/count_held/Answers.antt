@@ -19,7 +19,7 @@ loop-index-preserved c =
     let line = c.line_after-line.result in
     let less : l.index < length rows = omega (arith, c.loop-index-test.true, c.len-index-end.ensures) in
     let place : Place = record { line = line; row = l.index } in
-    let told : is_some (holder_at rows place) ≡ c.is_some.result = ap is_some (sym c.holder_at.ensures) ∙ sym c.is_some.ensures in
+    let told : is_some (holder_at rows place) ≡ c.is_some.result = ap is_some (sym c.holder_in.ensures) ∙ sym c.is_some.ensures in
     elim c.if-is_some.branch [
       | then-is_some w ↦
           let one = one-counted rows l.line line l.index less c.line_after-line.ensures (told ∙ w.if-is_some.true) in
