@@ -15,7 +15,7 @@ use std::alloc::{AllocError, Global};
 use std::marker::Model;
 
 // Rows, of which each is held as its kind, its numbers in as few bytes as they need, and the loans
-// of its texts. A row takes 8 bytes, 16 for each text, one for its kind, and as many for each number
+// of its texts. A row takes 2 bytes, 16 for each text, one for its kind, and as many for each number
 // as it has digits at most; and 1 to 5 for the place of its texts.
 #[derive(Drop)]
 pub struct Page<'a> {
