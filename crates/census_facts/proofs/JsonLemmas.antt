@@ -1,1 +1,3 @@
 pub mod Floatless
+pub mod Escapes
+pub mod Pieces

@@ -18,7 +18,7 @@ fn with_line_ends_escaped(alloc: Global, json: &[u8]) -> Result<Vec<u8>, AllocEr
 }
 
 // The JSON of a value, on one line.
-fn json_of(alloc: Global, value: &Value) -> Result<Vec<u8>, AllocError>
+pub(crate) fn json_of(alloc: Global, value: &Value) -> Result<Vec<u8>, AllocError>
     requires { has_float (view value.now) ≡ false }
     ensures { IfOk result
         (λ json. json.items ≡ with_line_ends_escaped (compact_text (view value.now))) }
