@@ -28,7 +28,7 @@ content-floatless (hex bytes) = option-floatless (hex_of bytes)
 content-floatless (engines list) = items-floatless kind_data kind-floatless list
 content-floatless (parts list) = items-floatless portion_data portion-floatless list
 
-with-floatless : (row : List Member) (ms : Members) → members_have_float ms ≡ false → members_have_float (with_row row ms) ≡ false
+pub with-floatless : (row : List Member) (ms : Members) → members_have_float ms ≡ false → members_have_float (with_row row ms) ≡ false
 with-floatless [] ms h = h
 with-floatless (m ∷ row) ms h =
     with-floatless row (put m.name (content_data m.content) ms) (put-floatless m.name (content_data m.content) ms (content-floatless m.content) h)

@@ -98,34 +98,24 @@ pub records-told : (names : Names) → (safe : Bool) (count number : ℕ) (headi
 records-told names safe count number heading rows listed text same told =
     told ∙ ap (csv_records safe) (same ∙ sym (first-records names safe count number heading rows))
 
--- the patterns of one row more
-first-more : (count number : ℕ) (heading row : Row) (rows rest : List Row) → drop count rows ≡ row ∷ rest
-    → first_patterns (suc count) number heading rows ≡ first_patterns count number heading rows ++ told_before (pattern_of_row number heading row rest) []
-first-more zero number heading row rows rest e =
-    subst (λ w. first_patterns 1 number heading w ≡ told_before (pattern_of_row number heading row rest) []) (sym e) refl
-first-more (suc count) number heading row [] rest e = absurd (cc)
-first-more (suc count) number heading row (r ∷ rows) rest e =
-    let told = pattern_of_row number heading r rows in
-    ap (λ (ps : List Pattern). told_before told ps) (first-more count number heading row rows rest e)
-    ∙ told-append told (first_patterns count number heading rows) (told_before (pattern_of_row number heading row rest) [])
-
--- a text with the line of one pattern more, as JSON
-pub lines-more : (names : Names) → (i number : ℕ) (heading : Row) (rows : List Row) (d : Row) (rest : List Row) (old new : List ℕ)
-    → i < length rows → rest ≡ drop (i + 1) rows
-    → old ≡ json_rows (map (pattern_row names Json) (first_patterns i number heading rows))
-    → new ≡ old ++ json_rows (map (pattern_row names Json) (told_before (pattern_of_row number heading (get_or rows i d) rest) []))
-    → new ≡ json_rows (map (pattern_row names Json) (first_patterns (i + 1) number heading rows))
-lines-more names i number heading rows d rest old new less is so_far more =
-    let row = get_or rows i d in
-    let one = told_before (pattern_of_row number heading row rest) [] in
-    let some = first_patterns i number heading rows in
+-- the line of the pattern of one row, and those of the rows behind it
+pub lines-cut : (names : Names) (count number : ℕ) (heading : Row) (rows : List Row) (i : ℕ) (d row : Row) (rest : List Row) → i < count → i < length rows
+    → row ≡ get_or rows i d → rest ≡ drop (i + 1) rows
+    → json_rows (map (pattern_row names Json) (first_patterns (count - i) number heading (drop i rows)))
+    ≡ json_rows (map (pattern_row names Json) (told_before (pattern_of_row number heading row rest) []))
+    ++ json_rows (map (pattern_row names Json) (first_patterns (count - (i + 1)) number heading (drop (i + 1) rows)))
+lines-cut names count number heading rows i d row rest more less is are =
+    let others = first_patterns (count - (i + 1)) number heading (drop (i + 1) rows) in
     let next : suc i ≡ i + 1 = omega arith in
-    let here : drop i rows ≡ get_or rows i d ∷ rest =
-    drop-cons rows i d less ∙ ap (λ k. get_or rows i d ∷ drop k rows) next ∙ ap (λ w. get_or rows i d ∷ w) (sym is) in
-    more ∙ ap (λ t. t ++ json_rows (map (pattern_row names Json) one)) so_far
-    ∙ sym (ap (λ list. json_rows (map (pattern_row names Json) list))
-    (ap (λ k. first_patterns k number heading rows) (sym next) ∙ first-more i number heading row rows rest here)
-    ∙ mapped-append Json (pattern_row names Json) some one)
+    let left : count - i ≡ suc (count - (i + 1)) = omega arith in
+    let here : drop i rows ≡ row ∷ drop (i + 1) rows =
+    drop-cons rows i d less ∙ ap (λ k. get_or rows i d ∷ drop k rows) next ∙ ap (λ r. r ∷ drop (i + 1) rows) (sym is) in
+    let text : List Pattern → List ℕ = λ list. json_rows (map (pattern_row names Json) list) in
+    ap (λ k. text (first_patterns k number heading (drop i rows))) left
+    ∙ ap (λ w. text (first_patterns (suc (count - (i + 1))) number heading w)) here
+    ∙ ap text (told-append (pattern_of_row number heading row (drop (i + 1) rows)) [] others)
+    ∙ mapped-append Json (pattern_row names Json) (told_before (pattern_of_row number heading row (drop (i + 1) rows)) []) others
+    ∙ ap (λ w. text (told_before (pattern_of_row number heading row w) []) ++ text others) (sym are)
 
 -- some objects, and those behind them
 pub objects-cut : (names : Names) → (format : Format) (columns : List ObjectColumn) (objects some others chosen : List Object) → objects ≡ some ++ others → chosen ≡ some

@@ -8,6 +8,7 @@ pub mod KindLaws
 pub mod Lists
 pub mod ObjectColumns
 pub mod Objects
+pub mod Pieces
 pub mod Places
 pub mod Patterns
 pub mod Tables

@@ -125,27 +125,35 @@ impl Column {
         Column::FaultText,
     ];
 
-    /// All but the engines, of which JSON has a list.
-    pub const SINGLE: [Column; 19] = [
+    /// Those whose names come before that of the engines, of which JSON has a list, in the order of their names.
+    pub const FIRST: [Column; 7] = [
+        Column::Code,
         Column::Collection,
         Column::CollectionName,
-        Column::Pattern,
-        Column::Name,
-        Column::Status,
-        Column::Rule,
-        Column::Population,
-        Column::Onset,
-        Column::Period,
+        Column::CollectionNameHex,
+        Column::CommonName,
         Column::Dx,
         Column::Dy,
-        Column::Code,
-        Column::CommonName,
+    ];
+
+    /// Those between the engines and the parts, of which JSON has a list too.
+    pub const MIDDLE: [Column; 7] = [
         Column::Fault,
-        Column::CollectionNameHex,
+        Column::FaultText,
+        Column::Generation,
+        Column::Name,
         Column::NameHex,
         Column::Objects,
-        Column::Generation,
-        Column::FaultText,
+        Column::Onset,
+    ];
+
+    /// Those behind the parts.
+    pub const LAST: [Column; 5] = [
+        Column::Pattern,
+        Column::Period,
+        Column::Population,
+        Column::Rule,
+        Column::Status,
     ];
 
     /// What the column is called: lowercase letters and `_`.

@@ -21,7 +21,7 @@ use crate::json_lines::lines;
 use crate::object::Object;
 use crate::object_column::{ObjectColumn, object_row};
 use crate::part::parts_under;
-use crate::pattern::first_lines;
+use crate::pattern::put_first_lines;
 use crate::subject::{Subject, Table, table_of};
 use census_kept::{Rows, Section};
 use census_names::Names;
@@ -100,26 +100,6 @@ fn first_records<'a>(
     records(alloc, safe, rows.as_slice())
 }
 
-// The rows of the patterns of the first so many rows, in the collection that a row opens and that has this number.
-fn patterns_text<'a>(
-    alloc: Global,
-    format: Format,
-    names: Option<&'a Names>,
-    number: u64,
-    heading: &Row<'a>,
-    rows: &Section<'_, 'a>,
-    count: usize,
-) -> Result<Vec<u8>, AllocError>
-    requires { count ≤ length rows.now }
-    ensures { IfOk result (λ text. text.items ≡ rows_text format
-        (map (pattern_row (option_copied names.entry) format) (first_patterns count number heading.now rows.now))) }
-{
-    match format {
-        Format::Csv { safe } => first_records(alloc, safe, names, number, heading, rows, count),
-        Format::Json => first_lines(alloc, names, number, heading, rows, count),
-    }
-}
-
 // The rows of these objects, in these columns.
 fn object_rows<'a>(
     alloc: Global,
@@ -176,6 +156,30 @@ fn put_rows<W: Write>(
     Ok(())
 }
 
+// Tells a record for each pattern of the first so many rows.
+fn put_first_records<'a, W: Write>(
+    alloc: Global,
+    safe: bool,
+    names: Option<&'a Names>,
+    number: u64,
+    heading: &Row<'a>,
+    rows: &Section<'_, 'a>,
+    count: usize,
+    block: &mut Block,
+    writer: &mut Output<W>,
+) -> Result<(), AllocError>
+    requires { count ≤ length rows.now }
+    ensures { MatchResult result
+        (λ _. TellsAfter (rows_text (Csv safe) (map (pattern_row (option_copied names.entry) (Csv safe)) (first_patterns count number heading.now rows.now)))
+        (sheet block.old writer.old) (sheet block.new writer.new))
+        (λ _. TellsFront (rows_text (Csv safe) (map (pattern_row (option_copied names.entry) (Csv safe)) (first_patterns count number heading.now rows.now)))
+        (sheet block.old writer.old) (sheet block.new writer.new)) }
+{
+    let text = first_records(alloc, safe, names, number, heading, rows, count)?;
+    put(text.as_slice(), block, writer);
+    Ok(())
+}
+
 // Tells the rows of the patterns of the first so many rows. For a writer that has failed no text is made.
 fn put_patterns<'a, W: Write>(
     alloc: Global,
@@ -198,9 +202,12 @@ fn put_patterns<'a, W: Write>(
     if writer.failed() {
         return Ok(());
     }
-    let text = patterns_text(alloc, format, names, number, heading, rows, count)?;
-    put(text.as_slice(), block, writer);
-    Ok(())
+    match format {
+        Format::Csv { safe } => put_first_records(
+            alloc, safe, names, number, heading, rows, count, block, writer,
+        ),
+        Format::Json => put_first_lines(alloc, names, number, heading, rows, count, block, writer),
+    }
 }
 
 // Tells the rows of some of these objects. For a writer that has failed no text is made.

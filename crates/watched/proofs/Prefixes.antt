@@ -62,6 +62,14 @@ front_more first second a b c told front = record {
   tells = tells_more first front.front a b c told front.tells;
 }
 
+-- three texts, one after another
+module _ (whole head inner end : List ℕ) (is : whole ≡ head ++ (inner ++ end)) (a b c : Sheet) (first : TellsAfter head a b) where
+  pub told_around : (d : Sheet) → TellsAfter inner b c → TellsAfter end c d → TellsAfter whole a d
+  told_around d second third = subst (λ t. TellsAfter t a d) (sym is) (tells_more head (inner ++ end) a b d first (tells_more inner end b c d second third))
+
+  pub front_around : TellsFront inner b c → TellsFront whole a c
+  front_around front = front_first whole (head ++ inner) end a c (is ∙ sym (append_assoc head inner end)) (front_more head inner a b c first front)
+
 -- texts of elements, one after another
 module _ {X : Type 0} (one : X → List ℕ) (all : List X → List ℕ) (cons : (x : X) (xs : List X) → all (x ∷ xs) ≡ one x ++ all xs) (xs : List X) (i : ℕ) (a b : Sheet)
     (upto : TellsUpTo (all xs) (all (drop i xs)) a b) where

@@ -14,7 +14,7 @@ use Rattle.census_facts.specs.Json.Pieces.{engines_end, engines_head, items_with
 use Rattle.census_facts.specs.Json.Values.{displacement_data, engines_data}
 use Rattle.census_facts.proofs.JsonLemmas.Escapes.{both-parts, escaped-cut}
 
-escaped-none : with_line_ends_escaped [] ≡ []
+pub escaped-none : with_line_ends_escaped [] ≡ []
 unfolding replaced_at matches_from
 escaped-none = refl
 

@@ -13,10 +13,3 @@ pub returns-then-failed : goal.returns-then-failed
 returns-then-failed g c =
     tells_failed (rows_text c.args.format (map (pattern_row (option_copied c.args.names) c.args.format) (first_patterns c.args.count c.args.number c.args.heading.now c.args.rows.now)))
     (sheet c.args.block.now c.args.writer.now) (sym c.failed.ensures ∙ c.if-failed.true)
-
-pub returns-in_err-text : goal.returns-in_err-text
-returns-in_err-text g c =
-    let p = err_from_is_err_and c.from_residual.result c.from_residual.ensures.1 in
-    rw p.1
-    (front_none (rows_text c.args.format (map (pattern_row (option_copied c.args.names) c.args.format) (first_patterns c.args.count c.args.number c.args.heading.now c.args.rows.now)))
-    (sheet c.args.block.now c.args.writer.now))
