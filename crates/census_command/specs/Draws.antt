@@ -6,8 +6,8 @@ use Rattle.watched.specs.Watching.{AppendsFront}
 use Rattle.life_model.specs.Rule.{Rule}
 use Rattle.life_model.specs.Symmetry.{normal}
 use Rattle.life_cells.specs.Rules.{rule_of}
-use Rattle.life_shape.specs.Reading as wechsler
-use Rattle.life_shape.specs.TextOrder.{body_of}
+use Rattle.life_cells.specs.CodeReading as wechsler
+use Rattle.life_cells.specs.TextOrder.{body_of}
 use Rattle.life_text.specs.RleText.{rle_text}
 use Rattle.census_command.specs.Streams.{IsUntouched, WriteFails}
 use Rattle.census_errors.specs.declared.draw_error.DrawError.{DrawError}

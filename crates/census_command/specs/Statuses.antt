@@ -5,9 +5,9 @@ use Rattle.watched.specs.Streams.{PutsBytes, Streams}
 use Rattle.watched.specs.Watching.{AppendsFront}
 use Rattle.life_cells.specs.Rules.{rule_of}
 use Rattle.life_cells.specs.declared.rule.RuleFault.{RuleFault}
-use Rattle.life_shape.specs.Reading as wechsler
-use Rattle.life_shape.specs.TextOrder.{body_of}
-use Rattle.life_shape.specs.declared.reader.CodeFault.{CodeFault}
+use Rattle.life_cells.specs.CodeReading as wechsler
+use Rattle.life_cells.specs.TextOrder.{body_of}
+use Rattle.life_cells.specs.declared.reader.CodeFault.{CodeFault}
 use Rattle.life_text.specs.declared.rle.RleFault.{RleFault}
 use Rattle.census_bundle.specs.declared.fault.BundleFault.{BundleFault}
 use Rattle.census_bundle.specs.Sizes.{input_limit}

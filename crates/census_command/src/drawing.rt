@@ -4,8 +4,7 @@ ghost use Rattle.census_command.specs.Draws.{DrawFails, Draws, IsDrawn, RefusesC
 ghost use Rattle.census_command.specs.Streams.{HasSoundStreams};
 
 use census_errors::DrawError;
-use life_cells::Rule;
-use life_shape::{body_of, read_wechsler};
+use life_cells::{Rule, body_of, read_wechsler};
 use life_text::write_rle;
 use std::alloc::Global;
 use std::io::{Read, Write};

@@ -4,8 +4,8 @@ use Rattle.std.specs.declared.io.ErrorKind.{ErrorKind}
 use Rattle.std.specs.declared.io.ErrorKind.TheVariants.{OutOfMemory}
 use Rattle.life_text.specs.declared.rle.RleFault.{RleFault}
 use Rattle.life_text.specs.declared.rle.RleFault.TheVariants as rle
-use Rattle.life_shape.specs.declared.reader.CodeFault.{CodeFault}
-use Rattle.life_shape.specs.declared.reader.CodeFault.TheVariants as codes
+use Rattle.life_cells.specs.declared.reader.CodeFault.{CodeFault}
+use Rattle.life_cells.specs.declared.reader.CodeFault.TheVariants as codes
 use Rattle.watched.specs.declared.reading.ReadFault.{ReadFault}
 use Rattle.watched.specs.declared.reading.ReadFault.TheVariants as reads
 use Rattle.census_faults.specs.Faults.{text_fault}

@@ -2,8 +2,8 @@
 use Rattle.std.specs.Prelude.{ℕ, List, [], ◌∷◌, ◌++◌, Some, None, codes, decimal}
 use Rattle.life_text.specs.Faults.{rule_number}
 use Rattle.life_cells.specs.declared.rule.RuleFault.{RuleFault}
-use Rattle.life_shape.specs.declared.reader.CodeFault.{CodeFault}
-use Rattle.life_shape.specs.declared.reader.CodeFault.TheVariants as code
+use Rattle.life_cells.specs.declared.reader.CodeFault.{CodeFault}
+use Rattle.life_cells.specs.declared.reader.CodeFault.TheVariants as code
 use Rattle.census_bundle.specs.declared.fault.BundleFault.{BundleFault}
 use Rattle.census_bundle.specs.declared.fault.BundleFault.TheVariants as bundle
 use Rattle.census_bundle.specs.declared.bundle.AddFault.{AddFault}

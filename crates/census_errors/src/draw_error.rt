@@ -1,7 +1,6 @@
 //! Why `draw` writes no text.
 
-use life_cells::RuleFault;
-use life_shape::CodeFault;
+use life_cells::{CodeFault, RuleFault};
 use std::alloc::AllocError;
 use thiserror::Error;
 use watched::Failed;

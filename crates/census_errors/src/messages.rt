@@ -13,8 +13,7 @@ use census_bundle::{AddFault, BundleFault};
 use census_faults::{Message, fault_name, message, numbered};
 use census_reports::ReportsError;
 use itoa::Buffer;
-use life_cells::RuleFault;
-use life_shape::CodeFault;
+use life_cells::{CodeFault, RuleFault};
 use life_text::rule_number;
 
 /// The most bytes of a line.

@@ -5,8 +5,8 @@ use Rattle.life_cells.specs.declared.rule.RuleFault.TheVariants as rules
 use Rattle.life_text.specs.declared.rle.RleFault.{RleFault}
 use Rattle.life_text.specs.declared.rle.RleFault.TheVariants as rle
 use Rattle.life_text.specs.Faults.{without_place}
-use Rattle.life_shape.specs.declared.reader.CodeFault.{CodeFault}
-use Rattle.life_shape.specs.declared.reader.CodeFault.TheVariants as code
+use Rattle.life_cells.specs.declared.reader.CodeFault.{CodeFault}
+use Rattle.life_cells.specs.declared.reader.CodeFault.TheVariants as code
 use Rattle.census_bundle.specs.declared.fault.BundleFault.{BundleFault}
 use Rattle.census_bundle.specs.declared.fault.BundleFault.TheVariants as bundle
 use Rattle.census_bundle.specs.declared.bundle.AddFault.{AddFault}

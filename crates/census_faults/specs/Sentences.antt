@@ -1,8 +1,8 @@
 -- The sentence for each fault: what is wrong, and what would be right.
 use Rattle.std.specs.Prelude.{◌≡◌, ℕ, List, codes}
 use Rattle.life_text.specs.declared.rle.RleFault.TheVariants as rle
-use Rattle.life_shape.specs.declared.reader.CodeFault.{CodeFault}
-use Rattle.life_shape.specs.declared.reader.CodeFault.TheVariants as code
+use Rattle.life_cells.specs.declared.reader.CodeFault.{CodeFault}
+use Rattle.life_cells.specs.declared.reader.CodeFault.TheVariants as code
 use Rattle.census_bundle.specs.declared.fault.BundleFault.{BundleFault}
 use Rattle.census_bundle.specs.declared.fault.BundleFault.TheVariants as bundle
 use Rattle.census_bundle.specs.declared.bundle.AddFault.{AddFault}

@@ -2,9 +2,9 @@
 use Rattle.std.specs.Prelude.{ℕ, ◌+◌, ◌-◌, List, length, min}
 use Rattle.life_text.specs.declared.rle.RleFault.{RleFault}
 use Rattle.life_text.specs.declared.rle.RleFault.TheVariants as rle
-use Rattle.life_shape.specs.TextOrder.{body_of}
-use Rattle.life_shape.specs.declared.reader.CodeFault.{CodeFault}
-use Rattle.life_shape.specs.declared.reader.CodeFault.TheVariants as code
+use Rattle.life_cells.specs.TextOrder.{body_of}
+use Rattle.life_cells.specs.declared.reader.CodeFault.{CodeFault}
+use Rattle.life_cells.specs.declared.reader.CodeFault.TheVariants as code
 use Rattle.census_faults.specs.Rle.Places.{line_and_column, place_of_fault}
 use Rattle.census_bundle.specs.declared.fault.BundleFault.{BundleFault}
 use Rattle.census_bundle.specs.declared.fault.BundleFault.TheVariants as bundle

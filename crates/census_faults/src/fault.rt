@@ -6,8 +6,7 @@ ghost use Rattle.census_faults.specs.Sentences.{sentence_of};
 
 use crate::rle::{FileKind, RuleKind, file_kind, rule_in_header, rule_kind};
 use census_bundle::{AddFault, BundleFault};
-use life_cells::RuleFault;
-use life_shape::CodeFault;
+use life_cells::{CodeFault, RuleFault};
 use life_text::RleFault;
 
 /// What can be wrong, wherever it is told.

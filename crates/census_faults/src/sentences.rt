@@ -5,7 +5,7 @@ ghost use Rattle.census_faults.specs.Sentences.{FaultsDiffer, bundle_sentence, c
 use crate::fault::Fault;
 use crate::rle::{file_sentence, rule_sentence, sentence as text_sentence};
 use census_bundle::{AddFault, BundleFault};
-use life_shape::CodeFault;
+use life_cells::CodeFault;
 use life_text::RleFault;
 
 // Of a bundle text.

@@ -1,11 +1,11 @@
 //! Where a fault stands.
 ghost use Rattle.std.specs.Prelude.{◌≡◌, ◌+◌, length};
-ghost use Rattle.life_shape.specs.TextOrder.{body_of};
+ghost use Rattle.life_cells.specs.TextOrder.{body_of};
 ghost use Rattle.census_faults.specs.Spots.{body_spot, body_start, spot_of_bundle, spot_of_code, spot_of_text};
 
 use crate::rle::{Place, line_and_column, place_of};
 use census_bundle::BundleFault;
-use life_shape::{CodeFault, body_of};
+use life_cells::{CodeFault, body_of};
 use life_text::RleFault;
 
 /// What is known of where a fault stands in what was read.

@@ -13,7 +13,7 @@ use Rattle.census_readback.specs.Steps.{collection_of}
 use Rattle.census_readback.specs.Told.{Told, emits_told, engine_told, has_code, has_rows, is_less, is_told, line_told, part_told, to_tell, told_after, told_so_far, with_engine}
 use Rattle.census_readback.proofs.Shaped.{and-both, both-and}
 use Rattle.census_merge.specs.Kept.{closed_to, is_close, is_closed, is_end, numbered}
-use Rattle.life_shape.specs.TextOrder.{shorter_cmp}
+use Rattle.life_cells.specs.TextOrder.{shorter_cmp}
 
 -- # Tests
 

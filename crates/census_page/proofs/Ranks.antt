@@ -14,7 +14,7 @@ use Rattle.census_page.specs.Sorting.{code_in, count_in, first_name, name_in, ro
 use Rattle.census_page.specs.declared.holder.Holder.{Holder}
 use Rattle.census_page.specs.declared.options.Sort.{Sort}
 use Rattle.census_page.specs.declared.options.Sort.TheVariants as by
-use Rattle.life_shape.proofs.TextOrders.{shorter_total}
+use Rattle.life_cells.proofs.TextOrders.{shorter_total}
 
 -- # Each is an order
 

@@ -15,7 +15,7 @@ use census_page_pieces::{
     push_picture, push_rle, push_text, spelled,
 };
 use census_rows::Row;
-use life_shape::Shape;
+use life_cells::Shape;
 use std::alloc::{AllocError, Global};
 use std::io::Write;
 use watched::{Block, Output, put};

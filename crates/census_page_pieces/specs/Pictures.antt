@@ -9,9 +9,9 @@ use Rattle.life_model.specs.Rule.{Rule}
 use Rattle.life_model.specs.Symmetry.{normal}
 use Rattle.life_cells.specs.Rules.{rule_of}
 use Rattle.life_cells.specs.declared.rule.RuleFault.{RuleFault}
-use Rattle.life_shape.specs.Reading.{refusal, cells_spelled}
-use Rattle.life_shape.specs.TextOrder.{body_of}
-use Rattle.life_shape.specs.declared.reader.CodeFault.{CodeFault}
+use Rattle.life_cells.specs.CodeReading.{refusal, cells_spelled}
+use Rattle.life_cells.specs.TextOrder.{body_of}
+use Rattle.life_cells.specs.declared.reader.CodeFault.{CodeFault}
 use Rattle.life_text.specs.RleText.{rle_text}
 use Rattle.census_page_pieces.specs.Escapes.{escaped_text}
 use Rattle.census_page_pieces.specs.Numbers.{grouped}

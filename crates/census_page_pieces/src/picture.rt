@@ -5,7 +5,7 @@ ghost use Rattle.census_page_pieces.specs.Pictures.{box_words, canvas, cells_tol
 
 use crate::numbers::{push_grouped, push_number};
 use crate::stroke::push_strokes;
-use life_shape::{CodeFault, Shape, body_of, read_wechsler};
+use life_cells::{CodeFault, Shape, body_of, read_wechsler};
 use std::alloc::{AllocError, Global};
 
 /// A shape that is wider or higher than so many cells has no picture.

@@ -5,8 +5,7 @@ ghost use Rattle.life_text.specs.RleText.{rle_text};
 
 use crate::escape::push_escaped;
 use crate::picture::has_picture;
-use life_cells::{Rule, RuleFault};
-use life_shape::Shape;
+use life_cells::{Rule, RuleFault, Shape};
 use life_text::write_rle;
 use std::alloc::{AllocError, Global};
 

@@ -6,7 +6,7 @@ use Rattle.std.specs.declared.cmp.Ordering.{Ordering}
 use Rattle.std.specs.declared.cmp.Ordering.TheVariants.{Less, Equal, Greater}
 use Rattle.census_readback.specs.declared.engines as rust
 use Rattle.census_readback.specs.declared.engines.Way.{Way}
-use Rattle.life_shape.specs.TextOrder.{shorter_cmp}
+use Rattle.life_cells.specs.TextOrder.{shorter_cmp}
 
 -- what an `emits` row tells: a code, and how often it is emitted
 pub record Emitted : Type 0 where

@@ -12,7 +12,7 @@ use Rattle.census_rows.specs.declared.row.Row.TheVariants.{Open, Line, Part, Eng
 use Rattle.census_readback.specs.Engines.{LastEngine, after_emits, after_engine, engine_of, no_engine}
 use Rattle.census_readback.specs.Lawful.{is_lawful, number_in, text_in}
 use Rattle.census_readback.specs.declared.told as rust
-use Rattle.life_shape.specs.TextOrder.{shorter_cmp}
+use Rattle.life_cells.specs.TextOrder.{shorter_cmp}
 
 -- whether a line has told a code, and whether one has told how many objects or engines there are; the collection of the last
 -- line, how many of its objects or engines no row behind it has told, the last code that one has, and the last engine

@@ -3,7 +3,7 @@ ghost use Rattle.std.specs.Prelude.{◌≡◌, ◌==◌, ◌+◌, IfOk, IsFalse,
 ghost use Rattle.std.specs.Option.{option_map};
 ghost use Rattle.census_readback.specs.Engines.{after_emits, after_engine, compared, emitted_cmp, emitted_of, engine_of, no_engine, to_compare, way_cmp};
 
-use life_shape::shorter;
+use life_cells::shorter;
 use std::alloc::{AllocError, Global};
 use std::cmp::Ordering;
 

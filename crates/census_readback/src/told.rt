@@ -9,7 +9,7 @@ ghost use Rattle.census_readback.specs.Told.{emits_told, engine_told, has_code, 
 use crate::engines::{Emitted, LastEngine, Way};
 use crate::lawful::{is_lawful, number_at, text_at};
 use census_rows::{Behind, Label, Outcome, Row};
-use life_shape::shorter;
+use life_cells::shorter;
 use std::alloc::{AllocError, Global};
 use std::cmp::Ordering;
 

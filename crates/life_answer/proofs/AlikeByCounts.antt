@@ -14,8 +14,8 @@ use Rattle.life_objects.proofs.Lists.{Contains-head, Contains-later}
 use Rattle.life_objects.proofs.DecidedLemmas.Tests.{both}
 use Rattle.life_objects.specs.Independent.Independent.{independent_parts_of}
 use Rattle.life_growth.proofs.MeetingLemmas.Reach.{any_by, any_tells}
-use Rattle.life_shape.specs.TextOrder.{shorter_cmp}
-use Rattle.life_shape.proofs.TextOrders.{shorter_exact}
+use Rattle.life_cells.specs.TextOrder.{shorter_cmp}
+use Rattle.life_cells.proofs.TextOrders.{shorter_exact}
 use Rattle.life_answer.specs.Census.{counted_parts, part_code}
 use Rattle.life_answer.specs.Counted.{all_come_again, code_bound, counted_as, counted_of}
 use Rattle.life_answer.specs.Parts.{counted_codes, with_code, with_code_by_order}

@@ -16,8 +16,8 @@ use Rattle.life_model.proofs.Recurrences.{generation-zero}
 use Rattle.life_objects.specs.Ash.{IsObject, RecursWithin}
 use Rattle.life_objects.specs.Kinds.{AreAlike, IsKind}
 use Rattle.life_objects.proofs.Lists.{Contains-head, Contains-later}
-use Rattle.life_shape.specs.TextOrder.{shorter_cmp}
-use Rattle.life_shape.proofs.TextOrders.{shorter_exact, shorter_total}
+use Rattle.life_cells.specs.TextOrder.{shorter_cmp}
+use Rattle.life_cells.proofs.TextOrders.{shorter_exact, shorter_total}
 use Rattle.life_answer.specs.Census.{counted_parts, part_code}
 use Rattle.life_answer.specs.Parts.{counted_codes}
 use Rattle.life_answer.proofs.Codes.{codes_tell_objects}

@@ -13,10 +13,10 @@ use Rattle.life_model.specs.Symmetry.{normal, Orientation, Same, FlipX, FlipY, H
 use Rattle.life_model.specs.Recurrence.{AreOneObject, Recurrence, Settles}
 use Rattle.life_model.proofs.Cells.{same_cell-is}
 use Rattle.life_model.proofs.Objects.{each_phase, object_from_shapes, AreOneObject-swap}
-use Rattle.life_shape.specs.Wechsler.{body}
-use Rattle.life_shape.specs.TextOrder.{least_text}
-use Rattle.life_shape.proofs.Boxes.{normal_normal}
-use Rattle.life_shape.proofs.Spelling.{same_bodies}
+use Rattle.life_cells.specs.Wechsler.{body}
+use Rattle.life_cells.specs.TextOrder.{least_text}
+use Rattle.life_cells.proofs.Boxes.{normal_normal}
+use Rattle.life_cells.proofs.Spelling.{same_bodies}
 use Rattle.life_answer.specs.Apgcode.{prefix, orientations, turned_bodies, bodies, code_of}
 use Rattle.life_answer.proofs.LeastTexts.{Member, least_member, least_same, member-append_left, member-append_right, member_of_append, member_of_map}
 use Rattle.life_answer.proofs.Objects.{RecursFirst, period_across, in_place_across, size_across}

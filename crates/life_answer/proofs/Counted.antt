@@ -3,8 +3,8 @@ use Rattle.std.proofs.Common.{◌≡◌, ℕ, zero, suc, ◌+◌, ◌<◌, ◌�
 use Rattle.std.proofs.Common.{sym, refl, ap, ◌∙◌, arith}
 use Rattle.std.specs.Ordering.{ordering_reverse}
 use Rattle.std.proofs.lemmas.List.{drop_more, drop-set, get_or_default, take-append-drop, take-set}
-use Rattle.life_shape.specs.TextOrder.{shorter_cmp}
-use Rattle.life_shape.proofs.TextOrders.{shorter_total, shorter_exact}
+use Rattle.life_cells.specs.TextOrder.{shorter_cmp}
+use Rattle.life_cells.proofs.TextOrders.{shorter_total, shorter_exact}
 use Rattle.life_answer.specs.declared.part.Part.{Part}
 use Rattle.life_answer.specs.Parts.{with_code_by_order, more, objects_in, single, with_code}
 

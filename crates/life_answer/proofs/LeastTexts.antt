@@ -3,8 +3,8 @@ use Rattle.std.proofs.Common.{if◌then◌else◌, ◌≡◌, ℕ, true, false, 
 use Rattle.std.specs.List.{fold}
 use Rattle.std.specs.Ordering.{ordering_reverse, is_gt}
 use Rattle.std.specs.Cmp as cmp
-use Rattle.life_shape.specs.TextOrder.{shorter_cmp, lesser_text, least_text}
-use Rattle.life_shape.proofs.TextOrders.{shorter_total, shorter_exact}
+use Rattle.life_cells.specs.TextOrder.{shorter_cmp, lesser_text, least_text}
+use Rattle.life_cells.proofs.TextOrders.{shorter_total, shorter_exact}
 
 -- t is one of the texts
 abbrev pub Member : List ℕ → List (List ℕ) → Type 0

@@ -7,8 +7,8 @@ use Rattle.std.specs.FinMap.{IsAntisymmetric, int_cmp-IsAntisymmetric, nat_cmp-I
 use Rattle.std.specs.Ordering.{int_cmp, is_eq, nat_cmp, ordering_then}
 use Rattle.std.proofs.lemmas.List.{length-drop}
 use Rattle.life_model.proofs.Cells.{both_equal}
-use Rattle.life_shape.specs.TextOrder.{shorter_cmp}
-use Rattle.life_shape.proofs.TextOrders.{shorter_exact, shorter_total}
+use Rattle.life_cells.specs.TextOrder.{shorter_cmp}
+use Rattle.life_cells.proofs.TextOrders.{shorter_exact, shorter_total}
 use Rattle.life_answer.specs.declared.part.Part.{Part}
 use Rattle.life_answer.specs.declared.tale.Tale.{Tale}
 use Rattle.life_answer.specs.CountedTales.{part_cmp, same_tale, tale_cmp}

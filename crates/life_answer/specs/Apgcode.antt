@@ -6,8 +6,8 @@ use Rattle.life_model.specs.Rule.{Rule}
 use Rattle.life_model.specs.Generation.{Generation, size}
 use Rattle.life_model.specs.Evolution.{generation}
 use Rattle.life_model.specs.Symmetry.{Orientation, Same, FlipX, FlipY, Half, Swap, SwapFlipX, SwapFlipY, SwapHalf, image_under}
-use Rattle.life_shape.specs.Wechsler.{body}
-use Rattle.life_shape.specs.TextOrder.{least_text}
+use Rattle.life_cells.specs.Wechsler.{body}
+use Rattle.life_cells.specs.TextOrder.{least_text}
 
 -- `xs` and the population of what stays as it is, `xp` and the period of what comes again in place, `xq` and the
 -- period of what comes again elsewhere

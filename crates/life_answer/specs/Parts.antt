@@ -2,7 +2,7 @@
 use Rattle.std.specs.Prelude.{ℕ, ◌+◌, List, [], ◌∷◌, fold}
 use Rattle.std.specs.declared.cmp.Ordering.{Ordering}
 use Rattle.std.specs.declared.cmp.Ordering.TheVariants.{Less, Equal, Greater}
-use Rattle.life_shape.specs.TextOrder.{shorter_cmp}
+use Rattle.life_cells.specs.TextOrder.{shorter_cmp}
 use Rattle.life_answer.specs.declared.part.Part.{Part}
 
 -- how many objects they are in all

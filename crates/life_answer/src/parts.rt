@@ -6,7 +6,7 @@ ghost use Rattle.life_answer.specs.Parts.{more, objects_in, single, with_code};
 
 use crate::code::Code;
 use crate::part::Part;
-use life_shape::shorter;
+use life_cells::shorter;
 use std::alloc::{AllocError, Global};
 use std::cmp::Ordering;
 use std::marker::Model;

@@ -5,7 +5,7 @@ ghost use Rattle.life_answer.specs.CountedTales.{part_cmp, tale_cmp};
 
 use crate::part::Part;
 use crate::parts::Parts;
-use life_shape::shorter;
+use life_cells::shorter;
 use std::cmp::Ordering;
 
 /// What is told of an engine.

@@ -5,3 +5,16 @@ pub mod PrintLemmas
 pub mod Corners
 pub mod Readings
 pub mod Within
+pub mod Members
+pub mod Boxes
+pub mod TextOrders
+pub mod Marks
+pub mod Drawings
+pub mod CodeReadings
+pub mod Kept
+pub mod Columns
+pub mod Weights
+pub mod DotLists
+pub mod StripLists
+pub mod Spelling
+pub mod Rows

@@ -5,3 +5,11 @@ pub mod Readings
 pub use Rattle.life_model.specs.Cell
 pub use Rattle.life_model.specs.Generation
 pub use Rattle.life_model.specs.Rule
+pub mod Alike
+pub mod Dots
+pub mod Drawing
+pub mod NormalForms
+pub mod Orients
+pub mod CodeReading
+pub mod TextOrder
+pub mod Wechsler

@@ -9,7 +9,7 @@ use Rattle.life_objects.specs.Limits.{objects_bound_limit}
 use Rattle.life_cells.specs.Limits.{IsWithin, extent_limit}
 use Rattle.life_ash.proofs.Places.{generation_within}
 use Rattle.life_ash.specs.Parts.{ash_age_limit}
-use Rattle.life_shape.proofs.Boxes.{width_at_age, height_at_age}
+use Rattle.life_cells.proofs.Boxes.{width_at_age, height_at_age}
 
 module _ (R : Rule) (G : Generation) (n : ℕ) (within : All (IsWithin ash_age_limit) (cells G)) (few : n ≤ objects_bound_limit) where
   pub phase_wide : width (generation R G n) ≤ extent_limit

@@ -4,10 +4,10 @@ use Rattle.std.specs.Ordering.{nat_cmp, ordering_then, is_eq, is_gt, is_lt}
 use Rattle.std.specs.Cmp.{nat_cmp_is, nat_cmp_total}
 use Rattle.std.specs.Cmp as cmp
 use Rattle.std.specs.Cmp.Lexicographic.{slice_cmp}
-use Rattle.life_shape.specs.Dots.{strip_mark}
-use Rattle.life_shape.specs.TextOrder.{lesser_text, shorter_cmp}
-use Rattle.life_shape.specs.Wechsler.{digit, columns_text}
-use Rattle.life_shape.proofs.Columns.{joined, joined_turn}
+use Rattle.life_cells.specs.Dots.{strip_mark}
+use Rattle.life_cells.specs.TextOrder.{lesser_text, shorter_cmp}
+use Rattle.life_cells.specs.Wechsler.{digit, columns_text}
+use Rattle.life_cells.proofs.Columns.{joined, joined_turn}
 use Rattle.life_lengths.specs.Grids.{columns_from, strip_of, grid_text}
 use Rattle.life_codes.specs.Least.{text_if, with_text}
 use Rattle.life_lengths.proofs.Written.{rest_from, one_more}

@@ -15,8 +15,8 @@ use Rattle.life_model.specs.Generation.{from_list}
 use Rattle.life_model.specs.Symmetry.{normal, Orientation, Same, FlipX, FlipY, Half, Swap, SwapFlipX, SwapFlipY, SwapHalf, image_under}
 use Rattle.life_model.proofs.Cells.{cells_differ, same_cell-is}
 use Rattle.life_model.proofs.Objects.{then_turned, turned-turned}
-use Rattle.life_shape.specs.Wechsler.{column_value, columns_text, digit, strip_text, strips_text, body}
-use Rattle.life_shape.proofs.Weights.{live_value}
+use Rattle.life_cells.specs.Wechsler.{column_value, columns_text, digit, strip_text, strips_text, body}
+use Rattle.life_cells.proofs.Weights.{live_value}
 use Rattle.life_answer.specs.Apgcode.{turned_bodies}
 use Rattle.life_lengths.specs.declared.frame.Frame.{Frame}
 use Rattle.life_codes.specs.declared.keys.Keys.{Keys}

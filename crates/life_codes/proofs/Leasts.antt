@@ -6,13 +6,13 @@ use Rattle.std.proofs.lemmas.List.Sums.{fold-append}
 use Rattle.life_model.specs.Generation.{Generation}
 use Rattle.life_model.specs.Symmetry.{normal, Orientation, Same, FlipX, Half, Swap, SwapHalf, image_under}
 use Rattle.life_model.proofs.Objects.{then_turned, turned-turned, normal-turned}
-use Rattle.life_shape.specs.declared.orient.Orient.{Orient}
-use Rattle.life_shape.specs.declared.orient.Orient.TheVariants as orient
-use Rattle.life_shape.specs.Orients.{orientation}
-use Rattle.life_shape.specs.TextOrder.{lesser_text, least_text}
-use Rattle.life_shape.specs.Wechsler.{body}
-use Rattle.life_shape.proofs.Boxes.{normal_normal}
-use Rattle.life_shape.proofs.TextOrders.{Among, least_text-least, least_text-among, least_text_is}
+use Rattle.life_cells.specs.declared.orient.Orient.{Orient}
+use Rattle.life_cells.specs.declared.orient.Orient.TheVariants as orient
+use Rattle.life_cells.specs.Orients.{orientation}
+use Rattle.life_cells.specs.TextOrder.{lesser_text, least_text}
+use Rattle.life_cells.specs.Wechsler.{body}
+use Rattle.life_cells.proofs.Boxes.{normal_normal}
+use Rattle.life_cells.proofs.TextOrders.{Among, least_text-least, least_text-among, least_text_is}
 use Rattle.life_answer.specs.Apgcode.{orientations, turned_bodies}
 use Rattle.life_answer.proofs.Codes.{body-normal, body_by_shape}
 use Rattle.life_codes.specs.Least.{with_text, two_bodies}

@@ -11,9 +11,9 @@ use Rattle.std.proofs.lemmas.Bool.Decides.{eqb_tells, nat_tests}
 use Rattle.std.proofs.lemmas.Nat.{mod-pow-add, pow_pos}
 use Rattle.life_model.specs.Generation.{Generation}
 use Rattle.life_model.specs.Symmetry.{Orientation, FlipX, Half, Same, Swap, SwapHalf, image_under}
-use Rattle.life_shape.specs.TextOrder.{lesser_text, least_text, shorter_cmp}
-use Rattle.life_shape.specs.Wechsler.{body, digit}
-use Rattle.life_shape.proofs.TextOrders.{Among, least_text-among, least_text-least, least_text_is, shorter_total}
+use Rattle.life_cells.specs.TextOrder.{lesser_text, least_text, shorter_cmp}
+use Rattle.life_cells.specs.Wechsler.{body, digit}
+use Rattle.life_cells.proofs.TextOrders.{Among, least_text-among, least_text-least, least_text_is, shorter_total}
 use Rattle.life_answer.specs.Apgcode.{orientations, turned_bodies}
 use Rattle.life_codes.specs.declared.keys.Keys.{Keys}
 use Rattle.life_codes.specs.Keys.{AreBelow, column_of, key_text, key_texts}

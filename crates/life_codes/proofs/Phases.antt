@@ -12,7 +12,7 @@ use Rattle.life_model.specs.Symmetry.{normal}
 use Rattle.life_model.proofs.Moves.{normal-next}
 use Rattle.life_model.proofs.Recurrences.{generation-zero, generation-next, shape}
 use Rattle.life_cells.proofs.PrintLemmas.{range_more}
-use Rattle.life_shape.specs.TextOrder.{lesser_text, least_text}
+use Rattle.life_cells.specs.TextOrder.{lesser_text, least_text}
 use Rattle.life_answer.specs.Apgcode.{turned_bodies, bodies, prefix, code_of}
 use Rattle.life_answer.proofs.Sizes.{size_by_shape}
 use Rattle.life_codes.specs.Least.{with_text}

@@ -3,7 +3,7 @@ use Rattle.std.specs.Prelude.{◌≡◌, ℕ, zero, suc, ◌*◌, ◌/◌, ◌%�
 use Rattle.std.specs.Int.{bit_at}
 use Rattle.life_model.specs.Cell.{Cell}
 use Rattle.life_model.specs.Symmetry.{Orientation, Same, FlipX, FlipY, Half, Swap, SwapFlipX, SwapFlipY, SwapHalf}
-use Rattle.life_shape.specs.Wechsler.{digit}
+use Rattle.life_cells.specs.Wechsler.{digit}
 use Rattle.life_lengths.specs.declared.frame.Frame.{Frame}
 use Rattle.life_codes.specs.declared.keys.Keys.{Keys}
 use Rattle.life_lengths.specs.Frames.{cell_in_frame, turned_frame, wide_of}

@@ -3,8 +3,8 @@ use Rattle.std.specs.Prelude.{◌≡◌, ℕ, ◌<◌, Bool, List, [], ◌∷◌
 use Rattle.std.specs.List.{fold}
 use Rattle.life_model.specs.Generation.{Generation}
 use Rattle.life_model.specs.Symmetry.{Orientation, FlipX, image_under}
-use Rattle.life_shape.specs.TextOrder.{lesser_text}
-use Rattle.life_shape.specs.Wechsler.{body}
+use Rattle.life_cells.specs.TextOrder.{lesser_text}
+use Rattle.life_cells.specs.Wechsler.{body}
 use Rattle.life_lengths.specs.Grids.{both_texts}
 
 -- the least so far, with one more text

@@ -2,8 +2,8 @@
 ghost use Rattle.std.specs.Prelude.{◌≡◌, ◌++◌, ◌<◌, ◌∷◌, IsSomeAnd, IsTrue, List, None, OnOk, [], length, unwrap_or, ℕ};
 ghost use Rattle.life_codes.specs.Least.{with_text};
 
+use life_cells::shorter;
 use life_lengths::Lengths;
-use life_shape::shorter;
 use std::alloc::{AllocError, Global};
 use std::cmp::Ordering;
 use std::marker::Model;

@@ -2,13 +2,13 @@
 ghost use Rattle.std.specs.Prelude.{◌≡◌, ◌*◌, ◌/◌, ◌<◌, ℕ, All, IsTrue, OnOk, length, map, pos};
 ghost use Rattle.life_model.specs.Symmetry.{turn};
 ghost use Rattle.life_cells.specs.Limits.{IsPlace};
-ghost use Rattle.life_shape.specs.Dots.{weights};
-ghost use Rattle.life_shape.specs.Orients.{orientation};
+ghost use Rattle.life_cells.specs.Dots.{weights};
+ghost use Rattle.life_cells.specs.Orients.{orientation};
 ghost use Rattle.life_lengths.specs.Frames.{IsBounded, IsInFrame, cell_in_frame, strips_of, wide_of};
 ghost use Rattle.life_lengths.specs.Grids.{HoldsWeights, both_texts};
 
+use life_cells::Orient;
 use life_lengths::{Frame, place_in};
-use life_shape::Orient;
 use std::alloc::{AllocError, Global};
 
 /// The values of columns of five rows, strip by strip.

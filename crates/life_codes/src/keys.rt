@@ -3,14 +3,14 @@ ghost use Rattle.std.specs.Prelude.{◌≡◌, ◌++◌, ◌<◌, ◌≤◌, ◌
 ghost use Rattle.life_model.specs.Cell.{Cell};
 ghost use Rattle.life_model.specs.Generation.{from_list};
 ghost use Rattle.life_cells.specs.Limits.{IsPlace};
-ghost use Rattle.life_shape.specs.TextOrder.{least_text};
+ghost use Rattle.life_cells.specs.TextOrder.{least_text};
 ghost use Rattle.life_answer.specs.Apgcode.{turned_bodies};
 ghost use Rattle.life_lengths.specs.Frames.{IsBounded, IsInFrame, IsTinyFrame, frame_of};
 ghost use Rattle.life_codes.specs.Keys.{AreBelow, AreKeys, ArePlain, IsKey, IsPlain, key_text, key_texts};
 
 use crate::writing::digit;
+use life_cells::Orient;
 use life_lengths::{Frame, place_in};
-use life_shape::Orient;
 use std::alloc::AllocError;
 
 /// The columns of cells, turned by each of the eight maps. The last column stands in the lowest bits.

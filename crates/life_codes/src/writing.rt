@@ -1,7 +1,7 @@
 //! Writing the texts of grids.
 ghost use Rattle.std.specs.Prelude.{◌≡◌, ◌*◌, ◌<◌, ◌++◌, ◌+◌, ◌≤◌, All, OnOk, [], length, slice_index};
-ghost use Rattle.life_shape.specs.Dots.{strip_mark};
-ghost use Rattle.life_shape.specs.Wechsler.{columns_text, digit, short_zeros, zeros};
+ghost use Rattle.life_cells.specs.Dots.{strip_mark};
+ghost use Rattle.life_cells.specs.Wechsler.{columns_text, digit, short_zeros, zeros};
 ghost use Rattle.life_lengths.specs.Grids.{columns_from, grid_text, strip_of};
 
 use std::alloc::AllocError;

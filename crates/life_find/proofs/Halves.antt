@@ -9,9 +9,9 @@ use Rattle.life_model.proofs.Moves.{normal_decides, normal-moved}
 use Rattle.life_model.proofs.Objects.{then_turned, turned-turned, turned-undone, normal-turned}
 use Rattle.life_model.proofs.Recurrences.{generation-add}
 use Rattle.life_model.proofs.Symmetries.{undone, generation-moved, generation-turned}
-use Rattle.life_shape.specs.Wechsler.{body}
-use Rattle.life_shape.specs.TextOrder.{least_text}
-use Rattle.life_shape.proofs.Spelling.{same_bodies}
+use Rattle.life_cells.specs.Wechsler.{body}
+use Rattle.life_cells.specs.TextOrder.{least_text}
+use Rattle.life_cells.proofs.Spelling.{same_bodies}
 use Rattle.life_answer.specs.Apgcode.{bodies, orientations, turned_bodies}
 use Rattle.life_answer.proofs.Codes.{body_by_shape, in_turned}
 use Rattle.life_answer.proofs.LeastTexts.{Member, least_member, least_same, member-append_left, member-append_right, member_of_append, member_of_map}

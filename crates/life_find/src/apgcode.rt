@@ -6,7 +6,7 @@ ghost use Rattle.life_model.specs.Evolution.{generation};
 ghost use Rattle.life_model.specs.Generation as generations;
 ghost use Rattle.life_model.specs.Symmetry.{normal};
 ghost use Rattle.life_cells.specs.Limits.{IsWithin, extent_limit};
-ghost use Rattle.life_shape.specs.TextOrder.{least_text};
+ghost use Rattle.life_cells.specs.TextOrder.{least_text};
 ghost use Rattle.life_answer.specs.Apgcode.{bodies, code_of, turned_bodies};
 ghost use Rattle.life_codes.specs.Least.{with_text};
 

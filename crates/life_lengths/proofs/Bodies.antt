@@ -16,11 +16,11 @@ use Rattle.life_model.proofs.Cells.{plus-opposite, plus-opposite_first}
 use Rattle.life_model.proofs.Generations.{contains-from_list, none_below}
 use Rattle.life_model.proofs.Symmetries.{AreInverse, same_cell-forth, undone, turn_keeps, turn-undone, contains-moved, contains-turned}
 use Rattle.life_model.proofs.Tests.{list_any-map, list_any-alike, first_holds, second_holds}
-use Rattle.life_shape.specs.Dots.{weights}
-use Rattle.life_shape.specs.Wechsler.{column_value, columns_text, strip_text, strips_text, body}
-use Rattle.life_shape.proofs.Boxes.{contains-normal}
-use Rattle.life_shape.proofs.Members.{all_from}
-use Rattle.life_shape.proofs.Weights.{among, live_value, live_value-lt, one_cell_more}
+use Rattle.life_cells.specs.Dots.{weights}
+use Rattle.life_cells.specs.Wechsler.{column_value, columns_text, strip_text, strips_text, body}
+use Rattle.life_cells.proofs.Boxes.{contains-normal}
+use Rattle.life_cells.proofs.Members.{all_from}
+use Rattle.life_cells.proofs.Weights.{among, live_value, live_value-lt, one_cell_more}
 use Rattle.life_lengths.specs.declared.frame.Frame.{Frame}
 use Rattle.life_lengths.specs.Frames.{IsInFrame, frame_of, turned_frame, cell_in_frame, wide_of, strips_of}
 use Rattle.life_lengths.specs.Grids.{HoldsWeights, strip_of, grid_text}

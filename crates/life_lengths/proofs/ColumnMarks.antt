@@ -3,7 +3,7 @@ use Rattle.std.specs.Prelude.{ℕ, ◌+◌, ◌*◌, ◌^◌, ◌<◌, Bool, Lis
 use Rattle.std.specs.Int.{bit_at}
 use Rattle.std.specs.List.{range_with_len, sum_by}
 use Rattle.life_model.specs.Cell.{Cell}
-use Rattle.life_shape.specs.Wechsler.{columns_text, strips_text}
+use Rattle.life_cells.specs.Wechsler.{columns_text, strips_text}
 use Rattle.life_lengths.specs.Grids.{columns_from}
 use Rattle.life_lengths.specs.Words.{AreZeroTogether, is_at, word_columns}
 

@@ -9,7 +9,7 @@ use Rattle.std.proofs.lemmas.Bool.Decides.{eqb_tells}
 use Rattle.std.proofs.lemmas.List.{drop_all, get_or-reverse, length-reverse}
 use Rattle.std.proofs.lemmas.Nat.{and_le_l, mod-pow-add, ones_cat, pow_pos, shr-shr, shr_split}
 use Rattle.std.proofs.lemmas.Nat.Bits.{bit_at-lt, bit_at-zero, bit_at_above, bit_at_and, bit_at_or, bit_at_cat_low, bit_at_cat_high, bit_at_mask_below, bit_at_mask_inside, bit_at-pow_other, bit_at-pow_same, ones_shl, same_from_bits}
-use Rattle.life_shape.specs.Wechsler.{columns_text, short_zeros, zeros}
+use Rattle.life_cells.specs.Wechsler.{columns_text, short_zeros, zeros}
 use Rattle.life_lengths.specs.Words.{AreNearMarks, word_columns, zeros_after, zeros_before}
 use Rattle.life_lengths.proofs.Measured.{forward_skip, forward_value, length-zeros}
 use Rattle.life_lengths.proofs.Worded.{column_at, length-word_columns}

@@ -7,8 +7,8 @@ use Rattle.std.proofs.lemmas.Bool.Decides.{nat_tests, eqb_tells}
 use Rattle.std.proofs.lemmas.List.{take_more, map-append, get_or-set_other, get_or-set_same, take-append-drop}
 use Rattle.std.proofs.lemmas.List.Sums.{sum_by-append, sum_by-cons}
 use Rattle.life_model.specs.Cell.{Cell, origin}
-use Rattle.life_shape.specs.Dots.{weight, weights}
-use Rattle.life_shape.proofs.Weights.{weight_above, weight_at, weight_below}
+use Rattle.life_cells.specs.Dots.{weight, weights}
+use Rattle.life_cells.proofs.Weights.{weight_above, weight_at, weight_below}
 use Rattle.life_lengths.specs.Grids.{HoldsWeights}
 
 -- ---- what one cell weighs

@@ -16,8 +16,8 @@ use Rattle.life_model.proofs.Generations.{contains-from_list}
 use Rattle.life_model.proofs.Symmetries.{undone, turn-undone, turn_keeps, contains-turned}
 use Rattle.life_model.proofs.Moves.{corner-is, corner_one}
 use Rattle.life_cells.specs.Limits.{IsPlace, coordinate_limit}
-use Rattle.life_shape.proofs.Boxes.{normal_in_box, contains-normal_back, width_within, height_within}
-use Rattle.life_shape.proofs.Members.{holds_in}
+use Rattle.life_cells.proofs.Boxes.{normal_in_box, contains-normal_back, width_within, height_within}
+use Rattle.life_cells.proofs.Members.{holds_in}
 use Rattle.life_lengths.specs.declared.frame.Frame.{Frame}
 use Rattle.life_lengths.specs.Frames.{least_at, greatest_at, frame_of, turned_frame, IsInFrame, IsBounded, wide_of}
 

@@ -12,8 +12,8 @@ use Rattle.life_model.specs.Generation.{Generation, from_list}
 use Rattle.life_model.specs.Symmetry.{normal, Orientation, Same, FlipX, FlipY, Half, Swap, SwapFlipX, SwapFlipY, SwapHalf, turn, image_under}
 use Rattle.life_model.proofs.Cells.{pair}
 use Rattle.life_model.proofs.Objects.{then_turned, turn-then_turned, turned-turned}
-use Rattle.life_shape.specs.Wechsler.{column_value, strip_text, strips_text, body}
-use Rattle.life_shape.proofs.Weights.{live_value}
+use Rattle.life_cells.specs.Wechsler.{column_value, strip_text, strips_text, body}
+use Rattle.life_cells.proofs.Weights.{live_value}
 use Rattle.life_lengths.specs.declared.frame.Frame.{Frame}
 use Rattle.life_lengths.specs.declared.measure.Lengths.{Lengths}
 use Rattle.life_lengths.specs.Frames.{IsInFrame, frame_of, turned_frame, cell_in_frame, wide_of, strips_of}

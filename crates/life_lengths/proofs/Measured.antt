@@ -2,9 +2,9 @@
 use Rattle.std.proofs.Common.{◌≡◌, ℕ, zero, suc, ◌+◌, ◌*◌, ◌/◌, ◌%◌, ◌<◌, ◌≤◌, List, [], ◌∷◌, ◌++◌, length, get_or, take, drop, reverse, inl, inr, subst, sym, refl, ap, ◌∙◌, arith, length-append}
 use Rattle.std.proofs.lemmas.Bool.{cases_lt}
 use Rattle.std.proofs.lemmas.List.{take_more, reverse-append}
-use Rattle.life_shape.specs.Dots.{strip_mark}
-use Rattle.life_shape.specs.Wechsler.{digit, full_runs, short_zeros, zeros, columns_text}
-use Rattle.life_shape.proofs.Columns.{joined, joined_turn}
+use Rattle.life_cells.specs.Dots.{strip_mark}
+use Rattle.life_cells.specs.Wechsler.{digit, full_runs, short_zeros, zeros, columns_text}
+use Rattle.life_cells.proofs.Columns.{joined, joined_turn}
 use Rattle.life_lengths.proofs.Written.{rest_from, one_more}
 
 -- ---- runs of zeros

@@ -13,7 +13,7 @@ use Rattle.life_model.specs.Cell.{Cell, same_cell, origin}
 use Rattle.life_model.proofs.Cells.{cells_differ, same_cell-is}
 use Rattle.life_model.proofs.Symmetries.{AreInverse, same_cell-forth}
 use Rattle.life_model.proofs.Tests.{list_any-map, list_any-alike, or-false}
-use Rattle.life_shape.proofs.Weights.{live_value}
+use Rattle.life_cells.proofs.Weights.{live_value}
 use Rattle.life_lengths.specs.Words.{AreZeroTogether, HoldsRows, AreWithinColumns, five_rows, is_at}
 use Rattle.life_lengths.proofs.ColumnMarks.{HoldsMarks, upside_down}
 

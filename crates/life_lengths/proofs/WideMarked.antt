@@ -15,8 +15,8 @@ use Rattle.life_model.specs.Cell.{Cell, origin}
 use Rattle.life_model.specs.Generation.{Generation, from_list, is_rising}
 use Rattle.life_model.specs.Symmetry.{normal, Orientation, Same, FlipX, FlipY, Half, Swap, SwapFlipY, SwapHalf, image_under}
 use Rattle.life_model.proofs.Objects.{turned-turned}
-use Rattle.life_shape.specs.Dots.{weight, weights}
-use Rattle.life_shape.specs.Wechsler.{column_value, strip_text, strips_text, body}
+use Rattle.life_cells.specs.Dots.{weight, weights}
+use Rattle.life_cells.specs.Wechsler.{column_value, strip_text, strips_text, body}
 use Rattle.life_lengths.specs.declared.frame.Frame.{Frame}
 use Rattle.life_lengths.specs.declared.measure.Lengths.{Lengths}
 use Rattle.life_lengths.specs.Frames.{IsBounded, IsInFrame, frame_of, turned_frame, cell_in_frame, wide_of, strips_of}

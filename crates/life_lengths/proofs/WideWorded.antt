@@ -7,7 +7,7 @@ use Rattle.std.proofs.lemmas.Int.{ints}
 use Rattle.std.proofs.lemmas.List.FromFn.{get_or-map-range_with_len, length-map-range_with_len}
 use Rattle.std.proofs.lemmas.Nat.{shr-shr}
 use Rattle.std.proofs.lemmas.Nat.Bits.{bit_at_above}
-use Rattle.life_shape.specs.Wechsler.{zeros, columns_text}
+use Rattle.life_cells.specs.Wechsler.{zeros, columns_text}
 use Rattle.life_lengths.specs.declared.frame.Frame.{Frame}
 use Rattle.life_lengths.specs.Frames.{IsBounded, strips_of, wide_of}
 use Rattle.life_lengths.specs.WideWords.{IsMarkedWithin, wide_bit, wide_columns, words_in}

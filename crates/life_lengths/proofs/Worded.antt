@@ -6,9 +6,9 @@ use Rattle.std.proofs.lemmas.List.{drop_all, take_all, get_or-reverse, length-re
 use Rattle.std.proofs.lemmas.List.FromFn.{get_or-map-range_with_len, length-map-range_with_len}
 use Rattle.std.proofs.lemmas.Nat.{shr-shr}
 use Rattle.std.proofs.lemmas.Nat.Bits.{bit_at-zero}
-use Rattle.life_shape.specs.Dots.{strip_mark}
-use Rattle.life_shape.specs.Wechsler.{digit, zeros, columns_text, strips_text}
-use Rattle.life_shape.proofs.Columns.{joined, strips_text_is}
+use Rattle.life_cells.specs.Dots.{strip_mark}
+use Rattle.life_cells.specs.Wechsler.{digit, zeros, columns_text, strips_text}
+use Rattle.life_cells.proofs.Columns.{joined, strips_text_is}
 use Rattle.life_lengths.specs.Words.{AreZeroTogether, word_columns}
 use Rattle.life_lengths.proofs.Measured.{Counted, counted_nothing, forward_skips, forward_value, counted_skips, counted_value, joined_more}
 

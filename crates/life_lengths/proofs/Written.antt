@@ -3,7 +3,7 @@ use Rattle.std.proofs.Common.{◌≡◌, ℕ, zero, suc, ◌+◌, ◌-◌, ◌*�
 use Rattle.std.specs.Prelude.{All}
 use Rattle.std.proofs.Math.Nat.{mul-le-mul_right}
 use Rattle.std.proofs.lemmas.List.{length-reverse, get_or-reverse}
-use Rattle.life_shape.specs.Wechsler.{digit, zeros, columns_text}
+use Rattle.life_cells.specs.Wechsler.{digit, zeros, columns_text}
 use Rattle.life_lengths.specs.Grids.{columns_from}
 
 -- ---- one column after another

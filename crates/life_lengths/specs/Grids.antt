@@ -1,8 +1,8 @@
 -- Grids of columns, strip by strip, and their texts.
 use Rattle.std.specs.Prelude.{◌≡◌, ℕ, ◌+◌, ◌*◌, ◌<◌, Bool, false, true, List, [], ◌∷◌, take, drop, reverse, slice_index, if◌then◌else◌}
 use Rattle.life_model.specs.Cell.{Cell}
-use Rattle.life_shape.specs.Dots.{weights}
-use Rattle.life_shape.specs.Wechsler.{columns_text, strips_text}
+use Rattle.life_cells.specs.Dots.{weights}
+use Rattle.life_cells.specs.Wechsler.{columns_text, strips_text}
 
 -- Strip k of a grid so many columns wide is its columns from `k * wide` on. Each holds what the cells weigh there.
 pub record HoldsWeights (values : List ℕ) (wide strips : ℕ) (cells : List Cell) : Type 0 where

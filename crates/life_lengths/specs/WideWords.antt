@@ -5,8 +5,8 @@ use Rattle.std.specs.Int.Bits.{bit_or}
 use Rattle.std.specs.List.{range_with_len}
 use Rattle.life_model.specs.Cell.{Cell}
 use Rattle.life_model.specs.Symmetry.{Orientation}
-use Rattle.life_shape.specs.Dots.{weights}
-use Rattle.life_shape.specs.Wechsler.{columns_text, strips_text}
+use Rattle.life_cells.specs.Dots.{weights}
+use Rattle.life_cells.specs.Wechsler.{columns_text, strips_text}
 use Rattle.life_lengths.specs.declared.frame.Frame.{Frame}
 use Rattle.life_lengths.specs.declared.wide_marks.RowPlace.{RowPlace}
 use Rattle.life_lengths.specs.Frames.{cell_in_frame, strips_of, turned_frame, wide_of}

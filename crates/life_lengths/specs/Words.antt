@@ -6,7 +6,7 @@ use Rattle.std.specs.List.{list_any, range_with_len}
 use Rattle.life_model.specs.Cell.{Cell, same_cell}
 use Rattle.life_model.specs.Generation.{Generation, is_rising}
 use Rattle.life_model.specs.Symmetry.{Orientation, FlipX, image_under}
-use Rattle.life_shape.specs.Wechsler.{body}
+use Rattle.life_cells.specs.Wechsler.{body}
 use Rattle.life_lengths.specs.declared.frame.Frame.{Frame}
 use Rattle.life_lengths.specs.declared.measure.Lengths.{Lengths}
 use Rattle.life_lengths.specs.Frames.{frame_of, turned_frame}

@@ -2,11 +2,11 @@
 ghost use Rattle.std.specs.Prelude.{◌≡◌, ◌+◌, ◌/◌, ◌-ℤ◌, ◌<◌, All, IfSome, IsTrue, length, nat_abs, pos};
 ghost use Rattle.life_model.specs.Symmetry.{turn};
 ghost use Rattle.life_cells.specs.Limits.{IsPlace};
-ghost use Rattle.life_shape.specs.Orients.{orientation};
+ghost use Rattle.life_cells.specs.Orients.{orientation};
 ghost use Rattle.life_lengths.specs.Frames.{IsBounded, IsInFrame, IsTinyFrame, cell_in_frame, frame_of, strips_of, turned_frame, wide_of};
 ghost use Rattle.life_lengths.specs.Words.{IsSmallFrame};
 
-use life_shape::Orient;
+use life_cells::Orient;
 
 /// The least and the greatest places of cells.
 #[derive(Clone, Copy)]

@@ -7,7 +7,7 @@ ghost use Rattle.life_lengths.specs.Frames.{IsBounded, IsInFrame, cell_in_frame,
 ghost use Rattle.life_lengths.specs.Words.{HoldsRows, IsSmallFrame, AreWithinColumns, five_rows};
 
 use crate::frame::{Frame, place_in};
-use life_shape::Orient;
+use life_cells::Orient;
 
 /// How many rows without a cell stand above the first, for the last strip from the bottom, which may begin above it.
 pub const ABOVE: usize = 4;

@@ -1,7 +1,7 @@
 //! How long parts of texts are.
 ghost use Rattle.std.specs.Prelude.{◌≡◌, ◌<◌, ◌≤◌, length};
-ghost use Rattle.life_shape.specs.Dots.{strip_mark};
-ghost use Rattle.life_shape.specs.Wechsler.{short_zeros, zeros};
+ghost use Rattle.life_cells.specs.Dots.{strip_mark};
+ghost use Rattle.life_cells.specs.Wechsler.{short_zeros, zeros};
 
 /// How long a text is, read from either side.
 #[derive(Clone, Copy)]

@@ -1,7 +1,7 @@
 //! How long the texts of strips of few columns are, told by counts of bits.
 ghost use Rattle.std.specs.Prelude.{◌≡◌, ℕ, ◌+◌, ◌-◌, ◌*◌, ◌≤◌, bit_and, count_ones, false, length, reverse, true};
 ghost use Rattle.std.specs.Int.{bit_at};
-ghost use Rattle.life_shape.specs.Wechsler.{columns_text};
+ghost use Rattle.life_cells.specs.Wechsler.{columns_text};
 ghost use Rattle.life_lengths.specs.Grids.{columns_from};
 ghost use Rattle.life_lengths.specs.Words.{AreNearMarks, word_columns};
 

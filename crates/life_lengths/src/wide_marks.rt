@@ -7,7 +7,7 @@ ghost use Rattle.life_lengths.specs.Frames.{IsBounded, IsInFrame, strips_of, tur
 ghost use Rattle.life_lengths.specs.WideWords.{HoldsWideTurned, IsRoomFor, IsPlaceOfRow, with_bit, words_in};
 
 use crate::frame::{Frame, place_in};
-use life_shape::Orient;
+use life_cells::Orient;
 use std::alloc::{AllocError, Global};
 
 /// The strips of cells, turned by each of four maps, as words of bits.

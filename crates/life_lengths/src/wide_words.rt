@@ -4,8 +4,8 @@ ghost use Rattle.std.specs.Int.{bit_at};
 ghost use Rattle.life_model.specs.Generation.{from_list, is_rising};
 ghost use Rattle.life_model.specs.Symmetry.{Half, Same, Swap, SwapHalf};
 ghost use Rattle.life_cells.specs.Limits.{IsPlace};
-ghost use Rattle.life_shape.specs.Orients.{orientation};
-ghost use Rattle.life_shape.specs.Wechsler.{columns_text, zeros};
+ghost use Rattle.life_cells.specs.Orients.{orientation};
+ghost use Rattle.life_cells.specs.Wechsler.{columns_text, zeros};
 ghost use Rattle.life_lengths.specs.Frames.{IsBounded, frame_of, strips_of, turned_frame, wide_of};
 ghost use Rattle.life_lengths.specs.Grids.{columns_from};
 ghost use Rattle.life_lengths.specs.WideWords.{IsMarkedWithin, IsRoomFor, wide_columns, wide_text, words_in};
@@ -15,7 +15,7 @@ use crate::frame::Frame;
 use crate::measure::{Lengths, mark_length, zeros_length};
 use crate::wide_marks::{WideMarks, mark_wide, words_per_strip};
 use crate::words::{FourLengths, next_column};
-use life_shape::Orient;
+use life_cells::Orient;
 use std::alloc::AllocError;
 
 /// How long the text of so many columns of 0 is that stand before one that is not, read from either side. They are all

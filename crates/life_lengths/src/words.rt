@@ -4,7 +4,7 @@ ghost use Rattle.std.specs.Int.{bit_at};
 ghost use Rattle.life_model.specs.Cell.{Cell};
 ghost use Rattle.life_model.specs.Generation.{from_list, is_rising};
 ghost use Rattle.life_model.specs.Symmetry.{FlipY, Half, Orientation, Same, Swap, SwapHalf, image_under};
-ghost use Rattle.life_shape.specs.Wechsler.{columns_text};
+ghost use Rattle.life_cells.specs.Wechsler.{columns_text};
 ghost use Rattle.life_cells.specs.Limits.{IsPlace};
 ghost use Rattle.life_lengths.specs.Frames.{IsBounded, cell_in_frame, frame_of, wide_of};
 ghost use Rattle.life_lengths.specs.Grids.{columns_from};
@@ -14,7 +14,7 @@ use crate::frame::Frame;
 use crate::marks::{ABOVE, ROWS, columns_of, mark_cells};
 use crate::measure::{Lengths, zeros_length};
 use crate::narrow::{NARROW, narrow_lengths};
-use life_shape::Orient;
+use life_cells::Orient;
 
 /// How long the texts of cells and of their mirror image are, turned by each of four maps.
 #[derive(Clone, Copy)]

@@ -21,7 +21,7 @@ use Rattle.life_model.specs.Cell.{Cell, origin, same_cell}
 use Rattle.life_model.specs.Evolution.{generation}
 use Rattle.life_model.specs.Generation.{Generation, size}
 use Rattle.life_model.specs.Rule.{Rule}
-use Rattle.life_shape.specs.TextOrder.{least_text, shorter_cmp}
+use Rattle.life_cells.specs.TextOrder.{least_text, shorter_cmp}
 use Rattle.life_objects.proofs.DecidedLemmas.Tests.{both}
 use Rattle.report_laws.proofs.Solid.{each-map}
 use Rattle.texts.specs.Bytes.{is_digit}

@@ -12,7 +12,7 @@ use Rattle.census_readback.specs.declared.engines.Way.{Way}
 use Rattle.census_rows.specs.declared.row.Row.{Row}
 use Rattle.census_rows.specs.declared.row.Row.TheVariants.{Engine}
 use Rattle.life_answer.specs.declared.part.Part as part
-use Rattle.life_shape.specs.TextOrder.{shorter_cmp}
+use Rattle.life_cells.specs.TextOrder.{shorter_cmp}
 use Rattle.report_laws.proofs.Engined.{IsLawfulEmitted, emits_row, emitted_part, engine-told}
 use Rattle.report_laws.proofs.Taken.{Rise, told-then}
 

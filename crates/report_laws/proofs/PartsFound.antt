@@ -10,8 +10,8 @@ use Rattle.life_answer.specs.Parts.{with_code, with_code_by_order}
 use Rattle.life_answer.specs.declared.part.Part as part
 use Rattle.life_model.specs.Generation.{Generation}
 use Rattle.life_model.specs.Rule.{Rule}
-use Rattle.life_shape.specs.TextOrder.{shorter_cmp}
-use Rattle.life_shape.proofs.TextOrders.{shorter_total}
+use Rattle.life_cells.specs.TextOrder.{shorter_cmp}
+use Rattle.life_cells.proofs.TextOrders.{shorter_total}
 use Rattle.report_laws.specs.Ranges.{IsCodedPart}
 use Rattle.report_laws.proofs.CodeStarts.{IsCodePart, parts-told}
 use Rattle.report_laws.proofs.Taken.{IsBehind, Rise}

@@ -14,8 +14,8 @@ use Rattle.life_model.specs.Generation.{Generation, size}
 use Rattle.life_model.specs.Rule.{Rule}
 use Rattle.life_model.specs.Symmetry.{normal, image_under}
 use Rattle.life_model.specs.Box.{height, width}
-use Rattle.life_shape.specs.TextOrder.{least_text, lesser_text, shorter_cmp}
-use Rattle.life_shape.specs.Wechsler.{body, column_value, columns_text, digit, full_runs, short_zeros, strip_text, strips_text, zeros}
+use Rattle.life_cells.specs.TextOrder.{least_text, lesser_text, shorter_cmp}
+use Rattle.life_cells.specs.Wechsler.{body, column_value, columns_text, digit, full_runs, short_zeros, strip_text, strips_text, zeros}
 
 pub each-append : {X : Type 0} (P : X → Type 0) (xs ys : List X) → Each P xs → Each P ys → Each P (xs ++ ys)
 each-append P [] ys h k = k

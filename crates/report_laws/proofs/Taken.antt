@@ -6,7 +6,7 @@ use Rattle.census_readback.specs.Lawful.{is_lawful}
 use Rattle.census_readback.specs.Told.{Told, told_after, told_by, told_next}
 use Rattle.census_rows.specs.declared.row.Row.{Row}
 use Rattle.life_answer.specs.declared.part.Part as part
-use Rattle.life_shape.specs.TextOrder.{shorter_cmp}
+use Rattle.life_cells.specs.TextOrder.{shorter_cmp}
 
 abbrev pub and_then : Option Told → (Told → Option Told) → Option Told
 and_then o go = elim o as (λ _. Option Told) [ Nothing ↦ Nothing | Some u ↦ go u ]

@@ -5,8 +5,7 @@ use census_faults::{
     Fault, FileKind, Place, RuleKind, Spot, explanation, printable_text, refusal_line, rule_fault,
     spot_of_bundle, spot_of_code, spot_of_text, text_fault,
 };
-use life_cells::RuleFault;
-use life_shape::CodeFault;
+use life_cells::{CodeFault, RuleFault};
 use life_text::RleFault;
 use std::test::Fail;
 

@@ -1,8 +1,8 @@
 //! The least texts of sets in all eight orientations.
 
 use crate::shapes::shape_of;
+use life_cells::{Orient, read_wechsler, shorter};
 use life_codes::LeastText;
-use life_shape::{Orient, read_wechsler, shorter};
 use std::alloc::Global;
 use std::cmp::Ordering;
 use std::process::Abort;

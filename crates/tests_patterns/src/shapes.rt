@@ -1,8 +1,7 @@
 //! Shapes and Wechsler texts.
 
 use life_answer::Code;
-use life_cells::{CellFault, CellList};
-use life_shape::{CodeFault, Orient, Shape, body_of, read_wechsler, shorter};
+use life_cells::{CellFault, CellList, CodeFault, Orient, Shape, body_of, read_wechsler, shorter};
 use std::alloc::Global;
 use std::cmp::Ordering;
 use std::test::Fail;

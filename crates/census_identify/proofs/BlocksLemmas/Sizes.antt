@@ -5,7 +5,7 @@ use Rattle.life_model.specs.Box.{extent, height, width}
 use Rattle.life_model.specs.Cell.{Cell}
 use Rattle.life_model.specs.Generation.{Generation, cells}
 use Rattle.life_model.specs.Symmetry.{normal}
-use Rattle.life_shape.proofs.Boxes.{normal_normal}
+use Rattle.life_cells.proofs.Boxes.{normal_normal}
 
 pub width_of_normal : (G : Generation) → width (normal G) ≡ width G
 unfolding width

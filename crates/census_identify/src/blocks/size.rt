@@ -4,8 +4,7 @@ ghost use Rattle.life_model.specs.Box.{height, width};
 ghost use Rattle.life_model.specs.Generation.{cells};
 ghost use Rattle.life_cells.specs.Limits.{IsWithin};
 
-use life_cells::CellList;
-use life_shape::Shape;
+use life_cells::{CellList, Shape};
 use std::alloc::{AllocError, Global};
 
 /// How wide and how high the box of cells is whose places are from 0 to 1,048,575: both 0 where there is no cell.

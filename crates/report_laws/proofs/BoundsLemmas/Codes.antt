@@ -16,7 +16,7 @@ use Rattle.life_objects.specs.Ash.{IsObject, RecursWithin}
 use Rattle.life_objects.proofs.Lists.{Contains-head, Contains-later}
 use Rattle.report_laws.proofs.RunsLemmas.CountedSets.{counted_recurs, counted_told}
 use Rattle.report_laws.proofs.RunsLemmas.PartCodes.{at_once, part_code-is}
-use Rattle.life_shape.specs.TextOrder.{least_text, shorter_cmp}
+use Rattle.life_cells.specs.TextOrder.{least_text, shorter_cmp}
 use Rattle.report_laws.specs.Ranges.{IsCodedPart}
 
 abbrev IsSome : List ℕ → Type 0

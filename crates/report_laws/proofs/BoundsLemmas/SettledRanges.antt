@@ -27,7 +27,7 @@ use Rattle.life_model.specs.Evolution.{generation}
 use Rattle.life_model.specs.Generation.{Generation, size}
 use Rattle.life_model.specs.Recurrence.{Recurrence, Settles as IsSettling}
 use Rattle.life_model.specs.Rule.{Rule}
-use Rattle.life_shape.specs.TextOrder.{least_text}
+use Rattle.life_cells.specs.TextOrder.{least_text}
 use Rattle.life_text.specs.Picture.{Picture, picture_of}
 use Rattle.life_text.specs.Rle.{reading}
 use Rattle.life_text.specs.declared.rle.RleFault.{RleFault}

@@ -17,7 +17,7 @@ use Rattle.life_model.specs.Evolution.{generation, next}
 use Rattle.life_model.specs.Generation.{Generation, cells, contains, empty, from_list, size}
 use Rattle.life_model.specs.Rule.{Rule}
 use Rattle.life_model.specs.Symmetry.{translate_of}
-use Rattle.life_shape.proofs.Members.{member_has}
+use Rattle.life_cells.proofs.Members.{member_has}
 use Rattle.life_text.proofs.PictureLemmas.{placed_rises, placed_within}
 use Rattle.life_text.proofs.RisingLemmas.{meaning_rises}
 use Rattle.life_text.specs.Picture.{Picture, picture_of}

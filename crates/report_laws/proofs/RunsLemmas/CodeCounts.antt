@@ -8,8 +8,8 @@ use Rattle.life_answer.specs.Parts.{with_code_by_order, counted_codes, with_code
 use Rattle.life_answer.specs.declared.part.Part.{Part}
 use Rattle.life_model.specs.Rule.{Rule}
 use Rattle.life_objects.proofs.Lists.{Contains-head, Contains-later, head_or_later}
-use Rattle.life_shape.specs.TextOrder.{shorter_cmp}
-use Rattle.life_shape.proofs.TextOrders.{shorter_exact}
+use Rattle.life_cells.specs.TextOrder.{shorter_cmp}
+use Rattle.life_cells.proofs.TextOrders.{shorter_exact}
 use Rattle.census_format.specs.Objects.{Object, object, same_object}
 use Rattle.census_format.specs.PartCounts.{parts_as}
 use Rattle.census_format.proofs.Tallies.{count_first}

@@ -1,5 +1,5 @@
 use Rattle.std.proofs.Common.{◌∙◌, ap, sym}
-use Rattle.life_shape.specs.TextOrder.{shorter_cmp}
+use Rattle.life_cells.specs.TextOrder.{shorter_cmp}
 use Rattle.life_answer.proofs.Counted.{counted_there}
 use Rattle.life_answer.proofs.parts.place_of.Goals as goal
 

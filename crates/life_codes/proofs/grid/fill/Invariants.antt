@@ -1,5 +1,5 @@
 use Rattle.std.proofs.Common.{map, take}
-use Rattle.life_shape.specs.Orients.{orientation}
+use Rattle.life_cells.specs.Orients.{orientation}
 use Rattle.life_lengths.specs.Frames.{cell_in_frame, strips_of, wide_of}
 use Rattle.life_lengths.specs.Grids.{HoldsWeights}
 use Rattle.life_codes.proofs.grid.fill.Given as goal

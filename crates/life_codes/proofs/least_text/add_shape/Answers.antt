@@ -1,4 +1,4 @@
-use Rattle.life_shape.specs.declared.orient.Orient.TheVariants.{Same}
+use Rattle.life_cells.specs.declared.orient.Orient.TheVariants.{Same}
 use Rattle.life_codes.proofs.Leasts.{orients, turned-more}
 use Rattle.life_codes.proofs.least_text.add_shape.Goals as goal
 

@@ -1,5 +1,5 @@
 use Rattle.std.proofs.Common.{◌≡◌, ◌++◌, length, sym, ap, ◌∙◌}
-use Rattle.life_shape.specs.Wechsler.{columns_text}
+use Rattle.life_cells.specs.Wechsler.{columns_text}
 use Rattle.life_lengths.specs.Grids.{columns_from, grid_text, strip_of}
 use Rattle.life_codes.specs.Least.{with_text}
 use Rattle.life_codes.proofs.Firsts.{grid_begun}

@@ -1,8 +1,8 @@
 use Rattle.std.proofs.Common.{◌≡◌, ◌<◌, [], ◌∷◌, map, true, false, arith, ◌∙◌}
 use Rattle.life_model.specs.Generation.{from_list}
 use Rattle.life_model.specs.Symmetry.{FlipX, image_under}
-use Rattle.life_shape.specs.Orients.{orientation}
-use Rattle.life_shape.specs.Wechsler.{body}
+use Rattle.life_cells.specs.Orients.{orientation}
+use Rattle.life_cells.specs.Wechsler.{body}
 use Rattle.life_lengths.specs.Frames.{cell_in_frame, strips_of, wide_of}
 use Rattle.life_lengths.specs.Grids.{grid_text}
 use Rattle.life_lengths.proofs.Bodies.{placed-lt, text_forward, text_backward, framed_cells, cells_inside, small_values}

@@ -1,5 +1,5 @@
 use Rattle.std.proofs.Common.{◌++◌, ◌∷◌, [], ap, ◌∙◌, refl}
-use Rattle.life_shape.proofs.Columns.{zeros_turn}
+use Rattle.life_cells.proofs.Columns.{zeros_turn}
 use Rattle.life_codes.proofs.writing.push_run.Goals as goal
 
 pub runs-preserved : goal.runs-preserved

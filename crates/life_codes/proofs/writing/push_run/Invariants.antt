@@ -1,5 +1,5 @@
 use Rattle.std.proofs.Common.{◌≡◌, ◌++◌}
-use Rattle.life_shape.specs.Wechsler.{zeros}
+use Rattle.life_cells.specs.Wechsler.{zeros}
 use Rattle.life_codes.proofs.writing.push_run.Given as goal
 
 abbrev pub invariant-runs : goal.invariant-runs

@@ -1,5 +1,5 @@
 use Rattle.std.proofs.Common.{◌≡◌, ◌≤◌, ◌++◌, drop}
-use Rattle.life_shape.specs.Wechsler.{columns_text}
+use Rattle.life_cells.specs.Wechsler.{columns_text}
 use Rattle.life_lengths.specs.Grids.{columns_from}
 use Rattle.life_codes.proofs.writing.push_strip.Given as goal
 

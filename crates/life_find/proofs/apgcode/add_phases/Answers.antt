@@ -3,7 +3,7 @@ use Rattle.std.specs.Prelude.{unwrap_or}
 use Rattle.std.specs.List.{fold}
 use Rattle.life_model.specs.Evolution.{next, generation}
 use Rattle.life_model.proofs.Recurrences.{generation-zero, generation-next}
-use Rattle.life_shape.specs.TextOrder.{least_text}
+use Rattle.life_cells.specs.TextOrder.{least_text}
 use Rattle.life_answer.specs.Apgcode.{bodies, turned_bodies}
 use Rattle.life_codes.specs.Least.{with_text}
 use Rattle.life_codes.proofs.Leasts.{turned_bodies-normal}

@@ -1,7 +1,7 @@
 use Rattle.std.proofs.Common.{◌≡◌, ◌+◌, ◌-◌, ◌<◌, None}
 use Rattle.std.specs.List.{fold}
 use Rattle.life_model.specs.Evolution.{generation}
-use Rattle.life_shape.specs.TextOrder.{least_text}
+use Rattle.life_cells.specs.TextOrder.{least_text}
 use Rattle.life_answer.specs.Apgcode.{bodies, turned_bodies}
 use Rattle.life_codes.specs.Least.{with_text}
 use Rattle.life_find.proofs.apgcode.add_phases.Given as goal

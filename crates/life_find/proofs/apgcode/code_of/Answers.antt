@@ -4,7 +4,7 @@ use Rattle.life_model.specs.Evolution.{generation}
 use Rattle.life_model.specs.Symmetry.{normal}
 use Rattle.life_model.proofs.Recurrences.{generation-zero}
 use Rattle.life_cells.specs.Limits.{extent_limit, place_limit}
-use Rattle.life_shape.proofs.Boxes.{width_at_age, height_at_age}
+use Rattle.life_cells.proofs.Boxes.{width_at_age, height_at_age}
 use Rattle.life_find.proofs.apgcode.code_of.Goals as goal
 
 pub code_from-requires-clause-wide : goal.code_from-requires-clause-wide

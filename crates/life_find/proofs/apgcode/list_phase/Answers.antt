@@ -2,7 +2,7 @@ use Rattle.std.proofs.Common.{◌≤◌, ◌+◌, sym, subst, arith}
 use Rattle.std.proofs.lemmas.Result.{IfOk-weaker}
 use Rattle.life_model.specs.Box.{width, height}
 use Rattle.life_cells.specs.Limits.{extent_limit, place_limit}
-use Rattle.life_shape.proofs.Boxes.{width_at_age, height_at_age}
+use Rattle.life_cells.proofs.Boxes.{width_at_age, height_at_age}
 use Rattle.life_find.proofs.apgcode.list_phase.Goals as goal
 
 pub returns-clause-wide : goal.returns-clause-wide

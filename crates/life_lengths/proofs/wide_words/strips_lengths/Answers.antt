@@ -1,6 +1,6 @@
 use Rattle.std.proofs.Common.{◌≡◌, ℕ, ◌+◌, ◌*◌, length, true, false, ap, ◌∙◌, arith}
-use Rattle.life_shape.specs.Wechsler.{columns_text}
-use Rattle.life_shape.proofs.Columns.{joined, strips_text_is}
+use Rattle.life_cells.specs.Wechsler.{columns_text}
+use Rattle.life_cells.proofs.Columns.{joined, strips_text_is}
 use Rattle.life_lengths.specs.Frames.{strips_of, wide_of}
 use Rattle.life_lengths.specs.Grids.{columns_from}
 use Rattle.life_lengths.specs.WideWords.{wide_columns, words_in}

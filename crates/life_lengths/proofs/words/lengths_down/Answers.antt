@@ -1,7 +1,7 @@
 use Rattle.std.proofs.Common.{◌≡◌, ℕ, ◌+◌, ◌*◌, ◌<◌, ◌≤◌, length, map, true, false, subst, sym, ap, ◌∙◌, arith}
 use Rattle.std.specs.Int.{bit_at}
-use Rattle.life_shape.specs.Wechsler.{columns_text}
-use Rattle.life_shape.proofs.Columns.{joined, strips_text_is}
+use Rattle.life_cells.specs.Wechsler.{columns_text}
+use Rattle.life_cells.proofs.Columns.{joined, strips_text_is}
 use Rattle.life_lengths.specs.Frames.{cell_in_frame}
 use Rattle.life_lengths.specs.Grids.{columns_from}
 use Rattle.life_lengths.specs.Words.{AreWithinColumns, five_rows, word_columns}

@@ -1,6 +1,6 @@
 use Rattle.std.proofs.Common.{◌≡◌, ◌+◌, ◌-◌, ◌*◌, ◌≤◌, length, true, false}
-use Rattle.life_shape.specs.Wechsler.{columns_text}
-use Rattle.life_shape.proofs.Columns.{joined}
+use Rattle.life_cells.specs.Wechsler.{columns_text}
+use Rattle.life_cells.proofs.Columns.{joined}
 use Rattle.life_lengths.specs.Grids.{columns_from}
 use Rattle.life_lengths.specs.Words.{five_rows, word_columns}
 use Rattle.life_lengths.proofs.words.lengths_down.Given as goal

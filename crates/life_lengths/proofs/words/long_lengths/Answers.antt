@@ -1,6 +1,6 @@
 use Rattle.std.proofs.Common.{◌≡◌, ℕ, ◌+◌, ◌-◌, ◌^◌, ◌/◌, ◌≤◌, ◌<◌, drop, get_or, length, ap, ◌∙◌, arith}
 use Rattle.std.specs.Int.{bit_at}
-use Rattle.life_shape.specs.Wechsler.{columns_text, zeros}
+use Rattle.life_cells.specs.Wechsler.{columns_text, zeros}
 use Rattle.life_lengths.specs.Words.{word_columns}
 use Rattle.life_lengths.proofs.Worded.{length-word_columns, next_column, rest_more, no_more, next_forward, next_backward, first_forward, first_backward, done_forward, done_backward, nothing_forward, nothing_backward}
 use Rattle.life_lengths.proofs.words.long_lengths.Goals as goal

@@ -1,5 +1,5 @@
 use Rattle.std.proofs.Common.{◌≡◌, ◌+◌, ◌-◌, ◌/◌, ◌^◌, ◌<◌, ◌≤◌, drop, length, reverse, take}
-use Rattle.life_shape.specs.Wechsler.{columns_text}
+use Rattle.life_cells.specs.Wechsler.{columns_text}
 use Rattle.life_lengths.specs.Words.{word_columns}
 use Rattle.life_lengths.proofs.Measured.{Counted}
 use Rattle.life_lengths.proofs.words.long_lengths.Given as goal

@@ -1,5 +1,5 @@
 use Rattle.std.proofs.Common.{arith}
-use Rattle.life_shape.proofs.Boxes.{width_at_age, height_at_age}
+use Rattle.life_cells.proofs.Boxes.{width_at_age, height_at_age}
 use Rattle.tests_patterns.proofs.shapes.shape_of.Goals as goal
 
 pub of-requires-2-clause-wide : goal.of-requires-2-clause-wide

@@ -1,6 +1,6 @@
 use Rattle.std.proofs.Common.{◌≡◌, ℕ, ap, ◌∙◌, arith}
 use Rattle.life_model.specs.Box.{height, width}
-use Rattle.life_shape.proofs.Boxes.{height_at_age, width_at_age}
+use Rattle.life_cells.proofs.Boxes.{height_at_age, width_at_age}
 use Rattle.census_identify.proofs.BlocksLemmas.Sizes.{height_of_normal, width_of_normal}
 use Rattle.census_identify.proofs.blocks.size.size.Goals as goal
 

@@ -3,7 +3,7 @@ use Rattle.std.specs.List.{fold}
 use Rattle.std.proofs.lemmas.Result.{on_ok_weaker}
 use Rattle.life_model.specs.Generation.{from_list}
 use Rattle.life_model.proofs.Generations.{from_list-cells}
-use Rattle.life_shape.specs.TextOrder.{least_text}
+use Rattle.life_cells.specs.TextOrder.{least_text}
 use Rattle.life_answer.specs.Apgcode.{turned_bodies}
 use Rattle.life_codes.specs.Least.{with_text}
 use Rattle.life_codes.proofs.Ordered.{fold_bodies}

@@ -1,7 +1,7 @@
 use Rattle.std.proofs.Common.{◌≡◌, ℤ, pos, negsuc, neg_ℤ, ◌-ℤ◌, ◌≤ℤ◌, to_z, of_z, w32, ap, arith, subst, ◌∙◌, sym}
 use Rattle.std.proofs.lemmas.Int.{ints, to_z-of_z}
 use Rattle.life_model.specs.Symmetry.{Orientation, Same, FlipX, FlipY, Half, Swap, SwapFlipX, SwapFlipY, SwapHalf}
-use Rattle.life_shape.specs.Orients.{orientation}
+use Rattle.life_cells.specs.Orients.{orientation}
 use Rattle.life_cells.specs.Limits.{coordinate_limit}
 use Rattle.life_lengths.specs.declared.frame.Frame.{Frame}
 use Rattle.life_lengths.specs.Frames.{IsBounded, turned_frame}

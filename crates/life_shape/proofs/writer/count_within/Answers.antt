@@ -1,6 +1,0 @@
-use Rattle.std.proofs.Common.{◌+◌, ◌*◌, pos}
-use Rattle.life_shape.proofs.StripLists.{behind_row}
-use Rattle.life_shape.proofs.writer.count_within.Goals as goal
-
-pub returns-then-is_below-clause-below : goal.returns-then-is_below-clause-below
-returns-then-is_below-clause-below c = behind_row (pos (5 * c.args.strip + 5)) c.args.cells.now c.cells.i (pos 0, pos 0) c.cells-test.true c.requires.rising (c.is_below.ensures.0 c.if-is_below.true)

@@ -1,6 +1,0 @@
-use Rattle.std.proofs.Common.{◌≡◌, map, take}
-use Rattle.life_shape.specs.Dots.{dot}
-use Rattle.life_shape.proofs.writer.dots_of.Given as goal
-
-abbrev pub invariant-loop-cell : goal.invariant-loop-cell
-invariant-loop-cell l = l.dots.items ≡ map (dot l.strip) (take l.cell-index l.cells)
