@@ -4,13 +4,13 @@ use Rattle.std.specs.Int.{bit_at}
 use Rattle.std.proofs.lemmas.Bool.{cases_lt}
 use Rattle.std.proofs.lemmas.Nat.Bits.{bit_at-lt, bit_at-zero}
 use Rattle.life_model.specs.Rule.{Rule, born}
-use Rattle.life_bits.specs.declared.tile.Tile.{Tile}
-use Rattle.life_bits.specs.Bits.{wide_row, next_state}
-use Rattle.life_bits.specs.Area.{Nine, area_row, area_cell, sum_around, next_in_area}
-use Rattle.life_bits.specs.Rows.{IsRowSumsOf}
-use Rattle.life_bits.specs.declared.row_sums.RowSums.{RowSums}
-use Rattle.life_bits.proofs.Joining.{area_first, area_second, area_third}
-use Rattle.life_bits.proofs.OneCell.{zero_in}
+use Rattle.life_plane.specs.declared.tile.Tile.{Tile}
+use Rattle.life_plane.specs.Bits.{wide_row, next_state}
+use Rattle.life_plane.specs.Area.{Nine, area_row, area_cell, sum_around, next_in_area}
+use Rattle.life_plane.specs.Rows.{IsRowSumsOf}
+use Rattle.life_plane.specs.declared.row_sums.RowSums.{RowSums}
+use Rattle.life_plane.proofs.Joining.{area_first, area_second, area_third}
+use Rattle.life_plane.proofs.OneCell.{zero_in}
 use Rattle.life_slots.specs.Slots.{empty_tile}
 use Rattle.life_board.specs.Squares.{alone, around_in, IsVoidOutside}
 

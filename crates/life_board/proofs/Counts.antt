@@ -4,7 +4,7 @@ use Rattle.life_model.specs.Cell.{Cell}
 use Rattle.life_model.specs.Generation.{cells, size}
 use Rattle.life_model.proofs.Generations.{contains-cells}
 use Rattle.life_cells.specs.Limits.{IsWithin}
-use Rattle.life_bits.specs.declared.tile.Tile.{Tile}
+use Rattle.life_plane.specs.declared.tile.Tile.{Tile}
 use Rattle.life_slots.specs.Cells.{block_cells, row_cells, IsCountFrom}
 use Rattle.life_slots.proofs.Pushed.{block_empty, block_short}
 use Rattle.life_slots.proofs.Counted.{counted_from, counted_from_none, size-fresh}

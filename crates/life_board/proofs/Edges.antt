@@ -1,8 +1,8 @@
 -- Tiles whose edge has no live cell.
 use Rattle.std.proofs.Common.{◌≡◌, ℕ, ◌<◌, Bool, true, false, ◌||◌, ◌↔◌, slice_index, refl, arith, true≢false}
 use Rattle.std.specs.Int.{bit_at}
-use Rattle.life_bits.specs.Area.{tile_cell}
-use Rattle.life_bits.specs.declared.tile.Tile.{Tile}
+use Rattle.life_plane.specs.Area.{tile_cell}
+use Rattle.life_plane.specs.declared.tile.Tile.{Tile}
 use Rattle.life_slots.specs.Rims.{IsEdge, IsRimOf, IsStill}
 use Rattle.life_board.specs.Squares.{IsInner}
 

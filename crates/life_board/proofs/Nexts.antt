@@ -9,13 +9,13 @@ use Rattle.life_model.specs.Generation.{Generation, contains}
 use Rattle.life_model.specs.Evolution.{next}
 use Rattle.life_model.proofs.Generations.{same_members}
 use Rattle.life_model.proofs.Near.{next_near}
-use Rattle.life_bits.specs.declared.tile.Tile.{Tile}
+use Rattle.life_plane.specs.declared.tile.Tile.{Tile}
 use Rattle.life_cells.specs.Limits.{IsWithin}
 use Rattle.life_cells.proofs.Within.{within_near}
-use Rattle.life_bits.specs.Bits.{next_state}
-use Rattle.life_bits.specs.Area.{three_wide, area_cell, sum_around, tile_cell, next_in_area}
-use Rattle.life_bits.proofs.Strips.{strip_low, strip_middle, strip_high}
-use Rattle.life_bits.proofs.Joining.{area_first, area_second, area_third}
+use Rattle.life_plane.specs.Bits.{next_state}
+use Rattle.life_plane.specs.Area.{three_wide, area_cell, sum_around, tile_cell, next_in_area}
+use Rattle.life_plane.proofs.Strips.{strip_low, strip_middle, strip_high}
+use Rattle.life_plane.proofs.Joining.{area_first, area_second, area_third}
 use Rattle.life_slots.specs.Slots.{empty_tile}
 use Rattle.life_slots.specs.Cells.{state_at}
 use Rattle.life_slots.proofs.Members.{BlockHas}

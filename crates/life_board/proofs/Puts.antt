@@ -6,8 +6,8 @@ use Rattle.life_model.specs.Cell.{Cell, same_cell}
 use Rattle.life_model.specs.Generation.{Generation, contains, empty, from_list, insert}
 use Rattle.life_model.proofs.Generations.{same_members, contains-insert, contains-empty}
 use Rattle.life_model.proofs.Cells.{same_cell-is}
-use Rattle.life_bits.specs.declared.tile.Tile.{Tile}
-use Rattle.life_bits.specs.Area.{tile_cell}
+use Rattle.life_plane.specs.declared.tile.Tile.{Tile}
+use Rattle.life_plane.specs.Area.{tile_cell}
 use Rattle.life_slots.specs.Slots.{empty_tile}
 use Rattle.life_slots.proofs.EndCells.{one_is_not_none}
 use Rattle.life_slots.proofs.Inserted.{inserted_cases}

@@ -13,7 +13,7 @@ use Rattle.life_cells.specs.Limits.{IsPlace, IsWithin, age_limit}
 use Rattle.life_cells.proofs.Sorted.{both_hold}
 use Rattle.life_plane.proofs.Later.{place_from_within}
 use Rattle.life_slots.proofs.Inserted.{all_listed}
-use Rattle.life_bits.specs.declared.tile.Tile.{Tile}
+use Rattle.life_plane.specs.declared.tile.Tile.{Tile}
 use Rattle.life_slots.specs.Cells.{row_cells, block_cells}
 use Rattle.life_slots.proofs.Members.{Has, has_head, has_tail, has_cases, has_none, has_parts, RowHas, row_has, BlockHas, block_has}
 use Rattle.life_slots.proofs.Pushed.{block_empty, block_short}

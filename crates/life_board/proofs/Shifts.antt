@@ -4,7 +4,7 @@ use Rattle.std.specs.Int.{bit_at}
 use Rattle.std.proofs.lemmas.Bool.{cases_lt}
 use Rattle.std.proofs.lemmas.Int.{ints}
 use Rattle.std.proofs.lemmas.Nat.Bits.{bit_at-zero, bit_at_above, bit_at_cat_low}
-use Rattle.life_bits.proofs.Strips.{bit_at_mod}
+use Rattle.life_plane.proofs.Strips.{bit_at_mod}
 use Rattle.life_slots.proofs.Bits.{bit_at_moved, bit_at_rest}
 
 pub down_inside : (word s j n : ℕ) → s + j ≡ n → bit_at (word / 2 ^ s) j ≡ bit_at word n

@@ -4,9 +4,9 @@ use Rattle.std.proofs.lemmas.Int.{ints}
 use Rattle.life_model.specs.Cell.{Cell}
 use Rattle.life_model.specs.Generation.{contains}
 use Rattle.life_model.proofs.Generations.{contains-from_list}
-use Rattle.life_bits.specs.declared.tile.Tile.{Tile}
-use Rattle.life_bits.specs.Area.{tile_cell}
-use Rattle.life_bits.specs.Flags.{as_bit}
+use Rattle.life_plane.specs.declared.tile.Tile.{Tile}
+use Rattle.life_plane.specs.Area.{tile_cell}
+use Rattle.life_plane.specs.Flags.{as_bit}
 use Rattle.life_slots.specs.Cells.{block_cells, state_at}
 use Rattle.life_slots.proofs.Bits.{bit_cases}
 use Rattle.life_slots.proofs.Orders.{true_or_false}

@@ -4,8 +4,8 @@ use Rattle.std.specs.Int.{bit_at}
 use Rattle.life_model.specs.Cell.{Cell}
 use Rattle.life_model.specs.Generation.{Generation, contains, from_list}
 use Rattle.life_cells.specs.Limits.{IsWithin, age_limit, last_place}
-use Rattle.life_bits.specs.declared.tile.Tile.{Tile}
-use Rattle.life_bits.specs.Area.{Nine, tile_cell}
+use Rattle.life_plane.specs.declared.tile.Tile.{Tile}
+use Rattle.life_plane.specs.Area.{Nine, tile_cell}
 use Rattle.life_slots.specs.Cells.{block_cells}
 use Rattle.life_slots.specs.Slots.{empty_tile}
 use Rattle.life_slots.specs.Ends.{HasEnds, IsMember}

@@ -3,7 +3,7 @@ ghost use Rattle.std.specs.Prelude.{MatchOption};
 ghost use Rattle.life_slots.specs.Ends.{IsFirstIn, IsLastIn, IsVoid};
 ghost use Rattle.life_board.specs.Squares.{IsVoidOutside};
 
-use life_bits::Tile;
+use life_plane::Tile;
 
 /// The first live cell of a tile by rows: its column and its row.
 pub fn first_in(tile: &Tile, first: usize, end: usize) -> Option<(usize, usize)>

@@ -1,14 +1,14 @@
 //! The next generation of a tile around which all cells are dead, in the rows that may have a live cell.
 ghost use Rattle.std.specs.Prelude.{◌≡◌, ℕ, ◌+◌, ◌-◌, ◌<◌, ◌≤◌, slice_index};
 ghost use Rattle.life_model.specs.Rule.{Rule};
-ghost use Rattle.life_bits.specs.Area.{next_in_area, tile_cell};
-ghost use Rattle.life_bits.specs.Logics.{IsLogicOf};
-ghost use Rattle.life_bits.specs.Numbers.{number_at};
-ghost use Rattle.life_bits.specs.Rows.{IsRowSumsOf};
+ghost use Rattle.life_plane.specs.Area.{next_in_area, tile_cell};
+ghost use Rattle.life_plane.specs.Logics.{IsLogicOf};
+ghost use Rattle.life_plane.specs.Numbers.{number_at};
+ghost use Rattle.life_plane.specs.Rows.{IsRowSumsOf};
 ghost use Rattle.life_board.specs.Squares.{alone, around_in, AreColumnsOf, IsVoidOutside};
 
-use life_bits::{Count, Logic, RowSums, Tile, full_adder, sums};
 use life_cells::Rule;
+use life_plane::{Count, Logic, RowSums, Tile, full_adder, sums};
 
 /// How many live neighbours each cell of a row has, by the sums of the row above, of its own and of the row below.
 #[inline(always)]

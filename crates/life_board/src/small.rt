@@ -2,7 +2,7 @@
 ghost use Rattle.std.specs.Prelude.{◌≡◌, ◌≢◌, ◌⊎◌, ◌↔◌, ℕ, ℤ, pos, negsuc, ◌+◌, ◌+ℤ◌, ◌<◌, ◌≤◌, ◌≤ℤ◌, All, IfOk, IfSome, MatchOption, [], false, length, slice_index};
 ghost use Rattle.life_model.specs.Evolution.{next};
 ghost use Rattle.life_model.specs.Generation.{from_list, insert, size};
-ghost use Rattle.life_bits.specs.Area.{tile_cell};
+ghost use Rattle.life_plane.specs.Area.{tile_cell};
 ghost use Rattle.life_cells.specs.Limits.{IsWithin, age_limit};
 ghost use Rattle.life_plane.specs.Span.{set_span};
 ghost use Rattle.life_slots.specs.Cells.{block_cells, row_cells};
@@ -11,9 +11,8 @@ ghost use Rattle.life_board.specs.Limits.{corner_limit};
 
 use crate::ends::{first_in, last_in};
 use crate::rows::{advance, end_of_rows, first_row};
-use life_bits::Tile;
 use life_cells::{CellList, Rule};
-use life_plane::move_between;
+use life_plane::{Tile, move_between};
 use life_slots::{Rim, push_row};
 use std::alloc::{AllocError, Global};
 

@@ -8,7 +8,7 @@ use Rattle.life_model.specs.Cell.{Cell}
 use Rattle.life_model.specs.Generation.{Generation, contains, from_list, insert}
 use Rattle.life_model.proofs.Cells.{cells_differ, pair, same_cell-is}
 use Rattle.life_model.proofs.Generations.{contains-insert, contains-empty}
-use Rattle.life_bits.specs.Flags.{as_bit}
+use Rattle.life_plane.specs.Flags.{as_bit}
 use Rattle.life_leaves.specs.Kernels.Rows.{state}
 use Rattle.life_slots.proofs.Members.{Has, has_head, has_none, has_front, has_back, has_parts, has_cases}
 use Rattle.life_slots.proofs.Inserted.{list_more}

@@ -8,7 +8,7 @@ use Rattle.life_model.specs.Cell.{Cell}
 use Rattle.life_model.specs.Generation.{Generation, contains, from_list}
 use Rattle.life_model.proofs.Cells.{pair}
 use Rattle.life_model.proofs.Generations.{contains-from_list, same_members}
-use Rattle.life_bits.specs.Flags.{as_bit}
+use Rattle.life_plane.specs.Flags.{as_bit}
 use Rattle.life_slots.specs.Cells.{row_cells}
 use Rattle.life_slots.proofs.Members.{Has, has_none, has_front, has_back, has_parts, RowHas, row_has, row_in}
 use Rattle.life_slots.proofs.Orders.{true_or_false}

@@ -4,7 +4,7 @@ use Rattle.life_model.specs.Cell.{Cell}
 use Rattle.life_model.specs.Rule.{Rule}
 use Rattle.life_model.specs.Generation.{Generation}
 use Rattle.life_model.specs.Evolution.{generation}
-use Rattle.life_bits.specs.Logics.{IsLogicOf}
+use Rattle.life_plane.specs.Logics.{IsLogicOf}
 use Rattle.life_leaps.specs.declared.rows.FourInRow.{FourInRow}
 use Rattle.life_leaps.specs.declared.rows.ThreeInRow.{ThreeInRow}
 use Rattle.life_leaps.specs.declared.rows.TwoInRow.{TwoInRow}

@@ -10,8 +10,8 @@ use crate::rows::Step;
 use crate::site::Site;
 use crate::square::ROOT_LEVEL;
 use crate::store::{NoLeap, Store};
-use life_bits::Logic;
 use life_cells::{CellList, Rule, put_in_order};
+use life_plane::Logic;
 use std::alloc::{AllocError, Global};
 
 /// The squares of a set of cells, what to work out of them, and how many steps it has made.

@@ -2,8 +2,8 @@
 ghost use Rattle.std.specs.Prelude.{◌≡◌};
 
 use crate::square::Quarters;
-use life_bits::Logic;
 use life_cells::Rule;
+use life_plane::Logic;
 
 /// What a store works out: the middle of each square 2^exponent generations later, where it is wide enough for that, and else
 /// as many generations later as it is.

@@ -6,11 +6,11 @@ use Rattle.life_model.specs.Rule.{Rule}
 use Rattle.life_model.specs.Cell.{Cell, plus}
 use Rattle.life_model.specs.Generation.{Generation}
 use Rattle.life_model.specs.Evolution.{next}
-use Rattle.life_bits.specs.Area.{Nine, tile_cell}
-use Rattle.life_bits.specs.declared.window.Window.{Window}
-use Rattle.life_bits.specs.Windows.{IsWindowOf, next_in_window, window_row}
-use Rattle.life_bits.proofs.Joining.{area_second}
-use Rattle.life_bits.proofs.Strips.{strip_middle}
+use Rattle.life_plane.specs.Area.{Nine, tile_cell}
+use Rattle.life_plane.specs.declared.window.Window.{Window}
+use Rattle.life_plane.specs.Windows.{IsWindowOf, next_in_window, window_row}
+use Rattle.life_plane.proofs.Joining.{area_second}
+use Rattle.life_plane.proofs.Strips.{strip_middle}
 use Rattle.life_leaves.specs.Kernels.Rows.{state, IsWindowAt}
 use Rattle.life_leaves.proofs.KernelsLemmas.Kernels.{window_next}
 use Rattle.life_leaves.proofs.KernelsLemmas.Sets.{window_of_set}

@@ -3,7 +3,7 @@ use Rattle.std.proofs.Common.{◌≡◌, ℕ, ◌+◌, ◌-◌, ◌*◌, ◌/◌
 use Rattle.std.specs.Int.{bit_at}
 use Rattle.std.proofs.lemmas.Nat.{pow_pos}
 use Rattle.std.proofs.lemmas.Nat.Bits.{bit_at-lt, bit_at_and, bit_at_or, bit_at_above, bit_at_cat_low, bit_at_cat_high, bit_at_ones, bit_at-zero}
-use Rattle.life_bits.proofs.Strips.{bit_at_mod}
+use Rattle.life_plane.proofs.Strips.{bit_at_mod}
 use Rattle.life_slots.proofs.Bits.{bit_at_rest}
 
 -- a bit of the eastern half, moved up

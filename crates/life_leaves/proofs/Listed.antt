@@ -8,7 +8,7 @@ use Rattle.life_model.specs.Cell.{Cell, same_cell}
 use Rattle.life_model.specs.Generation.{Generation, contains}
 use Rattle.life_model.proofs.Cells.{same_cell-is}
 use Rattle.life_model.proofs.Tests.{list_any-reverse}
-use Rattle.life_bits.specs.Flags.{as_bit}
+use Rattle.life_plane.specs.Flags.{as_bit}
 use Rattle.life_slots.specs.Cells.{row_cells}
 use Rattle.life_slots.proofs.Members.{Has, has_back, has_front, has_parts, row_has, row_in}
 use Rattle.life_slots.proofs.Orders.{true_or_false}

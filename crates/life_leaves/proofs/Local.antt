@@ -7,7 +7,7 @@ use Rattle.life_model.specs.Cell.{Cell, around}
 use Rattle.life_model.specs.Generation.{Generation, contains}
 use Rattle.life_model.specs.Evolution.{count, lives, next}
 use Rattle.life_model.proofs.Evolution.{contains-next}
-use Rattle.life_bits.specs.Flags.{as_bit}
+use Rattle.life_plane.specs.Flags.{as_bit}
 use Rattle.life_leaves.specs.Kernels.Rows.{state}
 use Rattle.life_slots.proofs.Splits.{same_flag}
 

@@ -6,8 +6,8 @@ use Rattle.life_model.specs.Cell.{Cell, plus}
 use Rattle.life_model.specs.Generation.{Generation}
 use Rattle.life_model.specs.Evolution.{next, generation}
 use Rattle.life_model.proofs.Recurrences.{generation-next}
-use Rattle.life_bits.specs.declared.tile.Tile.{Tile}
-use Rattle.life_bits.specs.Area.{tile_cell}
+use Rattle.life_plane.specs.declared.tile.Tile.{Tile}
+use Rattle.life_plane.specs.Area.{tile_cell}
 use Rattle.life_leaves.specs.Kernels.Rows.{state}
 use Rattle.life_leaves.specs.declared.leaf.Leaf.{Leaf}
 use Rattle.life_leaves.specs.Areas.{ShowsWithin}

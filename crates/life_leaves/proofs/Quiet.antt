@@ -9,8 +9,8 @@ use Rattle.life_model.specs.Generation.{Generation, contains, empty}
 use Rattle.life_model.specs.Evolution.{next}
 use Rattle.life_model.proofs.Generations.{contains-empty}
 use Rattle.life_model.proofs.Near.{next_near}
-use Rattle.life_bits.specs.declared.tile.Tile.{Tile}
-use Rattle.life_bits.specs.Flags.{as_bit}
+use Rattle.life_plane.specs.declared.tile.Tile.{Tile}
+use Rattle.life_plane.specs.Flags.{as_bit}
 use Rattle.life_slots.proofs.Orders.{true_or_false}
 use Rattle.life_leaves.specs.Kernels.Rows.{state}
 use Rattle.life_leaves.specs.Areas.{ShowsWithin}

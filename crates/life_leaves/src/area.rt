@@ -5,13 +5,13 @@ ghost use Rattle.life_model.specs.Cell.{Cell};
 ghost use Rattle.life_model.specs.Evolution.{next};
 ghost use Rattle.life_model.specs.Generation.{Generation};
 ghost use Rattle.life_model.specs.Rule.{Rule};
-ghost use Rattle.life_bits.specs.Area.{tile_cell};
-ghost use Rattle.life_bits.specs.Logics.{IsLogicOf};
+ghost use Rattle.life_plane.specs.Area.{tile_cell};
+ghost use Rattle.life_plane.specs.Logics.{IsLogicOf};
 ghost use Rattle.life_leaves.specs.Areas.{ShowsWithin};
 ghost use Rattle.life_leaves.specs.Leaves.{leaf_cell, ShowsFour};
 
 use crate::leaf::{FourLeaves, Leaf};
-use life_bits::{Around, Logic, Tile, Window, band, has_cells};
+use life_plane::{Around, Logic, Tile, Window, band, has_cells};
 
 /// Two rows side by side, as one.
 #[inline(always)]

@@ -6,11 +6,11 @@ ghost use Rattle.std.specs.Int.{bit_at};
 ghost use Rattle.life_model.specs.Generation.{Generation};
 ghost use Rattle.life_model.specs.Evolution.{count, next};
 ghost use Rattle.life_model.specs.Rule.{Rule};
-ghost use Rattle.life_bits.specs.declared.strand.Strand.{Strand};
-ghost use Rattle.life_bits.specs.Area.{Nine, area_cell, next_in_area, sum_around};
-ghost use Rattle.life_bits.specs.Bits.{IsStrandOf, neighbour_count, next_state};
-ghost use Rattle.life_bits.specs.declared.window.Window.{Window};
-ghost use Rattle.life_bits.specs.Windows.{IsWindowOf, next_in_window, window_cell};
+ghost use Rattle.life_plane.specs.declared.strand.Strand.{Strand};
+ghost use Rattle.life_plane.specs.Area.{Nine, area_cell, next_in_area, sum_around};
+ghost use Rattle.life_plane.specs.Bits.{IsStrandOf, neighbour_count, next_state};
+ghost use Rattle.life_plane.specs.declared.window.Window.{Window};
+ghost use Rattle.life_plane.specs.Windows.{IsWindowOf, next_in_window, window_cell};
 ghost use Rattle.life_leaves.specs.Kernels.Rows.{AreRowsAt, IsNineAt, IsWindowAt, state};
 
 /// Strands of three rows of a set, one below another: the neighbours that are set at a column are as many as live neighbours

@@ -4,12 +4,12 @@ ghost use Rattle.life_model.specs.Cell.{Cell, plus};
 ghost use Rattle.life_model.specs.Evolution.{generation};
 ghost use Rattle.life_model.specs.Generation.{Generation};
 ghost use Rattle.life_model.specs.Rule.{Rule};
-ghost use Rattle.life_bits.specs.Logics.{IsLogicOf};
+ghost use Rattle.life_plane.specs.Logics.{IsLogicOf};
 ghost use Rattle.life_leaves.specs.Leaves.{ShowsFour, ShowsLeaf};
 
 use crate::area::{advance, area_of, middle};
 use crate::leaf::{FourLeaves, Leaf};
-use life_bits::{Logic, Tile};
+use life_plane::{Logic, Tile};
 
 /// The middle of four leaves so many generations later, at most sixteen: the 32 by 32 cells from column 16 and row 16 on. It is
 /// that of every set that has these cells there, whatever cells it has elsewhere.

@@ -7,3 +7,13 @@ pub use Rattle.life_model.specs.Generation
 pub use Rattle.life_model.specs.Rule
 pub use Rattle.life_model.specs.Evolution
 pub mod Offsets
+pub mod Flags
+pub mod Bits
+pub mod Area
+pub mod Sums
+pub mod Eights
+pub mod Numbers
+pub mod Rows
+pub mod Logics
+pub mod Windows
+pub mod Changes

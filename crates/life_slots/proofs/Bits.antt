@@ -4,7 +4,7 @@ use Rattle.std.specs.Int.{bit_at, trailing_zeros}
 use Rattle.std.proofs.lemmas.Bool.{cases_eq, cases_lt}
 use Rattle.std.proofs.lemmas.Nat.{pow_pos}
 use Rattle.std.proofs.lemmas.Nat.Bits.{bit_at-lt, bit_at_cat_high, bit_at_above, bit_at-trailing_zeros}
-use Rattle.life_bits.proofs.Strips.{bit_at_mod}
+use Rattle.life_plane.proofs.Strips.{bit_at_mod}
 use Rattle.life_slots.proofs.Splits.{not_one}
 
 pub bit_cases : (n x : ℕ) → (bit_at n x ≡ 1) ⊎ (bit_at n x ≡ 0)

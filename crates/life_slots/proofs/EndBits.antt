@@ -4,7 +4,7 @@ use Rattle.std.specs.Int.{bit_at, trailing_zeros, leading_zeros}
 use Rattle.std.proofs.Math.Nat.{pow-suc, div-eq_of_lt-le}
 use Rattle.std.proofs.lemmas.Nat.{leading_top}
 use Rattle.std.proofs.lemmas.Nat.Bits.{bit_at-zero, bit_at-trailing_zeros, bit_at_above}
-use Rattle.life_bits.specs.declared.tile.Tile.{Tile}
+use Rattle.life_plane.specs.declared.tile.Tile.{Tile}
 use Rattle.life_slots.specs.Ends.{IsVoid, IsFirstIn, IsLastIn}
 
 clear_row : (word x : ℕ) → word ≡ 0 → bit_at word x ≡ 0

@@ -1,6 +1,6 @@
 -- The tiles of slots, one after another.
 use Rattle.std.proofs.Common.{◌≡◌, ℕ, suc, ℤ, All, List, [], ◌∷◌, subst, ap, arith}
-use Rattle.life_bits.specs.declared.tile.Tile.{Tile}
+use Rattle.life_plane.specs.declared.tile.Tile.{Tile}
 use Rattle.life_slots.specs.Slots.{tile_of, placed_tiles}
 
 pub shown_more : (tiles : List Tile) (all : List ((ℤ × ℤ) × ℕ)) (e : (ℤ × ℤ) × ℕ) (rest : List ((ℤ × ℤ) × ℕ)) → all ≡ e ∷ rest → placed_tiles all tiles ≡ (e.0, tile_of tiles e.1) ∷ placed_tiles rest tiles

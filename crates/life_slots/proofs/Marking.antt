@@ -3,9 +3,9 @@ use Rattle.std.proofs.Common.{◌≡◌, ℕ, ◌+◌, ◌*◌, ◌/◌, ◌<◌
 use Rattle.std.specs.Int.{bit_at}
 use Rattle.std.proofs.lemmas.Bool.{cases_eq}
 use Rattle.std.proofs.lemmas.Nat.Bits.{bit_at-lt}
-use Rattle.life_bits.specs.declared.tile.Tile.{Tile}
-use Rattle.life_bits.specs.declared.kernel.Change.{Change}
-use Rattle.life_bits.specs.Changes.{IsChange, IsSameCell}
+use Rattle.life_plane.specs.declared.tile.Tile.{Tile}
+use Rattle.life_plane.specs.declared.kernel.Change.{Change}
+use Rattle.life_plane.specs.Changes.{IsChange, IsSameCell}
 use Rattle.life_slots.specs.Rims.{IsEdge, IsSideClear}
 use Rattle.life_slots.specs.Work.{IsTouchedBeside}
 use Rattle.life_slots.proofs.Splits.{not_one}

@@ -7,7 +7,7 @@ use Rattle.std.specs.Ordering.{is_eq}
 use Rattle.std.specs.Cmp.{Equal-is, tied_itself}
 use Rattle.std.proofs.lemmas.Bool.{cases_eq}
 use Rattle.std.specs.BTreeMap.{is_at}
-use Rattle.life_bits.specs.declared.tile.Tile.{Tile}
+use Rattle.life_plane.specs.declared.tile.Tile.{Tile}
 use Rattle.life_slots.specs.Places.{place_cmp, start_at}
 use Rattle.life_model.specs.Cell.{cell_cmp, same_cell}
 use Rattle.life_model.proofs.Cells.{cell_cmp_total, cell_cmp-IsAntisymmetric}

@@ -7,9 +7,9 @@ use Rattle.life_model.specs.Rule.{Rule}
 use Rattle.life_model.specs.Generation.{Generation, contains}
 use Rattle.life_model.specs.Evolution.{next}
 use Rattle.life_model.proofs.Near.{next_near}
-use Rattle.life_bits.specs.declared.tile.Tile.{Tile}
-use Rattle.life_bits.specs.Flags.{as_bit}
-use Rattle.life_bits.specs.Area.{tile_cell, next_in_area}
+use Rattle.life_plane.specs.declared.tile.Tile.{Tile}
+use Rattle.life_plane.specs.Flags.{as_bit}
+use Rattle.life_plane.specs.Area.{tile_cell, next_in_area}
 use Rattle.life_slots.specs.Places.{place_cmp, IsBeside, start_at}
 use Rattle.life_slots.proofs.Orders.{true_or_false}
 use Rattle.life_slots.proofs.Splits.{Split, split}

@@ -2,7 +2,7 @@
 use Rattle.std.proofs.Common.{◌≡◌, ℕ, zero, suc, ℤ, pos, ◌+ℤ◌, ◌+◌, ◌<◌, ◌≤◌, ◌==◌, Bool, false, cond, List, [], ◌∷◌, ◌++◌, slice_index, refl, sym, ap, ◌∙◌, append_assoc, eq-eqb, arith}
 use Rattle.std.specs.Int.{bit_at}
 use Rattle.std.proofs.lemmas.Nat.Bits.{bit_at-zero}
-use Rattle.life_bits.specs.declared.tile.Tile.{Tile}
+use Rattle.life_plane.specs.declared.tile.Tile.{Tile}
 use Rattle.life_slots.specs.Places.{start_at}
 use Rattle.life_slots.specs.Cells.{row_cells, block_cells, tiles_cells}
 

@@ -1,7 +1,7 @@
 -- Rims of tiles.
 use Rattle.std.proofs.Common.{◌≡◌, ◌≢◌, ℕ, ◌/◌, ◌<◌, ◌^◌, refl, sym, ◌∙◌, arith}
 use Rattle.std.specs.Int.{bit_at}
-use Rattle.life_bits.proofs.OneCell.{zero_from_bits}
+use Rattle.life_plane.proofs.OneCell.{zero_from_bits}
 use Rattle.life_slots.specs.Rims.{IsEdge}
 
 last_bit : (bits : ℕ) → bits < 2 ^ 64 → bit_at bits 63 ≡ bits / 9223372036854775808

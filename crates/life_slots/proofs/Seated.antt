@@ -9,7 +9,7 @@ use Rattle.std.proofs.lemmas.List.Elements.{All-push}
 use Rattle.std.proofs.lemmas.List.Folds.{list_any-append}
 use Rattle.life_model.specs.Cell.{Cell, same_cell}
 use Rattle.life_model.proofs.Tests.{list_any-alike, list_any-or, list_any-reverse}
-use Rattle.life_bits.specs.declared.tile.Tile.{Tile}
+use Rattle.life_plane.specs.declared.tile.Tile.{Tile}
 use Rattle.life_slots.specs.Cells.{row_cells, block_cells, tiles_cells}
 use Rattle.life_slots.specs.Limits.{tile_limit}
 use Rattle.life_slots.specs.Places.{start_at, IsInside}

@@ -10,12 +10,12 @@ use Rattle.std.proofs.lemmas.Map.Views.{All-found}
 use Rattle.life_model.specs.Cell.{Cell, same_cell}
 use Rattle.life_model.specs.Generation.{Generation, contains}
 use Rattle.life_model.proofs.Generations.{contains-from_list, same_members}
-use Rattle.life_bits.specs.declared.tile.Tile.{Tile}
-use Rattle.life_bits.specs.Flags.{as_bit}
-use Rattle.life_bits.specs.Area.{tile_cell}
+use Rattle.life_plane.specs.declared.tile.Tile.{Tile}
+use Rattle.life_plane.specs.Flags.{as_bit}
+use Rattle.life_plane.specs.Area.{tile_cell}
 use Rattle.life_slots.specs.Cells.{tiles_cells, state_at}
 use Rattle.life_slots.specs.Places.{place_cmp, start_at}
-use Rattle.life_bits.proofs.OneCell.{no_cell}
+use Rattle.life_plane.proofs.OneCell.{no_cell}
 use Rattle.life_slots.proofs.Orders.{place_total, true_or_false}
 use Rattle.life_slots.proofs.Members.{Has, BlockHas, EntryHas, row_in, block_in, tiles_has, tiles_in}
 use Rattle.life_slots.proofs.Splits.{same_quotient, not_one, Split, split, same_flag}

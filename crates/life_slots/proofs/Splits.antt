@@ -2,7 +2,7 @@
 use Rattle.std.proofs.Common.{◌≡◌, ℕ, ℤ, pos, negsuc, ◌+ℤ◌, ◌-◌, ◌/◌, ◌%◌, ◌<◌, ⊎_elim, Bool, true, false, refl, arith}
 use Rattle.std.proofs.lemmas.Int.{ints}
 use Rattle.std.proofs.lemmas.Bool.{cases_eq}
-use Rattle.life_bits.specs.Flags.{as_bit}
+use Rattle.life_plane.specs.Flags.{as_bit}
 use Rattle.life_slots.specs.Places.{start_at}
 
 pub same_quotient : (a b : ℤ) (x j : ℕ) → x < 64 → j < 64 → (start_at a +ℤ pos x) ≡ (start_at b +ℤ pos j) → a ≡ b

@@ -4,8 +4,8 @@ use Rattle.std.proofs.lemmas.Bool.{cases_eq}
 use Rattle.std.proofs.lemmas.Int.{ints}
 use Rattle.life_model.specs.Rule.{Rule}
 use Rattle.life_model.specs.Evolution.{next}
-use Rattle.life_bits.specs.declared.tile.Tile.{Tile}
-use Rattle.life_bits.specs.Area.{tile_cell}
+use Rattle.life_plane.specs.declared.tile.Tile.{Tile}
+use Rattle.life_plane.specs.Area.{tile_cell}
 use Rattle.life_slots.specs.Places.{IsBeside, start_at}
 use Rattle.life_slots.proofs.Splits.{Split, split}
 use Rattle.life_slots.specs.declared.bands.Bands.{Bands}

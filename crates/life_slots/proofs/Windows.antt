@@ -10,11 +10,11 @@ use Rattle.life_model.specs.Cell.{Cell, around}
 use Rattle.life_model.specs.Generation.{Generation, contains}
 use Rattle.life_model.specs.Evolution.{count_at, lives, next}
 use Rattle.life_model.proofs.Evolution.{contains-next}
-use Rattle.life_bits.specs.declared.tile.Tile.{Tile}
-use Rattle.life_bits.specs.Bits.{next_state}
-use Rattle.life_bits.specs.Area.{Nine, three_wide, area_row, area_cell, sum_around, tile_cell, next_in_area}
-use Rattle.life_bits.specs.Flags.{as_bit}
-use Rattle.life_bits.proofs.Strips.{strip_low, strip_middle, strip_high}
+use Rattle.life_plane.specs.declared.tile.Tile.{Tile}
+use Rattle.life_plane.specs.Bits.{next_state}
+use Rattle.life_plane.specs.Area.{Nine, three_wide, area_row, area_cell, sum_around, tile_cell, next_in_area}
+use Rattle.life_plane.specs.Flags.{as_bit}
+use Rattle.life_plane.proofs.Strips.{strip_low, strip_middle, strip_high}
 use Rattle.life_slots.specs.Places.{start_at}
 use Rattle.life_slots.specs.Cells.{state_at}
 

@@ -3,8 +3,8 @@ use Rattle.std.specs.Prelude.{◌≡◌, Bool, count_by, nat_lt, ℕ, zero, suc,
 use Rattle.std.specs.Int.{bit_at}
 use Rattle.life_model.specs.Cell.{Cell}
 use Rattle.life_model.specs.Generation.{Generation, contains}
-use Rattle.life_bits.specs.declared.tile.Tile.{Tile}
-use Rattle.life_bits.specs.Flags.{as_bit}
+use Rattle.life_plane.specs.declared.tile.Tile.{Tile}
+use Rattle.life_plane.specs.Flags.{as_bit}
 use Rattle.life_slots.specs.Places.{start_at}
 
 -- the cells of the first n bits of a word, whose bit 0 is at (left, y)

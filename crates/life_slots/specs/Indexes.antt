@@ -1,7 +1,7 @@
 -- What an index of slots and the links between them keep.
 use Rattle.std.specs.Prelude.{◌≡◌, ℕ, ℤ, ◌<◌, List, Some, length}
 use Rattle.std.specs.BTreeMap.{IsOrdered, get}
-use Rattle.life_bits.specs.declared.tile.Tile.{Tile}
+use Rattle.life_plane.specs.declared.tile.Tile.{Tile}
 use Rattle.life_slots.specs.Places.{place_cmp}
 use Rattle.life_slots.specs.declared.slot.Slot.{Slot}
 use Rattle.life_slots.specs.Slots.{Index, slot_at, neighbour_at, place_of, link_of, tile_of}

@@ -1,8 +1,8 @@
 -- The cells of a tile that are next to another tile.
 use Rattle.std.specs.Prelude.{◌≡◌, ℕ, ◌+◌, ◌*◌, ◌%◌, ◌/◌, ◌<◌, ◌≤◌, ◌↔◌}
 use Rattle.std.specs.Int.{bit_at}
-use Rattle.life_bits.specs.declared.tile.Tile.{Tile}
-use Rattle.life_bits.specs.Area.{tile_cell}
+use Rattle.life_plane.specs.declared.tile.Tile.{Tile}
+use Rattle.life_plane.specs.Area.{tile_cell}
 use Rattle.life_slots.specs.declared.rim.Rim.{Rim}
 
 -- of 64 columns or rows those that are next to the 64 before them (0), to themselves (1), or to the 64 after them (2)

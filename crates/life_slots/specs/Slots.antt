@@ -4,8 +4,8 @@ use Rattle.std.specs.Option.{unwrap_or}
 use Rattle.std.specs.BTreeMap.{BTreeMap, get}
 use Rattle.life_model.specs.Generation.{Generation, from_list}
 use Rattle.life_cells.specs.Limits.{place_limit}
-use Rattle.life_bits.specs.declared.tile.Tile.{Tile}
-use Rattle.life_bits.specs.Area.{Nine}
+use Rattle.life_plane.specs.declared.tile.Tile.{Tile}
+use Rattle.life_plane.specs.Area.{Nine}
 use Rattle.life_slots.specs.Cells.{tiles_cells}
 use Rattle.life_slots.specs.Places.{place_cmp, start_at}
 use Rattle.life_slots.specs.declared.slot.Slot.{Slot}

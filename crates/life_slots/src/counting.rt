@@ -3,7 +3,7 @@ ghost use Rattle.std.specs.Prelude.{◌≡◌, ℤ, ◌<◌, ◌≤◌, ◌^◌,
 ghost use Rattle.std.specs.List.{sum_by};
 ghost use Rattle.life_slots.specs.Cells.{row_cells, block_cells, tile_count, IsCountFrom};
 
-use life_bits::{Tile, has_cells};
+use life_plane::{Tile, has_cells};
 
 /// How many cells of a row are live.
 fn count_row(row: u64) -> u64

@@ -6,7 +6,7 @@ ghost use Rattle.life_slots.specs.Slots.{place_of};
 
 use crate::grid::corner_of;
 use crate::slot::Slot;
-use life_bits::{Tile, end_of_eights, first_eight};
+use life_plane::{Tile, end_of_eights, first_eight};
 
 /// The first and the last of some cells, by y and then by x.
 #[derive(Clone, Copy)]

@@ -9,7 +9,7 @@ ghost use Rattle.life_slots.specs.Slots.{tile_of};
 
 use crate::grid::corner_of;
 use crate::seats::{Seat, end_of_row};
-use life_bits::{Tile, end_of_eights, first_eight};
+use life_plane::{Tile, end_of_eights, first_eight};
 use std::alloc::AllocError;
 
 /// Appends the live cells of a row from west to east. Bit 0 of the word is the cell at `(left, y)`.

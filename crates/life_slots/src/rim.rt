@@ -1,11 +1,11 @@
 //! What of a tile is next to other tiles.
 ghost use Rattle.std.specs.Prelude.{◌≡◌, ℕ, ◌<◌, ◌↔◌, true, false};
 ghost use Rattle.std.specs.Int.{bit_at};
-ghost use Rattle.life_bits.specs.declared.tile.Tile.{Tile};
-ghost use Rattle.life_bits.specs.Area.{tile_cell};
+ghost use Rattle.life_plane.specs.declared.tile.Tile.{Tile};
+ghost use Rattle.life_plane.specs.Area.{tile_cell};
 ghost use Rattle.life_slots.specs.Rims.{IsEdge, IsRimOf, IsStill};
 
-use life_bits::Tile;
+use life_plane::Tile;
 
 /// The first and the last row of a tile, and in which columns it has a live cell.
 #[derive(Clone, Copy)]

@@ -10,7 +10,7 @@ ghost use Rattle.life_slots.specs.Slots.{placed_tiles};
 
 use crate::ends::is_void;
 use crate::listing::tile_in;
-use life_bits::Tile;
+use life_plane::Tile;
 use std::alloc::{AllocError, Global};
 use std::collections::BTreeMap;
 

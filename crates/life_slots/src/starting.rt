@@ -1,7 +1,7 @@
 //! The bands that have something to do in a first step.
 ghost use Rattle.std.specs.Prelude.{◌≡◌, ℕ, ◌<◌, ◌≤◌, length};
-ghost use Rattle.life_bits.specs.Area.{tile_cell};
-ghost use Rattle.life_bits.specs.Changes.{IsChange};
+ghost use Rattle.life_plane.specs.Area.{tile_cell};
+ghost use Rattle.life_plane.specs.Changes.{IsChange};
 ghost use Rattle.life_slots.specs.Rims.{IsNextToBand};
 ghost use Rattle.life_slots.specs.Slots.{tile_of, empty_tile};
 ghost use Rattle.life_slots.specs.Work.{touch_of, IsLinked, IsMarkedNear};
@@ -10,7 +10,7 @@ use crate::bands::Bands;
 use crate::slot::Slot;
 use crate::stepping::mark_all;
 use crate::touched::Touched;
-use life_bits::{Change, Tile, has_cells};
+use life_plane::{Change, Tile, has_cells};
 
 /// Makes each tile empty.
 pub fn clear_all(tiles: &mut [Tile])

@@ -2,15 +2,15 @@
 ghost use Rattle.std.specs.Prelude.{◌≡◌, ℕ, ◌+◌, ◌*◌, ◌%◌, ◌/◌, ◌<◌, ◌≤◌, false, length, slice_index};
 ghost use Rattle.std.specs.Int.{bit_at};
 ghost use Rattle.life_model.specs.Rule.{Rule};
-ghost use Rattle.life_bits.specs.Logics.{IsLogicOf};
+ghost use Rattle.life_plane.specs.Logics.{IsLogicOf};
 ghost use Rattle.life_slots.specs.Slots.{nine_linked};
 ghost use Rattle.life_slots.specs.Work.{band_mark, IsLinked, IsTileWorkedOut, IsWorkedOut};
 
 use crate::bands::Bands;
 use crate::slot::{CENTRE, Slot};
 use crate::touched::Touched;
-use life_bits::{Around, Logic, RulePolynomial, Tile, Window, band};
 use life_cells::Rule;
+use life_plane::{Around, Logic, RulePolynomial, Tile, Window, band};
 
 /// Makes each of the marks the same.
 pub fn mark_all(marks: &mut [Bands], value: Bands)

@@ -1,14 +1,14 @@
 //! The bands that a change touches.
 ghost use Rattle.std.specs.Prelude.{◌≡◌, ℕ, ◌+◌, ◌*◌, ◌%◌, ◌/◌, ◌<◌, length, slice_index};
 ghost use Rattle.std.specs.Int.{bit_at};
-ghost use Rattle.life_bits.specs.declared.tile.Tile.{Tile};
-ghost use Rattle.life_bits.specs.Changes.{IsChange};
+ghost use Rattle.life_plane.specs.declared.tile.Tile.{Tile};
+ghost use Rattle.life_plane.specs.Changes.{IsChange};
 ghost use Rattle.life_slots.specs.Rims.{IsSideClear};
 ghost use Rattle.life_slots.specs.Work.{band_mark, touch_of, IsTouchedBeside, IsTouchedAround};
 
 use crate::bands::Bands;
 use crate::rim::has_at_side;
-use life_bits::Change;
+use life_plane::Change;
 
 /// Of nine tiles the bands that a cell of the middle tile which changed is in or next to. The tiles make a western, a middle and an
 /// eastern column, each of 24 bands, and bit `k` of its word is the mark of the band that is the `k`th from the north.

@@ -8,8 +8,8 @@ use Rattle.life_model.specs.Evolution.{next}
 use Rattle.life_model.proofs.Near.{next_near}
 use Rattle.life_cells.specs.Limits.{age_limit}
 use Rattle.life_cells.proofs.Within.{within_near}
-use Rattle.life_bits.specs.declared.tile.Tile.{Tile}
-use Rattle.life_bits.specs.Area.{tile_cell}
+use Rattle.life_plane.specs.declared.tile.Tile.{Tile}
+use Rattle.life_plane.specs.Area.{tile_cell}
 use Rattle.life_slots.specs.Places.{start_at}
 use Rattle.life_slots.specs.declared.bands.Bands.{Bands}
 use Rattle.life_slots.specs.declared.slot.Slot.{Slot}

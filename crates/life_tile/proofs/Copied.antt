@@ -5,9 +5,9 @@ use Rattle.life_model.specs.Cell.{Cell}
 use Rattle.life_model.specs.Generation.{Generation, contains, empty}
 use Rattle.life_model.proofs.Generations.{contains-empty}
 use Rattle.life_cells.specs.Limits.{IsWithin}
-use Rattle.life_bits.specs.declared.tile.Tile.{Tile}
-use Rattle.life_bits.specs.Flags.{as_bit}
-use Rattle.life_bits.specs.Area.{tile_cell}
+use Rattle.life_plane.specs.declared.tile.Tile.{Tile}
+use Rattle.life_plane.specs.Flags.{as_bit}
+use Rattle.life_plane.specs.Area.{tile_cell}
 use Rattle.life_slots.specs.Ends.{IsVoid}
 use Rattle.life_slots.specs.Slots.{slot_at, place_of, tile_of, empty_tile, generation_shown}
 use Rattle.life_slots.specs.Cells.{state_at}

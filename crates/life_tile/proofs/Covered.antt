@@ -10,7 +10,7 @@ use Rattle.std.proofs.lemmas.Nat.Bits.{bit_at_and, bit_at_or, bit_at_not, bit_at
 use Rattle.life_model.specs.Cell.{Cell, plus}
 use Rattle.life_model.specs.Generation.{Generation}
 use Rattle.life_cells.specs.Limits.{IsPlace, age_limit}
-use Rattle.life_bits.proofs.Strips.{bit_at_mod}
+use Rattle.life_plane.proofs.Strips.{bit_at_mod}
 use Rattle.life_slots.specs.Ends.{IsMember}
 use Rattle.life_slots.specs.Places.{start_at}
 use Rattle.life_slots.specs.Slots.{place_of, tile_of, IsReached}

@@ -7,7 +7,7 @@ use Rattle.life_model.specs.Generation.{Generation, contains, cells, below_all, 
 use Rattle.life_model.proofs.Generations.{contains-cells, cells-rise}
 use Rattle.life_plane.specs.Span.{list_span, set_span}
 use Rattle.life_plane.proofs.Spans.{set_span_of_cells}
-use Rattle.life_bits.specs.Flags.{as_bit}
+use Rattle.life_plane.specs.Flags.{as_bit}
 use Rattle.life_slots.specs.Places.{start_at}
 use Rattle.life_slots.specs.declared.ends.Ends.{Ends}
 use Rattle.life_slots.specs.Slots.{slot_at, place_of}

@@ -11,9 +11,9 @@ use Rattle.std.proofs.lemmas.List.{take_at}
 use Rattle.life_model.specs.Generation.{Generation, contains}
 use Rattle.life_model.specs.Evolution.{next}
 use Rattle.life_cells.specs.Limits.{IsWithin, age_limit, place_limit}
-use Rattle.life_bits.specs.declared.tile.Tile.{Tile}
-use Rattle.life_bits.specs.Flags.{as_bit}
-use Rattle.life_bits.specs.Area.{tile_cell}
+use Rattle.life_plane.specs.declared.tile.Tile.{Tile}
+use Rattle.life_plane.specs.Flags.{as_bit}
+use Rattle.life_plane.specs.Area.{tile_cell}
 use Rattle.life_slots.specs.Places.{place_cmp, IsInside, start_at}
 use Rattle.life_slots.proofs.Splits.{not_one}
 use Rattle.life_slots.specs.declared.bands.Bands.{Bands}

@@ -8,8 +8,8 @@ use Rattle.std.proofs.lemmas.List.Sums.{sum_by_more}
 use Rattle.life_model.specs.Cell.{Cell}
 use Rattle.life_model.specs.Generation.{contains, from_list, size}
 use Rattle.life_model.proofs.Generations.{contains-from_list, same_members}
-use Rattle.life_bits.specs.declared.tile.Tile.{Tile}
-use Rattle.life_bits.specs.Area.{tile_cell}
+use Rattle.life_plane.specs.declared.tile.Tile.{Tile}
+use Rattle.life_plane.specs.Area.{tile_cell}
 use Rattle.life_slots.specs.Places.{start_at}
 use Rattle.life_slots.specs.Cells.{row_cells, block_cells, tile_count}
 use Rattle.life_slots.specs.declared.slot.Slot.{Slot}

@@ -8,9 +8,9 @@ use Rattle.life_model.specs.Generation.{Generation, contains, insert, empty, fro
 use Rattle.life_model.proofs.Cells.{same_cell-is}
 use Rattle.life_model.proofs.Generations.{contains-insert, contains-empty}
 use Rattle.life_cells.specs.Limits.{IsWithin, age_limit}
-use Rattle.life_bits.specs.declared.tile.Tile.{Tile}
-use Rattle.life_bits.specs.Flags.{as_bit}
-use Rattle.life_bits.specs.Area.{tile_cell}
+use Rattle.life_plane.specs.declared.tile.Tile.{Tile}
+use Rattle.life_plane.specs.Flags.{as_bit}
+use Rattle.life_plane.specs.Area.{tile_cell}
 use Rattle.life_slots.specs.Cells.{tiles_cells, state_at}
 use Rattle.life_slots.specs.Places.{place_cmp, start_at}
 use Rattle.life_slots.proofs.Orders.{true_or_false}

@@ -5,8 +5,8 @@ use Rattle.std.specs.List.{fold, sum_by}
 use Rattle.std.proofs.lemmas.List.{take_all}
 use Rattle.std.proofs.lemmas.Nat.Bits.{bit_at-lt}
 use Rattle.life_model.specs.Cell.{Cell}
-use Rattle.life_bits.specs.declared.tile.Tile.{Tile}
-use Rattle.life_bits.specs.Area.{tile_cell}
+use Rattle.life_plane.specs.declared.tile.Tile.{Tile}
+use Rattle.life_plane.specs.Area.{tile_cell}
 use Rattle.life_slots.specs.Cells.{row_cells, block_cells, has_cell, tile_count}
 use Rattle.life_slots.specs.Ends.{IsVoid}
 use Rattle.life_slots.specs.Slots.{slot_at, place_of, tile_of, empty_tile}

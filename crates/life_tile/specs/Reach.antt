@@ -3,8 +3,8 @@ use Rattle.std.specs.Prelude.{◌≡◌, ℕ, ℤ, pos, negsuc, ◌≤ℤ◌, �
 use Rattle.std.specs.Int.{bit_at}
 use Rattle.life_model.specs.Cell.{Cell, plus}
 use Rattle.life_model.specs.Generation.{Generation}
-use Rattle.life_bits.specs.declared.tile.Tile.{Tile}
-use Rattle.life_bits.specs.Area.{tile_cell}
+use Rattle.life_plane.specs.declared.tile.Tile.{Tile}
+use Rattle.life_plane.specs.Area.{tile_cell}
 use Rattle.life_slots.specs.Ends.{IsMember}
 use Rattle.life_slots.specs.Limits.{reach_limit}
 use Rattle.life_slots.specs.Places.{start_at}

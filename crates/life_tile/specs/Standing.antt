@@ -4,8 +4,8 @@ use Rattle.std.specs.Int.{bit_at}
 use Rattle.life_model.specs.Cell.{Cell, origin, plus}
 use Rattle.life_model.specs.Generation.{Generation}
 use Rattle.life_plane.specs.Offsets.{IsMoveWithin}
-use Rattle.life_bits.specs.declared.tile.Tile.{Tile}
-use Rattle.life_bits.specs.Area.{tile_cell}
+use Rattle.life_plane.specs.declared.tile.Tile.{Tile}
+use Rattle.life_plane.specs.Area.{tile_cell}
 use Rattle.life_slots.specs.Ends.{IsMember}
 
 -- each of some cells is a member, moved by d

@@ -5,8 +5,8 @@ use Rattle.life_model.specs.Cell.{Cell}
 use Rattle.life_model.specs.Generation.{Generation, contains}
 use Rattle.life_model.specs.Evolution.{next}
 use Rattle.life_cells.specs.Limits.{IsWithin, age_limit}
-use Rattle.life_bits.specs.declared.tile.Tile.{Tile}
-use Rattle.life_bits.specs.Area.{tile_cell}
+use Rattle.life_plane.specs.declared.tile.Tile.{Tile}
+use Rattle.life_plane.specs.Area.{tile_cell}
 use Rattle.life_slots.specs.Places.{start_at}
 use Rattle.life_slots.specs.Cells.{state_at}
 use Rattle.life_slots.specs.declared.slot.Slot.{Slot}

@@ -10,7 +10,7 @@ ghost use Rattle.life_tile.specs.TileStores.{IsKept, members_of};
 use crate::covering::corner_in;
 use crate::sameness::moved;
 use crate::tile_store::TileStore;
-use life_bits::Tile;
+use life_plane::Tile;
 use life_slots::{is_before, tile_in};
 
 /// Whether a cell is in a list, which is halved until it shows.

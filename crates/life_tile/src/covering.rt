@@ -12,7 +12,7 @@ ghost use Rattle.life_tile.specs.TileStores.{IsKept, members_of};
 
 use crate::sameness::moved;
 use crate::tile_store::TileStore;
-use life_bits::Tile;
+use life_plane::Tile;
 use life_slots::{Slot, corner_of, slot_or_none, split, tile_in};
 
 /// The 64 bits of two words side by side from bit `shift` of the first on.

@@ -4,7 +4,7 @@ ghost use Rattle.std.specs.Int.{bit_at};
 ghost use Rattle.life_model.specs.Cell.{Cell, origin, plus};
 ghost use Rattle.life_cells.specs.Limits.{IsPlace, age_limit, last_place};
 ghost use Rattle.life_plane.specs.Offsets.{IsMoveWithin};
-ghost use Rattle.life_bits.specs.Area.{tile_cell};
+ghost use Rattle.life_plane.specs.Area.{tile_cell};
 ghost use Rattle.life_slots.specs.Cells.{state_at};
 ghost use Rattle.life_slots.specs.Ends.{IsMember};
 ghost use Rattle.life_tile.specs.Standing.{AreMembers, HasNoneInRow, HasNoneInTile, IsLedTo};
@@ -13,7 +13,7 @@ ghost use Rattle.life_tile.specs.TileStores.{IsKept, members_of};
 use crate::covering::{corner_in, row_from};
 use crate::sameness::moved;
 use crate::tile_store::TileStore;
-use life_bits::Tile;
+use life_plane::Tile;
 use life_slots::{is_void, tile_in};
 
 /// Whether a place, moved by at most `reach`, may be one of the 64 from another on. The same for x and for y.

@@ -1,6 +1,6 @@
 //! A store of tiles in slots, in this generation and in the one before.
 ghost use Rattle.std.specs.Prelude.{◌≡◌, ◌≢◌, ℕ, ◌+◌, ◌<◌, ◌≤◌, true, All, OnOk, IfOk, length};
-ghost use Rattle.life_bits.specs.Area.{tile_cell};
+ghost use Rattle.life_plane.specs.Area.{tile_cell};
 ghost use Rattle.life_model.specs.Evolution.{next};
 ghost use Rattle.life_model.specs.Generation.{empty, from_list, insert, size};
 ghost use Rattle.life_cells.specs.Limits.{IsWithin, age_limit};
@@ -9,8 +9,8 @@ ghost use Rattle.life_slots.specs.Ends.{AreEnds, IsMember};
 ghost use Rattle.life_slots.specs.Slots.{slot_at, place_of, link_of, tile_of, IsReached};
 ghost use Rattle.life_slots.specs.Rims.{IsRimOf, IsStill};
 
-use life_bits::Tile;
 use life_cells::Rule;
+use life_plane::Tile;
 use life_slots::{
     Bands, CENTRE, Ends, Rim, Slot, clear_all, connect, count_cells, ends_of, is_void,
     links_around, mark_all, mark_near, neighbour, next_tiles, push_seats, seats_by_rows,

@@ -1,7 +1,7 @@
 //! Rows and windows worked by hand.
 
-use life_bits::{Around, Change, Logic, RowSums, Sum, Tile, Window, band, sums};
 use life_cells::{Rule, RuleFault};
+use life_plane::{Around, Change, Logic, RowSums, Sum, Tile, Window, band, sums};
 
 #[test]
 fn of_the_words_beside_a_row_only_the_nearest_bits_count(rt: HostRuntime) {

@@ -1,10 +1,9 @@
 //! The middle of four leaves some generations later: gliders that come into it, and what many cells become on a plane.
 
 use crate::evolved::{after, step};
-use life_bits::Logic;
 use life_cells::Rule;
 use life_leaves::{FourLeaves, Leaf, middle_later};
-use life_plane::{ListPlane, Plane};
+use life_plane::{ListPlane, Logic, Plane};
 use std::alloc::Global;
 use std::process::Abort;
 use std::test::Fail;

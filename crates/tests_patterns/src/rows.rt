@@ -1,6 +1,6 @@
 //! Tests of bits, and a cell born where four tiles meet.
-use life_bits::{Around, Strand, Tile, count_planes, next_row};
 use life_cells::Rule;
+use life_plane::{Around, Strand, Tile, count_planes, next_row};
 
 #[test]
 fn a_strand_takes_the_edge_cells_of_both_neighbours(rt: HostRuntime) {

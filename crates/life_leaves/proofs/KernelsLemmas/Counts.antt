@@ -8,8 +8,8 @@ use Rattle.life_model.specs.Cell.{Cell, around}
 use Rattle.life_model.specs.Generation.{Generation, contains}
 use Rattle.life_model.specs.Evolution.{count, next}
 use Rattle.life_model.proofs.Evolution.{contains-next}
-use Rattle.life_bits.specs.Bits.{next_state}
-use Rattle.life_bits.specs.Flags.{as_bit}
+use Rattle.life_plane.specs.Bits.{next_state}
+use Rattle.life_plane.specs.Flags.{as_bit}
 use Rattle.life_leaves.specs.Kernels.Rows.{state, IsRowAt}
 use Rattle.life_slots.proofs.Windows.{bit_is, lives_bit}
 

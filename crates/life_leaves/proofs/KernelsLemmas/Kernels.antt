@@ -5,11 +5,11 @@ use Rattle.std.proofs.lemmas.Int.{ints}
 use Rattle.life_model.specs.Rule.{Rule}
 use Rattle.life_model.specs.Generation.{Generation}
 use Rattle.life_model.specs.Evolution.{count, next}
-use Rattle.life_bits.specs.declared.strand.Strand.{Strand}
-use Rattle.life_bits.specs.Bits.{IsStrandOf, neighbour_count, next_state}
-use Rattle.life_bits.specs.Area.{Nine, area_row, area_cell, next_in_area, sum_around}
-use Rattle.life_bits.specs.declared.window.Window.{Window}
-use Rattle.life_bits.specs.Windows.{IsWindowOf, next_in_window, window_cell, window_row}
+use Rattle.life_plane.specs.declared.strand.Strand.{Strand}
+use Rattle.life_plane.specs.Bits.{IsStrandOf, neighbour_count, next_state}
+use Rattle.life_plane.specs.Area.{Nine, area_row, area_cell, next_in_area, sum_around}
+use Rattle.life_plane.specs.declared.window.Window.{Window}
+use Rattle.life_plane.specs.Windows.{IsWindowOf, next_in_window, window_cell, window_row}
 use Rattle.life_leaves.specs.Kernels.Rows.{state, IsRowAt, AreRowsAt, IsWindowAt, IsNineAt}
 use Rattle.life_leaves.proofs.KernelsLemmas.Counts.{three_rows, next_by_bit}
 

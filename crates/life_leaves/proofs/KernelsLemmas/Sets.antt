@@ -10,10 +10,10 @@ use Rattle.life_model.specs.Cell.{Cell, same_cell}
 use Rattle.life_model.specs.Generation.{Generation, from_list}
 use Rattle.life_model.proofs.Cells.{cells_differ, same_cell-is}
 use Rattle.life_model.proofs.Generations.{contains-from_list}
-use Rattle.life_bits.specs.Flags.{as_bit}
-use Rattle.life_bits.specs.Area.{Nine, area_row}
-use Rattle.life_bits.specs.declared.window.Window.{Window}
-use Rattle.life_bits.specs.Windows.{window_row}
+use Rattle.life_plane.specs.Flags.{as_bit}
+use Rattle.life_plane.specs.Area.{Nine, area_row}
+use Rattle.life_plane.specs.declared.window.Window.{Window}
+use Rattle.life_plane.specs.Windows.{window_row}
 use Rattle.life_leaves.specs.Kernels.Rows.{IsRowAt, AreRowsAt, IsWindowAt, IsNineAt}
 
 one_more : (p : Cell → Bool) (b : Bool) (c : Cell) (cs : List Cell) → list_any p (cond b (c ∷ cs) cs) ≡ (b && p c || list_any p cs)

@@ -3,10 +3,10 @@ use Rattle.std.specs.Prelude.{◌≡◌, ℕ, ℤ, pos, ◌+ℤ◌, ◌-ℤ◌, 
 use Rattle.std.specs.Int.{bit_at}
 use Rattle.life_model.specs.Cell.{Cell}
 use Rattle.life_model.specs.Generation.{Generation, contains}
-use Rattle.life_bits.specs.Flags.{as_bit}
-use Rattle.life_bits.specs.Area.{Nine, area_row}
-use Rattle.life_bits.specs.declared.window.Window.{Window}
-use Rattle.life_bits.specs.Windows.{window_row}
+use Rattle.life_plane.specs.Flags.{as_bit}
+use Rattle.life_plane.specs.Area.{Nine, area_row}
+use Rattle.life_plane.specs.declared.window.Window.{Window}
+use Rattle.life_plane.specs.Windows.{window_row}
 
 -- 1 for a live cell of a set, 0 for a dead one
 abbrev pub state : Generation → Cell → ℕ

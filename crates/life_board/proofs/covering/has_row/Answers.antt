@@ -1,5 +1,5 @@
 use Rattle.std.proofs.Common.{true, sym, ap, ◌∙◌}
-use Rattle.life_bits.specs.Flags.{as_bit}
+use Rattle.life_plane.specs.Flags.{as_bit}
 use Rattle.life_slots.proofs.Splits.{same_flag}
 use Rattle.life_tile.proofs.Covered.{is_none, none_is, bits_left, no_bits_left}
 use Rattle.life_board.proofs.covering.has_row.Goals as goal

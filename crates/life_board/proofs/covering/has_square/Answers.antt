@@ -5,7 +5,7 @@ use Rattle.std.proofs.lemmas.Int.{ints}
 use Rattle.std.proofs.lemmas.Nat.Bits.{bit_at-zero}
 use Rattle.life_model.specs.Cell.{Cell, opposite, plus}
 use Rattle.life_model.proofs.Cells.{pair}
-use Rattle.life_bits.specs.Area.{tile_cell}
+use Rattle.life_plane.specs.Area.{tile_cell}
 use Rattle.life_slots.specs.Ends.{IsMember}
 use Rattle.life_slots.proofs.EndCells.{one_is_not_none}
 use Rattle.life_slots.proofs.Members.{BlockHas}

@@ -1,6 +1,6 @@
 use Rattle.std.proofs.Common.{◌≡◌, ℕ, pos, ◌+ℤ◌, ◌<◌}
 use Rattle.life_model.specs.Cell.{plus, opposite}
-use Rattle.life_bits.specs.Area.{tile_cell}
+use Rattle.life_plane.specs.Area.{tile_cell}
 use Rattle.life_slots.specs.Ends.{IsMember}
 use Rattle.life_board.specs.Squares.{members_of}
 use Rattle.life_board.proofs.covering.has_square.Given as goal

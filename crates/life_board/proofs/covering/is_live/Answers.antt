@@ -1,7 +1,7 @@
 use Rattle.std.proofs.Common.{◌≡◌, ◌≢◌, ℕ, pos, ◌+ℤ◌, ◌<◌, w32, to_z, of_z, IfNone, false, sym, subst, ap, ◌∙◌, arith}
 use Rattle.std.proofs.lemmas.Int.{ints}
 use Rattle.life_model.specs.Generation.{contains}
-use Rattle.life_bits.specs.Flags.{as_bit}
+use Rattle.life_plane.specs.Flags.{as_bit}
 use Rattle.life_slots.proofs.Splits.{same_flag}
 use Rattle.life_board.specs.Squares.{members_of}
 use Rattle.life_board.proofs.States.{state_inside, state_outside}

@@ -4,12 +4,12 @@ use Rattle.std.proofs.Math.ListN.{length-set}
 use Rattle.std.proofs.lemmas.Bool.{cases_eq, cases_lt}
 use Rattle.std.proofs.lemmas.Nat.Bits.{bit_at-zero}
 use Rattle.life_model.specs.Rule.{Rule}
-use Rattle.life_bits.specs.Area.{area_row, next_in_area}
-use Rattle.life_bits.specs.Logics.{IsLogicOf}
-use Rattle.life_bits.specs.Bits.{wide_row}
-use Rattle.life_bits.specs.Numbers.{number_at}
-use Rattle.life_bits.specs.Rows.{IsRowSumsOf}
-use Rattle.life_bits.proofs.Strips.{strip_middle}
+use Rattle.life_plane.specs.Area.{area_row, next_in_area}
+use Rattle.life_plane.specs.Logics.{IsLogicOf}
+use Rattle.life_plane.specs.Bits.{wide_row}
+use Rattle.life_plane.specs.Numbers.{number_at}
+use Rattle.life_plane.specs.Rows.{IsRowSumsOf}
+use Rattle.life_plane.proofs.Strips.{strip_middle}
 use Rattle.life_slots.proofs.Lists.{set_here, set_there}
 use Rattle.life_board.specs.Squares.{alone, around_in}
 use Rattle.life_board.proofs.Alone.{dead_above, dead_below, eight_around, next_of, row_is, void_before, void_is}

@@ -1,8 +1,8 @@
 use Rattle.std.proofs.Common.{◌≡◌, ℕ, ◌+◌, ◌<◌, ◌≤◌, length, slice_index}
 use Rattle.life_model.specs.Rule.{Rule}
-use Rattle.life_bits.specs.Area.{area_row, next_in_area, tile_cell}
-use Rattle.life_bits.specs.Logics.{IsLogicOf}
-use Rattle.life_bits.specs.Rows.{IsRowSumsOf}
+use Rattle.life_plane.specs.Area.{area_row, next_in_area, tile_cell}
+use Rattle.life_plane.specs.Logics.{IsLogicOf}
+use Rattle.life_plane.specs.Rows.{IsRowSumsOf}
 use Rattle.life_board.specs.Squares.{alone}
 use Rattle.life_board.proofs.Columns.{AreColumnsTo}
 use Rattle.life_board.proofs.rows.advance_by.Given as goal

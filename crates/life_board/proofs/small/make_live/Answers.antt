@@ -1,6 +1,6 @@
 use Rattle.std.proofs.Common.{◌<◌, length, w64, slice_index, arith}
 use Rattle.std.proofs.lemmas.Nat.Bits.{bit_at_set_same, bit_at_set_other}
-use Rattle.life_bits.proofs.OneCell.{put_same, put_other}
+use Rattle.life_plane.proofs.OneCell.{put_same, put_other}
 use Rattle.life_slots.proofs.Lists.{set_there}
 use Rattle.life_board.proofs.small.make_live.Goals as goal
 

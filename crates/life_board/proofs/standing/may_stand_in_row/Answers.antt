@@ -5,7 +5,7 @@ use Rattle.std.proofs.lemmas.Nat.Bits.{bit_at_and}
 use Rattle.life_model.specs.Cell.{Cell, origin}
 use Rattle.life_model.specs.Generation.{contains}
 use Rattle.life_model.proofs.Cells.{pair}
-use Rattle.life_bits.specs.Flags.{as_bit}
+use Rattle.life_plane.specs.Flags.{as_bit}
 use Rattle.life_tile.proofs.Listed.{no_bit, no_bit_told}
 use Rattle.life_board.specs.Squares.{members_of}
 use Rattle.life_board.proofs.standing.may_stand_in_row.Goals as goal

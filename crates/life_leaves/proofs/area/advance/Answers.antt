@@ -4,8 +4,8 @@ use Rattle.std.proofs.lemmas.Bool.{cases_lt}
 use Rattle.std.proofs.lemmas.Nat.Bits.{bit_at-zero}
 use Rattle.life_model.specs.Cell.{plus}
 use Rattle.life_model.specs.Evolution.{next}
-use Rattle.life_bits.specs.Area.{tile_cell}
-use Rattle.life_bits.specs.declared.tile.Tile.{Tile}
+use Rattle.life_plane.specs.Area.{tile_cell}
+use Rattle.life_plane.specs.declared.tile.Tile.{Tile}
 use Rattle.life_leaves.specs.Kernels.Rows.{state}
 use Rattle.life_leaves.proofs.Bands.{band_cell}
 use Rattle.life_leaves.proofs.Quiet.{quiet_cell}

@@ -3,8 +3,8 @@ use Rattle.life_model.specs.Rule.{Rule}
 use Rattle.life_model.specs.Cell.{Cell, plus}
 use Rattle.life_model.specs.Generation.{Generation}
 use Rattle.life_model.specs.Evolution.{next}
-use Rattle.life_bits.specs.Area.{tile_cell}
-use Rattle.life_bits.specs.Logics.{IsLogicOf}
+use Rattle.life_plane.specs.Area.{tile_cell}
+use Rattle.life_plane.specs.Logics.{IsLogicOf}
 use Rattle.life_leaves.specs.Kernels.Rows.{state}
 use Rattle.life_leaves.specs.Areas.{ShowsWithin}
 use Rattle.life_leaves.proofs.area.advance.Given as goal

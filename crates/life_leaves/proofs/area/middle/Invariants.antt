@@ -1,6 +1,6 @@
 use Rattle.std.proofs.Common.{◌≡◌, ℕ, ◌+◌, ◌<◌, length, slice_index}
 use Rattle.std.specs.Int.{bit_at}
-use Rattle.life_bits.specs.Area.{tile_cell}
+use Rattle.life_plane.specs.Area.{tile_cell}
 use Rattle.life_leaves.proofs.area.middle.Given as goal
 
 abbrev pub invariant-loop-y : goal.invariant-loop-y

@@ -1,5 +1,5 @@
 use Rattle.std.proofs.Common.{◌≡◌, ℕ, ◌+◌, ◌<◌, ◌≤◌, ◌⊎◌, length, slice_index}
-use Rattle.life_bits.specs.Area.{tile_cell}
+use Rattle.life_plane.specs.Area.{tile_cell}
 use Rattle.life_leaves.specs.Leaves.{leaf_cell}
 use Rattle.life_leaves.proofs.area.put_leaves.Given as goal
 

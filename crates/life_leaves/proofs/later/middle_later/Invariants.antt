@@ -3,7 +3,7 @@ use Rattle.life_model.specs.Rule.{Rule}
 use Rattle.life_model.specs.Cell.{Cell}
 use Rattle.life_model.specs.Generation.{Generation}
 use Rattle.life_model.specs.Evolution.{generation}
-use Rattle.life_bits.specs.Logics.{IsLogicOf}
+use Rattle.life_plane.specs.Logics.{IsLogicOf}
 use Rattle.life_leaves.specs.Areas.{ShowsWithin}
 use Rattle.life_leaves.specs.Leaves.{ShowsFour}
 use Rattle.life_leaves.proofs.later.middle_later.Given as goal

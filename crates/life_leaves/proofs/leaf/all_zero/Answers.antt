@@ -1,5 +1,5 @@
 use Rattle.std.proofs.Common.{◌≡◌, ◌↔◌, IsTrue, EachIndex, slice_index, arith, rules}
-use Rattle.life_bits.proofs.OneCell.{zero_from_bits, bits_from_zero}
+use Rattle.life_plane.proofs.OneCell.{zero_from_bits, bits_from_zero}
 use Rattle.life_leaves.proofs.leaf.all_zero.Goals as goal
 
 pub returns : goal.returns

@@ -1,7 +1,7 @@
 use Rattle.std.proofs.Common.{◌||◌, pos, get_or, ap, sym, ◌∙◌}
 use Rattle.std.specs.List.{list_any}
 use Rattle.life_model.specs.Cell.{Cell, same_cell}
-use Rattle.life_bits.specs.declared.tile.Tile.{Tile}
+use Rattle.life_plane.specs.declared.tile.Tile.{Tile}
 use Rattle.life_slots.specs.Seats.{has_line}
 use Rattle.life_slots.specs.declared.seats.Seat.{Seat}
 use Rattle.life_slots.proofs.Seated.{line_pushed, or_grouped, placed_left, placed_top, seat_more}

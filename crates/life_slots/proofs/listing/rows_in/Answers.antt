@@ -1,6 +1,6 @@
 use Rattle.std.proofs.Common.{◌≡◌, ◌≤◌, pos, All, List, length, get_or, slice_index, sym, subst, ap, ◌∙◌, arith}
 use Rattle.std.proofs.lemmas.List.{take_all}
-use Rattle.life_bits.specs.declared.tile.Tile.{Tile}
+use Rattle.life_plane.specs.declared.tile.Tile.{Tile}
 use Rattle.life_slots.specs.Seats.{IsBetween}
 use Rattle.life_slots.specs.Slots.{tile_of}
 use Rattle.life_slots.specs.declared.seats.Seat.{Seat}

@@ -2,7 +2,7 @@ use Rattle.std.proofs.Common.{◌≡◌, ℕ, slice_index, bit_or, max, sym, ◌
 use Rattle.std.specs.Int.{bit_at}
 use Rattle.std.proofs.lemmas.Nat.Bits.{bit_at_or}
 use borrow.Author.Count.{below_more}
-use Rattle.life_bits.specs.Area.{tile_cell}
+use Rattle.life_plane.specs.Area.{tile_cell}
 use Rattle.life_slots.proofs.rim.live_columns.Goals as goal
 
 both_none : (a b : ℕ) → max a b ≡ 0 → (a ≡ 0) × (b ≡ 0)

@@ -1,6 +1,6 @@
 use Rattle.std.proofs.Common.{◌≡◌, ℕ, ◌<◌, ◌↔◌}
 use Rattle.std.specs.Int.{bit_at}
-use Rattle.life_bits.specs.Area.{tile_cell}
+use Rattle.life_plane.specs.Area.{tile_cell}
 use Rattle.life_slots.proofs.rim.live_columns.Given as goal
 
 abbrev pub invariant-loop-row : goal.invariant-loop-row

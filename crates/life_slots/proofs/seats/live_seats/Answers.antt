@@ -2,7 +2,7 @@ use Rattle.std.proofs.Common.{◌<◌, ◌||◌, All, List, length, sym, subst, 
 use Rattle.std.specs.List.{list_any}
 use Rattle.std.proofs.lemmas.List.Elements.{All-nil}
 use Rattle.life_model.specs.Cell.{same_cell}
-use Rattle.life_bits.specs.declared.tile.Tile.{Tile}
+use Rattle.life_plane.specs.declared.tile.Tile.{Tile}
 use Rattle.life_slots.specs.Cells.{tiles_cells}
 use Rattle.life_slots.specs.Ends.{IsVoid}
 use Rattle.life_slots.specs.Places.{IsInside}

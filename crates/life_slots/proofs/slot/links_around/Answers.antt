@@ -1,5 +1,5 @@
 use Rattle.std.proofs.Common.{◌≡◌, ◌<◌, length, ap, ◌∙◌, rules, arith}
-use Rattle.life_bits.proofs.Filling.{filled_more}
+use Rattle.life_plane.proofs.Filling.{filled_more}
 use Rattle.life_slots.specs.Slots.{slot_at, neighbour_at}
 use Rattle.life_slots.proofs.slot.links_around.Goals as goal
 

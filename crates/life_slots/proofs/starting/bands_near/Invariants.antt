@@ -1,5 +1,5 @@
 use Rattle.std.proofs.Common.{◌≡◌, ℕ, ◌*◌, ◌<◌}
-use Rattle.life_bits.specs.Area.{tile_cell}
+use Rattle.life_plane.specs.Area.{tile_cell}
 use Rattle.life_slots.specs.Rims.{IsNextToBand}
 use Rattle.life_slots.specs.Work.{touch_of}
 use Rattle.life_slots.proofs.starting.bands_near.Given as goal

@@ -1,6 +1,6 @@
 use Rattle.std.proofs.Common.{◌-◌, ◌≤◌, length}
 use Rattle.life_model.specs.Rule.{Rule}
-use Rattle.life_bits.specs.Logics.{IsLogicOf}
+use Rattle.life_plane.specs.Logics.{IsLogicOf}
 use Rattle.life_slots.specs.Work.{IsWorkedOut}
 use Rattle.life_slots.proofs.stepping.next_tiles_by.Given as goal
 

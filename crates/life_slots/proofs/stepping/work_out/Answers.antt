@@ -1,8 +1,8 @@
 use Rattle.std.proofs.Common.{◌≡◌, ◌+◌, ◌*◌, ◌<◌, ◌≤◌, ◌⊎◌, sym, subst, ap, ◌∙◌, arith}
 use Rattle.std.specs.Int.{bit_at}
-use Rattle.life_bits.specs.Area.{tile_cell}
-use Rattle.life_bits.specs.Changes.{IsChange}
-use Rattle.life_bits.proofs.Joining.{next_in_nine}
+use Rattle.life_plane.specs.Area.{tile_cell}
+use Rattle.life_plane.specs.Changes.{IsChange}
+use Rattle.life_plane.proofs.Joining.{next_in_nine}
 use Rattle.life_slots.specs.Slots.{nine_linked}
 use Rattle.life_slots.specs.Work.{IsTileWorkedOut}
 use Rattle.life_slots.proofs.Working.{nothing_done, bands_idle, band_busy}

@@ -1,7 +1,7 @@
 use Rattle.std.proofs.Common.{◌≡◌, ◌-◌, ◌<◌, ◌≤◌}
 use Rattle.std.specs.Int.{bit_at}
 use Rattle.life_model.specs.Rule.{Rule}
-use Rattle.life_bits.specs.Logics.{IsLogicOf}
+use Rattle.life_plane.specs.Logics.{IsLogicOf}
 use Rattle.life_slots.specs.Slots.{nine_linked}
 use Rattle.life_slots.specs.Work.{IsTileWorkedOut}
 use Rattle.life_slots.proofs.stepping.work_out.Given as goal

@@ -1,5 +1,5 @@
 use Rattle.std.proofs.Common.{◌*◌, ◌/◌, ◌^◌, ◌∙◌}
-use Rattle.life_bits.proofs.Strips.{bit_at_mod}
+use Rattle.life_plane.proofs.Strips.{bit_at_mod}
 use Rattle.life_slots.proofs.Bits.{bit_at_rest}
 use Rattle.life_slots.proofs.touched.bands_in.Goals as goal
 

@@ -1,7 +1,7 @@
 use Rattle.std.proofs.Common.{◌≡◌, sym, subst₂, ap, ◌∙◌, arith}
 use Rattle.life_model.specs.Cell.{Cell, opposite, plus}
 use Rattle.life_model.specs.Generation.{from_list}
-use Rattle.life_bits.specs.declared.tile.Tile.{Tile}
+use Rattle.life_plane.specs.declared.tile.Tile.{Tile}
 use Rattle.life_slots.specs.Slots.{tile_of}
 use Rattle.life_tile.specs.Reach.{IsTileIn}
 use Rattle.life_tile.proofs.Covered.{tile_by_members}

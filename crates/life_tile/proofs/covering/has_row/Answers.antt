@@ -1,7 +1,7 @@
 use Rattle.std.proofs.Common.{◌≡◌, true, refl, sym, ap, ◌∙◌, arith}
 use Rattle.std.specs.Int.{bit_at}
 use Rattle.std.proofs.lemmas.Nat.Bits.{bit_at-zero}
-use Rattle.life_bits.specs.Flags.{as_bit}
+use Rattle.life_plane.specs.Flags.{as_bit}
 use Rattle.life_slots.proofs.Splits.{same_flag}
 use Rattle.life_tile.proofs.Covered.{is_none, none_is, bits_left, no_bits_left}
 use Rattle.life_tile.proofs.covering.has_row.Goals as goal

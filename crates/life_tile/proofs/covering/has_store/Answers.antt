@@ -1,6 +1,6 @@
 use Rattle.std.proofs.Common.{◌≡◌, true≢false, refl, sym, subst₂, ap, ◌∙◌, arith}
 use Rattle.life_model.specs.Cell.{Cell, plus, opposite}
-use Rattle.life_bits.specs.declared.tile.Tile.{Tile}
+use Rattle.life_plane.specs.declared.tile.Tile.{Tile}
 use Rattle.life_slots.specs.Slots.{tile_of}
 use Rattle.life_tile.specs.Reach.{IsTileIn}
 use Rattle.life_tile.specs.TileStores.{members_of}

@@ -2,7 +2,7 @@ use Rattle.std.proofs.Common.{◌≡◌, ℕ, ◌<◌, pos, ◌+ℤ◌, true≢f
 use Rattle.std.proofs.lemmas.Int.{ints}
 use Rattle.life_model.specs.Cell.{Cell, opposite, plus}
 use Rattle.life_model.proofs.Cells.{pair}
-use Rattle.life_bits.specs.Area.{tile_cell}
+use Rattle.life_plane.specs.Area.{tile_cell}
 use Rattle.life_slots.specs.Ends.{IsMember}
 use Rattle.life_tile.specs.TileStores.{members_of}
 use Rattle.life_tile.proofs.covering.has_tile.Goals as goal

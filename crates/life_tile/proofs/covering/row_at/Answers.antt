@@ -1,7 +1,7 @@
 use Rattle.std.proofs.Common.{◌≡◌, w32, to_z, of_z, sym, ap, ◌∙◌, arith}
 use Rattle.std.proofs.lemmas.Int.{ints}
-use Rattle.life_bits.specs.declared.tile.Tile.{Tile}
-use Rattle.life_bits.specs.Area.{tile_cell}
+use Rattle.life_plane.specs.declared.tile.Tile.{Tile}
+use Rattle.life_plane.specs.Area.{tile_cell}
 use Rattle.life_slots.specs.Slots.{slot_at, tile_of}
 use Rattle.life_slots.proofs.Shown.{shown_state}
 use Rattle.life_tile.proofs.covering.row_at.Goals as goal

@@ -1,9 +1,9 @@
 use Rattle.std.proofs.Common.{◌≡◌, pos, ◌+ℤ◌, w32, to_z, of_z, sym, ap, ◌∙◌, arith}
 use Rattle.std.proofs.lemmas.Int.{ints}
 use Rattle.life_model.specs.Generation.{contains}
-use Rattle.life_bits.specs.declared.tile.Tile.{Tile}
-use Rattle.life_bits.specs.Flags.{as_bit}
-use Rattle.life_bits.specs.Area.{tile_cell}
+use Rattle.life_plane.specs.declared.tile.Tile.{Tile}
+use Rattle.life_plane.specs.Flags.{as_bit}
+use Rattle.life_plane.specs.Area.{tile_cell}
 use Rattle.life_slots.specs.Places.{start_at}
 use Rattle.life_slots.specs.Slots.{slot_at, tile_of}
 use Rattle.life_slots.proofs.Shown.{shown_state}

@@ -4,7 +4,7 @@ use lib.IntN.{nat_abs}
 use Rattle.life_model.specs.Cell.{Cell, origin, plus}
 use Rattle.life_model.specs.Generation.{contains}
 use Rattle.life_model.proofs.Cells.{pair}
-use Rattle.life_bits.specs.Flags.{as_bit}
+use Rattle.life_plane.specs.Flags.{as_bit}
 use Rattle.life_tile.specs.TileStores.{members_of}
 use Rattle.life_tile.proofs.Listed.{beside_one}
 use Rattle.life_tile.proofs.standing.live_beside.Goals as goal

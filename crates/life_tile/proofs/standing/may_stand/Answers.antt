@@ -1,7 +1,7 @@
 use Rattle.std.proofs.Common.{◌≡◌, pos, ◌+ℤ◌, ◌<◌, below_more, false-eqb, get_or, length, sym, subst₂, ap, ◌∙◌, arith}
 use Rattle.life_model.specs.Cell.{Cell, origin, plus}
-use Rattle.life_bits.specs.declared.tile.Tile.{Tile}
-use Rattle.life_bits.specs.Area.{tile_cell}
+use Rattle.life_plane.specs.declared.tile.Tile.{Tile}
+use Rattle.life_plane.specs.Area.{tile_cell}
 use Rattle.life_slots.specs.Cells.{state_at}
 use Rattle.life_slots.proofs.Places.{state_of_slot}
 use Rattle.life_slots.specs.Slots.{place_of, tile_of}

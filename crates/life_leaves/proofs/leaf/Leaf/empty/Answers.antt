@@ -1,4 +1,4 @@
-use Rattle.life_bits.proofs.OneCell.{no_cell}
+use Rattle.life_plane.proofs.OneCell.{no_cell}
 use Rattle.life_leaves.proofs.leaf.Leaf.empty.Goals as goal
 
 pub returns : goal.returns

@@ -3,7 +3,7 @@ use Rattle.std.specs.List.{list_any}
 use Rattle.std.proofs.lemmas.List.{take_all}
 use Rattle.life_model.specs.Cell.{Cell, plus, same_cell}
 use Rattle.life_model.proofs.Generations.{contains-from_list}
-use Rattle.life_bits.specs.Flags.{as_bit}
+use Rattle.life_plane.specs.Flags.{as_bit}
 use Rattle.life_leaves.proofs.Listed.{cell_here, cell_elsewhere, one_or_other}
 use Rattle.life_leaves.proofs.leaf.Leaf.of.Goals as goal
 

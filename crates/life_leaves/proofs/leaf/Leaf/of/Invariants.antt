@@ -1,7 +1,7 @@
 use Rattle.std.proofs.Common.{◌≡◌, ℕ, pos, ◌<◌, take}
 use Rattle.std.specs.List.{list_any}
 use Rattle.life_model.specs.Cell.{plus, same_cell}
-use Rattle.life_bits.specs.Flags.{as_bit}
+use Rattle.life_plane.specs.Flags.{as_bit}
 use Rattle.life_leaves.specs.Leaves.{leaf_cell}
 use Rattle.life_leaves.proofs.leaf.Leaf.of.Given as goal
 

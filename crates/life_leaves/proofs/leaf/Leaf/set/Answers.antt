@@ -1,6 +1,6 @@
 use Rattle.std.proofs.Common.{◌<◌, length, w32, slice_index, arith}
 use Rattle.std.proofs.lemmas.Nat.Bits.{bit_at_set_same, bit_at_set_other}
-use Rattle.life_bits.proofs.OneCell.{put_same, put_other}
+use Rattle.life_plane.proofs.OneCell.{put_same, put_other}
 use Rattle.life_leaves.proofs.leaf.Leaf.set.Goals as goal
 
 pub returns-clause-here : goal.returns-clause-here

@@ -1,6 +1,6 @@
 use Rattle.std.proofs.Common.{◌≡◌, List, length, refl, sym, subst, ap, ◌∙◌, arith}
 use Rattle.std.specs.Vec.{with_items}
-use Rattle.life_bits.specs.declared.tile.Tile.{Tile}
+use Rattle.life_plane.specs.declared.tile.Tile.{Tile}
 use Rattle.life_slots.specs.declared.bands.Bands.{Bands}
 use Rattle.life_slots.specs.declared.slot.Slot.{Slot}
 use Rattle.life_slots.specs.Slots.{tile_of}

@@ -4,7 +4,7 @@ use Rattle.life_model.specs.Cell.{same_cell}
 use Rattle.life_model.specs.Generation.{Generation, contains, from_list}
 use Rattle.life_model.proofs.Generations.{contains-from_list, same_members}
 use Rattle.life_cells.specs.Limits.{IsWithin}
-use Rattle.life_bits.specs.declared.tile.Tile.{Tile}
+use Rattle.life_plane.specs.declared.tile.Tile.{Tile}
 use Rattle.life_slots.specs.Cells.{tiles_cells}
 use Rattle.life_slots.specs.Seats.{has_tile}
 use Rattle.life_slots.proofs.Inserted.{all_listed}

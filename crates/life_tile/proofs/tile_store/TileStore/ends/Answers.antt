@@ -1,5 +1,5 @@
 use Rattle.std.proofs.Common.{List, length, subst₂}
-use Rattle.life_bits.specs.declared.tile.Tile.{Tile}
+use Rattle.life_plane.specs.declared.tile.Tile.{Tile}
 use Rattle.life_slots.specs.declared.slot.Slot.{Slot}
 use Rattle.life_slots.specs.Ends.{AreEnds, IsLiveAt}
 use Rattle.life_tile.proofs.Edges.{member_ends}

@@ -1,5 +1,5 @@
 use Rattle.std.proofs.Common.{◌≡◌, ◌<◌, ◌≤◌, length, sym, subst, below_more, arith}
-use Rattle.life_bits.specs.declared.tile.Tile.{Tile}
+use Rattle.life_plane.specs.declared.tile.Tile.{Tile}
 use Rattle.life_slots.specs.Slots.{link_of, tile_of}
 use Rattle.life_slots.specs.Rims.{IsRimOf, IsStill}
 use Rattle.life_tile.proofs.Kept.{extended_itself, extended_more}

@@ -1,7 +1,7 @@
 use Rattle.std.proofs.Common.{◌≡◌, ℕ, ◌≤◌, pos, true, List, [], ◌∷◌, ◌++◌, length, sym, subst, ap, ◌∙◌}
 use Rattle.std.specs.BTreeMap.{IsOrdered}
 use Rattle.life_cells.specs.Limits.{age_limit}
-use Rattle.life_bits.specs.declared.tile.Tile.{Tile}
+use Rattle.life_plane.specs.declared.tile.Tile.{Tile}
 use Rattle.life_slots.specs.Places.{place_cmp}
 use Rattle.life_slots.specs.declared.bands.Bands.{Bands}
 use Rattle.life_slots.specs.declared.slot.Slot.{Slot}

@@ -1,6 +1,6 @@
 use Rattle.std.proofs.Common.{◌≡◌, ℕ, ◌<◌, ◌-◌, ◌^◌, List, length, take, drop, sym, subst, ap, ◌∙◌}
 use Rattle.std.specs.List.{sum_by}
-use Rattle.life_bits.specs.declared.tile.Tile.{Tile}
+use Rattle.life_plane.specs.declared.tile.Tile.{Tile}
 use Rattle.life_slots.specs.Cells.{tile_count}
 use Rattle.life_tile.specs.TileStores.{IsKept, members_of}
 use Rattle.life_tile.specs.declared.tile_store.TileStore.{TileStore}

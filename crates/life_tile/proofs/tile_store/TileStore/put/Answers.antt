@@ -1,7 +1,7 @@
 use Rattle.std.proofs.lemmas.Int.{ints}
 use Rattle.std.proofs.Common.{◌≡◌, ◌≢◌, ℕ, ℤ, pos, ◌+ℤ◌, w32, to_z, of_z, ◌<◌, ⊎_elim, true, length, sym, subst, ap, ◌∙◌, arith}
 use Rattle.std.proofs.lemmas.Bool.{cases_eq, cases_lt}
-use Rattle.life_bits.specs.Area.{tile_cell}
+use Rattle.life_plane.specs.Area.{tile_cell}
 use Rattle.life_model.specs.Generation.{Generation, insert}
 use Rattle.life_cells.specs.Limits.{IsWithin}
 use Rattle.life_slots.specs.Ends.{IsVoid}

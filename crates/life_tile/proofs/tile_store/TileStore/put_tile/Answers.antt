@@ -1,6 +1,6 @@
 use Rattle.std.proofs.Common.{◌≡◌, ◌≢◌, ℕ, ◌<◌, inl, inr, ⊎_elim, true, length, subst, sym, ap, ◌∙◌, arith}
 use Rattle.std.proofs.lemmas.Bool.{cases_eq, cases_lt}
-use Rattle.life_bits.specs.Area.{tile_cell}
+use Rattle.life_plane.specs.Area.{tile_cell}
 use Rattle.life_model.specs.Generation.{Generation}
 use Rattle.life_cells.specs.Limits.{IsWithin}
 use Rattle.life_slots.specs.Slots.{tile_of}

@@ -1,5 +1,0 @@
-use Rattle.life_bits.proofs.BitSums.{choose_at}
-use Rattle.life_bits.proofs.adders.choose.Goals as goal
-
-pub returns : goal.returns
-returns c = λ j. choose_at c.args.bit c.args.low c.args.high j

@@ -1,5 +1,0 @@
-use Rattle.life_bits.proofs.BitSums.{add_three_at}
-use Rattle.life_bits.proofs.adders.full_adder.Goals as goal
-
-pub returns : goal.returns
-returns c = λ j. add_three_at c.args.a c.args.b c.args.c j

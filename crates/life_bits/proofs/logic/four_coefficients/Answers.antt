@@ -1,5 +1,0 @@
-use Rattle.life_bits.proofs.Polynomials.{four_summed}
-use Rattle.life_bits.proofs.logic.four_coefficients.Goals as goal
-
-pub returns : goal.returns
-returns c = four_summed c.args.words
