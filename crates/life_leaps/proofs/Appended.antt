@@ -4,8 +4,8 @@ use Rattle.std.proofs.lemmas.Grind.{common_steps}
 use Rattle.std.proofs.lemmas.Bool.{cases_eq}
 use Rattle.std.proofs.Math.ListN.{set}
 use Rattle.life_model.specs.Rule.{Rule}
-use Rattle.life_leaves.specs.declared.leaf.Leaf.{Leaf}
-use Rattle.life_leaves.specs.Leaves.{leaf_cell}
+use Rattle.life_slots.specs.declared.leaf.Leaf.{Leaf}
+use Rattle.life_slots.specs.Leaves.{leaf_cell}
 use Rattle.life_leaps.specs.declared.square.Quarters.{Quarters}
 use Rattle.life_leaps.specs.declared.square.Square.{Square}
 use Rattle.life_leaps.specs.Squares.{View, AreAt, jump, IsMiddle, IsKept, Extends, Grows}

@@ -9,12 +9,12 @@ use Rattle.life_model.specs.Generation.{Generation, contains, from_list, insert}
 use Rattle.life_model.proofs.Cells.{cells_differ, pair, same_cell-is}
 use Rattle.life_model.proofs.Generations.{contains-insert, contains-empty}
 use Rattle.life_plane.specs.Flags.{as_bit}
-use Rattle.life_leaves.specs.Kernels.Rows.{state}
+use Rattle.life_slots.specs.Kernels.Rows.{state}
 use Rattle.life_slots.proofs.Members.{Has, has_head, has_none, has_front, has_back, has_parts, has_cases}
 use Rattle.life_slots.proofs.Inserted.{list_more}
 use Rattle.life_slots.proofs.Orders.{true_or_false}
-use Rattle.life_leaves.specs.declared.leaf.Leaf.{Leaf}
-use Rattle.life_leaves.specs.Leaves.{leaf_cell, ShowsLeaf}
+use Rattle.life_slots.specs.declared.leaf.Leaf.{Leaf}
+use Rattle.life_slots.specs.Leaves.{leaf_cell, ShowsLeaf}
 use Rattle.life_leaps.specs.declared.site.Site.{Site}
 use Rattle.life_leaps.specs.Squares.{View, half, width, beyond, Shows, IsAt, IsKept, Extends}
 use Rattle.life_leaps.specs.Cells.{IsInside, IsListed}

@@ -13,8 +13,8 @@ use Rattle.life_slots.specs.Cells.{row_cells}
 use Rattle.life_slots.proofs.Members.{Has, has_none, has_front, has_back, has_parts, RowHas, row_has, row_in}
 use Rattle.life_slots.proofs.Orders.{true_or_false}
 use Rattle.life_slots.proofs.Splits.{same_flag}
-use Rattle.life_leaves.specs.declared.leaf.Leaf.{Leaf}
-use Rattle.life_leaves.specs.Leaves.{leaf_cell, ShowsLeaf}
+use Rattle.life_slots.specs.declared.leaf.Leaf.{Leaf}
+use Rattle.life_slots.specs.Leaves.{leaf_cell, ShowsLeaf}
 use Rattle.life_leaps.specs.declared.square.Quarters.{Quarters}
 use Rattle.life_leaps.specs.Places.{empty_at}
 use Rattle.life_leaps.specs.Squares.{View, half, width, beyond, Shows, ShowsQuarters, IsKept}

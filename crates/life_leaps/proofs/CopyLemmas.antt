@@ -3,8 +3,8 @@ use Rattle.std.proofs.Common.{◌≡◌, ◌≢◌, ℕ, zero, suc, ◌-◌, ◌
 use Rattle.std.proofs.lemmas.Bool.{cases_eq}
 use Rattle.std.proofs.Math.ListN.{set}
 use Rattle.life_model.specs.Generation.{Generation, contains, from_list}
-use Rattle.life_leaves.specs.declared.leaf.Leaf.{Leaf}
-use Rattle.life_leaves.specs.Leaves.{ShowsLeaf}
+use Rattle.life_slots.specs.declared.leaf.Leaf.{Leaf}
+use Rattle.life_slots.specs.Leaves.{ShowsLeaf}
 use Rattle.life_leaps.specs.declared.collecting.Copier.{Copier}
 use Rattle.life_leaps.specs.declared.square.Quarters.{Quarters}
 use Rattle.life_leaps.specs.declared.store.Store.{Store}

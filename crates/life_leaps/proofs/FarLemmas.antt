@@ -7,7 +7,7 @@ use Rattle.life_model.specs.Generation.{contains, empty, from_list}
 use Rattle.life_model.proofs.Generations.{contains-empty, same_members}
 use Rattle.life_slots.proofs.Orders.{true_or_false}
 use Rattle.life_slots.proofs.Members.{has_front, has_back, has_parts, row_in}
-use Rattle.life_leaves.specs.declared.leaf.Leaf.{Leaf}
+use Rattle.life_slots.specs.declared.leaf.Leaf.{Leaf}
 use Rattle.life_leaps.specs.declared.far.Spot.{Spot}
 use Rattle.life_leaps.specs.declared.site.Site.{Site}
 use Rattle.life_leaps.specs.declared.site.Sites.{Sites}

@@ -1,8 +1,8 @@
 -- Stores that forget, and the first store.
 use Rattle.std.proofs.Common.{◌≡◌, ℕ, zero, suc, ◌+◌, ◌^◌, ◌<◌, ◌≤◌, ⊎_elim, min, List, length, slice_index_or, Some, None, sym, subst, ap, ◌∙◌, arith}
 use Rattle.life_model.specs.Rule.{Rule}
-use Rattle.life_leaves.specs.declared.leaf.Leaf.{Leaf}
-use Rattle.life_leaves.specs.Leaves.{leaf_cell}
+use Rattle.life_slots.specs.declared.leaf.Leaf.{Leaf}
+use Rattle.life_slots.specs.Leaves.{leaf_cell}
 use Rattle.life_leaps.specs.declared.square.Quarters.{Quarters}
 use Rattle.life_leaps.specs.declared.square.Square.{Square}
 use Rattle.life_leaps.specs.Places.{empty_at}

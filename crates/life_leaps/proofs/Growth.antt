@@ -6,8 +6,8 @@ use Rattle.life_model.specs.Rule.{Rule}
 use Rattle.life_model.specs.Generation.{Generation}
 use Rattle.life_model.specs.Evolution.{generation}
 use Rattle.life_model.proofs.Cells.{pair}
-use Rattle.life_leaves.specs.declared.leaf.Leaf.{Leaf}
-use Rattle.life_leaves.specs.Leaves.{ShowsLeaf}
+use Rattle.life_slots.specs.declared.leaf.Leaf.{Leaf}
+use Rattle.life_slots.specs.Leaves.{ShowsLeaf}
 use Rattle.life_leaps.specs.declared.square.Quarters.{Quarters}
 use Rattle.life_leaps.specs.Squares.{View, width, beyond, OnQuarters, Shows, ShowsQuarters, IsAt, AreAt, jump, IsMiddle, IsKept, AreRight, Extends, Grows}
 

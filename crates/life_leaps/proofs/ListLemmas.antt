@@ -7,7 +7,7 @@ use Rattle.std.proofs.lemmas.List.Folds.{list_any-append}
 use Rattle.std.proofs.lemmas.Nat.Bits.{bit_at_above}
 use Rattle.std.proofs.lemmas.Int.{ints}
 use Rattle.life_model.proofs.Cells.{pair}
-use Rattle.life_leaves.specs.declared.leaf.Leaf.{Leaf}
+use Rattle.life_slots.specs.declared.leaf.Leaf.{Leaf}
 use Rattle.life_model.specs.Cell.{Cell, same_cell}
 use Rattle.life_model.specs.Generation.{contains, from_list, empty}
 use Rattle.life_model.proofs.Generations.{contains-empty}

@@ -1,6 +1,6 @@
 -- What a store has at its places.
 use Rattle.std.specs.Prelude.{◌≡◌, ℕ, List, [], length, slice_index_or, None}
-use Rattle.life_leaves.specs.declared.leaf.Leaf.{Leaf}
+use Rattle.life_slots.specs.declared.leaf.Leaf.{Leaf}
 use Rattle.life_leaps.specs.declared.square.Square.{Square}
 use Rattle.life_leaps.specs.declared.store.Store.{Store}
 use Rattle.life_leaps.specs.Places.{empty_at}

@@ -3,7 +3,7 @@ ghost use Rattle.std.specs.Prelude.{◌≡◌, ◌↔◌, ℕ, ℤ, pos, suc, �
 ghost use Rattle.life_model.specs.Cell.{Cell};
 ghost use Rattle.life_model.specs.Generation.{from_list};
 ghost use Rattle.life_model.specs.Rule.{Rule};
-ghost use Rattle.life_leaves.specs.Leaves.{ShowsLeaf};
+ghost use Rattle.life_slots.specs.Leaves.{ShowsLeaf};
 ghost use Rattle.life_leaps.specs.Squares.{Grows, IsAt, IsKept, Shows, beyond, width};
 ghost use Rattle.life_leaps.specs.Stores.{view};
 ghost use Rattle.life_leaps.specs.Cells.{IsInside, IsListed};
@@ -12,7 +12,7 @@ ghost use Rattle.life_leaps.specs.Sites.{AreInside, AreQuartersOf, IsPartOf, IsS
 use crate::site::{Site, Sites};
 use crate::square::{Quarters, empty_place};
 use crate::store::Store;
-use life_leaves::Leaf;
+use life_slots::Leaf;
 use std::alloc::{AllocError, Global};
 
 /// Cells of a list, among them all that stand in a square.

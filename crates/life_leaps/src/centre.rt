@@ -8,7 +8,7 @@ ghost use Rattle.life_leaps.specs.Rows.{IsReady};
 use crate::rows::Step;
 use crate::square::Quarters;
 use crate::store::Store;
-use life_leaves::{FourLeaves, middle_later};
+use life_slots::{FourLeaves, middle_later};
 use std::alloc::AllocError;
 
 impl Store {

@@ -10,7 +10,7 @@ ghost use Rattle.life_leaps.specs.Spots.{AreSpotsOf, IsLiveIn, IsSpot};
 use crate::site::Site;
 use crate::square::empty_place;
 use crate::store::Store;
-use life_leaves::Leaf;
+use life_slots::Leaf;
 
 /// A side of the plane.
 #[derive(Clone, Copy)]

@@ -10,8 +10,7 @@ ghost use Rattle.life_leaps.specs.Sites.{IsSite, corner};
 use crate::site::Site;
 use crate::square::empty_place;
 use crate::store::Store;
-use life_leaves::Leaf;
-use life_slots::push_row;
+use life_slots::{Leaf, push_row};
 use std::alloc::AllocError;
 
 /// Appends the live cells of a leaf.

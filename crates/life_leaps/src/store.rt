@@ -8,7 +8,7 @@ ghost use Rattle.life_leaps.specs.Stores.{HasSame, view};
 
 use crate::chains::Chains;
 use crate::square::{Quarters, Square, TOP_LEVEL, empty_place, mix_quarters};
-use life_leaves::Leaf;
+use life_slots::Leaf;
 use std::alloc::{AllocError, Global};
 use thiserror::Error;
 

@@ -21,3 +21,10 @@ pub mod Sizes
 pub mod EndBits
 pub mod EndCells
 pub mod Lowest
+pub mod Halves
+pub mod Local
+pub mod AreaBands
+pub mod Quarters
+pub mod LeafCells
+pub mod Quiet
+pub mod KernelsLemmas

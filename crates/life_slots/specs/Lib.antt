@@ -7,3 +7,7 @@ pub mod Seats
 pub mod Rims
 pub mod Work
 pub mod Ends
+pub mod Leaves
+pub mod Areas
+pub mod Lists
+pub mod Kernels

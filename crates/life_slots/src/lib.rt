@@ -1,13 +1,19 @@
-//! Tiles in slots: where the tile of each slot stands and which slots are around it, what a step makes of them, and the cells that
-//! they have. Slot 0 has the empty tile: links and indices name it where there is no slot.
+//! Tiles in slots, and leaves, squares of 32 by 32 cells: where the tile of each slot stands and which slots are around it, what a
+//! step makes of them, the cells that they have, and what becomes of the middle of four leaves. Slot 0 has the empty tile: links and
+//! indices name it where there is no slot. `kernels` has the laws of what works 64 cells at a time.
 //!
 //! Tested in `tests_patterns`.
 #![tactic(auto)]
 
+mod area;
 mod bands;
 mod counting;
 mod ends;
 mod grid;
+mod kernels;
+mod later;
+mod leaf;
+mod leaf_listing;
 mod listing;
 mod rim;
 mod seats;
@@ -20,6 +26,12 @@ pub use bands::Bands;
 pub use counting::count_cells;
 pub use ends::{Ends, ends_of, is_before, is_void};
 pub use grid::{corner_of, split};
+pub use kernels::{
+    each_row_is_of_a_set, strands_tell_the_next_generation, tiles_tell_the_next_generation,
+    windows_tell_the_next_generation,
+};
+pub use later::middle_later;
+pub use leaf::{FourLeaves, Leaf};
 pub use listing::{push_row, push_seats, tile_in};
 pub use rim::Rim;
 pub use seats::{Seat, seats_by_rows};

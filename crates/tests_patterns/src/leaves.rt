@@ -2,8 +2,8 @@
 
 use crate::evolved::{after, step};
 use life_cells::Rule;
-use life_leaves::{FourLeaves, Leaf, middle_later};
 use life_plane::{ListPlane, Logic, Plane};
+use life_slots::{FourLeaves, Leaf, middle_later};
 use std::alloc::Global;
 use std::process::Abort;
 use std::test::Fail;

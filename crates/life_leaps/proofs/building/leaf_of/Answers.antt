@@ -2,8 +2,8 @@
 use Rattle.std.proofs.Common.{◌≡◌, ℕ, pos, ◌<◌, ◌+◌, sym, ap, subst, length, get_or, take, arith}
 use Rattle.life_model.specs.Cell.{Cell}
 use Rattle.life_model.specs.Generation.{Generation, from_list, insert}
-use Rattle.life_leaves.specs.declared.leaf.Leaf.{Leaf}
-use Rattle.life_leaves.specs.Leaves.{ShowsLeaf}
+use Rattle.life_slots.specs.declared.leaf.Leaf.{Leaf}
+use Rattle.life_slots.specs.Leaves.{ShowsLeaf}
 use Rattle.life_leaps.specs.Squares.{half, width}
 use Rattle.life_leaps.specs.Cells.{IsInside}
 use Rattle.life_leaps.specs.Sites.{corner}

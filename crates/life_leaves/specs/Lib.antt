@@ -1,4 +1,0 @@
-pub mod Leaves
-pub mod Areas
-pub mod Lists
-pub mod Kernels
