@@ -17,7 +17,7 @@ use crate::limit::{few_until, first_past_of_ash};
 use life_apart::Trail;
 use life_orbit::Orbit;
 use life_plane::{AGE_LIMIT, Observer, Plane};
-use life_tally::Pace;
+use life_strays::Pace;
 use std::alloc::{AllocError, Global};
 
 /// Parts of which a plane's cells are ash, where a look at this age is due and finds them.

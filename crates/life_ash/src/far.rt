@@ -9,8 +9,7 @@ use crate::known::Known;
 use crate::newcomers::is_no_ash;
 use crate::told::Told;
 use life_plane::Plane;
-use life_strays::are_no_ash;
-use life_tally::{Pace, is_uneven};
+use life_strays::{Pace, are_no_ash, is_uneven};
 use std::alloc::{AllocError, Global};
 
 /// How many times as old as the bound a pattern gets at most.

@@ -13,7 +13,7 @@ use crate::sizes::are_few;
 use life_cells::Rule;
 use life_orbit::Orbit;
 use life_plane::{AGE_LIMIT, Plane};
-use life_tally::{Pace, STRIDE};
+use life_strays::{Pace, STRIDE};
 use std::alloc::AllocError;
 
 /// Whether so many cells are allowed.

@@ -24,7 +24,7 @@ use life_apart::Trail;
 use life_cells::{CellList, Rule};
 use life_orbit::BOUND_LIMIT;
 use life_plane::{Observer, Plane};
-use life_tally::Pace;
+use life_strays::Pace;
 use std::alloc::{AllocError, Global};
 
 /// What becomes of a pattern of which no generation up to three times the bound is past the limit, of which the generation

@@ -17,7 +17,7 @@ use crate::known::Known;
 use crate::told::Told;
 use life_orbit::Orbit;
 use life_plane::Plane;
-use life_tally::Pace;
+use life_strays::Pace;
 use std::alloc::{AllocError, Global};
 
 /// What cells are that are this ash or none, and if it is none are seen, or not, to become ash later.

@@ -7,3 +7,7 @@ pub mod Windows
 pub mod Belonging
 pub mod Lacking
 pub mod Telling
+pub mod Sums
+pub mod Even
+pub mod Measures
+pub mod Stretches

@@ -1,1 +1,2 @@
 pub mod Strays
+pub mod Totals

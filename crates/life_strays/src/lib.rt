@@ -1,4 +1,5 @@
-//! What is told by a few islands of cells that are followed: that a pattern is no ash, and that it doesn't grow.
+//! What is told by a few islands of cells that are followed, and by how many cells generations have: that a pattern is no ash, that it
+//! doesn't grow, and when populations have repeated for a while.
 //!
 //! A part of ash comes again after a period, moved or not, and so do all of its cells. Each island of a part is then among the
 //! cells of a later generation, moved, and what hangs on it there is, moved back, among the first cells. So an island that
@@ -11,17 +12,21 @@
 //! neither, belongs to nothing that a growth is made of. Nothing else is followed: the rest of the pattern is stepped, and a few
 //! sets are looked for in it.
 //!
-//! Tested in `tests_growth`.
+//! Tested in `tests_growth`, and `pace` and `uneven` in `tests_objects`, by `life_census`.
 #![tactic(auto)]
 
 mod choosing;
 mod heirs;
 mod islands;
+mod pace;
 mod refusing;
 mod returning;
 mod stray;
 mod straying;
 mod trail;
 mod trailing;
+mod uneven;
 
+pub use pace::{Pace, STRIDE};
 pub use refusing::{are_no_ash, never_grow, one_never_grows};
+pub use uneven::is_uneven;

@@ -1,5 +1,5 @@
 //! Totals of stretches that are too uneven for what comes again within one.
-use life_tally::is_uneven;
+use life_strays::is_uneven;
 use std::process::Abort;
 
 /// The totals before each stretch and after the last, and whether they are too uneven.

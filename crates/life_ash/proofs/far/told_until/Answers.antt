@@ -2,9 +2,9 @@ use Rattle.std.proofs.Common.{◌≡◌, suc, ◌+◌, ◌-◌, ◌*◌, ◌≤�
 use Rattle.life_model.specs.Evolution.{generation, next}
 use Rattle.life_model.specs.Generation.{size}
 use Rattle.life_model.proofs.Recurrences.{generation-next, generation-zero}
-use Rattle.life_tally.specs.Totals.{AreTotals, total}
-use Rattle.life_tally.proofs.Even.{uneven_is_no_ash}
-use Rattle.life_tally.proofs.Stretches.{stretch_more, totals_more}
+use Rattle.life_strays.specs.Totals.{AreTotals, total}
+use Rattle.life_strays.proofs.Even.{uneven_is_no_ash}
+use Rattle.life_strays.proofs.Stretches.{stretch_more, totals_more}
 use Rattle.life_ash.proofs.far.told_until.Goals as goal
 use Rattle.life_ash.proofs.far.told_until.Goals.{then-left-eq0+in_ok-push+else-is_uneven, else-left-eq0}
 use Rattle.life_ash.proofs.far.told_until.Goals.{then-bound-age+in_ok-parts+in_default, else-bound-age}

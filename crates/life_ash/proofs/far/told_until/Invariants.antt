@@ -1,6 +1,6 @@
 use Rattle.std.proofs.Common.{◌≡◌, ◌+◌, ◌-◌, ◌*◌, ◌≤◌, length}
 use Rattle.life_model.specs.Evolution.{generation}
-use Rattle.life_tally.specs.Totals.{AreTotals, total}
+use Rattle.life_strays.specs.Totals.{AreTotals, total}
 use Rattle.life_ash.proofs.far.told_until.Given as goal
 
 -- so many generations after the bound all cells are counted, and before each stretch they were

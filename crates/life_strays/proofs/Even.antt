@@ -16,8 +16,8 @@ use Rattle.life_objects.proofs.OneList.{apart_from_list}
 use Rattle.life_objects.proofs.Recurring.{RecursBy-later}
 use Rattle.life_objects.proofs.Times.{disjoint_ever, generation-empty, generation-union_ever}
 use Rattle.life_objects.proofs.Unions.{size-disjoint}
-use Rattle.life_tally.specs.Totals.{AreTotals, IsUneven, total}
-use Rattle.life_tally.proofs.Sums.{even, rises}
+use Rattle.life_strays.specs.Totals.{AreTotals, IsUneven, total}
+use Rattle.life_strays.proofs.Sums.{even, rises}
 
 module _ (R : Rule) where
   -- how many cells a set has then

@@ -5,7 +5,7 @@ use Rattle.std.proofs.Math.Seq.{get_or-append_seam}
 use Rattle.std.proofs.lemmas.Bool.{cases_lt}
 use Rattle.life_model.specs.Rule.{Rule}
 use Rattle.life_model.specs.Generation.{Generation}
-use Rattle.life_tally.specs.Totals.{AreTotals, total}
+use Rattle.life_strays.specs.Totals.{AreTotals, total}
 
 module _ (R : Rule) (b : ℕ) (G : Generation) (totals : List ℕ) (sum : ℕ) where
   -- the total before one stretch more

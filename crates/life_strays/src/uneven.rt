@@ -1,6 +1,6 @@
 //! Stretches of generations that have too many cells beside others for what comes again.
 ghost use Rattle.std.specs.Prelude.{◌≡◌, ◌+◌, ◌-◌, ◌*◌, ◌<◌, ℕ, IfSome, IsTrue, length, slice_index_or};
-ghost use Rattle.life_tally.specs.Totals.{IsUneven};
+ghost use Rattle.life_strays.specs.Totals.{IsUneven};
 
 /// How many cells so many stretches have from a place on, where the totals do not fall.
 fn cells_of(totals: &[u64], place: usize, count: usize) -> Option<u64>

@@ -1,6 +1,6 @@
 -- Stretches that are compared.
 use Rattle.std.proofs.Common.{◌≡◌, ℕ, ◌+◌, ◌-◌, ◌*◌, ◌<◌, List, length, slice_index_or, subst}
-use Rattle.life_tally.specs.Totals.{IsUneven}
+use Rattle.life_strays.specs.Totals.{IsUneven}
 
 pub uneven_by : (totals : List ℕ) (count lesser greater high low : ℕ) → lesser + count < length totals →
     greater + count < length totals →

@@ -1,5 +1,5 @@
-use Rattle.life_tally.proofs.Measures.{uneven_by}
-use Rattle.life_tally.proofs.uneven.are_uneven.Goals as goal
+use Rattle.life_strays.proofs.Measures.{uneven_by}
+use Rattle.life_strays.proofs.uneven.are_uneven.Goals as goal
 
 pub returns : goal.returns
 returns c is =

@@ -1,7 +1,7 @@
 -- Sums of numbers that come again and again.
 use Rattle.std.proofs.Common.{◌≡◌, ℕ, zero, suc, ◌+◌, ◌-◌, ◌*◌, ◌/◌, ◌%◌, ◌<◌, ◌≤◌, ap, ◌∙◌, mod-lt, div-add-mod', mul-le-mul_left, arith}
 use Rattle.std.proofs.Math.Nat.{le-div_iff_mul-le, mul-le-mul_right}
-use Rattle.life_tally.specs.Totals.{sum_to}
+use Rattle.life_strays.specs.Totals.{sum_to}
 
 module _ (f : ℕ → ℕ) where
   -- the sum of more numbers is no less

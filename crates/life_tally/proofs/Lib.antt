@@ -1,4 +1,0 @@
-pub mod Sums
-pub mod Even
-pub mod Measures
-pub mod Stretches
