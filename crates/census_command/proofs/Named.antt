@@ -2,8 +2,8 @@
 use Rattle.std.proofs.Common.{◌≡◌, ℕ, List, Result, Ok, Err, MatchResult, inr}
 use Rattle.watched.specs.Streams.{Streams}
 use Rattle.census_folders.specs.Told.{Told}
-use Rattle.census_names.specs.Lines.{names_in}
-use Rattle.census_names.specs.Names.{Entry}
+use Rattle.census_facts.specs.NameLines.{names_in}
+use Rattle.census_facts.specs.Names.{Entry}
 use Rattle.census_reports.specs.declared.error.ReportsError.{ReportsError}
 use Rattle.census_command.specs.Identifying.{HasNoNames, LacksNames, ReadsNames, ReadsText}
 

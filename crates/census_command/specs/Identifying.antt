@@ -8,8 +8,8 @@ use Rattle.census_folders.specs.Told.{Told}
 use Rattle.census_identify.specs.Hearing.{Hears}
 use Rattle.census_identify.specs.Identifies.{Identifies}
 use Rattle.census_identify.specs.declared.heard.Heard.TheVariants as heard
-use Rattle.census_names.specs.Lines.{names_in}
-use Rattle.census_names.specs.Names.{Entry}
+use Rattle.census_facts.specs.NameLines.{names_in}
+use Rattle.census_facts.specs.Names.{Entry}
 use Rattle.census_reports.specs.Errors as reports
 use Rattle.census_reports.specs.Texts.{RefusesWord}
 use Rattle.census_reports.specs.declared.error.ReportsError.{ReportsError}

@@ -1,16 +1,15 @@
 //! `census identify`: what patterns are, told with the names of codes.
 ghost use Rattle.std.specs.Prelude.{◌≡◌, ◌≤◌, [], false, map, option_map, MatchResult, Ok, OnOk};
 ghost use Rattle.census_identify.specs.Identifies.{Identifies};
-ghost use Rattle.census_names.specs.Lines.{names_in};
+ghost use Rattle.census_facts.specs.NameLines.{names_in};
 ghost use Rattle.census_command.specs.Identifying.{HasNoNames, LacksNames, ReadsNames, TellsPatterns, form_told};
 ghost use Rattle.census_command.specs.Streams.{HasSoundStreams};
 
 use crate::remaking::stop_of;
 use census_crew::Gate;
-use census_facts::Form;
+use census_facts::{Form, Names, read_names};
 use census_folders::Shelf;
 use census_identify::{HORIZON_LIMIT, Inquiry, Onlooker, identify};
-use census_names::{Names, read_names};
 use census_reports::{ReportsError, read_text};
 use life_orbit::BOUND_LIMIT;
 use std::alloc::Global;

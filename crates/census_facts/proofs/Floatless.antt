@@ -5,7 +5,7 @@ use Rattle.serde_json.specs.Written.{has_float, members_have_float}
 use Rattle.life_answer.specs.declared.part.Part.{Part}
 use Rattle.life_answer.specs.declared.tale.Engines.{Engines}
 use Rattle.census_facts.proofs.JsonLemmas.Floatless.{counted-floatless, displacement-floatless, engines-floatless, items-floatless, put-floatless}
-use Rattle.census_names.specs.Names.{Entry, name_in}
+use Rattle.census_facts.specs.Names.{Entry, name_in}
 use Rattle.census_facts.specs.Facts.{Content, Thing}
 use Rattle.census_facts.specs.Facts as told
 use Rattle.census_facts.specs.Values.{content_data, kind_data, part_data, with_things}

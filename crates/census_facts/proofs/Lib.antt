@@ -1,3 +1,5 @@
+pub mod Kept
+pub mod Split
 pub mod Floatless
 mod Parts
 pub mod JsonLemmas

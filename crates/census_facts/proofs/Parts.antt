@@ -4,7 +4,7 @@ use Rattle.std.proofs.lemmas.List.{length-take, map-append}
 use Rattle.life_answer.specs.declared.part.Part.{Part}
 use Rattle.life_answer.specs.declared.tale.Engines.{Engines}
 use Rattle.life_answer.proofs.Taken.{take_one_more}
-use Rattle.census_names.specs.Names.{Entry}
+use Rattle.census_facts.specs.Names.{Entry}
 use Rattle.census_facts.specs.Lines.{Line, emits_line, engine_line, engines_lines, text_of}
 
 text_of-append : (ls ms : List Line) → text_of (ls ++ ms) ≡ text_of ls ++ text_of ms

@@ -1,6 +1,6 @@
 -- The forms in which things are told, with the names that objects have.
 use Rattle.std.specs.Prelude.{ℕ, List, [], ◌∷◌}
-use Rattle.census_names.specs.Names.{Entry}
+use Rattle.census_facts.specs.Names.{Entry}
 use Rattle.census_facts.specs.Facts.{Thing}
 use Rattle.census_facts.specs.Lines.{things_lines}
 use Rattle.census_facts.specs.Values.{object_line}

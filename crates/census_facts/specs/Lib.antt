@@ -1,3 +1,6 @@
+pub mod NameLines
+pub mod Names
+pub mod Read
 pub mod Facts
 pub mod Lines
 pub mod Values

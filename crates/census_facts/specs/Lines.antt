@@ -4,7 +4,7 @@ use Rattle.std.specs.Fmt.{signed_decimal}
 use Rattle.life_answer.specs.declared.part.Part.{Part}
 use Rattle.life_answer.specs.declared.tale.Engines.{Engines}
 use Rattle.life_answer.specs.CountedTales.{engines_in}
-use Rattle.census_names.specs.Names.{Entry, name_in}
+use Rattle.census_facts.specs.Names.{Entry, name_in}
 use Rattle.census_facts.specs.Facts.{Content, Thing}
 use Rattle.census_facts.specs.Facts as told
 

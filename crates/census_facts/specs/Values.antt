@@ -7,7 +7,7 @@ use Rattle.census_facts.specs.Json.Lines.{data_line}
 use Rattle.census_facts.specs.Json.Values.{counted_data, displacement_data, engines_data}
 use Rattle.life_answer.specs.declared.part.Part.{Part}
 use Rattle.life_answer.specs.declared.tale.Engines.{Engines}
-use Rattle.census_names.specs.Names.{Entry, name_in}
+use Rattle.census_facts.specs.Names.{Entry, name_in}
 use Rattle.census_facts.specs.Facts.{Content, Thing}
 use Rattle.census_facts.specs.Facts as told
 

@@ -3,7 +3,7 @@ ghost use Rattle.std.specs.Prelude.{◌≡◌, ◌++◌, OnOk, map};
 ghost use Rattle.census_facts.specs.Lines.{emits_line, engine_line, engines_lines, text_of};
 
 use crate::lines::{push_field, push_moves, push_name, push_number};
-use census_names::Names;
+use crate::names::Names;
 use life_answer::{Engines, Part};
 use std::alloc::AllocError;
 

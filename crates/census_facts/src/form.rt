@@ -5,8 +5,8 @@ ghost use Rattle.census_facts.specs.Forms.{separator, things_text};
 
 use crate::fact::Fact;
 use crate::lines::push_facts;
+use crate::names::Names;
 use crate::values::push_object;
-use census_names::Names;
 use std::alloc::{AllocError, Global};
 
 /// How facts are told.

@@ -1,6 +1,7 @@
-//! What is told of a pattern: facts, one after another, as lines or as one JSON object. `json` has JSON on lines of its own.
+//! Facts that are told of a pattern, one after another, as lines or as one JSON object, and names of codes, read from a text. `json`
+//! has JSON on lines of its own.
 //!
-//! Tested in `tests_objects`.
+//! Tested in `tests_objects`, and names here.
 #![tactic(auto)]
 
 mod engines;
@@ -8,6 +9,10 @@ mod fact;
 mod form;
 mod json;
 mod lines;
+mod names;
+mod reading;
+#[cfg(test)]
+mod tests;
 mod values;
 
 pub use fact::{Fact, Worth};
@@ -15,3 +20,5 @@ pub use form::{Form, facts_text};
 pub use json::{
     counted_value, push_engines_end, push_engines_head, push_item, push_members, push_value,
 };
+pub use names::Names;
+pub use reading::read_names;

@@ -1,13 +1,13 @@
 //! Facts as lines.
 ghost use Rattle.std.specs.Prelude.{◌≡◌, ◌++◌, [], ◌∷◌, OnOk, codes, decimal, map};
 ghost use Rattle.std.specs.Fmt.{signed_decimal};
-ghost use Rattle.census_names.specs.Names.{name_in};
+ghost use Rattle.census_facts.specs.Names.{name_in};
 ghost use Rattle.census_facts.specs.Facts.{thing_of, things_in};
 ghost use Rattle.census_facts.specs.Lines.{content_lines, fields_text, line, name_values, part_line, text_of, things_lines};
 
 use crate::engines::push_engines;
 use crate::fact::{Fact, Worth};
-use census_names::Names;
+use crate::names::Names;
 use itoa::{Buffer, Integer};
 use life_answer::Part;
 use std::alloc::AllocError;

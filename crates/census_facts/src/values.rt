@@ -7,7 +7,7 @@ ghost use Rattle.census_facts.specs.Values.{content_data, kind_data, object_line
 
 use crate::fact::{Fact, Worth};
 use crate::json::{counted_value, displacement_value, engines_value, push_value};
-use census_names::Names;
+use crate::names::Names;
 use life_answer::{Engines, Part};
 use serde_json::{Map, Value, put};
 use std::alloc::{AllocError, Global};

@@ -2,7 +2,7 @@
 use Rattle.std.proofs.Common.{◌≡◌, ℕ, Bool, true, false, List, [], ◌∷◌, ◌++◌, max, refl, sym, ap, ◌∙◌, append_assoc, append-nil, arith}
 use Rattle.std.proofs.lemmas.List.{map-append}
 use Rattle.census_identify.specs.declared.blocks.inquiry.Inquiry.{Inquiry}
-use Rattle.census_names.specs.Names.{Entry}
+use Rattle.census_facts.specs.Names.{Entry}
 use Rattle.census_facts.specs.Forms.{separator}
 use Rattle.census_facts.specs.declared.form.Form.{Form}
 use Rattle.census_identify.specs.Hearing.{Hearing}

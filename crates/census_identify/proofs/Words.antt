@@ -3,7 +3,7 @@ use Rattle.std.proofs.Common.{◌≡◌, ℕ, suc, ◌+◌, ◌<◌, false, List
 use Rattle.std.proofs.lemmas.List.{map-append, map_more, take-append-drop}
 use Rattle.watched.specs.Watching.{ConsumesAtMost}
 use Rattle.census_identify.specs.declared.blocks.inquiry.Inquiry.{Inquiry}
-use Rattle.census_names.specs.Names.{Entry}
+use Rattle.census_facts.specs.Names.{Entry}
 use Rattle.census_bundle.specs.Sizes.{input_limit}
 use Rattle.census_folders.specs.Told.{Told as ToldOf}
 use Rattle.census_identify.specs.Courses.{with_told}

@@ -4,7 +4,7 @@ use Rattle.life_text.specs.declared.rle.RleFault.{RleFault}
 use Rattle.census_faults.specs.Rle.Lines.{fault_line}
 use Rattle.census_identify.specs.Blocks.Blocks.{block_of}
 use Rattle.census_identify.specs.declared.blocks.inquiry.Inquiry.{Inquiry}
-use Rattle.census_names.specs.Names.{Entry}
+use Rattle.census_facts.specs.Names.{Entry}
 use Rattle.census_facts.specs.Forms.{separator}
 use Rattle.census_facts.specs.declared.form.Form.{Form}
 use Rattle.census_identify.specs.Hearing.{Hearing, is_input}

@@ -6,7 +6,7 @@ use Rattle.census_rows.specs.declared.row.Row.{Row}
 use Rattle.census_rows.specs.Lines.{text_of}
 use Rattle.census_merge.specs.Merged.{merged_rows}
 use Rattle.census_merge.specs.Sums.{first_excess, no_sums}
-use Rattle.census_names.specs.Lines.{names_in}
+use Rattle.census_facts.specs.NameLines.{names_in}
 use Rattle.census_page.specs.Options.{options_of}
 use Rattle.census_page.specs.Pages.{page_of}
 use Rattle.census_same.specs.Patterns.{tolds_of}

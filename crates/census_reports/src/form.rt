@@ -11,8 +11,8 @@ ghost use Rattle.census_reports.specs.Forms.{names_given};
 ghost use Rattle.census_reports.specs.Written.{FailsRows, WritesRows};
 
 use crate::error::ReportsError;
+use census_facts::{Names, read_names};
 use census_kept::Rows;
-use census_names::{Names, read_names};
 use census_page::{PageOptions, put_page};
 use census_same::put_same;
 use census_table::{Format, Subject, put_listing, table_of};

@@ -1,6 +1,6 @@
 -- What codes are called in tables.
 use Rattle.std.specs.Prelude.{ℕ, Option, Some, None, List}
-use Rattle.census_names.specs.Names.{Entry, name_in}
+use Rattle.census_facts.specs.Names.{Entry, name_in}
 use Rattle.census_table.specs.Contents.{Content, nothing, text}
 
 -- names that a table has, or that it has none

@@ -5,7 +5,7 @@ ghost use Rattle.census_table.specs.Called.{called};
 ghost use Rattle.census_table.specs.Contents.{content_of};
 
 use crate::cell::Cell;
-use census_names::Names;
+use census_facts::Names;
 
 // What a row has of the name of a code.
 pub fn called<'a>(names: Option<&'a Names>, code: &[u8]) -> Cell<'a>

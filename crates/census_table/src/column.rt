@@ -9,7 +9,7 @@ ghost use Rattle.census_table.specs.Contents.{content_of, row_of};
 use crate::called::called;
 use crate::cell::{Cell, Field};
 use crate::entry::Entry;
-use census_names::Names;
+use census_facts::Names;
 use census_rows::{Label, Outcome, Value};
 use std::alloc::{AllocError, Global};
 

@@ -7,7 +7,7 @@ ghost use Rattle.census_table.specs.ObjectColumns.{content_of_object, is_there, 
 use crate::called::called;
 use crate::cell::{Cell, Field};
 use crate::object::Object;
-use census_names::Names;
+use census_facts::Names;
 use std::alloc::{AllocError, Global};
 
 /// A column of a table of parts or of codes.

@@ -9,8 +9,8 @@ ghost use Rattle.census_table.specs.Tables.{IsListingOf, listing_of, names_in};
 use crate::column::Column;
 use crate::counting::{Kinds, kinds_of};
 use crate::object_column::ObjectColumn;
+use census_facts::Names;
 use census_kept::Rows;
-use census_names::Names;
 use census_readback::{Sections, collections};
 use std::alloc::{AllocError, Global};
 

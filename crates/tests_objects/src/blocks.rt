@@ -1,8 +1,7 @@
 //! Texts and their blocks.
 
-use census_facts::Form;
+use census_facts::{Form, Names, read_names};
 use census_identify::{HORIZON_LIMIT, Inquiry, block};
-use census_names::{Names, read_names};
 use life_orbit::BOUND_LIMIT;
 use life_plane::Unobserved;
 use life_text::RleFault;

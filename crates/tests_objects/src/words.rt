@@ -1,9 +1,8 @@
 //! Words that name files or standard input, and what is told of them.
 
-use census_facts::Form;
+use census_facts::{Form, Names};
 use census_folders::{Shelf, ShelfFault, Unread};
 use census_identify::{Inquiry, Onlooker, Unseen, identify};
-use census_names::Names;
 use std::alloc::Global;
 use std::sync::atomic::{AtomicU32, Ordering};
 use std::test::Fail;

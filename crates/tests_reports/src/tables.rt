@@ -2,7 +2,7 @@
 
 use crate::lines::rows_read;
 use crate::merging::{MERGED, PARTS};
-use census_names::{Names, read_names};
+use census_facts::{Names, read_names};
 use census_table::{Format, Subject, put_listing, put_table, table_of};
 use std::alloc::{AllocError, Global};
 use std::test::Fail;

@@ -3,7 +3,7 @@ use Rattle.std.proofs.Common.{◌≡◌, ℕ, List, Option, Some, Result, Ok, Er
 use Rattle.life_text.specs.declared.rle.RleFault.{RleFault}
 use Rattle.life_text.specs.Picture.{picture_of}
 use Rattle.life_text.specs.Rle.{Meaning, fault_of, reading, refusal}
-use Rattle.census_names.specs.Names.{Entry}
+use Rattle.census_facts.specs.Names.{Entry}
 use Rattle.census_identify.specs.Blocks.Blocks.{block_of, block_or_fault}
 use Rattle.census_identify.specs.declared.blocks.inquiry.Inquiry.{Inquiry}
 

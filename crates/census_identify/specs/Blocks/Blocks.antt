@@ -11,7 +11,7 @@ use Rattle.census_identify.specs.Blocks.Things.{head_things, known_things}
 use Rattle.census_identify.specs.declared.blocks.inquiry.Inquiry.{Inquiry}
 use Rattle.census_facts.specs.Facts.{Thing}
 use Rattle.census_facts.specs.Forms.{things_text}
-use Rattle.census_names.specs.Names.{Entry}
+use Rattle.census_facts.specs.Names.{Entry}
 
 -- what is told of the file and of generation 0, and then what is known of the pattern within the bound
 abbrev pub pattern_things : Inquiry → List Entry → Option (List ℕ) → Picture → List Thing

@@ -5,7 +5,7 @@ use Rattle.life_answer.specs.Parts.{objects_in}
 use Rattle.census_identify.specs.declared.blocks.known.Known.{Known}
 use Rattle.census_identify.specs.declared.blocks.known.Known.TheVariants.{Apart, Grows, Large, Settles, Unresolved}
 use Rattle.census_facts.specs.Facts.{Thing, thing}
-use Rattle.census_names.specs.Names.{Entry, name_in}
+use Rattle.census_facts.specs.Names.{Entry, name_in}
 use Rattle.census_facts.specs.Facts as told
 
 -- the file that it is from, where it is from one

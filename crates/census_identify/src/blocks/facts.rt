@@ -2,12 +2,11 @@
 ghost use Rattle.std.specs.Prelude.{◌≡◌, ◌++◌, [], ◌∷◌, OnOk};
 ghost use Rattle.std.specs.Option.{option_copied};
 ghost use Rattle.census_identify.specs.Blocks.Things.{apart_things, code_things, file_things, head_things, known_things, name_things, settled_things};
-ghost use Rattle.census_names.specs.Names.{name_in};
+ghost use Rattle.census_facts.specs.Names.{name_in};
 ghost use Rattle.census_facts.specs.Facts.{content_of, thing, things_in};
 
 use crate::blocks::known::Known;
-use census_facts::{Fact, Worth};
-use census_names::Names;
+use census_facts::{Fact, Names, Worth};
 use life_answer::Parts;
 use std::alloc::AllocError;
 

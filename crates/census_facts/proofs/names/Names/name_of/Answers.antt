@@ -1,8 +1,8 @@
 use Rattle.std.proofs.Common.{List, Some, ap, sym, ◌∙◌}
 use Rattle.std.specs.Option.{option_map}
-use Rattle.census_names.specs.Names.{Entry, name_in}
-use Rattle.census_names.proofs.Kept.{looked_up}
-use Rattle.census_names.proofs.names.Names.name_of.Goals as goal
+use Rattle.census_facts.specs.Names.{Entry, name_in}
+use Rattle.census_facts.proofs.Kept.{looked_up}
+use Rattle.census_facts.proofs.names.Names.name_of.Goals as goal
 
 pub returns-in-Some : goal.returns-in-Some
 returns-in-Some c =

@@ -1,8 +1,8 @@
 use Rattle.std.proofs.Common.{◌≡◌, ◌+◌, ◌-◌, length, take, drop, subst, arith}
 use Rattle.std.proofs.lemmas.List.{take_all, length-drop}
 use Rattle.memchr.specs.Find.{IsFirstByte, is_byte}
-use Rattle.census_names.proofs.Split.{first_line, one_line}
-use Rattle.census_names.proofs.reading.split_line.Goals as goal
+use Rattle.census_facts.proofs.Split.{first_line, one_line}
+use Rattle.census_facts.proofs.reading.split_line.Goals as goal
 
 pub returns-in-Some-clause-parts : goal.returns-in-Some-clause-parts
 returns-in-Some-clause-parts c =

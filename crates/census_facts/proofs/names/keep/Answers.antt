@@ -1,8 +1,8 @@
 use Rattle.std.proofs.Common.{◌≡◌, ◌++◌, [], ◌∷◌, List, ℕ, ap, ap₂, sym, ◌∙◌, is_none, map}
-use Rattle.census_names.specs.Names.{entry, name_in}
-use Rattle.census_names.specs.Read.{entry_read}
-use Rattle.census_names.proofs.Kept.{kept-more}
-use Rattle.census_names.proofs.names.keep.Goals as goal
+use Rattle.census_facts.specs.Names.{entry, name_in}
+use Rattle.census_facts.specs.Read.{entry_read}
+use Rattle.census_facts.proofs.Kept.{kept-more}
+use Rattle.census_facts.proofs.names.keep.Goals as goal
 
 pub returns : goal.returns
 returns c =

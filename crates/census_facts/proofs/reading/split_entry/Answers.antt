@@ -1,8 +1,8 @@
 use Rattle.std.proofs.Common.{◌≡◌, ◌+◌, ◌-◌, length, take, drop, subst, sym, ap, ◌∙◌, arith}
 use Rattle.std.proofs.lemmas.List.{take_all, length-drop}
 use Rattle.memchr.specs.Find.{IsFirstByte, is_byte}
-use Rattle.census_names.proofs.Split.{all_before, none_behind, tab_found}
-use Rattle.census_names.proofs.reading.split_entry.Goals as goal
+use Rattle.census_facts.proofs.Split.{all_before, none_behind, tab_found}
+use Rattle.census_facts.proofs.reading.split_entry.Goals as goal
 
 pub returns-in-Some-clause-code : goal.returns-in-Some-clause-code
 returns-in-Some-clause-code c =

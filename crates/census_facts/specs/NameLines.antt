@@ -1,7 +1,7 @@
 -- Names as texts have them.
 use Rattle.std.specs.Prelude.{ℕ, ◌+◌, ◌-◌, Bool, ◌||◌, ◌==◌, if◌then◌else◌, Option, Some, None, Result, Ok, Err, List, [], ◌∷◌, codes, length, nat_eq, take}
 use Rattle.std.specs.List.{after_first, before_first, ends_with, slice_split, starts_with}
-use Rattle.census_names.specs.Names.{Entry, entry, is_empty, with_entry}
+use Rattle.census_facts.specs.Names.{Entry, entry, is_empty, with_entry}
 
 abbrev pub is_line_feed : ℕ → Bool
 is_line_feed byte = byte == 10

@@ -1,8 +1,8 @@
 //! Codes and what they are called.
 ghost use Rattle.std.specs.Prelude.{◌≡◌, ◌++◌, [], ◌∷◌, if◌then◌else◌, is_none, map, true, IfOk, None, OnOk, Some};
 ghost use Rattle.std.specs.Option.{option_copied};
-ghost use Rattle.census_names.specs.Names.{entry, may_add, name_in, with_entry};
-ghost use Rattle.census_names.specs.Read.{entry_read};
+ghost use Rattle.census_facts.specs.Names.{entry, may_add, name_in, with_entry};
+ghost use Rattle.census_facts.specs.Read.{entry_read};
 
 use indexmap::IndexMap;
 use std::alloc::{AllocError, Global};
@@ -16,8 +16,8 @@ pub struct Names {
 
 impl Model for Names {
     ghost use Rattle.std.specs.Prelude.{List, map};
-    ghost use Rattle.census_names.specs.Names.{Entry};
-    ghost use Rattle.census_names.specs.Read.{entry_read};
+    ghost use Rattle.census_facts.specs.Names.{Entry};
+    ghost use Rattle.census_facts.specs.Read.{entry_read};
 
     ghost Value = { List Entry };
 

@@ -1,7 +1,7 @@
 use Rattle.std.proofs.Common.{◌≡◌, ◌+◌, ◌≤◌, length}
-use Rattle.census_names.specs.Lines.{entries_from, names_in}
-use Rattle.census_names.proofs.Split.{left_len, left_lines}
-use Rattle.census_names.proofs.reading.read_names.Given as goal
+use Rattle.census_facts.specs.NameLines.{entries_from, names_in}
+use Rattle.census_facts.proofs.Split.{left_len, left_lines}
+use Rattle.census_facts.proofs.reading.read_names.Given as goal
 
 abbrev pub invariant-loop-left : goal.invariant-loop-left
 invariant-loop-left l = record {

@@ -7,8 +7,8 @@ use Rattle.std.proofs.lemmas.List.{map-append}
 use Rattle.std.specs.Option.{option_map}
 use Rattle.indexmap.specs.IndexMap.{IndexMap, insert_entry}
 use Rattle.indexmap.proofs.CallerLemmas.{insert_entry-new}
-use Rattle.census_names.specs.Names.{entry, Entry, is_of, name_in}
-use Rattle.census_names.specs.Read.{entry_read}
+use Rattle.census_facts.specs.Names.{entry, Entry, is_of, name_in}
+use Rattle.census_facts.specs.Read.{entry_read}
 
 by : (b : Bool) (v : Vec ℕ Global) (e : Entry) (o : Option (Vec ℕ Global)) (f : Option Entry) → e.name ≡ v.items
     → option_map (λ v. v.items) o ≡ option_map (λ e. e.name) f

@@ -3,7 +3,7 @@ ghost use Rattle.std.specs.Prelude.{◌≡◌, ◌∷◌, ◌<◌, [], Err, IfOk
 ghost use Rattle.std.specs.List.{after_first, before_first, slice_split};
 ghost use Rattle.std.specs.Option.{option_map_or};
 ghost use Rattle.std.specs.Result.{result_map_both};
-ghost use Rattle.census_names.specs.Lines.{content, is_line_feed, is_passed_over, is_tab, names_in, with_line};
+ghost use Rattle.census_facts.specs.NameLines.{content, is_line_feed, is_passed_over, is_tab, names_in, with_line};
 
 use crate::names::Names;
 use memchr::memchr;
