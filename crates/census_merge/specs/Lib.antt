@@ -6,3 +6,9 @@ pub mod Feeds
 pub mod Kept
 pub mod Numbers
 pub mod Mended
+pub mod Telling
+pub mod Joining
+pub mod Ranges
+pub mod Runs
+pub mod Bounds
+pub mod Cuts

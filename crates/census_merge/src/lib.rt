@@ -1,21 +1,43 @@
-//! Several reports made one, and what is kept of a text that was cut amid a report. The one has the collections of all,
-//! numbered on, and one `end` line with the sums.
+//! Several reports made one, what is kept of a text that was cut amid a report, and laws of reports. The one has the collections of
+//! all, numbered on, and one `end` line with the sums. `laws` says what rows tell of a bundle, that a report's rows tell its bundle,
+//! and that reports made one are a report of their bundles, one after another; `runs` says what a report's numbers count, `bounds`
+//! that every lawful report is read back, and `cuts` what is kept of one that was cut.
 //!
 //! Tested in `tests_reports`.
 #![tactic(auto)]
 
+mod bounds;
 mod counted;
+mod cuts;
 mod ended;
 mod feeds;
 mod kept;
+mod laws;
 mod lines;
 mod mending;
 mod merging;
 mod numbering;
 mod renumber;
 mod report_sums;
+mod runs;
 mod written;
 
+pub use bounds::{
+    every_lawful_report_is_read, lawful_reports_are_made_one, what_is_found_is_in_range,
+};
+pub use cuts::{
+    a_cut_report_is_mended_to_a_report, what_is_kept_of_a_cut_report_is_a_report,
+    what_is_kept_tells_the_closed_collections,
+};
+pub use laws::{
+    a_lawful_report_in_range_is_read, a_report_read_back_tells_its_bundle,
+    merged_reports_are_a_report, merged_rows_tell_the_bundles_joined, reports_that_fit_are_merged,
+    rows_that_tell_are_a_report,
+};
 pub use mending::{Cut, Mended, mend};
 pub use merging::{Counted, TooMany, count, put_end, put_rows};
 pub use report_sums::{Sums, sums_at_end};
+pub use runs::{
+    ash_lines_tell_the_onset, codes_count_objects_of_ash, growth_is_told_exactly,
+    one_collection_has_one_report,
+};

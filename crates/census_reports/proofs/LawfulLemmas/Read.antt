@@ -19,8 +19,8 @@ use Rattle.census_reports.specs.declared.reading.Reading.{Reading}
 use Rattle.census_reports.specs.declared.reading.Written.{Written}
 use Rattle.census_reports.proofs.Joined.{at_end}
 use Rattle.census_reports.proofs.Read.{some_text}
-use Rattle.report_laws.specs.Joining.{bundles, texts}
-use Rattle.report_laws.proofs.ReadBack.{merged-report}
+use Rattle.census_merge.specs.Joining.{bundles, texts}
+use Rattle.census_merge.proofs.ReadBack.{merged-report}
 use Rattle.census_reports.specs.Lawful.Lawful.{MergesLawfully}
 
 lines_append : (xs ys : List Row) → AllLines xs → AllLines ys → AllLines (xs ++ ys)

@@ -7,7 +7,7 @@ use Rattle.watched.specs.Streams.{Writes}
 use Rattle.census_reports.specs.Outcomes.{ReadsTexts}
 use Rattle.watched.specs.Streams.{Streams}
 use Rattle.life_answer.specs.declared.question.Question.{Question}
-use Rattle.report_laws.specs.Joining.{AreBundles, EachIsReport, bundles, texts}
+use Rattle.census_merge.specs.Joining.{AreBundles, EachIsReport, bundles, texts}
 
 -- The words have texts. Where these, one after another, are lawful reports of bundles under one question, what was written is
 -- a lawful report of the bundles, one after another.

@@ -1,0 +1,32 @@
+//! Laws of ranges: what is found of patterns fits the numbers of a report's lines, and so every lawful report is read back.
+
+ghost use Rattle.std.specs.Prelude.{◌<◌, ℕ, List, length};
+ghost use Rattle.census_bundle.specs.declared.bundle.Folder.{Folder};
+ghost use Rattle.census_format.specs.Reports.{IsReport};
+ghost use Rattle.life_answer.specs.Questions.{IsAnswered};
+ghost use Rattle.life_answer.specs.declared.question.Question.{Question};
+ghost use Rattle.census_merge.specs.Bounds.Merging.{AreMade};
+ghost use Rattle.census_merge.specs.Joining.{AreBundles, EachIsReport, IsBundle};
+ghost use Rattle.census_merge.specs.Ranges.{InRange, Readable};
+
+/// What is found of the patterns of a bundle fits 64 bits, and no code is empty, whichever question is asked within its bounds.
+pub fn what_is_found_is_in_range()
+    ensures { (b : List Folder) (question : Question) → IsBundle b → IsAnswered question →
+        InRange b question }
+{}
+
+/// Every lawful report of a bundle is read back without a fault.
+pub fn every_lawful_report_is_read()
+    ensures { (b : List Folder) (question : Question) (text : List ℕ) → IsBundle b →
+        IsAnswered question
+        → IsReport b question text → Readable text }
+{}
+
+/// Of several texts, each of which is a lawful report of its bundle under one question, all are read back as one, and what is
+/// written of the merged rows is a lawful report of the bundles, one after another.
+pub fn lawful_reports_are_made_one()
+    ensures { (question : Question) (parts : List (List Folder)) (reports : List (List ℕ)) →
+        IsAnswered question
+        → 0 < length parts → AreBundles parts → EachIsReport question parts reports →
+        AreMade question parts reports }
+{}

@@ -1,0 +1,56 @@
+//! Laws of reports: what the numbers of a report of objects count, said of cells on the plane, of which patterns it tells that
+//! they grow, and that of one collection there is one report.
+
+ghost use Rattle.std.specs.Prelude.{◌≡◌, ◌↔◌, ◌++◌, [], ◌∷◌, ℕ, Bool, List, Option, Some, codes};
+ghost use Rattle.census_bundle.specs.declared.bundle.Entry.{Entry};
+ghost use Rattle.census_bundle.specs.declared.bundle.Folder.{Folder};
+ghost use Rattle.census_format.specs.Found.{outcome_of};
+ghost use Rattle.census_format.specs.Lines.{answer_to_entry, end_line, groups_text, pattern_rows};
+ghost use Rattle.census_format.specs.Reports.{IsReport, folder_section};
+ghost use Rattle.census_rows.specs.Kinds.{said, value_at};
+ghost use Rattle.census_rows.specs.Lines.{text_of};
+ghost use Rattle.census_rows.specs.declared.kinds.Label.TheVariants.{Onset};
+ghost use Rattle.census_rows.specs.declared.kinds.Value.TheVariants.{Number};
+ghost use Rattle.census_merge.specs.Runs.Fallen.{FallsApart};
+ghost use Rattle.census_merge.specs.Runs.Growing.{HasGrown, growing_rows};
+ghost use Rattle.census_merge.specs.Runs.ObjectsOfAsh.{CodesCountObjectsOfAsh};
+ghost use Rattle.life_answer.specs.Told.{told_of_engines};
+ghost use Rattle.life_answer.specs.declared.question.Question.{Question};
+ghost use Rattle.life_answer.specs.declared.question.Question.TheVariants.{Objects};
+ghost use Rattle.life_objects.specs.Onset.{IsAshOnset};
+
+/// Where objects are asked for, each `code` line of a collection counts one object. The line has the object's rule and
+/// code, and its number is how many sets are that object of those that count, of all of the collection's patterns that have
+/// fallen apart within the bound under that rule, with no generation up to three times the bound that is too large. And each
+/// set that counts of such a pattern has exactly one line of its rule and code. Where what is near one another is one object,
+/// the objects into which a pattern falls apart count; else their independent parts do.
+pub fn codes_count_objects_of_ash()
+    ensures { CodesCountObjectsOfAsh }
+{}
+
+/// Where objects are asked for, the line of a pattern that falls apart tells the onset of its ash: the first generation that
+/// is ash within the bound.
+pub fn ash_lines_tell_the_onset()
+    ensures { (near : Bool) (bound : ℕ) (most : Option ℕ) (horizon : ℕ) (e : Entry) (f : FallsApart bound most e) →
+        (onset : ℕ) × IsAshOnset f.rule bound f.cells onset
+        × (value_at Onset (said (outcome_of (answer_to_entry (Objects bound most near horizon) e))).fields
+        ≡ Some (Number onset)) }
+{}
+
+/// Where objects are asked for, a line tells that a pattern grows exactly where some generation of it grows within the
+/// horizon, as is seen by a generation up to the bound, no generation up to four times that one being too large. Behind it
+/// stand the `engine` and `emits` rows of the engines by which that generation grows.
+pub fn growth_is_told_exactly()
+    ensures told { (near : Bool) (bound : ℕ) (most : Option ℕ) (horizon c i : ℕ) (e : Entry)
+        (g : HasGrown bound most horizon e) → pattern_rows (Objects bound most near horizon) c i e
+        ≡ growing_rows c i g.rule g.cells e.name (told_of_engines near g.rule g.within g.engines) }
+    ensures only { (near : Bool) (bound : ℕ) (most : Option ℕ) (horizon : ℕ) (e : Entry) →
+        (said (outcome_of (answer_to_entry (Objects bound most near horizon) e))).word ≡ codes "grows" →
+        HasGrown bound most horizon e }
+{}
+
+/// Of one collection there is one report: its lines in their order, and the end line.
+pub fn one_collection_has_one_report()
+    ensures { (f : Folder) (question : Question) (text : List ℕ) → IsReport (f ∷ []) question text
+        ↔ (text ≡ groups_text (folder_section question 1 f) ++ text_of (end_line (f ∷ []))) }
+{}

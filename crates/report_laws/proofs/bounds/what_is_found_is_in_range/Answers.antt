@@ -1,5 +1,0 @@
-use Rattle.report_laws.proofs.BoundsLemmas.Readings.{all-in-range}
-use Rattle.report_laws.proofs.bounds.what_is_found_is_in_range.Goals as goal
-
-pub returns : goal.returns
-returns c = λ b question bundle answered. all-in-range question answered b bundle

@@ -1,5 +1,0 @@
-use Rattle.report_laws.proofs.RunsLemmas.OneCollection.{one_report}
-use Rattle.report_laws.proofs.runs.one_collection_has_one_report.Goals as goal
-
-pub returns : goal.returns
-returns c = one_report
