@@ -1,7 +1,7 @@
 //! Later generations of a pattern, by steps in tiles and by leaps, as work shows. `width` tells by leaps that a pattern grows too
 //! wide to come again.
 //!
-//! Tested in `tests_leaps`.
+//! Tested in `tests_things`.
 #![tactic(auto)]
 
 mod advancing;

@@ -1,6 +1,6 @@
 //! Whether cells grow so far apart that nothing comes again within a bound.
 //!
-//! Tested in `tests_leaps`.
+//! Tested in `tests_things`.
 
 mod growth;
 mod laws;

@@ -1,6 +1,6 @@
 //! Patterns of Life that several tests begin with, as lists of cells.
 //!
-//! Used by `tests_leaps`, `tests_objects`, `tests_things` and `tests_parts`.
+//! Used by `tests_things`, `tests_objects`, `tests_things` and `tests_parts`.
 #![tactic(auto)]
 
 /// A glider that moves to the right and down by one cell in four generations.

@@ -1,8 +1,11 @@
-//! Tests of whether things in space and time ever meet, and of what sets of cells fall apart into.
+//! Tests of whether things in space and time ever meet, of what sets of cells fall apart into, of the plane that leaps, and of
+//! generations that are made by steps and by leaps.
 #![tactic(auto)]
 
 #[cfg(test)]
 mod counted;
+#[cfg(test)]
+mod leaps;
 #[cfg(test)]
 mod listed;
 #[cfg(test)]
