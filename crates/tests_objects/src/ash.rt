@@ -6,7 +6,7 @@ use life_plane::{ListPlane, Unobserved};
 use std::alloc::{AllocError, Global};
 use std::process::Abort;
 use std::test::Fail;
-use tests_cells::{GUN, PENTOMINO};
+use tests_things::{GUN, PENTOMINO};
 
 // Within how many generations growth is looked for: fewer than the period of the gun, which so is neither ash nor growth.
 const HORIZON: u32 = 10;

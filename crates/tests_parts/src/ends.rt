@@ -4,7 +4,7 @@ use life_cells::{CellList, Rule};
 use life_plane::{ListPlane, Unobserved};
 use std::process::Abort;
 use std::test::Fail;
-use tests_cells::{GUN, PENTOMINO};
+use tests_things::{GUN, PENTOMINO};
 
 // Whether this is unresolved, and seen or not to fall apart later.
 fn is_unresolved(fate: &Fate, expected: bool) -> bool {

@@ -10,7 +10,7 @@ use life_plane::{ListPlane, Plane};
 use std::alloc::{AllocError, Global};
 use std::process::Abort;
 use std::test::Fail;
-use tests_cells::{GLIDER, PENTOMINO};
+use tests_things::{GLIDER, PENTOMINO};
 
 // The acorn, so far from the edge that all that it becomes stays in the field.
 const ACORN: &[(i32, i32)] = &[

@@ -1,11 +1,11 @@
 //! The plane that leaps, and generations that are made by steps and by leaps.
 
+use crate::beginnings::{GLIDER, GUN};
 use life_advance::{generation_of, outgrows};
 use life_cells::{CellList, Rule};
 use life_leaps::{LeapPlane, Side};
 use std::alloc::Global;
 use std::test::Fail;
-use tests_cells::{GLIDER, GUN};
 
 // The glider after 4,096 generations.
 const GLIDER_1024: &[(i32, i32)] = &[

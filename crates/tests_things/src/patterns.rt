@@ -1,5 +1,6 @@
 //! Patterns of Life, what is known of their ash, and how many things they have.
 
+use crate::beginnings::{GLIDER, GUN, PENTOMINO};
 use life_cells::{CellList, Rule};
 use life_orbit::Orbit;
 use life_plane::ListPlane;
@@ -7,7 +8,6 @@ use life_settled::settled;
 use std::alloc::Global;
 use std::process::Abort;
 use std::test::Fail;
-use tests_cells::{GLIDER, GUN, PENTOMINO};
 
 const BLOCK: &[(i32, i32)] = &[(0, 0), (1, 0), (0, 1), (1, 1)];
 

@@ -1,5 +1,6 @@
 //! Where the things of small patterns stand that are placed later, moved, and with a way before their own.
 
+use crate::beginnings::GLIDER;
 use life_cells::{CellList, Rule};
 use life_plane::ListPlane;
 use life_settled::settled;
@@ -8,8 +9,6 @@ use std::test::Fail;
 
 // A cell that dies.
 const CELL: &[(i32, i32)] = &[(3, 4)];
-
-const GLIDER: &[(i32, i32)] = &[(1, 0), (2, 1), (0, 2), (1, 2), (2, 2)];
 
 /// The ways as numbers: generations, and how far.
 fn numbers(ways: Ways) -> [(u32, i32, i32); 2] {

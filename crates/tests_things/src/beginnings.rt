@@ -1,7 +1,4 @@
 //! Patterns of Life that several tests begin with, as lists of cells.
-//!
-//! Used by `tests_things`, `tests_objects`, `tests_things` and `tests_parts`.
-#![tactic(auto)]
 
 /// A glider that moves to the right and down by one cell in four generations.
 pub const GLIDER: &[(i32, i32)] = &[(1, 0), (2, 1), (0, 2), (1, 2), (2, 2)];
