@@ -24,5 +24,6 @@ pub use class::Class;
 pub use forest::{join, root};
 pub use nearness::reaches;
 pub use splitting::{classes, classes_of, first_classes};
+pub use tags::{ROW, place_number};
 pub use undivided::{hold_together, is_undivided};
 pub use unions::union;

@@ -8,11 +8,12 @@ use Rattle.std.proofs.lemmas.List.FromFn.{map-range_with_len_more}
 use Rattle.std.proofs.lemmas.List.Folds.{Any-from_list_any}
 use Rattle.life_model.specs.Cell.{Cell, same_cell}
 use Rattle.life_model.specs.Generation.{Generation, cells, contains, is_rising}
-use Rattle.life_model.proofs.Cells.{pair, same_cell-is}
+use Rattle.life_model.proofs.Cells.{same_cell-is}
 use Rattle.life_model.proofs.Generations.{contains-cells}
 use Rattle.life_cells.specs.Limits.{IsPlace}
 use Rattle.life_classes.specs.Tags.{place_number}
 use Rattle.life_islands.specs.Labels.{IsParting}
+use Rattle.life_classes.proofs.Numbers.{cell_by_number}
 use Rattle.life_classes.proofs.RowsRise.{numbers_rise}
 
 -- one number more
@@ -20,15 +21,6 @@ pub range_more : (n : ℕ) → range_with_len 0 (n + 1) ≡ range_with_len 0 n +
 range_more n =
     sym (map-id (range_with_len 0 (n + 1))) ∙ map-range_with_len_more (λ k. k) 0 n n (omega arith)
     ∙ ap (λ xs. xs ++ n ∷ []) (map-id (range_with_len 0 n))
-
--- cells with one number are one
-pub one_number : (a b : Cell) → IsPlace a → IsPlace b → place_number a ≡ place_number b → a ≡ b
-one_number a b p q e =
-    let left = p.left in
-    let right = p.right in
-    let left_too = q.left in
-    let right_too = q.right in
-    pair (omega (arith, ints)) (omega (arith, ints))
 
 not_less_itself : (x y : ℤ) → x ≡ y → int_lt x y ≡ true → ⊥
 not_less_itself x y e h = grind (arith, ints)
@@ -58,7 +50,7 @@ parted_at G c cs i is rising placed before after has =
           let inside : i < length cs = omega arith in (
             inside,
             λ d.
-                one_number (get_or cs i d) c (placed i d inside) (subst IsPlace (here d) (placed j d within))
+                cell_by_number (get_or cs i d) c (placed i d inside) (subst IsPlace (here d) (placed j d within))
                 (both_bounds _ _ _ (numbers_rise cs rising placed i j d no_less within) (ap place_number (here d)) (after i d (omega arith) inside)),
           )
     ]

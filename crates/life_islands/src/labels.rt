@@ -1,5 +1,5 @@
 //! Cells with labels, of which some are joined.
-ghost use Rattle.std.specs.Prelude.{◌≡◌, ◌+◌, ◌-◌, ◌^◌, ◌≤◌, ◌≤ℤ◌, int_lt, true, neg_ℤ, pos, ◌<◌, All, IfNone, IfOk, IfSome, IsTrue, T, false, get_or, length};
+ghost use Rattle.std.specs.Prelude.{◌≡◌, ◌-◌, ◌≤◌, int_lt, true, ◌<◌, All, IfNone, IfOk, IfSome, IsTrue, T, false, get_or, length};
 ghost use Rattle.std.specs.List.{range_with_len};
 ghost use Rattle.life_model.specs.Cell.{Cell, origin};
 ghost use Rattle.life_model.specs.Generation.{cells, contains, is_rising};
@@ -9,7 +9,7 @@ ghost use Rattle.life_classes.specs.Forest.{root};
 ghost use Rattle.life_islands.specs.Labels.{AreNumbered, IsParting};
 
 use life_cells::CellList;
-use life_classes::root;
+use life_classes::{place_number, root};
 use std::alloc::{AllocError, Global};
 
 /// A label for each cell of a generation, in their order, and which labels are joined.
@@ -17,18 +17,6 @@ use std::alloc::{AllocError, Global};
 pub struct Labels {
     pub labels: Vec<usize>,
     pub forest: Vec<usize>,
-}
-
-/// How much greater the number of a cell is than that of the one above it.
-pub const ROW: i64 = 2_147_483_648;
-
-/// A number that rises along each row and from row to row.
-pub fn place_number(cell: (i32, i32)) -> i64
-    ensures number { result ≡ place_number cell }
-    ensures low { neg_ℤ (pos (2 ^ 62 + 2 ^ 31)) ≤ℤ result }
-    ensures high { result ≤ℤ pos (2 ^ 62 + 2 ^ 31) }
-{
-    i64::from(cell.1) * ROW + i64::from(cell.0)
 }
 
 /// So many numbers, from 0 on.

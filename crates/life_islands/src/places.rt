@@ -13,11 +13,11 @@ ghost use Rattle.life_islands.specs.Splits.{AreLaidOut, IsSettled, IsSettledNear
 
 use crate::around::neighbour;
 use crate::colours::AROUND;
-use crate::labels::{Labels, ROW, has_in_row, place_number};
+use crate::labels::{Labels, has_in_row};
 use crate::seating::{ROWS, link_at, row_of, seats_around};
 use crate::touching::{islands, join_touching};
 use life_cells::{CellList, Rule};
-use life_classes::join;
+use life_classes::{ROW, join, place_number};
 use std::alloc::{AllocError, Global};
 
 /// Joins two sets that a place in a row by this number joins, if it is none of the cells.

@@ -9,9 +9,10 @@ use Rattle.life_objects.proofs.PartsLemmas.Ring.{near_itself}
 use Rattle.life_cells.specs.Limits.{IsPlace}
 use Rattle.life_classes.specs.Tags.{place_number}
 use Rattle.life_classes.proofs.Lookups.{either}
+use Rattle.life_classes.proofs.Numbers.{cell_by_number}
 use Rattle.life_classes.proofs.RowsRise.{numbers_rise}
 use Rattle.life_islands.specs.Labels.{IsParting}
-use Rattle.life_islands.proofs.Indexed.{one_number, parting_here}
+use Rattle.life_islands.proofs.Indexed.{parting_here}
 use Rattle.life_islands.proofs.Labelled.{listed_cell, place_in_list}
 use Rattle.life_tracks.specs.Frames.Bearers.{IsBearer, IsBetween, IsTouched}
 
@@ -82,7 +83,7 @@ module _ (G : Generation) (cs : List Cell) (is : cs ≡ cells G) (placed : All I
       let here = in_cells low high n there in
       let from = here.from in
       let to = here.to in
-      one_number (get_or (cells G) n origin) c (all_placed n origin here.within) p (omega (arith, ints))
+      cell_by_number (get_or (cells G) n origin) c (all_placed n origin here.within) p (omega (arith, ints))
 
   -- a cell with its number is the cell itself
   pub bearer_itself : (low high : ℤ) (n : ℕ) → low ≡ place_number c → high ≡ place_number c → IsBetween cs low high n →

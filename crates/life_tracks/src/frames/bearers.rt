@@ -1,5 +1,5 @@
 //! Cells of a set at most one away from a place.
-ghost use Rattle.std.specs.Prelude.{◌≡◌, ℕ, ◌+◌, ◌-◌, ◌<◌, ◌≤◌, ◌^◌, ◌≤ℤ◌, int_lt, neg_ℤ, pos, All, IfNone, IfOk, IfSome, IsTrue, T, true, false, get_or, length};
+ghost use Rattle.std.specs.Prelude.{◌≡◌, ℕ, ◌+◌, ◌-◌, ◌<◌, ◌≤◌, ◌^◌, int_lt, All, IfNone, IfOk, IfSome, IsTrue, T, true, false, get_or, length};
 ghost use Rattle.life_model.specs.Cell.{Cell, IsNear, origin};
 ghost use Rattle.life_model.specs.Generation.{contains, is_rising};
 ghost use Rattle.life_cells.specs.Limits.{IsPlace};
@@ -8,20 +8,9 @@ ghost use Rattle.life_islands.specs.Labels.{IsParting};
 ghost use Rattle.life_tracks.specs.Frames.Bearers.{IsBearer, IsBetween, IsTouched};
 
 use life_cells::CellList;
+use life_classes::{ROW, place_number};
 use life_islands::numbers;
 use std::alloc::{AllocError, Global};
-
-/// How much greater the number of a cell is than that of the one above it.
-pub const ROW: i64 = 2_147_483_648;
-
-/// A number that rises along each row and from row to row.
-pub fn place_number(cell: (i32, i32)) -> i64
-    ensures number { result ≡ place_number cell }
-    ensures low { neg_ℤ (pos (2 ^ 62 + 2 ^ 31)) ≤ℤ result }
-    ensures high { result ≤ℤ pos (2 ^ 62 + 2 ^ 31) }
-{
-    i64::from(cell.1) * ROW + i64::from(cell.0)
-}
 
 /// How many places around the guessed one are looked at.
 const STEPS: usize = 12;

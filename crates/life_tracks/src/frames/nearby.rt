@@ -7,9 +7,10 @@ ghost use Rattle.life_classes.specs.Tags.{place_number};
 ghost use Rattle.life_islands.specs.Labels.{IsParting};
 ghost use Rattle.life_tracks.specs.Frames.Nearby.{AreJoinedByNear, IsJoinedAround, IsJoinedAt, IsAbove, IsJoinedNear};
 
-use crate::frames::bearers::{ROW, parting, place_number};
+use crate::frames::bearers::parting;
 use crate::frames::forest::join;
 use life_cells::CellList;
+use life_classes::{ROW, place_number};
 
 /// Where cells were found that may be near the last one, in the two rows above it.
 #[derive(Drop)]
