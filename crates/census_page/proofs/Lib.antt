@@ -1,4 +1,3 @@
-pub mod Behind
 pub mod Counts
 pub mod Held
 pub mod Listing

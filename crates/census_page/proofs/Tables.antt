@@ -1,16 +1,18 @@
 -- A table of codes of patterns that are put in order, and where there is none.
 use Rattle.std.proofs.Common.{◌≡◌, Bor, ℕ, Bool, true, false, not, ◌||◌, if◌then◌else◌, true≢false, sym, List, [], ◌∷◌, ◌++◌, codes, refl, ap, ap₂, ◌∙◌}
 use Rattle.std.specs.List.{list_any}
+use Rattle.census_rows.specs.declared.row.Outcome.{Outcome}
 use Rattle.census_rows.specs.declared.row.Row.{Row}
 use Rattle.census_rows.specs.declared.row.Row.TheVariants.{Open, Line, Part, Engine, Emits, Code, Close, End}
 use Rattle.census_rows.specs.declared.kinds.Behind.TheVariants as behind
 use Rattle.census_readback.specs.Following.{rows_behind}
-use Rattle.census_page_pieces.specs.Fates.{fate_cells, objects_text, recurs, rule_found}
+use Rattle.census_page_pieces.specs.Fates.{fate_cells, fate_end, recurs, rule_found}
+use Rattle.census_page_pieces.specs.Growth.{growth_text}
 use Rattle.census_page_pieces.specs.Links.{Linking, name_under}
 use Rattle.census_page_pieces.specs.Markup.{list_begin, table_begin, table_end}
 use Rattle.census_page.specs.Holders.{having}
 use Rattle.census_page.specs.Options.{Options}
-use Rattle.census_page.specs.Pages.{chosen, code_cells, code_row, code_rows, framed_text, is_code, is_stray, stray_list, stray_rows, table_of}
+use Rattle.census_page.specs.Pages.{chosen, code_cells, code_row, code_rows, framed_text, is_code, is_stray, stray_list, stray_row, stray_rows, table_of}
 use Rattle.census_page.specs.declared.holder.Holder.{Holder}
 use Rattle.census_page.proofs.Ranks.{same-chosen}
 
@@ -77,26 +79,26 @@ table-none = no-table
 
 -- # A table where any row tells of a pattern that does not recur, and none elsewhere
 
-abbrev row_unless : Bool → List ℕ → List ℕ → List ℕ → List ℕ
-row_unless recurring name fate objects = if recurring then [] else codes "<tr class=\"u\"><th scope=\"row\">" ++ name ++ fate ++ objects ++ codes "</td></tr>\n"
+abbrev row_unless : Bool → List ℕ → List ℕ → List ℕ → List ℕ → List ℕ
+row_unless recurring name fate growth end = if recurring then [] else codes "<tr class=\"u\"><th scope=\"row\">" ++ name ++ fate ++ growth ++ end
 
-some-row : (b some : Bool) (name fate objects rest : List ℕ) → (not b || some) ≡ true
+some-row : (b some : Bool) (name fate growth end rest : List ℕ) → (not b || some) ≡ true
     → (some ≡ true → framed_text list_begin rest table_end ≡ list_begin ++ (rest ++ table_end))
-    → framed_text list_begin (row_unless b name fate objects ++ rest) table_end ≡ list_begin ++ ((row_unless b name fate objects ++ rest) ++ table_end)
-some-row true some name fate objects rest is others = others is
-some-row false some name fate objects rest is others = refl
+    → framed_text list_begin (row_unless b name fate growth end ++ rest) table_end ≡ list_begin ++ ((row_unless b name fate growth end ++ rest) ++ table_end)
+some-row true some name fate growth end rest is others = others is
+some-row false some name fate growth end rest is others = refl
 
-no-stray : (b some : Bool) (name fate objects rest : List ℕ) → (not b || some) ≡ false → (some ≡ false → framed_text list_begin rest table_end ≡ [])
-    → framed_text list_begin (row_unless b name fate objects ++ rest) table_end ≡ []
-no-stray true some name fate objects rest none others = others none
-no-stray false some name fate objects rest none others = absurd (true≢false none)
+no-stray : (b some : Bool) (name fate growth end rest : List ℕ) → (not b || some) ≡ false → (some ≡ false → framed_text list_begin rest table_end ≡ [])
+    → framed_text list_begin (row_unless b name fate growth end ++ rest) table_end ≡ []
+no-stray true some name fate growth end rest none others = others none
+no-stray false some name fate growth end rest none others = absurd (true≢false none)
 
 pub list-is : (links : Linking) (rows : List Row) → list_any is_stray rows ≡ true → stray_list links rows ≡ list_begin ++ (stray_rows links rows ++ table_end)
 list-is links [] some = absurd (true≢false (sym some))
 list-is links (Open collection patterns name ∷ rows) some = list-is links rows some
 list-is links (Line collection pattern outcome name ∷ rows) some =
     some-row (recurs outcome) (list_any is_stray rows) (name_under links.names name.now) (fate_cells outcome)
-    (objects_text links.catalogue (rule_found outcome) (rows_behind behind.Engines rows) (rows_behind behind.Parts rows)) (stray_rows links rows) some (list-is links rows)
+    (growth_text links.catalogue (rule_found outcome) (rows_behind behind.Engines rows)) (fate_end links.catalogue (rule_found outcome) (rows_behind behind.Parts rows)) (stray_rows links rows) some (list-is links rows)
 list-is links (Part collection pattern code count ∷ rows) some = list-is links rows some
 list-is links (Engine collection pattern number period dx dy count ∷ rows) some = list-is links rows some
 list-is links (Emits collection pattern engine code count ∷ rows) some = list-is links rows some
@@ -109,10 +111,22 @@ list-none links [] none = refl
 list-none links (Open collection patterns name ∷ rows) none = list-none links rows none
 list-none links (Line collection pattern outcome name ∷ rows) none =
     no-stray (recurs outcome) (list_any is_stray rows) (name_under links.names name.now) (fate_cells outcome)
-    (objects_text links.catalogue (rule_found outcome) (rows_behind behind.Engines rows) (rows_behind behind.Parts rows)) (stray_rows links rows) none (list-none links rows)
+    (growth_text links.catalogue (rule_found outcome) (rows_behind behind.Engines rows)) (fate_end links.catalogue (rule_found outcome) (rows_behind behind.Parts rows)) (stray_rows links rows) none (list-none links rows)
 list-none links (Part collection pattern code count ∷ rows) none = list-none links rows none
 list-none links (Engine collection pattern number period dx dy count ∷ rows) none = list-none links rows none
 list-none links (Emits collection pattern engine code count ∷ rows) none = list-none links rows none
 list-none links (Code collection rule code count ∷ rows) none = list-none links rows none
 list-none links (Close collection patterns resolved unresolved refused ∷ rows) none = list-none links rows none
 list-none links (End collections patterns ∷ rows) none = list-none links rows none
+
+-- no other row than a line has one
+pub no-stray-row : (links : Linking) (row : Row) (rows : List Row)
+    → ((collection pattern : ℕ) (outcome : Outcome) (name : Bor (List ℕ)) → row ≡ Line collection pattern outcome name → ⊥) → stray_row links row rows ≡ []
+no-stray-row links (Open collection patterns name) rows other = refl
+no-stray-row links (Line collection pattern outcome name) rows other = absurd (other collection pattern outcome name refl)
+no-stray-row links (Part collection pattern code count) rows other = refl
+no-stray-row links (Engine collection pattern number period dx dy count) rows other = refl
+no-stray-row links (Emits collection pattern engine code count) rows other = refl
+no-stray-row links (Code collection rule code count) rows other = refl
+no-stray-row links (Close collection patterns resolved unresolved refused) rows other = refl
+no-stray-row links (End collections patterns) rows other = refl

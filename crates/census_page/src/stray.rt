@@ -1,37 +1,16 @@
 //! Rows of the table of the patterns that do not recur.
-ghost use Rattle.std.specs.Prelude.{◌≡◌, ◌++◌, MatchResult, OnOk};
+ghost use Rattle.std.specs.Prelude.{MatchResult};
 ghost use Rattle.watched.specs.Telling.{TellsAfter, TellsFront, sheet};
 ghost use Rattle.census_page_pieces.specs.Links.{linking_of};
 ghost use Rattle.census_page.specs.Pages.{stray_row, stray_rows};
 
 use census_kept::Section;
-use census_page_pieces::{Links, push_fate_row};
+use census_page_pieces::{Links, put_fate_row};
 use census_readback::rows_behind;
 use census_rows::{Behind, Row};
 use std::alloc::{AllocError, Global};
 use std::io::Write;
-use watched::{Block, Output, put};
-
-// Adds the table row for a row that tells of a pattern that does not recur, and stands before these.
-fn push_stray_row(
-    alloc: Global,
-    text: &mut Vec<u8>,
-    links: &Links,
-    row: &Row,
-    rows: &Section,
-) -> Result<(), AllocError>
-    ensures { OnOk result (text.new.items
-        ≡ text.old.items ++ stray_row (linking_of links.now) row.now rows.now) }
-{
-    match row {
-        Row::Line { outcome, name, .. } => {
-            let growth = rows_behind(Behind::Engines, rows);
-            let parts = rows_behind(Behind::Parts, rows);
-            push_fate_row(alloc, text, links, *name, outcome, &growth, &parts)
-        }
-        _ => Ok(()),
-    }
-}
+use watched::{Block, Output};
 
 // Tells the table row for a row that tells of a pattern that does not recur, and stands before these.
 fn put_stray_row<W: Write>(
@@ -48,10 +27,14 @@ fn put_stray_row<W: Write>(
         (λ _. TellsFront (stray_row (linking_of links.now) row.now rows.now)
         (sheet block.old writer.old) (sheet block.new writer.new)) }
 {
-    let mut text = Vec::new(alloc);
-    push_stray_row(alloc, &mut text, links, row, rows)?;
-    put(text.as_slice(), block, writer);
-    Ok(())
+    match row {
+        Row::Line { outcome, name, .. } => {
+            let growth = rows_behind(Behind::Engines, rows);
+            let parts = rows_behind(Behind::Parts, rows);
+            put_fate_row(alloc, links, *name, outcome, &growth, &parts, block, writer)
+        }
+        _ => Ok(()),
+    }
 }
 
 /// Tells a table row for each pattern that does not recur. Where memory is refused, a prefix was

@@ -42,12 +42,16 @@ abbrev pub rule_found : Outcome → List ℕ
 rule_found (Found rule population finding) = rule.now
 rule_found (Bad fault) = []
 
--- the objects that a pattern emits, which these rows tell of, and those that it consists of
-abbrev pub objects_text : Bool → List ℕ → List Row → List Row → List ℕ
-objects_text linked rule growth parts = growth_text linked rule growth ++ parts_text linked rule parts
+-- what stands before the objects of a pattern
+abbrev pub fate_head : Linking → List ℕ → Outcome → List ℕ
+fate_head links name outcome = codes "<tr class=\"u\"><th scope=\"row\">" ++ name_under links.names name ++ fate_cells outcome
+
+-- what stands behind what it emits: the objects that it consists of, which these rows tell of
+abbrev pub fate_end : Bool → List ℕ → List Row → List ℕ
+fate_end linked rule parts = parts_text linked rule parts ++ codes "</td></tr>\n"
 
 -- the row of a pattern with the rows that tell how it grows, and of which parts it is
 abbrev pub fate_row : Linking → List ℕ → Outcome → List Row → List Row → List ℕ
 fate_row links name outcome growth parts =
     if recurs outcome then [] else
-    codes "<tr class=\"u\"><th scope=\"row\">" ++ name_under links.names name ++ fate_cells outcome ++ objects_text links.catalogue (rule_found outcome) growth parts ++ codes "</td></tr>\n"
+    fate_head links name outcome ++ growth_text links.catalogue (rule_found outcome) growth ++ fate_end links.catalogue (rule_found outcome) parts

@@ -59,14 +59,18 @@ all_emitted linked rule (row ∷ rows) = emitted linked rule row ++ all_emitted 
 unfoldable pub engine_head : EngineKind → ℕ → ℕ → List ℕ
 engine_head kind period number = codes "<div>" ++ several number ++ engine_name kind ++ plural number ++ labelled (codes " of period ") period ++ codes " that"
 
--- all of them, behind the words
-abbrev pub emission : Bool → List ℕ → List Row → List ℕ
-emission linked rule rows = codes "</div><ul>" ++ all_emitted linked rule rows ++ codes "</ul>"
+-- what engines are and do, before the list of what they emit
+abbrev pub engine_words : EngineKind → ℕ → ℤ → ℤ → ℕ → List ℕ
+engine_words kind period dx dy number = engine_head kind period number ++ deeds kind dx dy number ++ codes "</div><ul>"
+
+-- all of it
+abbrev pub engines_text : Bool → List ℕ → EngineKind → ℕ → ℤ → ℤ → ℕ → List Row → List ℕ
+engines_text linked rule kind period dx dy number emits = engine_words kind period dx dy number ++ all_emitted linked rule emits ++ codes "</ul>"
 
 -- the engines that a row tells of, with the rows that tell what each emits
 abbrev pub engine_text : Bool → List ℕ → Row → List Row → List ℕ
 engine_text linked rule (Engine collection pattern place period dx dy number) emits =
-    engine_head (engine_kind dx dy emits) period number ++ deeds (engine_kind dx dy emits) dx dy number ++ emission linked rule emits
+    engines_text linked rule (engine_kind dx dy emits) period dx dy number emits
 engine_text linked rule _ emits = []
 
 -- the engines of these rows; behind the row of each stand those that tell what it emits

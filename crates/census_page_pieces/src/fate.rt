@@ -1,18 +1,21 @@
 //! What becomes of patterns that do not recur.
-ghost use Rattle.std.specs.Prelude.{◌≡◌, ◌++◌, OnOk};
-ghost use Rattle.census_page_pieces.specs.Fates.{fate_cells, fate_row, finding_words, found_cells, objects_text, recurs, refused_cells, rule_found};
+ghost use Rattle.std.specs.Prelude.{◌≡◌, ◌++◌, IfOk, MatchResult, OnOk};
+ghost use Rattle.watched.specs.Telling.{TellsAfter, TellsFront, sheet};
+ghost use Rattle.census_page_pieces.specs.Fates.{fate_cells, fate_end, fate_head, fate_row, finding_words, found_cells, recurs, refused_cells, rule_found};
 ghost use Rattle.census_page_pieces.specs.Links.{linking_of};
 ghost use Rattle.census_rows.specs.declared.row.Finding.TheVariants.{Ash, Large};
 
 use crate::escape::{push_escaped, push_text};
-use crate::growth::push_growth;
+use crate::growth::put_growth;
 use crate::link::{Links, push_name};
 use crate::numbers::{push_grouped, push_labelled, push_plural};
 use crate::parts::push_parts;
 use census_faults::fault_words;
 use census_kept::Section;
-use census_rows::{Finding, Outcome, Row};
+use census_rows::{Finding, Outcome};
 use std::alloc::{AllocError, Global};
+use std::io::Write;
+use watched::{Block, Output, put};
 
 // Adds that a pattern has fallen apart.
 fn push_ash(text: &mut Vec<u8>, onset: u64, objects: u64) -> Result<(), AllocError>
@@ -115,52 +118,65 @@ fn rule_found<'a>(outcome: &Outcome<'a>) -> &'a [u8]
     }
 }
 
-// Adds the objects that a pattern emits, and those that it consists of.
-fn push_objects(
+// What stands before the objects of a pattern: its name, its rule and its cells, and what becomes of it.
+fn fate_head(
     alloc: Global,
-    text: &mut Vec<u8>,
-    linked: bool,
-    rule: &[u8],
-    growth: &Section,
-    parts: &Section,
-) -> Result<(), AllocError>
-    ensures { OnOk result (text.new.items ≡ text.old.items
-        ++ objects_text linked rule.now growth.now parts.now) }
+    links: &Links,
+    name: &[u8],
+    outcome: &Outcome,
+) -> Result<Vec<u8>, AllocError>
+    ensures { IfOk result (λ text. text.items ≡ fate_head (linking_of links.now) name.now outcome.now) }
 {
-    push_growth(alloc, text, linked, rule, growth)?;
-    push_parts(alloc, text, linked, rule, parts)?;
-    Ok(())
+    let mut text = Vec::from_slice(alloc, b"<tr class=\"u\"><th scope=\"row\">")?;
+    push_name(alloc, &mut text, links, name)?;
+    push_fate(alloc, &mut text, outcome)?;
+    Ok(text)
 }
 
-/// Appends a row of a table with the name of a pattern and what becomes of it, or nothing where it
-/// recurs. Where it grows, `growth` are the rows of its engines and of what they emit, and where it has
-/// fallen apart, `parts` are those of its parts. The only error is out of memory.
-pub fn push_fate_row(
+// What stands behind what it emits: the objects that it consists of.
+fn fate_end(
     alloc: Global,
-    text: &mut Vec<u8>,
+    linked: bool,
+    rule: &[u8],
+    parts: &Section,
+) -> Result<Vec<u8>, AllocError>
+    ensures { IfOk result (λ text. text.items ≡ fate_end linked rule.now parts.now) }
+{
+    let mut text = Vec::new(alloc);
+    push_parts(alloc, &mut text, linked, rule, parts)?;
+    text.extend_from_slice(b"</td></tr>\n")?;
+    Ok(text)
+}
+
+/// Tells a row of a table with the name of a pattern and what becomes of it, or nothing where it
+/// recurs. Where it grows, `growth` are the rows of its engines and of what they emit, and where it has
+/// fallen apart, `parts` are those of its parts. The only error is out of memory; then the first bytes
+/// of it are told.
+pub fn put_fate_row<W: Write>(
+    alloc: Global,
     links: &Links,
     name: &[u8],
     outcome: &Outcome,
     growth: &Section,
     parts: &Section,
+    block: &mut Block,
+    writer: &mut Output<W>,
 ) -> Result<(), AllocError>
-    ensures { OnOk result (text.new.items ≡ text.old.items
-        ++ fate_row (linking_of links.now) name.now outcome.now growth.now parts.now) }
+    ensures { MatchResult result
+        (λ _. TellsAfter (fate_row (linking_of links.now) name.now outcome.now growth.now parts.now)
+        (sheet block.old writer.old) (sheet block.new writer.new))
+        (λ _. TellsFront (fate_row (linking_of links.now) name.now outcome.now growth.now parts.now)
+        (sheet block.old writer.old) (sheet block.new writer.new)) }
 {
     if recurs(outcome) {
         return Ok(());
     }
-    text.extend_from_slice(b"<tr class=\"u\"><th scope=\"row\">")?;
-    push_name(alloc, text, links, name)?;
-    push_fate(alloc, text, outcome)?;
-    push_objects(
-        alloc,
-        text,
-        links.catalogue,
-        rule_found(outcome),
-        growth,
-        parts,
-    )?;
-    text.extend_from_slice(b"</td></tr>\n")?;
+    let linked = links.catalogue;
+    let rule = rule_found(outcome);
+    let head = fate_head(alloc, links, name, outcome)?;
+    let end = fate_end(alloc, linked, rule, parts)?;
+    put(head.as_slice(), block, writer);
+    put_growth(alloc, linked, rule, growth, block, writer)?;
+    put(end.as_slice(), block, writer);
     Ok(())
 }

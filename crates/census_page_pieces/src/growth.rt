@@ -1,6 +1,9 @@
 //! How patterns grow, in words, and what they emit.
-ghost use Rattle.std.specs.Prelude.{◌≡◌, ◌++◌, OnOk};
-ghost use Rattle.census_page_pieces.specs.Growth.{all_emitted, deeds, emission, emitted, engine_head, engine_text, growth_text, moves, several, verb};
+ghost use Rattle.std.specs.Prelude.{◌≡◌, ◌++◌, IfOk, MatchResult, OnOk};
+ghost use Rattle.std.specs.List.{take_while};
+ghost use Rattle.watched.specs.Telling.{TellsAfter, TellsFront, sheet};
+ghost use Rattle.census_readback.specs.Following.{is_emits};
+ghost use Rattle.census_page_pieces.specs.Growth.{all_emitted, deeds, emitted, engine_head, engine_text, engine_words, engines_text, growth_text, moves, several, verb};
 
 use crate::engine::{EngineKind, engine_kind, engine_name};
 use crate::numbers::{push_grouped, push_labelled, push_plural, push_signed};
@@ -10,6 +13,8 @@ use census_kept::Section;
 use census_readback::emits_first;
 use census_rows::Row;
 use std::alloc::{AllocError, Global};
+use std::io::Write;
+use watched::{Block, Output, put};
 
 // Adds a number before what there are several of, on the same line.
 fn push_several(text: &mut Vec<u8>, number: u64) -> Result<(), AllocError>
@@ -104,37 +109,41 @@ fn push_emitted(
     }
 }
 
-// Adds the objects that are emitted.
-fn push_all_emitted(
+// Tells the item of the objects with a code that are emitted.
+fn put_emitted<W: Write>(
     alloc: Global,
-    text: &mut Vec<u8>,
     linked: bool,
     rule: &[u8],
-    emits: &Section,
+    row: &Row,
+    block: &mut Block,
+    writer: &mut Output<W>,
 ) -> Result<(), AllocError>
-    ensures { OnOk result (text.new.items
-        ≡ text.old.items ++ all_emitted linked rule.now emits.now) }
+    ensures { MatchResult result
+        (λ _. TellsAfter (emitted linked rule.now row.now) (sheet block.old writer.old) (sheet block.new writer.new))
+        (λ _. TellsFront (emitted linked rule.now row.now) (sheet block.old writer.old) (sheet block.new writer.new)) }
 {
-    for index in 0..emits.len() {
-        push_emitted(alloc, text, linked, rule, &emits.row(index))?;
-    }
+    let mut text = Vec::new(alloc);
+    push_emitted(alloc, &mut text, linked, rule, row)?;
+    put(text.as_slice(), block, writer);
     Ok(())
 }
 
-// Adds all of them, behind the words.
-fn push_emission(
+// Tells the objects that are emitted.
+fn put_all_emitted<W: Write>(
     alloc: Global,
-    text: &mut Vec<u8>,
     linked: bool,
     rule: &[u8],
     emits: &Section,
+    block: &mut Block,
+    writer: &mut Output<W>,
 ) -> Result<(), AllocError>
-    ensures { OnOk result (text.new.items
-        ≡ text.old.items ++ emission linked rule.now emits.now) }
+    ensures { MatchResult result
+        (λ _. TellsAfter (all_emitted linked rule.now emits.now) (sheet block.old writer.old) (sheet block.new writer.new))
+        (λ _. TellsFront (all_emitted linked rule.now emits.now) (sheet block.old writer.old) (sheet block.new writer.new)) }
 {
-    text.extend_from_slice(b"</div><ul>")?;
-    push_all_emitted(alloc, text, linked, rule, emits)?;
-    text.extend_from_slice(b"</ul>")?;
+    for index in 0..emits.len() {
+        put_emitted(alloc, linked, rule, &emits.row(index), block, writer)?;
+    }
     Ok(())
 }
 
@@ -158,17 +167,62 @@ fn push_head(
     Ok(())
 }
 
-// Adds the engines that a row tells of, with the rows that tell what each emits.
-fn push_engine(
+// What engines are and do, before the list of what they emit.
+fn engine_words(
     alloc: Global,
-    text: &mut Vec<u8>,
+    kind: EngineKind,
+    period: u64,
+    displacement: (i64, i64),
+    number: u64,
+) -> Result<Vec<u8>, AllocError>
+    ensures { IfOk result (λ text. text.items
+        ≡ engine_words kind period displacement.0 displacement.1 number) }
+{
+    let (dx, dy) = displacement;
+    let mut text = Vec::new(alloc);
+    push_head(&mut text, kind, period, number)?;
+    push_deeds(&mut text, kind, dx, dy, number)?;
+    text.extend_from_slice(b"</div><ul>")?;
+    Ok(text)
+}
+
+// Tells engines of a kind, of which each emits what these rows tell.
+fn put_kind<W: Write>(
+    alloc: Global,
+    linked: bool,
+    rule: &[u8],
+    kind: EngineKind,
+    period: u64,
+    displacement: (i64, i64),
+    number: u64,
+    emits: &Section,
+    block: &mut Block,
+    writer: &mut Output<W>,
+) -> Result<(), AllocError>
+    ensures { MatchResult result
+        (λ _. TellsAfter (engines_text linked rule.now kind period displacement.0 displacement.1 number emits.now) (sheet block.old writer.old) (sheet block.new writer.new))
+        (λ _. TellsFront (engines_text linked rule.now kind period displacement.0 displacement.1 number emits.now) (sheet block.old writer.old) (sheet block.new writer.new)) }
+{
+    let words = engine_words(alloc, kind, period, displacement, number)?;
+    put(words.as_slice(), block, writer);
+    put_all_emitted(alloc, linked, rule, emits, block, writer)?;
+    put(b"</ul>", block, writer);
+    Ok(())
+}
+
+// Tells the engines that a row tells of, where the first of the rows behind it tell what each emits.
+fn put_engine<W: Write>(
+    alloc: Global,
     linked: bool,
     rule: &[u8],
     row: &Row,
-    emits: &Section,
+    behind: &Section,
+    block: &mut Block,
+    writer: &mut Output<W>,
 ) -> Result<(), AllocError>
-    ensures { OnOk result (text.new.items
-        ≡ text.old.items ++ engine_text linked rule.now row.now emits.now) }
+    ensures { MatchResult result
+        (λ _. TellsAfter (engine_text linked rule.now row.now (take_while is_emits behind.now)) (sheet block.old writer.old) (sheet block.new writer.new))
+        (λ _. TellsFront (engine_text linked rule.now row.now (take_while is_emits behind.now)) (sheet block.old writer.old) (sheet block.new writer.new)) }
 {
     match row {
         Row::Engine {
@@ -178,32 +232,53 @@ fn push_engine(
             count,
             ..
         } => {
-            let kind = engine_kind(*dx, *dy, emits);
-            push_head(text, kind, *period, *count)?;
-            push_deeds(text, kind, *dx, *dy, *count)?;
-            push_emission(alloc, text, linked, rule, emits)?;
-            Ok(())
+            let emits = emits_first(behind);
+            let kind = engine_kind(*dx, *dy, &emits);
+            let displacement = (*dx, *dy);
+            put_kind(
+                alloc,
+                linked,
+                rule,
+                kind,
+                *period,
+                displacement,
+                *count,
+                &emits,
+                block,
+                writer,
+            )
         }
         _ => Ok(()),
     }
 }
 
-/// Appends the engines of rows in words, as `gun of period 30 that emits`, each with a list of what it
+/// Tells the engines of rows in words, as `gun of period 30 that emits`, each with a list of what it
 /// emits: the picture, the code, which is a link under this rule where codes are links, and how many.
-/// Behind the row of each engine stand those that tell what it emits. The only error is out of memory.
-pub fn push_growth(
+/// Behind the row of each engine stand those that tell what it emits. The only error is out of memory;
+/// then the first bytes of it are told.
+pub fn put_growth<W: Write>(
     alloc: Global,
-    text: &mut Vec<u8>,
     linked: bool,
     rule: &[u8],
     rows: &Section,
+    block: &mut Block,
+    writer: &mut Output<W>,
 ) -> Result<(), AllocError>
-    ensures { OnOk result (text.new.items
-        ≡ text.old.items ++ growth_text linked rule.now rows.now) }
+    ensures { MatchResult result
+        (λ _. TellsAfter (growth_text linked rule.now rows.now) (sheet block.old writer.old) (sheet block.new writer.new))
+        (λ _. TellsFront (growth_text linked rule.now rows.now) (sheet block.old writer.old) (sheet block.new writer.new)) }
 {
     for index in 0..rows.len() {
-        let emits = emits_first(&rows.from(index + 1));
-        push_engine(alloc, text, linked, rule, &rows.row(index), &emits)?;
+        let behind = rows.from(index + 1);
+        put_engine(
+            alloc,
+            linked,
+            rule,
+            &rows.row(index),
+            &behind,
+            block,
+            writer,
+        )?;
     }
     Ok(())
 }

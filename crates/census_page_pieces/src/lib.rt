@@ -23,7 +23,7 @@ mod stroke;
 pub use address::push_collection_address;
 pub use code::push_code;
 pub use escape::{an_escaped_text_has_no_markup, push_text, push_told};
-pub use fate::{push_fate_row, recurs};
+pub use fate::{put_fate_row, recurs};
 pub use kind::{Kind, class_of, is_kind, kind_of, period_told, push_object_words};
 pub use link::{Links, push_name};
 pub use markup::{

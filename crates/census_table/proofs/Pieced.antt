@@ -1,14 +1,13 @@
 -- The line of a pattern in JSON, by pieces.
-use Rattle.std.proofs.Common.{◌≡◌, ℕ, ℤ, suc, ◌+◌, ◌<◌, ◌≤◌, Bool, true, false, List, [], ◌∷◌, ◌++◌, Option, Some, None, length, map, drop, get_or, refl, sym, ap, ◌∙◌, subst, arith, append_assoc, append-nil, drop-cons}
+use Rattle.std.proofs.Common.{◌≡◌, ℕ, ℤ, suc, ◌+◌, ◌<◌, ◌≤◌, Bool, true, false, List, [], ◌∷◌, ◌++◌, Option, Some, None, length, map, drop, get_or, refl, sym, ap, ◌∙◌, arith, append_assoc, append-nil, drop-cons}
 use Rattle.std.proofs.lemmas.List.{drop_all}
 use Rattle.std.specs.List.{take_while}
 use Rattle.std.specs.Prelude.{codes}
-use Rattle.serde_json.specs.Data.{Data, Members, array, member, no_members, null, object, string}
-use Rattle.serde_json.specs.View.{items_of}
+use Rattle.serde_json.specs.Data.{Data, Members, member, no_members, object, string}
 use Rattle.serde_json.specs.Written.{comma_if, compact_text}
 use Rattle.serde_json.proofs.OnLiterals.{serde_json_on_literals}
 use Rattle.census_facts.specs.Json.Lines.{with_line_ends_escaped}
-use Rattle.census_facts.specs.Json.Pieces.{engines_end, engines_head, joined, members_within}
+use Rattle.census_facts.specs.Json.Pieces.{engines_end, engines_head, joined}
 use Rattle.census_facts.proofs.JsonLemmas.Pieces.{array-escaped, between-escaped, engines-escaped, escaped-low, escaped-none, have_some, item-escaped, object-escaped}
 use Rattle.census_readback.specs.Following.{is_emits}
 use Rattle.census_rows.specs.declared.kinds.Behind.{Behind}
@@ -22,7 +21,6 @@ use Rattle.census_table.specs.Lists.{Engines, all_engines, engines_of, portion_o
 use Rattle.census_table.specs.Patterns.{Pattern, engines_behind, parts_behind}
 use Rattle.census_table.specs.Pieces.{columns_text, content_text, end_of, first_columns, head_of, is_later, item_text, items_text, kind_head, kind_text, last_columns, middle_columns, middle_of}
 use Rattle.census_table.specs.Tables.{json_line, with_row}
-use Rattle.census_table.specs.declared.column.Column.{Column}
 use Rattle.census_table.specs.declared.entry.Entry.{Entry}
 use Rattle.census_table.specs.declared.lists.Portion.{Portion}
 use Rattle.census_table.specs.declared.table.Format.TheVariants.{Json}

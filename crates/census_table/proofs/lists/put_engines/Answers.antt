@@ -1,4 +1,4 @@
-use Rattle.std.proofs.Common.{◌∙◌, ℕ, ◌+◌, Bool, false, List, ap, arith, drop, subst, sym}
+use Rattle.std.proofs.Common.{◌+◌, false, ap, arith, drop, subst, sym}
 use Rattle.std.proofs.lemmas.Result.{err_from_is_err_and}
 use Rattle.std.specs.List.{take_while}
 use Rattle.watched.specs.Telling.{sheet}

@@ -1,4 +1,4 @@
-use Rattle.std.proofs.Common.{◌∙◌, ℕ, ◌+◌, Bool, false, List, ap, arith, drop, subst, sym}
+use Rattle.std.proofs.Common.{◌+◌, false, arith, drop, subst, sym}
 use Rattle.std.proofs.lemmas.Result.{err_from_is_err_and}
 use Rattle.watched.specs.Telling.{sheet}
 use Rattle.watched.proofs.Prefixes.{TellsUpTo, up_to_end, up_to_front, up_to_more, up_to_start}

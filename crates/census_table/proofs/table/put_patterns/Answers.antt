@@ -1,12 +1,10 @@
 use Rattle.std.proofs.Common.{◌∙◌, map, sym}
-use Rattle.std.proofs.lemmas.Result.{err_from_is_err_and}
 use Rattle.std.specs.Option.{option_copied}
 use Rattle.watched.specs.Telling.{sheet}
 use Rattle.watched.proofs.Telling.{tells_failed}
 use Rattle.census_table.specs.Columns.{pattern_row}
 use Rattle.census_table.specs.Patterns.{first_patterns}
 use Rattle.census_table.specs.Tables.{rows_text}
-use Rattle.watched.proofs.Prefixes.{front_none}
 use Rattle.census_table.proofs.table.put_patterns.Goals as goal
 
 pub returns-then-failed : goal.returns-then-failed
