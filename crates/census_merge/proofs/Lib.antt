@@ -17,7 +17,7 @@ pub mod Solid
 pub mod Tales
 pub mod Coded
 pub mod Parsed
-pub mod Cut
+pub mod CutRows
 pub mod Named
 pub mod ReadBack
 pub mod Fitting

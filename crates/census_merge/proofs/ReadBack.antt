@@ -15,7 +15,7 @@ use Rattle.census_rows.specs.Lines.{line_of, row_text, text_of}
 use Rattle.life_answer.specs.declared.question.Question.{Question}
 use Rattle.census_merge.specs.Joining.{AreBundles, EachIsReport, EachTells, IsBundle, bundles, texts}
 use Rattle.census_merge.specs.Telling.{TellsBundle, rows_in}
-use Rattle.census_merge.proofs.Cut.{cut-end, cut-rows, isnt-empty}
+use Rattle.census_merge.proofs.CutRows.{cut-end, cut-rows, isnt-empty}
 use Rattle.census_merge.proofs.Fitting.{fitting}
 use Rattle.census_merge.proofs.Joined.{joined-tell}
 use Rattle.census_merge.proofs.Grouped.{in-sections}

@@ -7,7 +7,7 @@ use Rattle.census_readback.specs.Texts.{AllLines, HasNoFeed}
 use Rattle.census_rows.specs.declared.row.Row.{Row}
 use Rattle.census_rows.specs.Lines.{IsRow, line_of, row_text, spelling, text_of}
 use Rattle.census_readback.proofs.Feeds.{one-line}
-use Rattle.census_merge.proofs.Cut.{same-spelling, split}
+use Rattle.census_merge.proofs.CutRows.{same-spelling, split}
 use Rattle.census_merge.proofs.Named.{IsCut}
 use Rattle.census_merge.proofs.CutsLemmas.Spelled.{same-end, same-opened}
 
