@@ -1,4 +1,4 @@
-//! Standard input that says that it is read.
+//! Standard input that announces that it is read.
 ghost use Rattle.std.specs.Prelude.{◌≡◌};
 
 use crate::screen::Screen;
@@ -15,7 +15,7 @@ pub struct Announced<'a, I, R> {
 }
 
 impl<'a, I: Read, R: Clock + Eprint> Announced<'a, I, R> {
-    /// A reader that says so, or, where it is no terminal, one that doesn't.
+    /// A reader that says so, or, where standard input is not a terminal, one that doesn't.
     pub fn new(reader: I, is_terminal: bool, screen: &'a Screen<'a, R>) -> Self
         ensures { I.remaining result.reader ≡ I.remaining reader }
     {

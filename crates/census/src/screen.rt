@@ -1,4 +1,4 @@
-//! The line at a terminal that tells how far a run has come, or a pattern.
+//! The line at a terminal that shows the progress of a run, or of a pattern.
 use crate::short_name::ShortName;
 use census_bundle::Ticket;
 use census_crew::Gate;
@@ -6,33 +6,33 @@ use std::io::Eprint;
 use std::sync::atomic::{AtomicBool, AtomicU64, Ordering};
 use std::time::Clock;
 
-/// How far a run has come is told once it has taken so many milliseconds, and how far a pattern has likewise.
+/// The progress of a run, or of a pattern, is shown once it has taken this many milliseconds.
 const PATIENCE: u64 = 500;
 
-/// It is told again after so many milliseconds, which is at most four times a second.
+/// The progress is shown again after this many milliseconds, which is at most four times a second.
 const PAUSE: u64 = 250;
 
-/// The clock is looked at once in so many generations.
+/// The clock is read once in this many generations.
 const STRIDE: u32 = 64;
 
-/// Standard error, where it is a terminal: how far a run has come, or a pattern, stands in its last line, and is wiped before
+/// Standard error, where it is a terminal: its last line shows the progress of a run, or of a pattern, and is wiped before
 /// anything else is written.
 #[derive(Drop)]
 pub struct Screen<'a, R> {
     rt: &'a R,
     is_terminal: bool,
-    /// Whether the last line tells how far something has come.
+    /// Whether the last line shows the progress of something.
     stands: AtomicBool,
     /// How many patterns the run has, or 0 where none has begun.
     patterns: AtomicU64,
     /// How many of them were taken by workers.
     taken: AtomicU64,
-    /// The millisecond from which on it may be told again; the greatest number where none is known.
+    /// The millisecond from which on progress may be shown again; the greatest number where none is known.
     next: AtomicU64,
 }
 
 impl<'a, R: Clock + Eprint> Screen<'a, R> {
-    /// A screen on which nothing stands. Where standard error is no terminal, nothing is ever told on it.
+    /// A screen on which nothing is shown. Where standard error is not a terminal, nothing is ever shown on it.
     pub fn new(rt: &'a R, is_terminal: bool) -> Self {
         Screen {
             rt,
@@ -44,7 +44,7 @@ impl<'a, R: Clock + Eprint> Screen<'a, R> {
         }
     }
 
-    /// Wipes the line that tells how far something has come, if it stands.
+    /// Wipes the line that shows progress, if it is there.
     pub fn wipe(&self) {
         if self.stands.swap(false, Ordering::SeqCst) {
             let _ = eprint!(self.rt; "\r\x1b[K");
@@ -66,7 +66,7 @@ impl<'a, R: Clock + Eprint> Screen<'a, R> {
         }
     }
 
-    // A run of so many patterns is about to begin.
+    // A run of `patterns` patterns is about to begin.
     fn begin(&self, patterns: u64) {
         if self.is_terminal {
             self.patterns.store(patterns, Ordering::SeqCst);
@@ -90,7 +90,7 @@ impl<'a, R: Clock + Eprint> Screen<'a, R> {
         self.wipe();
     }
 
-    // Whether something is to be told now, as it then is.
+    // Whether progress is to be shown now. Where it is, it counts as shown.
     fn is_due(&self, next: u64, now: u64) -> bool {
         if now < next {
             return false;
@@ -106,7 +106,7 @@ impl<'a, R: Clock + Eprint> Screen<'a, R> {
         is_first
     }
 
-    // Tells how far the run has come, where that is due.
+    // Shows the progress of the run, where that is due.
     fn tell(&self, taken: u64) {
         let next = self.next.load(Ordering::SeqCst);
         let now = self.now();
@@ -116,7 +116,7 @@ impl<'a, R: Clock + Eprint> Screen<'a, R> {
         }
     }
 
-    // The pattern of a file has come to a generation, of so many.
+    // The pattern of a file has reached generation `generation` of `last`.
     fn reach(&self, name: &[u8], generation: u32, last: u32) {
         if !self.is_terminal || generation % STRIDE != 0 {
             return;
@@ -133,14 +133,14 @@ impl<'a, R: Clock + Eprint> Screen<'a, R> {
     }
 }
 
-/// The gate of a program at a terminal: it tells on a screen how far a run has come, or a pattern, and holds no worker.
+/// The gate of a program at a terminal: it shows on a screen the progress of a run, or of a pattern, and holds no worker.
 #[derive(Drop)]
 pub struct Progress<'a, R> {
     screen: &'a Screen<'a, R>,
 }
 
 impl<'a, R: Clock + Eprint> Progress<'a, R> {
-    /// A gate that tells on this screen.
+    /// A gate that shows progress on this screen.
     pub fn new(screen: &'a Screen<'a, R>) -> Self {
         Progress { screen }
     }

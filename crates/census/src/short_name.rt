@@ -2,18 +2,18 @@
 use crate::shown::is_steering;
 use std::fmt;
 
-/// A name of more bytes is shown by its end.
+/// A name of more bytes than this is shown by its end.
 const LONGEST: usize = 40;
 
-/// So many bytes its end has.
+/// The most bytes of that end.
 const END: usize = 37;
 
 /// A name as it is shown at a terminal: of a long one its end, after three dots. What could steer the terminal is escaped as
-/// `Shown` does, and a line feed and a tab too.
+/// `Shown` does, and so are a line feed and a tab.
 #[derive(Drop)]
 pub(crate) struct ShortName<'a>(pub(crate) &'a [u8]);
 
-// Whether a byte of UTF-8 goes on a character that began before it.
+// Whether a byte of UTF-8 continues a character that began before it.
 fn goes_on(byte: u8) -> bool {
     byte & 0xc0 == 0x80
 }

@@ -7,16 +7,16 @@ use std::io;
 use std::io::{Eprint, Write};
 use std::time::Clock;
 
-/// So many bytes are handed on at once.
+/// The most bytes that are handed on at once.
 const ROOM: usize = 4096;
 
 const DIGITS: [u8; 16] = *b"0123456789abcdef";
 
-/// A writer that first wipes what a screen tells. Where it is a terminal, each byte that belongs to no character of UTF-8, and
-/// each byte of a character that could steer the terminal, is written as `\x` and its two hexadecimal digits; every other byte
-/// is written as it is. Such characters are the controls below U+0020 but the tab and the line feed, and those from U+007F to
-/// U+009F; those that turn the direction of what is written (U+061C, U+200E, U+200F, U+202A to U+202E, U+2066 to U+2069); and
-/// the separators of lines and paragraphs (U+2028, U+2029). Where it is no terminal, it holds what the writer that it writes to
+/// A writer that first wipes what a screen shows. Where it is a terminal, each byte that belongs to no character of UTF-8, and
+/// each byte of a character that could steer the terminal, is written as `\x` and its two hexadecimal digits; every other byte is
+/// written unchanged. Such characters are the controls below U+0020 except the tab and the line feed, and those from U+007F to
+/// U+009F; those that turn the direction of what is written (U+061C, U+200E, U+200F, U+202A to U+202E, U+2066 to U+2069); and the
+/// separators of lines and paragraphs (U+2028, U+2029). Where it is not a terminal, it holds what the writer that it writes to
 /// holds.
 #[derive(Drop)]
 pub struct Shown<'a, W, R> {
@@ -25,7 +25,7 @@ pub struct Shown<'a, W, R> {
     screen: &'a Screen<'a, R>,
 }
 
-/// Bytes that are handed on once there are many.
+/// Bytes that are held, to be handed on together.
 type Block = ArrayVec<u8, ROOM>;
 
 // Writes the bytes that are held.
@@ -56,8 +56,8 @@ fn add_escaped<W: Write>(block: &mut Block, writer: &mut W, bytes: &[u8]) -> io:
     Ok(())
 }
 
-// Whether a terminal could take a character as a command, or as the direction in which to write, or as the end of a line
-// though it is no line feed.
+// Whether a terminal could take a character as a command, or as the direction in which to write, or as the end of a line though
+// it is not a line feed.
 pub(crate) fn is_steering(one: char) -> bool {
     matches!(
         one,
@@ -73,7 +73,7 @@ pub(crate) fn is_steering(one: char) -> bool {
 }
 
 impl<'a, W: Write, R: Clock + Eprint> Shown<'a, W, R> {
-    /// A writer to a terminal, or, where it is none, one that hands on each byte as it is.
+    /// A writer to a terminal, or, where it is not a terminal, one that hands on each byte unchanged.
     pub fn new(writer: W, is_terminal: bool, screen: &'a Screen<'a, R>) -> Self
         ensures terminal { result.is_terminal ≡ is_terminal }
         ensures contents { W.contents result.writer ≡ W.contents writer }

@@ -1,4 +1,4 @@
--- How counts change where one more ticket is taken.
+-- How counts change when one more ticket is taken.
 use Rattle.std.proofs.Common.{◌≡◌, ℕ, zero, suc, ◌+◌, ◌<◌, ◌≤◌, Bool, false, cond, List, [], ◌∷◌, Some, refl, sym, ap, subst, ◌∙◌, arith, slice_get}
 use Rattle.census_bundle.specs.declared.bundle.Entry.{Entry}
 use Rattle.census_bundle.specs.declared.bundle.Folder.{Folder}
@@ -18,7 +18,7 @@ sum_same g h i (x ∷ xs) same =
     let here = same i x (omega arith) in
     omega arith
 
--- where two weights differ at one number alone, by n, so do their sums
+-- if two weights differ at one number alone, by n, so do their sums
 sum_step : {A : Type 0} (g h : ℕ → A → ℕ) (n i k d : ℕ) (xs : List A) (x : A) → d ≡ i + k → ((j : ℕ) (y : A) → (j ≡ d → ⊥) → h j y ≡ g j y) → h d x ≡ g d x + n → slice_get xs k ≡ Some x → numbered_sum h i xs ≡ numbered_sum g i xs + n
 sum_step g h n i k d [] x at same more is = absurd (cc)
 sum_step g h n i zero d (y ∷ ys) x at same more is =
@@ -36,7 +36,7 @@ number_index : {A : Type 0} (xs : List A) (d : ℕ) (x : A) → element_at xs d 
 number_index xs zero x is = absurd (cc)
 number_index xs (suc k) x is = (k, omega arith, is)
 
--- where two weights differ at one ticket alone, by n, so do their sums
+-- if two weights differ at one ticket alone, by n, so do their sums
 weight_step : (w v : Ticket → Entry → ℕ) (n : ℕ) (b : List Folder) (t : Ticket) (e : Entry) → ((u : Ticket) (x : Entry) → (u ≡ t → ⊥) → v u x ≡ w u x) → v t e ≡ w t e + n → entry_at b t ≡ Some e → bundle_weight v b ≡ bundle_weight w b + n
 weight_step w v n b t e same more at =
     let f = folder_at (element_at b t.folder) t.number e at in
@@ -57,7 +57,7 @@ count_more kind b question taken t e at not =
     ∙ sym (ap (λ (has : Bool). cond has (one_if (kind (answer_to_entry question e))) 0 + one_if (kind (answer_to_entry question e))) not ∙ omega arith))
     at
 
--- and leaves one less missing
+-- and leaves one fewer missing
 pub missing_less : (b : List Folder) (taken : Tickets) (t : Ticket) → IsTicketOf b t → has_ticket taken t ≡ false → missing_count b taken ≡ missing_count b (with_ticket taken t) + 1
 missing_less b taken t of not =
     weight_step _ _ 1 b t of.0 (λ u x other. ap (λ (has : Bool). cond has 0 1) (sym (has_other taken t u other)))

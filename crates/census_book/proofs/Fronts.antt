@@ -59,7 +59,7 @@ run_other : (taken : Tickets) (t : Ticket) (c : ℕ) (f : Folder) → (c ≡ t.f
 run_other taken t c f apart =
     run_same (λ i. has_ticket taken (ticket c i)) (λ i. has_ticket (with_ticket taken t) (ticket c i)) (λ j. sym (has_other taken t (ticket c j) (λ e. apart (ap (λ (u : Ticket). u.folder) e)))) 1 f.entries
 
--- the runs, where one more ticket has arrived
+-- the runs, once one more ticket has arrived
 pub runs_with : (b : List Folder) (taken : Tickets) (runs : List ℕ) (first : ℕ) (t : Ticket) (m : ℕ) → IsFront b taken runs first
     → ((f : Folder) → element_at b t.folder ≡ Some f → m ≡ run_of (with_ticket taken t) t.folder f)
     → (k : ℕ) (f : Folder) → slice_get b k ≡ Some f → run_at runs (record { folder = t.folder; run = m }) k ≡ run_of (with_ticket taken t) (1 + k) f
@@ -77,7 +77,7 @@ runs_with b taken runs first t m front here k f at =
     false≢true : false ≡ true → ⊥
     false≢true e = cc
 
--- what a collection whole before is afterwards
+-- a collection that was whole before is whole afterwards
 whole_with : (b : List Folder) (taken : Tickets) (runs : List ℕ) (first : ℕ) (t : Ticket) → IsFront b taken runs first
     → ((f : Folder) → element_at b t.folder ≡ Some f → run_of taken t.folder f ≡ length f.entries → ⊥)
     → (k : ℕ) → k < first → (f : Folder) → slice_get b k ≡ Some f → run_of (with_ticket taken t) (1 + k) f ≡ length f.entries
@@ -86,7 +86,7 @@ whole_with b taken runs first t front part k lt f at =
     let whole = front.whole k lt f at in
     sym (run_other taken t (1 + k) f (λ is. part f (numbered_before b t.folder k f (one ∙ is) at) (ap (λ n. run_of taken n f) (sym is) ∙ whole))) ∙ whole
 
--- the front, where one more ticket has arrived
+-- the front, once one more ticket has arrived
 pub front_with : (b : List Folder) (taken : Tickets) (runs : List ℕ) (first next : ℕ) (t : Ticket) (m : ℕ) → IsFront b taken runs first
     → (0 < t.folder) × (t.folder ≤ length b)
     → ((f : Folder) → element_at b t.folder ≡ Some f → m ≡ run_of (with_ticket taken t) t.folder f)
@@ -107,7 +107,7 @@ front_with b taken runs first next t m front within here part behind =
     (whole_with b taken runs first t front part)
     behind
 
--- each collection has arrived whole exactly where none is open
+-- each collection has arrived whole exactly if none is open
 pub all_front : (b : List Folder) (taken : Tickets) (runs : List ℕ) (first : ℕ) → IsFront b taken runs first → first ≡ length b → has_all b taken ≡ true
 all_front b taken runs first front is = all_each taken 1 b (λ j f at. front.whole j (let lt = slice_get_within b j f at in omega arith) f at)
 
@@ -130,7 +130,7 @@ front_run b taken runs first (suc k) f front at =
     let less : suc k - 1 ≡ k = omega arith in
     ap (slice_index runs) less ∙ front.run k f at ∙ ap (λ n. run_of taken n f) one
 
--- each pattern of a run has arrived, also where one more ticket has
+-- each pattern of a run has arrived, also once one more ticket has
 pub run_kept : (taken : Tickets) (t : Ticket) (c k : ℕ) (f : Folder) → k ≡ run_of taken c f → (j : ℕ) → j < k → has_ticket (with_ticket taken t) (ticket c (1 + j)) ≡ true
 run_kept taken t c k f is j lt =
     let within : j < run_of taken c f = subst (λ n. j < n) is lt in
@@ -148,7 +148,7 @@ front_after b question taken runs first next t m worked n front belongs new here
     not_whole taken f t belongs.entry (ap (λ (g : Folder). element_at g.entries t.number) (sym same) ∙ at.2) new whole)
     behind
 
--- where no collection is open, the last line
+-- if no collection is open, the last line
 pub end_when : (b : List Folder) (taken : Tickets) (runs : List ℕ) (first : ℕ) → IsFront b taken runs first → first ≡ length b → text_of (end_line b) ≡ end_if (has_all b taken) b
 end_when b taken runs first front is = ap (λ x. end_if x b) (sym (all_front b taken runs first front is))
 
@@ -168,7 +168,7 @@ released_text b question taken t f k m text ended at is_k is_m is_ended is =
 pub same_folder : (o : Option Folder) (f g : Folder) → o ≡ Some f → o ≡ Some g → f ≡ g
 same_folder o f g one other = let both : Some f ≡ Some g = sym one ∙ other in cc
 
--- the run that stands in the list
+-- the run that is in the list
 pub run_read : (b : List Folder) (taken : Tickets) (runs : List ℕ) (first : ℕ) (t : Ticket) (e : Entry) (f : Folder) (k : ℕ) → IsFront b taken runs first → entry_at b t ≡ Some e → element_at b t.folder ≡ Some f
     → k ≡ get_or runs (t.folder - 1) k → k ≡ run_of taken t.folder f
 run_read b taken runs first t e f k front of at is =

@@ -14,17 +14,17 @@ use Rattle.census_format.proofs.Lost.{same_answer}
 use Rattle.census_rows.specs.Lines.{text_of}
 use Rattle.life_answer.specs.declared.question.Question.{Question}
 
--- two options of which one is there where the other is
+-- two options, one of which is there if the other is
 pub some_alike : {A : Type 0} (o : Option A) (f : A → Work) (r : Option Work) → IfSome o (λ x. r ≡ Some (f x)) → IfNone o (r ≡ None) → is_some o ≡ is_some r
 some_alike None f r some none = sym (ap is_some none)
 some_alike (Some x) f r some none = sym (ap is_some some)
 
--- what is told of a `None` follows from what was told of it
+-- what follows from what holds for a `None` holds for it
 pub none_then : {X N M : Type 0} (o : Option X) → IfNone o N → (N → M) → IfNone o M
 none_then None n f = f n
 none_then (Some x) n f = n
 
--- what holds of the value in a `Some`, and else of another, holds of the one that is chosen
+-- what holds for the value in a `Some`, and otherwise for another, holds for the one that is chosen
 pub chosen : {X N : Type 0} (P : X → Type 0) (o : Option X) {other x : X} → x ≡ unwrap_or o other → IfSome o P → IfNone o N → (N → P other) → P x
 chosen P None is some none given = subst P (sym is) (given none)
 chosen P (Some y) is some none given = subst P (sym is) some
@@ -36,7 +36,7 @@ result_at_own b question t w own belongs = record {
   belongs = subst (λ s. Belongs b question s w.entry w.question) own belongs;
 }
 
--- A ticket is that of the result that arrives where it is then taken, and was before only in a collection that had arrived
+-- A ticket is that of the result that arrives, if it is then taken, and was taken before only in a collection that had arrived
 -- whole.
 pub own_result : (b : List Folder) (question : Question) (taken : Tickets) (w : Work) (t : Ticket) → IsResultOf b question w → has_ticket taken w.ticket ≡ false → t.folder ≡ w.ticket.folder
     → has_ticket (with_ticket taken w.ticket) t ≡ true → (has_ticket taken t ≡ true → HasCollection b taken t.folder) → IsResult b question t w

@@ -1,4 +1,4 @@
--- Where working an entry takes memory.
+-- When working an entry takes memory.
 use Rattle.std.proofs.Common.{◌≡◌, ℕ, Bool, true, false, List, Option, Some, None, Result, Ok, Err, IsOk, IfSome, OnOk, OnErr, is_err, cond, refl, sym, subst}
 use Rattle.census_bundle.specs.declared.bundle.Entry.{Entry}
 use Rattle.life_answer.specs.declared.finding.Answer.TheVariants.{Refused}
@@ -27,7 +27,7 @@ pub found_entry : (question : Question) (e : Entry) → ((number : ℕ) → answ
 unfolding answer_to_entry
 found_entry question e apart = found_text question e.is_lost e.text apart
 
--- what is told after an error follows from what was told
+-- what follows from what holds after an error holds after it
 pub err_then : {A E P Q : Type 0} (r : Result A E) → (P → Q) → OnErr r P → OnErr r Q
 err_then (Ok value) f h = tt
 err_then (Err error) f h = f h
@@ -46,12 +46,12 @@ pub ok_then : {A E P : Type 0} (r : Result A E) → is_err r ≡ false → OnOk 
 ok_then (Ok value) ok h = h
 ok_then (Err error) ok h = absurd (cc)
 
--- what is told after no error follows from what was told
+-- what follows from what holds after no error holds after none
 pub on_ok_then : {A E P Q : Type 0} (r : Result A E) → (P → Q) → OnOk r P → OnOk r Q
 on_ok_then (Ok value) f h = f h
 on_ok_then (Err error) f h = tt
 
--- what holds of the value that is made where there is no error, and of the value before
+-- what holds for the value that is made if there is no error, and for the value before
 pub made_or_left : {A E S : Type 0} (P : S → Type 0) (r : Result A E) {new made old : S} → OnOk r (new ≡ made) → OnErr r (new ≡ old) → P made → P old → P new
 made_or_left P (Ok value) is _ one other = subst P (sym is) one
 made_or_left P (Err error) _ is one other = subst P (sym is) other

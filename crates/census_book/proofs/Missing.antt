@@ -30,7 +30,7 @@ taken_before b taken i before u of le =
       | false ↦ λ e. absurd (not_whole taken at.0 u of.0 at.2 e whole)
     ] refl
 
--- where each collection has arrived whole, each ticket is taken
+-- if each collection has arrived whole, each ticket is taken
 pub all_taken : (b : List Folder) (taken : Tickets) (i : ℕ) → WholeBefore b taken i → length b ≤ i → HasAllTickets b taken
 all_taken b taken i before le t of = let w = ticket_in b t of.0 of.1 in taken_before b taken i before t of (omega (arith, w))
 

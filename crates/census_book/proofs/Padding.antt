@@ -41,7 +41,7 @@ none_in zero i = refl
 none_in (suc n) zero = refl
 none_in (suc n) (suc i) = none_in n i
 
--- what stands in a slot of which something is made
+-- what is in a slot of which something is made
 pub held_map : {A B : Type 0} (f : Option A → Option B) → f None ≡ None → (xs : List (Option A)) (i : ℕ) → work_in (slice_get (map f xs) i) ≡ f (work_in (slice_get xs i))
 held_map f none [] i = sym none
 held_map f none (x ∷ xs) zero = refl
@@ -79,7 +79,7 @@ is_some-kept : (x : Option Work) → is_some (work_in (kept x)) ≡ is_some (kep
 is_some-kept None = refl
 is_some-kept (Some w) = refl
 
--- where no result was dropped, one is kept in each slot that is taken
+-- if no result was dropped, one is kept in each slot that is taken
 pub all_kept : (is_dropped : Bool) (len : ℕ) (results : List (Option Work)) (i : ℕ) → is_dropped ≡ false → is_some (work_in (work_at (row_of is_dropped len results) i)) ≡ is_some (work_at (row_of is_dropped len results) i)
 all_kept true len results i is = absurd (cc)
 all_kept false len results zero is = refl
@@ -112,7 +112,7 @@ held_past zero i le = refl
 held_past (suc len) zero le = absurd (omega arith)
 held_past (suc len) (suc i) le = held_past len i (omega arith)
 
--- where the results are dropped, each slot is taken
+-- if the results are dropped, each slot is taken
 pub slot_full : (len i : ℕ) → 0 < i → i ≤ len → work_at (replicate len (Some None)) i ≡ Some None
 slot_full len zero pos le = absurd (omega arith)
 slot_full len (suc i) pos le = held_full len i (omega arith)
@@ -122,7 +122,7 @@ pub slot_past : (len i : ℕ) → (0 < i → i ≤ len → ⊥) → work_at (rep
 slot_past len zero out = refl
 slot_past len (suc i) out = held_past len i (omega (arith, out))
 
--- where a slot is empty, no result was dropped
+-- if a slot is empty, no result was dropped
 not_dropped : (is_dropped : Bool) (len : ℕ) (results : List (Option Work)) (i : ℕ) → 0 < i → i ≤ len → work_at (row_of is_dropped len results) i ≡ None → is_dropped ≡ true → ⊥
 not_dropped true len results i pos le empty is = let full = slot_full len i pos le in absurd (cc)
 not_dropped false len results i pos le empty is = absurd (cc)
@@ -144,7 +144,7 @@ put_fits is_dropped number len results made w pos within few empty is =
     ap length is ∙ length-set (padded_row number results) (number - 1) (Some w) ∙ length-padded number results in
     (omega arith, λ told. absurd (not_dropped is_dropped len results number pos within empty told))
 
--- a slot that is there before is filled
+-- a slot that was there before is filled
 pub set_there : (number : ℕ) (results filled : List (Option Work)) (w : Work) → 0 < number → filled ≡ padded_row (number - 1) results → number - 1 < length filled
     → slice_set filled (number - 1) (Some w) ≡ slice_set (padded_row number results) (number - 1) (Some w)
 set_there number results filled w pos is there =

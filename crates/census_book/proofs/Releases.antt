@@ -43,7 +43,7 @@ numbered_bounds xs (suc i) x is = let w = slice_get_within xs i x is in (omega a
 passes : Tickets → ℕ → ℕ → Bool
 passes taken c i = has_ticket taken (ticket c i)
 
--- a collection one of whose tickets is missing has not arrived whole
+-- a collection with a missing ticket has not arrived whole
 pub not_whole : (taken : Tickets) (f : Folder) (t : Ticket) (e : Entry) → element_at f.entries t.number ≡ Some e → has_ticket taken t ≡ false → run_of taken t.folder f ≡ length f.entries → ⊥
 not_whole taken f t e at not whole =
     let b = numbered_bounds f.entries t.number e at in
@@ -75,7 +75,7 @@ all_each taken c (f ∷ fs) each =
     ap (λ b. b && all_from taken (suc c) fs) (eqb_same (run_of taken c f) (length f.entries) here)
     ∙ all_each taken (suc c) fs (λ j g at. subst (λ n. run_of taken n g ≡ length g.entries) (omega arith) (each (suc j) g at))
 
--- where a collection's run grows, what it shows grows by what is released
+-- if a collection's run grows, what it shows grows by what is released
 shown_step : (question : Question) (c : ℕ) (f : Folder) (k m : ℕ) → k ≤ m → (k ≡ length f.entries → ⊥) → shown_lines question c f k ++ folder_out question c f k m ≡ shown_lines question c f m
 shown_step question c f k m le part =
     let ls = pattern_lines question c 1 f.entries in
@@ -156,7 +156,7 @@ released_start b question = record {
   whole = ap (λ xs. xs ++ end_if (eqb (pattern_count b) 0) b) (opening_owned question 1 b) ∙ ap (λ x. owned_text (gathered (opened question) 1 b) ++ end_if x b) (sym (none_all 1 b));
 }
 
--- a collection that a ticket is not of shows the same
+-- a collection other than a ticket's shows the same
 shown_other : (question : Question) (d : ℕ) (taken : Tickets) (t : Ticket) (o : Option Folder) → (t.folder ≡ d → ⊥) → shown_of question d o taken ≡ shown_of question d o (with_ticket taken t)
 shown_other question d taken t None other = refl
 shown_other question d taken t (Some f) other =
@@ -228,7 +228,7 @@ completed : (question : Question) (d : ℕ) (taken : Tickets) (o : Option Folder
 completed question d taken None = refl
 completed question d taken (Some f) = shown_and_hidden question d f (run_of taken d f)
 
--- where each ticket is taken, each collection has arrived whole
+-- if each ticket is taken, each collection has arrived whole
 pub has_all-each : (b : List Folder) (taken : Tickets) → HasAllTickets b taken → has_all b taken ≡ true
 has_all-each b taken all = all_each taken 1 b (λ j f at. run_all (λ i. has_ticket taken (ticket (1 + j) i)) 1 f.entries (λ k lt. each b taken all j f at k lt))
   where

@@ -150,11 +150,11 @@ put_any rows (suc k) (suc m) w q has =
     (subst (λ y. P (set rows k (set (get_or rows k []) y (Some w)))) r
     (subst (λ (s : Row). P (set rows k (set s m (Some w)))) is (row_put rows k m q.folder q.number row w has.1 lt)))
 
--- what stands in each slot, where one more result was put into its own
+-- what is in each slot, once one more result was put into its own
 pub result_put : (rows : List Row) (w : Work) (q : Ticket) → HasSlot rows w.ticket → taking_at (with_result rows w) q ≡ cond (eq_by_cmp ticket_cmp w.ticket q) (Some (Some w)) (taking_at rows q)
 result_put rows w q has = put_any rows w.ticket.folder w.ticket.number (Some w) q has
 
--- the tickets taken, where one more result was put into its slot
+-- the tickets taken, once one more result was put into its slot
 pub tickets_put : (rows : List Row) (w : Work) → HasSlot rows w.ticket → taken_in (with_result rows w) ≡ with_ticket (taken_in rows) w.ticket
 tickets_put rows w has =
     same_set ticket_cmp_total ticket_cmp_same (taken_in (with_result rows w)) (with_ticket (taken_in rows) w.ticket) (λ q.
@@ -226,7 +226,7 @@ rows_empty [] k i = refl
 rows_empty (f ∷ b) zero i = slot_empty (length f.entries) i
 rows_empty (f ∷ b) (suc k) i = rows_empty b k i
 
--- nothing stands in slots that are empty
+-- nothing is in slots that are empty
 pub result_empty : (b : List Folder) (t : Ticket) → taking_at (empty_slots b) t ≡ None
 result_empty b t = at t.folder t.number
   where
@@ -242,7 +242,7 @@ no_tickets_in : (c : ℕ) (b : List Folder) → rows_tickets c (empty_slots b) �
 no_tickets_in c [] = refl
 no_tickets_in c (f ∷ b) = ap (λ ts. ts ++ rows_tickets (suc c) (empty_slots b)) (no_tickets_from c 1 (length f.entries)) ∙ no_tickets_in (suc c) b
 
--- of empty slots no ticket is taken
+-- no ticket is taken in empty slots
 pub taken_empty : (b : List Folder) → taken_in (empty_slots b) ≡ no_tickets
 taken_empty b = ap tickets_of (no_tickets_in 1 b)
 
@@ -271,7 +271,7 @@ rows_dropped c [] k = refl
 rows_dropped c (row ∷ rows) zero = ap (λ ts. ts ++ rows_tickets (suc c) rows) (row_dropped c 1 row)
 rows_dropped c (row ∷ rows) (suc k) = ap (λ ts. row_tickets c 1 row ++ ts) (rows_dropped (suc c) rows k)
 
--- the tickets taken, where a collection's results are dropped
+-- the tickets taken, if a collection's results are dropped
 pub tickets_dropped : (rows : List Row) (c : ℕ) → taken_in (without_results rows c) ≡ taken_in rows
 tickets_dropped rows c = ap tickets_of (rows_dropped 1 rows (c - 1))
 
@@ -284,7 +284,7 @@ dropped_here [] k i = refl
 dropped_here (row ∷ rows) zero i = slot_dropped row i
 dropped_here (row ∷ rows) (suc k) i = dropped_here rows k i
 
--- what stands in the slots of a collection whose results are dropped
+-- what is in the slots of a collection whose results are dropped
 taking_dropped : (rows : List Row) (c : ℕ) (t : Ticket) → 0 < c → t.folder ≡ c → taking_at (without_results rows c) t ≡ dropped (taking_at rows t)
 taking_dropped rows c t pos own = at t.folder own
   where
@@ -294,7 +294,7 @@ taking_dropped rows c t pos own = at t.folder own
         let k : j ≡ c - 1 = omega arith in
         subst (λ i. slot_in (slice_get (set rows i (map dropped (get_or rows i []))) j) t.number ≡ dropped (slot_in (slice_get rows j) t.number)) k (dropped_here rows j t.number)
 
--- and of the others
+-- and in those of the others
 taking_other : (rows : List Row) (c : ℕ) (t : Ticket) → 0 < c → (t.folder ≡ c → ⊥) → taking_at (without_results rows c) t ≡ taking_at rows t
 taking_other rows c t pos apart = at t.folder apart
   where
@@ -302,7 +302,7 @@ taking_other rows c t pos apart = at t.folder apart
     at zero ne = refl
     at (suc j) ne = ap (λ o. slot_in o t.number) (get_set_other rows (c - 1) j (map dropped (get_or rows (c - 1) [])) (λ e. ne (omega arith)))
 
--- a row is as long where its results are dropped
+-- a row keeps its length if its results are dropped
 row_length : (rows : List Row) (c k n : ℕ) (row : Row) → slice_get rows k ≡ Some row → length row ≡ n → (new : Row) × (slice_get (without_results rows c) k ≡ Some new) × (length new ≡ n)
 row_length rows c k n row here len = by (same_or_not k (c - 1))
   where
@@ -334,7 +334,7 @@ keeps_dropped b question rows c keeps pos whole = record {
     full t at u of same (inl own) = sym (has_result rows u) ∙ whole u of (same ∙ own)
     full t at u of same (inr apart) = keeps.whole t (sym (taking_other rows c t pos apart) ∙ at) u of same
 
--- a ticket that is taken and whose result is not kept is of a collection that has arrived whole
+-- a ticket that is taken but whose result is not kept is of a collection that has arrived whole
 pub not_kept : (b : List Folder) (question : Question) (rows : List Row) (t : Ticket) → KeepsResults b question rows → result_at rows t ≡ None → has_ticket (taken_in rows) t ≡ true → HasCollection b (taken_in rows) t.folder
 not_kept b question rows t keeps none has u of same =
     has_result rows u ∙ keeps.whole t (was_dropped (taking_at rows t) none (sym (has_result rows t) ∙ has)) u of same

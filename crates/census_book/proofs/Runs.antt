@@ -9,7 +9,7 @@ run_within p i (e ∷ es) =
     let more = run_within p (suc i) es in
     elim (p i) as (λ b. cond b (suc (run_from p (suc i) es)) 0 ≤ suc (length es)) [ true ↦ omega arith | false ↦ omega arith ]
 
--- where more pass, the run is no shorter
+-- if more pass, the run is no shorter
 pub run_grows : (p q : ℕ → Bool) → ((j : ℕ) → p j ≡ true → q j ≡ true) → (i : ℕ) (es : List Entry) → run_from p i es ≤ run_from q i es
 run_grows p q more i [] = omega arith
 run_grows p q more i (e ∷ es) =
@@ -19,13 +19,13 @@ run_grows p q more i (e ∷ es) =
       | false ↦ λ is. omega arith
     ] refl
 
--- where the same pass, the run is the same
+-- if the same pass, the run is the same
 pub run_same : (p q : ℕ → Bool) → ((j : ℕ) → p j ≡ q j) → (i : ℕ) (es : List Entry) → run_from p i es ≡ run_from q i es
 run_same p q same i [] = refl
 run_same p q same i (e ∷ es) =
     ap (λ b. cond b (suc (run_from p (suc i) es)) 0) (same i) ∙ ap (λ n. cond (q i) (suc n) 0) (run_same p q same (suc i) es)
 
--- where the run is whole, each passes
+-- if the run is whole, each passes
 pub run_whole : (p : ℕ → Bool) (i : ℕ) (es : List Entry) → run_from p i es ≡ length es → (k : ℕ) → k < length es → p (i + k) ≡ true
 run_whole p i [] is k to = absurd (omega arith)
 run_whole p i (e ∷ es) is zero to =
@@ -39,14 +39,14 @@ run_whole p i (e ∷ es) is (suc k) to =
       | false ↦ λ none. absurd (omega arith)
     ] is
 
--- where each passes, the run is whole
+-- if each passes, the run is whole
 pub run_all : (p : ℕ → Bool) (i : ℕ) (es : List Entry) → ((k : ℕ) → k < length es → p (i + k) ≡ true) → run_from p i es ≡ length es
 run_all p i [] each = refl
 run_all p i (e ∷ es) each =
     ap (λ b. cond b (suc (run_from p (suc i) es)) 0) (subst (λ n. p n ≡ true) (omega arith) (each 0 (omega arith)))
     ∙ ap suc (run_all p (suc i) es (λ k to. subst (λ n. p n ≡ true) (omega arith) (each (suc k) (omega arith))))
 
--- where the first k pass, and the next does not, the run is k
+-- if the first k pass, and the next does not, the run is k
 pub run_stops : (p : ℕ → Bool) (i : ℕ) (es : List Entry) (k : ℕ) → k < length es → ((j : ℕ) → j < k → p (i + j) ≡ true) → p (i + k) ≡ false → run_from p i es ≡ k
 run_stops p i [] k lt each stop = absurd (omega arith)
 run_stops p i (e ∷ es) zero lt each stop =

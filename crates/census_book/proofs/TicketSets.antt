@@ -67,7 +67,7 @@ one_ticket t q e =
       | Greater ↦ λ _ no. absurd (cc)
     ] refl e
 
--- a ticket that one more makes taken is that one
+-- a ticket that becomes taken with one more is that one
 pub new_ticket : (taken : Tickets) (t q : Ticket) → has_ticket taken q ≡ false → has_ticket (with_ticket taken t) q ≡ true → q ≡ t
 new_ticket taken t q not has =
     one_ticket q t (sym (or-false (eq_by_cmp ticket_cmp q t)) ∙ ap (λ b. eq_by_cmp ticket_cmp q t || b) (sym not) ∙ sym (contains-insert ticket_cmp_total taken t q) ∙ has)

@@ -11,8 +11,8 @@ use Rattle.census_book.specs.Progress.{Progress, with_taken}
 use Rattle.census_book.specs.Work.{Work}
 use Rattle.life_answer.specs.declared.question.Question.{Question}
 
--- the ticket is one of the bundle's, the entry that was worked has the text of that ticket and is lost where it is, and the
--- questions agree
+-- the ticket is one of the bundle's, the entry that was worked has the text of that ticket and is lost exactly if it is, and
+-- the questions agree
 pub record Belongs (b : List Folder) (question : Question) (t : Ticket) (worked : Entry) (asked : Question) : Type 0 where
   pub entry : Entry
   pub at : entry_at b t ≡ Some entry
@@ -33,7 +33,7 @@ HasCollection b taken c = (t : Ticket) → IsTicketOf b t → t.folder ≡ c →
 abbrev pub IsResultOf : List Folder → Question → Work → Type 0
 IsResultOf b question w = Belongs b question w.ticket w.entry w.question
 
--- what is answered to a result where these tickets were taken
+-- what is returned for a result if these tickets were taken
 abbrev pub Judged : List Folder → Question → Tickets → Work → Offer → Type 0
 Judged b question taken w Stranger = IsResultOf b question w → ⊥
 Judged b question taken w Double = IsResultOf b question w × (has_ticket taken w.ticket ≡ true)
@@ -45,7 +45,7 @@ after_offer p t Stranger = p
 after_offer p t Double = p
 after_offer p t Taken = with_taken p t
 
--- a collector before a result is offered, the result, the collector afterwards, and what is answered
+-- a collector before a result is offered, the result, the collector afterwards, and what is returned
 abbrev pub Offered : Progress → Work → Progress → Offer → Type 0
 Offered before w after o = Judged before.bundle before.question before.taken w o × (after ≡ after_offer before w.ticket o)
 

@@ -8,12 +8,12 @@ use Rattle.census_bundle.specs.Tickets.{Tickets, ticket, has_ticket, with_ticket
 use Rattle.life_answer.specs.declared.question.Question.{Question}
 use Rattle.census_format.specs.Lines.{answer_to_entry}
 
--- what g gives for each element and its number, the first of which is i, added up
+-- the sum of what g gives for each element and its number, the first of which is i
 abbrev pub numbered_sum : {A : Type 0} → (ℕ → A → ℕ) → ℕ → List A → ℕ
 numbered_sum g i [] = 0
 numbered_sum g i (x ∷ xs) = g i x + numbered_sum g (suc i) xs
 
--- the weights of all patterns, added up
+-- the sum of the weights of all patterns
 abbrev pub bundle_weight : (Ticket → Entry → ℕ) → List Folder → ℕ
 bundle_weight w b = numbered_sum (λ c (f : Folder). numbered_sum (λ i e. w (ticket c i) e) 1 f.entries) 1 b
 
@@ -24,7 +24,7 @@ one_if b = if b then 1 else 0
 abbrev pub count_of : (Answer → Bool) → List Folder → Question → ℕ
 count_of kind b question = bundle_weight (λ t e. one_if (kind (answer_to_entry question e))) b
 
--- how many of those taken are
+-- how many of those taken are of this kind
 abbrev pub taken_count : (Answer → Bool) → List Folder → Question → Tickets → ℕ
 taken_count kind b question taken = bundle_weight (λ t e. if has_ticket taken t then one_if (kind (answer_to_entry question e)) else 0) b
 
@@ -32,7 +32,7 @@ taken_count kind b question taken = bundle_weight (λ t e. if has_ticket taken t
 abbrev pub missing_count : List Folder → Tickets → ℕ
 missing_count b taken = bundle_weight (λ t e. if has_ticket taken t then 0 else 1) b
 
--- a ticket that is taken adds its pattern to those of its kind, and leaves one less missing
+-- a ticket that is taken adds its pattern to those of its kind, and leaves one fewer missing
 abbrev pub CountsStep : Type 0
 CountsStep =
     (b : List Folder) (taken : Tickets) (t : Ticket) (e : Entry) → entry_at b t ≡ Some e → has_ticket taken t ≡ false

@@ -19,11 +19,11 @@ pub record FolderRun : Type 0 where
   pub folder : ℕ
   pub run : ℕ
 
--- the runs, where one collection has come so far
+-- the runs, where `come` is that of one collection
 abbrev pub run_at : List ℕ → FolderRun → ℕ → ℕ
 run_at runs come k = if k + 1 == come.folder then come.run else slice_index runs k
 
--- the first collection from one on that is not whole, where one collection has come so far
+-- the first collection, from `from` on, that is not whole, where `come` is the run of one collection
 pub record IsNextOpen (b : List Folder) (runs : List ℕ) (come : FolderRun) (from first : ℕ) : Type 0 where
   pub behind : from ≤ first
   pub within : first ≤ length b

@@ -15,7 +15,7 @@ pub record Taken : Type 0 where
 abbrev pub taken_of : List Folder → Question → Tickets → Taken
 taken_of b question taken = record { bundle = b; question = question; taken = taken }
 
--- the tickets that are taken where one more arrives, and its collection
+-- the tickets that are taken once one more arrives, and its collection
 pub record Arrived : Type 0 where
   pub bundle : List Folder
   pub question : Question

@@ -7,7 +7,7 @@ use Rattle.census_book.specs.Collecting.{IsResult}
 use Rattle.census_book.specs.Work.{Work}
 use Rattle.life_answer.specs.declared.question.Question.{Question}
 
--- what stands in a slot that is taken: a result, or nothing more where it was dropped
+-- what is in a slot that is taken: a result, or nothing more if it was dropped
 abbrev pub Taking : Type 0
 Taking = Option Work
 
@@ -15,16 +15,16 @@ Taking = Option Work
 abbrev pub Row : Type 0
 Row = List (Option Taking)
 
--- these slots, and empty ones after them, up to so many in all
+-- these slots, and empty ones after them, up to `len` in all
 abbrev pub padded_row : {A : Type 0} → ℕ → List (Option A) → List (Option A)
 padded_row len row = row ++ replicate (len - length row) None
 
--- a slot that is taken where a result stands in it
+-- a slot that is taken if a result is in it
 abbrev pub kept : Option Work → Option Taking
 kept None = None
 kept (Some w) = Some (Some w)
 
--- a slot, where its result is dropped
+-- a slot whose result, if it has one, is dropped
 abbrev pub dropped : Option Taking → Option Taking
 dropped None = None
 dropped (Some taking) = Some None
@@ -34,12 +34,12 @@ abbrev pub row_of : Bool → ℕ → List (Option Work) → Row
 row_of true len results = replicate len (Some None)
 row_of false len results = map kept (padded_row len results)
 
--- what stands in a slot, where there is one
+-- what is in a slot, if there is one
 abbrev pub work_in : {A : Type 0} → Option (Option A) → Option A
 work_in None = None
 work_in (Some slot) = slot
 
--- what stands in the slot of this number, from 1
+-- what is in the slot of this number, from 1
 abbrev pub work_at : Row → ℕ → Option Taking
 work_at row i = work_in (element_at row i)
 
@@ -47,7 +47,7 @@ abbrev pub slot_in : Option Row → ℕ → Option Taking
 slot_in None i = None
 slot_in (Some row) i = work_at row i
 
--- what stands in the slot of a ticket
+-- what is in the slot of a ticket
 abbrev pub taking_at : List Row → Ticket → Option Taking
 taking_at rows t = slot_in (element_at rows t.folder) t.number
 
@@ -73,7 +73,7 @@ with_result rows w =
 abbrev pub without_results : List Row → ℕ → List Row
 without_results rows c = slice_set rows (c - 1) (map dropped (slice_index_or rows (c - 1) []))
 
--- as many slots as the collections have patterns, all of them empty
+-- an empty slot for each pattern of each collection
 abbrev pub empty_slots : List Folder → List Row
 empty_slots b = map (λ (f : Folder). replicate (length f.entries) None) b
 
@@ -86,7 +86,7 @@ abbrev pub row_tickets : ℕ → ℕ → Row → List Ticket
 row_tickets c i [] = []
 row_tickets c i (slot ∷ row) = in_front slot (ticket c i) (row_tickets c (suc i) row)
 
--- the same of the collections from number c on
+-- the tickets whose slots are taken, of the collections from number c on
 abbrev pub rows_tickets : ℕ → List Row → List Ticket
 rows_tickets c [] = []
 rows_tickets c (row ∷ rows) = row_tickets c 1 row ++ rows_tickets (suc c) rows
@@ -95,8 +95,8 @@ rows_tickets c (row ∷ rows) = row_tickets c 1 row ++ rows_tickets (suc c) rows
 abbrev pub taken_in : List Row → Tickets
 taken_in rows = tickets_of (rows_tickets 1 rows)
 
--- each ticket of the bundle has a slot, each result in a slot is that of its ticket, and where one was dropped each slot of
--- its collection is taken
+-- each ticket of the bundle has a slot, each result in a slot is that of its ticket, and if one was dropped each slot of its
+-- collection is taken
 pub record KeepsResults (b : List Folder) (question : Question) (rows : List Row) : Type 0 where
   pub slots : (k : ℕ) (f : Folder) → slice_get b k ≡ Some f → (row : Row) × (slice_get rows k ≡ Some row) × (length row ≡ length f.entries)
   pub results : (t : Ticket) (w : Work) → result_at rows t ≡ Some w → IsResult b question t w

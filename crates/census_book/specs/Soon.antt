@@ -6,7 +6,7 @@ use Rattle.life_answer.specs.declared.question.Question.{Question}
 use Rattle.life_answer.specs.declared.question.Question.TheVariants.{Objects, Settles}
 use Rattle.life_find.specs.Soon.{is_open, soon_reach}
 
--- The entry's text is there, and what is asked of it is more than its first generations tell, or are its objects.
+-- The entry's text is there, and what is asked of it is more than its first generations can answer, or is its objects.
 abbrev pub IsLongWork : Question → Entry → Type 0
 IsLongWork (Settles bound cells) e =
     (e.is_lost ≡ false) × (soon_reach < bound) × (is_open (answer_to_question (Settles soon_reach cells) e.text) ≡ true)

@@ -1,4 +1,4 @@
-//! A result beside those that were taken before.
+//! A result in addition to those that were taken before.
 ghost use Rattle.std.specs.Prelude.{◌≡◌, true, false};
 ghost use Rattle.census_bundle.specs.Tickets.{has_ticket};
 ghost use Rattle.census_book.specs.Collecting.{IsResult, IsResultOf};
@@ -10,7 +10,7 @@ use census_bundle::{Bundle, Ticket};
 use life_answer::Question;
 use std::marker::Model;
 
-/// A result that is to be taken, beside those that were. It is seen as the tickets of all of them, and its collection.
+/// A result that is to be taken, in addition to those that were. It is seen as the tickets of all of them, and its collection.
 #[derive(Drop)]
 pub struct Arrival<'r, 'a> {
     results: &'r Results<'a>,
@@ -72,7 +72,7 @@ impl<'r, 'a> Arrival<'r, 'a> {
         true
     }
 
-    /// The result of this ticket, which is of the collection of the result that is to be taken.
+    /// The result of this ticket, whose collection is that of the result to be taken.
     pub fn get(&self, ticket: Ticket) -> &'r Done<'a>
         requires taken { has_ticket self.now.taken ticket ≡ true }
         requires own { ticket.folder ≡ self.now.folder }

@@ -2,19 +2,19 @@
 ghost use Rattle.census_book.specs.Orders.{ArrivalsAreLawful, OrdersAreLawful};
 ghost use Rattle.census_book.specs.Counts.{CountsStep};
 
-/// For every list of distinct tickets, what they release in turn begins a report of the bundle, and it is a report where
-/// they are all tickets.
+/// For every list of distinct tickets, what they release one after another begins a report of the bundle, and it is a report if
+/// they are all the tickets.
 pub fn every_order_is_lawful()
     ensures { OrdersAreLawful }
 {}
 
-/// For every list of results that are offered in turn, some of them twice or strangers, what the collector has released
-/// begins a report of its bundle, and it is a report where no ticket is missing.
+/// For every list of results that are offered one after another, some of them twice or strangers, what the collector has
+/// released begins a report of its bundle, and it is a report if no ticket is missing.
 pub fn every_arrival_is_lawful()
     ensures { ArrivalsAreLawful }
 {}
 
-/// Taking a ticket adds its pattern to those of its kind, and leaves one less missing.
+/// Taking a ticket adds its pattern to those of its kind, and leaves one fewer missing.
 pub fn taking_adds_one()
     ensures { CountsStep }
 {}

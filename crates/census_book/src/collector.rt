@@ -28,7 +28,7 @@ pub struct Collector<'a> {
     results: Results<'a>,
     front: Front,
     unsent: Vec<u8>,
-    // What a result releases is made here; between two results only its room counts.
+    // What a result releases is made here. Between two results only its room counts.
     text: Vec<u8>,
     alloc: Global,
 }
@@ -53,8 +53,8 @@ impl<'a> Model for Collector<'a> {
         s.front.runs.items s.front.first_open };
 }
 
-// Takes a result that belongs and is new, with what it releases, and drops the results of its collection where that has
-// arrived whole. All growths come before any change that stays. Where nothing is unsent the text is not copied.
+// Takes a result that belongs and is new, with what it releases, and drops the results of its collection if that has arrived
+// whole. All growths come before any change that stays. If nothing is unsent, the text is not copied.
 fn accept<'a>(
     results: &mut Results<'a>,
     front: &mut Front,
@@ -107,9 +107,8 @@ fn accept<'a>(
 }
 
 impl<'a> Collector<'a> {
-    /// A collector that has taken nothing. It has released the opening line of each collection in order, after that of
-    /// an empty one its closing line, and the last line where there is no pattern at all. A bound is 1 to 1,000,000
-    /// generations.
+    /// A collector that has taken nothing. It has released the opening line of each collection in order, after that of an empty
+    /// one its closing line, and the last line if there is no pattern at all. A bound is 1 to 1,000,000 generations.
     pub fn new(
         alloc: Global,
         bundle: &'a Bundle,
@@ -132,10 +131,10 @@ impl<'a> Collector<'a> {
         })
     }
 
-    /// Offers a result. `Stranger` and `Double` change nothing and take no memory. `Taken` releases the lines of the
-    /// patterns up to the end of the longest run of its collection that has arrived, at the collection's end also its
-    /// `code` lines and its closing line, and where nothing is missing any more the last line. `NoRoom` is out of memory: it
-    /// hands back a result that would have been `Taken`, and changes nothing.
+    /// Offers a result. `Stranger` and `Double` change nothing and take no memory. `Taken` releases the lines of the patterns
+    /// up to the end of the longest run of its collection that has arrived. At the collection's end it also releases its `code`
+    /// lines and its closing line, and once nothing is missing any more the last line. `NoRoom` is out of memory: it hands back
+    /// a result that would have been `Taken`, and changes nothing.
     pub fn offer(&mut self, done: Done<'a>) -> Result<Offer, NoRoom<'a>>
         ensures ok { IfOk result
             (λ o. Offered self.old done.entry self.new o) }

@@ -15,16 +15,16 @@ use life_plane::Unobserved;
 use std::alloc::{AllocError, Global};
 use std::marker::Model;
 
-/// How many bytes a line's head is given room for at first, which most fit in.
+/// How many bytes of room a line's head gets at first. Most heads fit.
 const HEAD_LEN: usize = 64;
 
-/// How many bytes a line's head has at most that is made where the pattern is worked.
+/// The most bytes of a line's head that is made where the pattern is worked.
 const LONGEST_HEAD: usize = 4096;
 
-/// The work of one ticket: a ticket, the entry that was worked, what was asked, and what was found. What was found is
-/// what the definition gives for the question and the entry. The report's lines of the pattern are made here, all
-/// but the name, and so beside other work where results are collected by one thread. Those of a pattern that is refused
-/// are made where they are written, so that it takes no memory here.
+/// The work of one ticket: a ticket, the entry that was worked, what was asked, and what was found. What was found is what the
+/// definition gives for the question and the entry. The report's lines of the pattern, except for the name, are made here, and
+/// so alongside other work if one thread collects the results. Those of a pattern that is refused are made where they are
+/// written, so that it takes no memory here.
 #[derive(Drop)]
 pub struct Done<'a> {
     ticket: Ticket,
@@ -80,7 +80,7 @@ fn find(alloc: Global, entry: &Entry, question: Question) -> Result<Answer, Allo
     }
 }
 
-// What is found of an entry, where the first 256 generations of its pattern tell it and objects are not asked for, or its
+// What is found of an entry, if the first 256 generations of its pattern are enough and objects are not asked for, or if its
 // text is lost.
 #[tactic(auto, unfolding(census_format::specs::Lines::answer_to_entry))]
 fn find_soon(alloc: Global, entry: &Entry, question: Question) -> Result<Option<Answer>, AllocError>
@@ -99,8 +99,8 @@ fn find_soon(alloc: Global, entry: &Entry, question: Question) -> Result<Option<
     }
 }
 
-// The line of a pattern of which this was found, as far as its name; none where it is refused, or so long that it would
-// be held beside its own code.
+// The line of a pattern of which this was found, up to its name. None if it is refused, or has more than `LONGEST_HEAD` bytes,
+// which would be held in addition to its own code.
 fn head_of(alloc: Global, ticket: Ticket, answer: &Answer) -> Result<Option<Text>, AllocError>
     ensures head { IfOk result
         (λ made. IfSome made (λ head. head ≡ line_head ticket answer.now)) }
@@ -119,7 +119,7 @@ fn head_of(alloc: Global, ticket: Ticket, answer: &Answer) -> Result<Option<Text
     }
 }
 
-// The lines behind that of a pattern of which this was found.
+// The lines after that of a pattern of which this was found.
 #[tactic(auto, unfolding(census_format::specs::Heads::line_tail))]
 fn tail_of(alloc: Global, ticket: Ticket, answer: &Answer) -> Result<Vec<u8>, AllocError>
     ensures tail { IfOk result
@@ -161,9 +161,9 @@ impl<'a> Done<'a> {
         })
     }
 
-    /// Works a ticket: what is found of the entry's text. Where that is lost, no work is done, and it is refused under the
-    /// number 0. A bound is 1 to 1,000,000 generations; where objects are asked for, it is 1 to 100,000, and the horizon is 1
-    /// to 10,000. Memory is taken only for a text that has a header.
+    /// Works a ticket: what is found of the entry's text. If that is lost, no work is done, and it is refused under the number
+    /// 0. A bound is 1 to 1,000,000 generations; where objects are asked for, it is 1 to 100,000, and the horizon is 1 to
+    /// 10,000. Memory is taken only for a text that has a header.
     pub fn work(
         alloc: Global,
         ticket: Ticket,
@@ -180,9 +180,9 @@ impl<'a> Done<'a> {
         Done::of(alloc, ticket, entry, question, answer)
     }
 
-    /// Does what `work` does where it is soon done: the entry's text is lost or no pattern, or which generation comes again
-    /// is asked and the first 256 generations tell it. No later one is looked at. `None` says that it isn't soon done. No
-    /// memory is taken where the text is lost.
+    /// Does what `work` does if it is soon done: the entry's text is lost or no pattern, or the question is which generation
+    /// recurs and the first 256 generations answer it. No later one is looked at. `None` says that it isn't soon done. No
+    /// memory is taken if the text is lost.
     pub fn work_soon(
         alloc: Global,
         ticket: Ticket,
@@ -223,7 +223,7 @@ impl<'a> Done<'a> {
         self.question
     }
 
-    /// What was found: `Refused` of 0 where the entry is lost.
+    /// What was found: `Refused` of 0 if the entry is lost.
     pub fn answer(&self) -> &Answer
         ensures { result.now ≡ answer_to_entry self.now.question self.now.entry }
     {

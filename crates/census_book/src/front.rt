@@ -7,15 +7,15 @@ ghost use Rattle.census_book.specs.Front.{IsFront, IsNextOpen};
 use census_bundle::Folder;
 use std::alloc::{AllocError, Global};
 
-/// For each collection how many of its patterns have arrived before the first that has not, and the first collection
-/// that has not arrived whole, or how many there are.
+/// For each collection how many of its patterns have arrived before the first that has not; and the first collection that has
+/// not arrived whole, or how many collections there are.
 #[derive(Drop)]
 pub struct Front {
     pub runs: Vec<u32>,
     pub first_open: usize,
 }
 
-// The first collection from `from` on that is not whole, where the collection c has come to m.
+// The first collection from `from` on that is not whole, if the collection c has come to m.
 pub fn next_open(runs: &[u32], folders: &[Folder], c: u32, m: u32, from: usize) -> usize
     requires each { length runs.now ≡ length folders.now }
     requires within { from ≤ length folders.now }

@@ -1,7 +1,7 @@
-//! What was found of patterns, and the collector, which takes results in any order and releases the report's lines in theirs: a
-//! reorder buffer.
+//! What was found about patterns, and the collector, which takes results in any order and releases the report's lines in order:
+//! a reorder buffer.
 //!
-//! Tested in `tests_runs`.
+//! Tested in `tests_program`.
 #![tactic(auto)]
 
 mod arrival;

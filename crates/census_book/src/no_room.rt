@@ -2,7 +2,7 @@
 
 use crate::done::Done;
 
-/// There was no memory to take a result, which comes back.
+/// Out of memory for taking a result, which is handed back.
 #[derive(Drop)]
 pub struct NoRoom<'a> {
     pub done: Done<'a>,

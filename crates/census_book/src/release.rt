@@ -16,7 +16,7 @@ use census_format::{push_closing, push_end, push_open};
 use life_answer::{Answer, Question};
 use std::alloc::{AllocError, Global};
 
-// How many patterns of the collection have arrived before the first that has not, where these have.
+// How many patterns of the collection have arrived before the first that has not, if the first `from` have.
 fn run_count(arrival: &Arrival, c: u32, folder: &Folder, from: usize) -> usize
     requires small { length folder.now.entries ≤ count_limit }
     requires within { from ≤ length folder.now.entries }
@@ -120,7 +120,7 @@ pub fn push_start(
     Ok(())
 }
 
-// Appends the lines of a collection that has come from k patterns to m, and where that is all of them also what ends its
+// Appends the lines of a collection that has come from k patterns to m. If m is all of them, also appends what ends its
 // section.
 fn push_folder(
     alloc: Global,
@@ -148,7 +148,7 @@ fn push_folder(
     Ok(())
 }
 
-/// What a result brings about beside its text: how far its collection has come then, and the first collection that is
+/// What a result brings about in addition to its text: how far its collection has come then, and the first collection that is
 /// then open.
 #[derive(Clone, Copy)]
 pub struct Release {
@@ -166,7 +166,7 @@ pub fn folder_at(folders: &[Folder], c: u32) -> &Folder
     &folders[c as usize - 1]
 }
 
-/// Puts in place of the text what this result releases beside those that were taken.
+/// Replaces the text by what this result releases in addition to those that were taken.
 pub fn released<'a>(
     alloc: Global,
     results: &Results<'a>,

@@ -85,7 +85,7 @@ impl<'a> Results<'a> {
         self.slots.holds(ticket)
     }
 
-    /// The result of this ticket, where it was taken and another of its collection was not.
+    /// The result of this ticket, if it was taken and another of its collection was not.
     pub fn get(&self, ticket: Ticket) -> Option<&Done<'a>>
         ensures found { IfSome result
             (λ d. IsResult self.now.bundle self.now.question ticket d.now) }
@@ -120,7 +120,7 @@ impl<'a> Results<'a> {
         }
     }
 
-    /// Takes a result. It comes back where there is no memory.
+    /// Takes a result. When out of memory, the result is handed back.
     pub fn add(&mut self, done: Done<'a>) -> Result<(), NoRoom<'a>>
         requires belongs { IsResultOf self.old.bundle self.old.question done }
         requires new { has_ticket self.old.taken done.ticket ≡ false }

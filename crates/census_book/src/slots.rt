@@ -9,8 +9,8 @@ use census_bundle::{Folder, Ticket};
 use std::alloc::{AllocError, Global};
 use std::marker::Model;
 
-/// The slots of a collection. They are seen as what stands in each: a result, or only that it was taken. Room for all of
-/// them is made with the first result, and memory is first touched where one is put. Once each is taken the results may be
+/// The slots of a collection. They are seen as what is in each: a result, or only that it was taken. Room for all of them is
+/// made with the first result, and memory is first touched where a result is put. Once each is taken the results may be
 /// dropped.
 #[derive(Drop)]
 pub struct Row<'a> {
@@ -31,7 +31,7 @@ impl<'a> Model for Row<'a> {
         × (r.is_dropped ≡ true → r.slots.items ≡ []) };
 }
 
-// Appends empty slots, up to so many, where there is room for all.
+// Appends empty slots up to `len`, and makes room for `all`.
 fn fill<'a>(slots: &mut Vec<Option<Done<'a>>>, len: usize, all: usize) -> Result<(), AllocError>
     requires { (len ≤ all) × (length slots.old.items ≤ all) }
     ensures items { OnOk result (slots.new.items ≡ padded_row len slots.old.items) }
@@ -60,7 +60,7 @@ fn result_in<'r, 'a>(slots: &'r [Option<Done<'a>>], number: u32) -> Option<&'r D
 }
 
 impl<'a> Row<'a> {
-    /// So many empty slots.
+    /// `len` empty slots.
     pub fn new(alloc: Global, len: usize) -> Row<'a>
         ensures { result ≡ replicate len None }
     {
@@ -89,7 +89,7 @@ impl<'a> Row<'a> {
         result_in(self.slots.as_slice(), number)
     }
 
-    /// Puts a result into the slot of this number, from 1, which is empty. The result comes back where there is no memory.
+    /// Puts a result into the slot of this number, from 1, which is empty. When out of memory, the result is handed back.
     pub fn put(&mut self, number: u32, done: Done<'a>) -> Result<(), NoRoom<'a>>
         requires within { (0 < number) × (number ≤ length self.old) }
         requires empty { work_at self.old number ≡ None }
@@ -121,7 +121,7 @@ impl<'a> Row<'a> {
     }
 }
 
-/// A slot for each pattern of a bundle. They are seen as what stands in each, collection by collection.
+/// A slot for each pattern of a bundle. They are seen as what is in each, collection by collection.
 #[derive(Drop)]
 pub struct Slots<'a> {
     rows: Vec<Row<'a>>,
@@ -180,7 +180,7 @@ impl<'a> Slots<'a> {
         }
     }
 
-    /// Puts a result into the slot of its ticket, which is empty. The result comes back where there is no memory.
+    /// Puts a result into the slot of its ticket, which is empty. When out of memory, the result is handed back.
     pub fn put(&mut self, done: Done<'a>) -> Result<(), NoRoom<'a>>
         requires slot { HasSlot self.old done.ticket }
         requires empty { taking_at self.old done.ticket ≡ None }
@@ -192,7 +192,7 @@ impl<'a> Slots<'a> {
         self.rows[ticket.folder as usize - 1].put(ticket.number, done)
     }
 
-    /// Drops the results of the collection of this number, each of whose slots is taken, and frees their memory.
+    /// Drops the results of the collection of this number, all of whose slots are taken, and frees their memory.
     pub fn drop_results(&mut self, folder: u32)
         requires within { (0 < folder) × (folder ≤ length self.old) }
         requires full { (row : Row) → element_at self.old folder ≡ Some row → IsFull row }

@@ -15,7 +15,7 @@ use Rattle.texts.specs.Faults.{fault_if}
 use Rattle.census_bundle.specs.Reading.{is_outside}
 use Rattle.census_bundle.specs.Scan.{fault_behind}
 
--- the fault by the tests of the line and of what stands before it
+-- the fault by the tests of the line and of what comes before it
 abbrev fault_by : ℕ → Bool → Bool → Bool → Bool → Bool → Bool → Bool → Bool → Bool → Option BundleFault
 fault_by number at folder file outside blank lawful no_folder full_bundle full_folder =
     fault_if (not at && (outside && not blank)) (StrayText number)
@@ -73,7 +73,7 @@ folder_no_file (c ∷ (d ∷ (x ∷ xs))) e =
     let other : eqb 105 x ≡ false = ap (eqb 105) (sym is) in
     and_right (eqb 64 c) _ (and_right (eqb 102 d) _ (and_left (eqb 105 x) _ other))
 
--- a line stands first with what follows it
+-- whether a line that is not empty begins with `@` does not depend on what follows it
 pub at_first : (line rest : List ℕ) → 0 < length line → is_at_line (line ++ rest) ≡ is_at_line line
 at_first [] rest some = absurd (omega arith)
 at_first (c ∷ cs) rest some = refl

@@ -19,7 +19,7 @@ stray = refl
 early_file : fault_of (codes "@file a") ≡ Some (FileBeforeFolder 1)
 early_file = refl
 
--- on one line the lower number
+-- of two faults on one line, the one of the lower number
 early_file_without_name : fault_of (codes "@file ") ≡ Some (FileBeforeFolder 1)
 early_file_without_name = refl
 
@@ -80,7 +80,7 @@ demo_holds = refl
 abbrev front : ℕ → Option BundleFault
 front n = fault_of (take n demo)
 
--- the fronts up to the first pattern's name, by length
+-- the prefixes up to the first pattern's name, by length
 fronts : map front (range_with_len 0 25) ≡
     (None ∷ replicate 7 (Some (BadAtLine 1))) ++ (Some (BadName 1) ∷ replicate 5 None) ++ replicate 5 (Some (BadAtLine 2)) ++ Some (BadName 2) ∷ replicate 5 None
 fronts = refl

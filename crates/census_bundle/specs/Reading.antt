@@ -38,14 +38,14 @@ folders_of text = (content_of_lines (whole_lines text)).folders
 
 -- # Faults
 
--- how many folders stand on these lines, and how many entries of the last folder
+-- how many folders begin on these lines, and how many entries of the last of them
 abbrev pub folder_count : List (List ℕ) → ℕ
 folder_count before = count_by is_folder_line before
 
 abbrev pub entry_count : List (List ℕ) → ℕ
 entry_count before = count_by is_file_line (after_last is_folder_line before)
 
--- after so many folders and so many entries of the last of them no entry has begun
+-- after `folders` folders and `entries` entries of the last of them no entry has begun
 abbrev pub is_outside : ℕ → ℕ → Bool
 is_outside folders entries = (folders == 0) || (entries == 0)
 
@@ -61,12 +61,11 @@ is_bad_at_line line = is_at_line line && not (is_folder_line line || is_file_lin
 abbrev pub has_bad_name : List ℕ → Bool
 has_bad_name line = (is_folder_line line || is_file_line line) && not (is_name (line_name line))
 
--- one more than the limit of its kind
+-- the line begins a folder or an entry for which there is no room
 abbrev pub is_one_too_many : ℕ → ℕ → List ℕ → Bool
 is_one_too_many folders entries line = (is_folder_line line && nat_le count_limit folders) || (is_file_line line && nat_le count_limit entries)
 
--- the fault of the line of this number after so many folders and so many entries of the last of them: the first that
--- there is
+-- the fault of the line of this number after `folders` folders and `entries` entries of the last of them: the first that there is
 abbrev pub line_fault : ℕ → ℕ → ℕ → List ℕ → Option BundleFault
 line_fault number folders entries line =
     fault_if (is_stray folders entries line) (StrayText number)
@@ -75,7 +74,7 @@ line_fault number folders entries line =
     (fault_if (has_bad_name line) (BadName number)
     (fault_if (is_one_too_many folders entries line) (TooMany number) None))))
 
--- the first fault of lines that these stand before
+-- the first fault of lines that come after these
 abbrev pub first_fault : List (List ℕ) → List (List ℕ) → Option BundleFault
 first_fault before [] = None
 first_fault before (line ∷ lines) =

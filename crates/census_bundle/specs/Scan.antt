@@ -1,4 +1,4 @@
--- Reading a bundle text line by line, which comes to the same.
+-- Reading a bundle text line by line, with the same result.
 use Rattle.std.specs.Prelude.{◌≡◌, ℕ, suc, ◌+◌, ◌<◌, ◌≤◌, ◌==◌, ◌||◌, Bool, true, List, [], ◌∷◌, ◌++◌, length, Option, Some, None, Result, Ok, Err, if◌then◌else◌}
 use Rattle.census_bundle.specs.declared.bundle.Folder.{Folder}
 use Rattle.census_bundle.specs.declared.bundle.Entry.{Entry}
@@ -43,26 +43,26 @@ read_on b number (line ∷ lines) = unless (fault_behind b number line) (read_on
 
 -- # Parts of a text
 
--- how long the first line is, with its ending
+-- the length of the first line, with its ending
 abbrev pub line_len : List ℕ → ℕ
 line_len [] = 0
 line_len (c ∷ rest) = if c == 10 then 1 else suc (line_len rest)
 
--- nothing is left, or a line that begins with `@` stands first
+-- nothing is left, or the first line begins with `@`
 abbrev pub begins_section : List ℕ → Bool
 begins_section rest = (length rest == 0) || is_at_line rest
 
--- text that belongs to an entry does not stand first
+-- what comes first is not text that belongs to an entry
 abbrev pub IsClosedText : List Folder → List ℕ → Type 0
 IsClosedText b rest = (is_outside (length b) (length (last_entries b)) || begins_section rest) ≡ true
 
--- the text of an entry, its number of lines, and what stands after it
+-- the text of an entry, its number of lines, and what comes after it
 pub record SplitText : Type 0 where
   pub text : List ℕ
   pub lines : ℕ
   pub rest : List ℕ
 
--- after an entry's line the whole reads as so many lines of its text and then the rest
+-- after an entry's line the whole reads as `split.lines` lines of its text and then the rest
 pub record IsTextOf (whole : List ℕ) (split : SplitText) : Type 0 where
   pub reads : (b : List Folder) (name t : List ℕ) (n : ℕ) → 0 < length b → read_on (with_entry b (entry_of name t)) n (whole_lines whole) ≡ read_on (with_entry b (entry_of name (t ++ split.text))) (n + split.lines) (whole_lines split.rest)
 

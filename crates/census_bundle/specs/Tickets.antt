@@ -46,7 +46,7 @@ entry_in (Some f) i = element_at f.entries i
 abbrev pub entry_at : List Folder → Ticket → Option Entry
 entry_at b t = entry_in (element_at b t.folder) t.number
 
--- the ticket is one of the bundle's
+-- the ticket is that of a pattern of the bundle
 abbrev pub IsTicketOf : List Folder → Ticket → Type 0
 IsTicketOf b t = (e : Entry) × (entry_at b t ≡ Some e)
 

@@ -11,10 +11,10 @@ use std::alloc::{AllocError, AllocFailed, Global};
 use std::marker::Model;
 use thiserror::Error;
 
-/// So many bytes of a text need no memory of their own, which are enough for most lines.
+/// The most bytes of a text that need no memory of their own. They are enough for most lines.
 const SHORT_LEN: usize = 48;
 
-/// Bytes that are told of a bundle, as a line or a path.
+/// Bytes that are reported of a bundle, as a line or a path.
 #[derive(Drop)]
 pub struct Text {
     bytes: SmallVec<u8, SHORT_LEN>,
@@ -50,7 +50,7 @@ impl Text {
 pub struct Entry {
     /// Its name.
     pub name: Bytes,
-    /// The text that is read as RLE. Where it is lost it isn't looked at.
+    /// The text that is read as RLE. It isn't looked at where it is lost.
     pub text: Bytes,
     /// Whether the text is lost, since it couldn't be read.
     pub is_lost: bool,
@@ -137,7 +137,7 @@ pub enum AddFault {
     /// There is no folder that the entry could go to.
     #[error("folder fault 2")]
     NoFolder,
-    /// There are 65,535 folders, or as many entries in the last folder.
+    /// There are 65,535 folders, or 65,535 entries in the last folder.
     #[error("folder fault 3")]
     TooMany,
     /// A growth was refused, where nothing else is wrong.
@@ -226,8 +226,8 @@ impl Bundle {
         folder.entries.as_slice().get(ticket.number as usize - 1)
     }
 
-    /// Adds a folder of this name, with no entry, at the end. A refusal leaves the bundle as it was; `Memory` comes
-    /// only where nothing else is wrong.
+    /// Adds a folder of this name, with no entry, at the end. After a refusal the bundle is unchanged; `Memory` is returned only
+    /// where nothing else is wrong.
     pub fn add_folder(&mut self, name: &[u8]) -> Result<(), AddFault>
         ensures added { OnOk result (self.new ≡ with_folder self.old name.now) }
         ensures unchanged { OnErr result (self.new ≡ self.old) }
@@ -273,8 +273,8 @@ impl Bundle {
         Ok(())
     }
 
-    /// Adds an entry of this name and text at the end of the last folder. A refusal leaves the bundle as it was;
-    /// `Memory` comes only where nothing else is wrong.
+    /// Adds an entry of this name and text at the end of the last folder. After a refusal the bundle is unchanged; `Memory` is
+    /// returned only where nothing else is wrong.
     pub fn add_entry(&mut self, name: &[u8], text: &[u8]) -> Result<(), AddFault>
         ensures added { OnOk result (self.new ≡ with_entry self.old (entry_of name.now text.now)) }
         ensures unchanged { OnErr result (self.new ≡ self.old) }
@@ -287,8 +287,8 @@ impl Bundle {
         self.add(name, text, false)
     }
 
-    /// Adds an entry of this name, whose text is lost, at the end of the last folder. A refusal leaves the bundle as it
-    /// was; `Memory` comes only where nothing else is wrong.
+    /// Adds an entry of this name, whose text is lost, at the end of the last folder. After a refusal the bundle is unchanged;
+    /// `Memory` is returned only where nothing else is wrong.
     pub fn add_lost(&mut self, name: &[u8]) -> Result<(), AddFault>
         ensures added { OnOk result (self.new ≡ with_entry self.old (lost_entry name.now)) }
         ensures unchanged { OnErr result (self.new ≡ self.old) }

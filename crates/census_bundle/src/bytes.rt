@@ -1,20 +1,20 @@
-//! Names and texts as they stand in a bundle.
+//! Names and texts as they are kept in a bundle.
 ghost use Rattle.std.specs.Prelude.{◌≡◌, ◌≤◌, IfOk, IsOk, length};
 
 use std::alloc::{AllocError, Global};
 use std::marker::Model;
 
-/// So many bytes need no memory of their own, which are enough for most names. With them a value takes 16 bytes in all.
+/// The most bytes that need no memory of their own. They are enough for most names. With them a value takes 16 bytes in all.
 const PLACE_LEN: usize = 14;
 
-// Where bytes are kept: so many of these, or as many as there are.
+// Where bytes are kept: at most `PLACE_LEN` in the value itself, with their number, or any number in memory of their own.
 #[derive(Drop)]
 enum Place {
     Short(u8, [u8; PLACE_LEN]),
     Long(Box<Vec<u8>>),
 }
 
-/// Bytes as they stand in a bundle. As few as most names have are kept in the value itself, which takes 16 bytes.
+/// Bytes as they are kept in a bundle. Up to 14, which most names have, are kept in the value itself, which takes 16 bytes.
 #[derive(Drop)]
 pub struct Bytes {
     place: Place,
@@ -32,7 +32,7 @@ impl Model for Bytes {
 }
 
 impl Bytes {
-    // A copy of few bytes.
+    // A copy of at most 14 bytes.
     fn short(bytes: &[u8]) -> Bytes
         requires { length bytes.now ≤ 14 }
         ensures { result ≡ bytes.now }

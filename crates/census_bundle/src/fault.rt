@@ -5,10 +5,10 @@ use thiserror::Error;
 /// Why a bundle text is refused. Lines count from 1.
 #[derive(Clone, Copy, Debug, PartialEq, Eq, Drop, Error)]
 pub enum BundleFault {
-    /// Text other than blanks, tabs and CR stands on a line that belongs to no entry.
+    /// Text other than blanks, tabs and CR is on a line that belongs to no entry.
     #[error("bundle fault 1 at line {line}")]
     StrayText { line: usize },
-    /// A line that begins with `@file ` stands before the first folder.
+    /// A line that begins with `@file ` comes before the first folder.
     #[error("bundle fault 2 at line {line}")]
     FileBeforeFolder { line: usize },
     /// A line begins with `@` and with neither `@folder ` nor `@file `.
@@ -20,7 +20,7 @@ pub enum BundleFault {
     /// The line begins folder number 65,536, or entry number 65,536 of its folder.
     #[error("bundle fault 5 at line {line}")]
     TooMany { line: usize },
-    /// A growth was refused. It may come before the line of any other fault.
+    /// A growth was refused. It may occur before the line of any other fault.
     #[error("out of memory")]
     Memory,
 }

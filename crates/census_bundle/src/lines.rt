@@ -21,7 +21,7 @@ pub enum Line<'a> {
     Plain,
 }
 
-// The text of an entry, and what stands after it.
+// The text of an entry, and what comes after it.
 #[derive(Clone, Copy)]
 pub struct EntryText<'a> {
     pub text: &'a [u8],
@@ -29,7 +29,7 @@ pub struct EntryText<'a> {
     pub rest: &'a [u8],
 }
 
-// How long the first line is, with its ending.
+// The length of the first line, with its ending.
 fn line_len(text: &[u8]) -> usize
     ensures value { result ≡ line_len text.now }
     ensures within { result ≤ length text.now }
@@ -40,7 +40,7 @@ fn line_len(text: &[u8]) -> usize
     }
 }
 
-// The first line with its ending, and what stands after it.
+// The first line with its ending, and what comes after it.
 pub fn split_line(text: &[u8]) -> (&[u8], &[u8])
     requires { 0 < length text.now }
     ensures lines { whole_lines text.now ≡ result.0.now ∷ whole_lines result.1.now }
@@ -87,7 +87,7 @@ pub fn line_of(line: &[u8]) -> Line
     }
 }
 
-// Whether nothing is left, or a line that begins with `@` stands first.
+// Whether nothing is left, or the first line begins with `@`.
 fn begins_section(rest: &[u8]) -> bool
     ensures { result ≡ begins_section rest.now }
 {

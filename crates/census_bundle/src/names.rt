@@ -12,7 +12,7 @@ fn is_printed(name: &[u8]) -> bool
     name.iter().all(|byte| *byte >= 32 && *byte != 127)
 }
 
-// Whether a blank stands first or last.
+// Whether the first or the last byte is a blank.
 fn has_blank_end(name: &[u8]) -> bool
     ensures { result ≡
         (starts_with nat_eq name.now (codes " ") || ends_with nat_eq name.now (codes " ")) }

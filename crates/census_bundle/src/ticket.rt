@@ -13,7 +13,7 @@ pub struct Ticket {
 }
 
 impl Ticket {
-    /// How two tickets are ordered: by folder and then by number. It is what `cmp` answers, as a contract.
+    /// The order of two tickets: by folder and then by number. It is the result of `cmp`, as a contract.
     pub fn compare(self, other: Ticket) -> Ordering
         ensures { result ≡ ticket_cmp self other }
     {

@@ -1,6 +1,6 @@
 -- Where clap refuses nothing, the words name a command of `census`, and its matches have what it needs.
 use Rattle.std.proofs.Common.{◌≡◌, ◌∙◌, ◌⊎◌, ◌||◌, ◌&&◌, ℕ, List, [], ◌∷◌, Bool, true, false, not, Option, Some, None, inl, inr, is_some, codes, drop, refl, sym, ap, subst, true≢false}
-use Rattle.std.specs.Prelude.{if◌then◌else◌, option_map}
+use Rattle.std.specs.Prelude.{◌≢◌, IsSomeAnd, if◌then◌else◌, option_map}
 use Rattle.std.specs.List.{find, list_any}
 use Rattle.std.specs.Option.{option_map_or}
 use Rattle.std.specs.Str.{bytes_eq}
@@ -11,19 +11,25 @@ use Rattle.clap.specs.Simple.{App, Shape, built, built_leaf, entered, inherited,
 use Rattle.clap.specs.Takes.{is_given}
 use Rattle.clap.specs.Values.{Accepts, IsUnsignedIn, bool_text, refused_kind}
 use Rattle.clap.specs.ValueTests.{accepts}
-use Rattle.clap.specs.Walk.{Row, Text, answers_to, nothing_held, one_of, rows_after, stop_after}
+use Rattle.clap.specs.Walk.{Row, Rule, Text, answers_to, nothing_held, one_of, rows_after, stop_after}
 use Rattle.clap.specs.declared.builder.value_parser.ValueParser.{ValueParser}
 use Rattle.clap.specs.declared.builder.value_parser.ValueParser.TheVariants as parser
 use Rattle.clap.proofs.ValueTestLemmas.{accepts-Accepts}
-use Rattle.census_cli.specs.Asking.{IsMatched}
-use Rattle.census_cli.specs.Holding.{HasAdvance, HasDraw, HasFlag, HasIdentify, HasLimit, HasNumberIn, HasObjects, HasPage, HasReports, HasRun, HasSame, HasTable, HasText, HasVerify, IsCommand}
-use Rattle.census_cli.specs.CommandLine.{advance_shape, census_app, draw_shape, identify_shape, merge_shape, objects_shape, page_shape, run_shape, same_shape, table_shape, verify_shape}
+use Rattle.life_answer.specs.Questions.{IsAnswered}
+use Rattle.life_answer.specs.declared.question.Question.{Question}
+use Rattle.life_answer.specs.declared.question.Question.TheVariants.{Objects, Settles}
+use Rattle.census_cli.specs.Asking.{Gives, GivesQuestion, IsMatched, Uses}
+use Rattle.census_cli.specs.declared.request.Request.{Request}
+use Rattle.census_cli.specs.declared.request.Request.TheVariants.{Census, Identify, Advance, Draw, Merge, Table, Page, Same, Verify}
+use Rattle.census_cli.specs.Holding.{HasAdvance, HasDraw, HasFlag, HasCells, HasIdentify, HasLimit, HasNoProgress, HasNumberIn, HasObjects, HasPage, HasReports, HasRun, HasSame, HasTable, HasText, HasVerify, IsCommand, IsLawful, AskedAreLawful}
+use Rattle.census_cli.specs.CommandLine.{census_app, command_named}
+use Rattle.census_cli.proofs.Getters.{limit_within, none_used, number_is, number_within}
 use Rattle.census_cli.proofs.Passing.{Each, found_of_each, neither_true, not_cons}
 use Rattle.census_cli.proofs.Rows.{HasFirst, Reads, reads_of, reads_or_none, row_of_id}
 use Rattle.census_cli.proofs.Uses.{RuleHolds}
 use Rattle.census_cli.proofs.Walks.{StopHolds, is_help}
 use Rattle.census_cli.proofs.Levels.{HasDefault, LevelHolds, checks_pass, defaults-there, given-there, level-Holds}
-use Rattle.census_cli.specs.Limits.{generation_limit, horizon_limit, objects_bound_limit, settles_bound_limit}
+use Rattle.census_cli.specs.Limits.{generation_limit, horizon_limit, objects_bound_limit, settles_bound_limit, worker_limit}
 
 accepted : (ignore_case : Bool) (p : ValueParser) (v : Text) → value_kinds ignore_case p v ≡ [] → Accepts ignore_case p v
 accepted ignore_case p v e = go (accepts ignore_case p v) refl e
@@ -112,34 +118,34 @@ abbrev above : Shape
 above = with_leaf_noted (marked_built census_app.top)
 
 abbrev built_run : Shape
-built_run = built_leaf (inherited above run_shape)
+built_run = built_leaf (inherited above (command_named "run"))
 
 abbrev built_objects : Shape
-built_objects = built_leaf (inherited above objects_shape)
+built_objects = built_leaf (inherited above (command_named "objects"))
 
 abbrev built_identify : Shape
-built_identify = built_leaf (inherited above identify_shape)
+built_identify = built_leaf (inherited above (command_named "identify"))
 
 abbrev built_advance : Shape
-built_advance = built_leaf (inherited above advance_shape)
+built_advance = built_leaf (inherited above (command_named "advance"))
 
 abbrev built_draw : Shape
-built_draw = built_leaf (inherited above draw_shape)
+built_draw = built_leaf (inherited above (command_named "draw"))
 
 abbrev built_merge : Shape
-built_merge = built_leaf (inherited above merge_shape)
+built_merge = built_leaf (inherited above (command_named "merge"))
 
 abbrev built_page : Shape
-built_page = built_leaf (inherited above page_shape)
+built_page = built_leaf (inherited above (command_named "page"))
 
 abbrev built_table : Shape
-built_table = built_leaf (inherited above table_shape)
+built_table = built_leaf (inherited above (command_named "table"))
 
 abbrev built_same : Shape
-built_same = built_leaf (inherited above same_shape)
+built_same = built_leaf (inherited above (command_named "same"))
 
 abbrev built_verify : Shape
-built_verify = built_leaf (inherited above verify_shape)
+built_verify = built_leaf (inherited above (command_named "verify"))
 
 top_rules : Each (RuleHolds AnyText) whole.top.rules
 top_rules = (
@@ -358,6 +364,29 @@ module _ (Q : Text → Text → Type 0) (s : Shape) (rules : Each (RuleHolds Q) 
   read_checks : check_fault s (rows_after s.rules [] words) false ≡ []
   read_checks = holds.checks
 
+-- no argument has this id
+abbrev HasOthers : Text → List Rule → Type 0
+HasOthers id rules = Each (λ (a : Rule). bytes_eq a.id id ≡ false) rules
+
+others_hold : (Q : Text → Text → Type 0) (id : Text) (rules : List Rule) → Each (RuleHolds Q) rules → HasOthers id rules
+    → Each (RuleHolds (λ x v. bytes_eq x id ≡ false)) rules
+others_hold Q id [] rules_hold others = tt
+others_hold Q id (a ∷ rest) rules_hold others = (
+  record { own = λ v e. others.0; usual = rules_hold.0.usual; plain = rules_hold.0.plain },
+  others_hold Q id rest rules_hold.1 others.1,
+)
+
+-- so the matches have no row for it
+no_row : (Q : Text → Text → Type 0) (s : Shape) (rules : Each (RuleHolds Q) s.rules) (words : List Text)
+    → level_fault s [] nothing_held words false [] ≡ [] → HasOthers (codes "no-progress") s.rules → HasNoProgress (rows_after s.rules [] words)
+no_row Q s rules words passes others =
+    go (read_if_used (λ x v. bytes_eq x (codes "no-progress") ≡ false) s (others_hold Q (codes "no-progress") s.rules rules others) words passes (codes "no-progress"))
+  where
+    go : (one_of (codes "no-progress") (rows_after s.rules [] words) ≡ None) ⊎ Reads (λ x v. bytes_eq x (codes "no-progress") ≡ false) (codes "no-progress") (rows_after s.rules [] words)
+        → HasNoProgress (rows_after s.rules [] words)
+    go (inl none) = none
+    go (inr reads) = absurd (true≢false reads.passes)
+
 number_in : (Q : Text → Text → Type 0) (low high : ℕ) (id : Text) (rows : List Row) → Reads Q id rows → ((v : Text) → Q id v → IsUnsignedIn low high v)
     → HasNumberIn low high id rows
 number_in Q low high id rows reads fits = (reads.text, reads.one, fits reads.text reads.passes)
@@ -442,6 +471,7 @@ identify_has words e = record {
       (read_by_default IdentifyText built_identify identify_rules words e (codes "json") (inr (inr (inr (inr (inl (refl, false_by_default))))))) (λ v q. q.4 refl);
   explain = flag_in IdentifyText (codes "explain") _
       (read_by_default IdentifyText built_identify identify_rules words e (codes "explain") (inr (inr (inr (inr (inr (inr (inl (refl, false_by_default))))))))) (λ v q. q.5 refl);
+  no_progress = no_row IdentifyText built_identify identify_rules words e (refl, (refl, (refl, (refl, (refl, (refl, (refl, (refl, (refl, tt)))))))));
 }
 
 advance_has : (words : List Text) → Passes built_advance words → HasAdvance (rows_after built_advance.rules [] words)
@@ -454,6 +484,7 @@ advance_has words e =
           (read_as_given AdvanceText built_advance advance_rules words e (codes "generations") given) (λ v q. q.0 refl);
       explain = flag_in AdvanceText (codes "explain") _
           (read_by_default AdvanceText built_advance advance_rules words e (codes "explain") (inr (inl (refl, false_by_default)))) (λ v q. q.1 refl);
+      no_progress = no_row AdvanceText built_advance advance_rules words e (refl, (refl, (refl, (refl, tt))));
     }
 
 draw_has : (words : List Text) → Passes built_draw words → HasDraw (rows_after built_draw.rules [] words)
@@ -467,22 +498,25 @@ draw_has words e =
           (read_by_default ExplainText built_draw draw_rules words e (codes "rule") (inr (inl (refl, record { first = codes "B3/S23"; rest = []; is = refl }))));
       explain = flag_in ExplainText (codes "explain") _
           (read_by_default ExplainText built_draw draw_rules words e (codes "explain") (inr (inr (inl (refl, false_by_default))))) (λ v q. q refl);
+      no_progress = no_row ExplainText built_draw draw_rules words e (refl, (refl, (refl, (refl, tt))));
     }
 
--- what a command that reads reports has of how they are read
+-- how a command that reads reports reads them
 module _ (s : Shape) (rules : Each (RuleHolds ReportsText) s.rules) (words : List Text) (passes : Passes s words) where
   flag_by_default : (id : Text) → is_flag id ≡ true → HasDefault id s.rules → HasFlag id (rows_after s.rules [] words)
   flag_by_default id is there = flag_in ReportsText id _ (read_by_default ReportsText s rules words passes id there) (λ v q. q.0 is)
 
-  reads_reports : HasDefault (codes "cut") s.rules → HasDefault (codes "explain") s.rules → HasReports (rows_after s.rules [] words)
-  reads_reports cut_there explain_there = record {
+  reads_reports : HasDefault (codes "cut") s.rules → HasDefault (codes "explain") s.rules → HasOthers (codes "no-progress") s.rules
+      → HasReports (rows_after s.rules [] words)
+  reads_reports cut_there explain_there others = record {
     cut = flag_by_default (codes "cut") refl cut_there;
     input = limit_in ReportsText 9223372036854775807 (codes "input") _ (read_if_used ReportsText s rules words passes (codes "input")) (λ v q. q.1 refl);
     explain = flag_by_default (codes "explain") refl explain_there;
+    no_progress = no_row ReportsText s rules words passes others;
   }
 
 merge_has : (words : List Text) → Passes built_merge words → HasReports (rows_after built_merge.rules [] words)
-merge_has words e = reads_reports built_merge reading_holds words e (inl (refl, false_by_default)) (inr (inr (inl (refl, false_by_default))))
+merge_has words e = reads_reports built_merge reading_holds words e (inl (refl, false_by_default)) (inr (inr (inl (refl, false_by_default)))) (refl, (refl, (refl, (refl, (refl, tt)))))
 
 table_has : (words : List Text) → Passes built_table words → HasTable (rows_after built_table.rules [] words)
 table_has words e = record {
@@ -491,7 +525,8 @@ table_has words e = record {
   safe = flag_by_default built_table table_rules words e (codes "safe") refl (inr (inr (inl (refl, false_by_default))));
   of_parts = flag_by_default built_table table_rules words e (codes "parts") refl (inr (inr (inr (inl (refl, false_by_default)))));
   of_codes = flag_by_default built_table table_rules words e (codes "codes") refl (inr (inr (inr (inr (inl (refl, false_by_default))))));
-  reports = reads_reports built_table table_rules words e (inr (inr (inr (inr (inr (inr (inl (refl, false_by_default)))))))) (inr (inr (inr (inr (inr (inr (inr (inr (inl (refl, false_by_default))))))))));
+  reports = reads_reports built_table table_rules words e (inr (inr (inr (inr (inr (inr (inl (refl, false_by_default)))))))) (inr (inr (inr (inr (inr (inr (inr (inr (inl (refl, false_by_default))))))))))
+      (refl, (refl, (refl, (refl, (refl, (refl, (refl, (refl, (refl, (refl, (refl, tt)))))))))));
 }
 
 page_has : (words : List Text) → Passes built_page words → HasPage (rows_after built_page.rules [] words)
@@ -501,13 +536,15 @@ page_has words e = record {
   top = limit_in ReportsText 4294967295 (codes "top") _ (read_if_used ReportsText built_page page_rules words e (codes "top")) (λ v q. q.2 refl);
   links = flag_by_default built_page page_rules words e (codes "links") refl (inr (inr (inr (inr (inr (inl (refl, false_by_default)))))));
   no_patterns = flag_by_default built_page page_rules words e (codes "no-patterns") refl (inr (inr (inr (inr (inr (inr (inl (refl, false_by_default))))))));
-  reports = reads_reports built_page page_rules words e (inr (inr (inr (inr (inr (inr (inr (inl (refl, false_by_default))))))))) (inr (inr (inr (inr (inr (inr (inr (inr (inr (inl (refl, false_by_default)))))))))));
+  reports = reads_reports built_page page_rules words e (inr (inr (inr (inr (inr (inr (inr (inl (refl, false_by_default))))))))) (inr (inr (inr (inr (inr (inr (inr (inr (inr (inl (refl, false_by_default)))))))))))
+      (refl, (refl, (refl, (refl, (refl, (refl, (refl, (refl, (refl, (refl, (refl, (refl, tt))))))))))));
 }
 
 same_has : (words : List Text) → Passes built_same words → HasSame (rows_after built_same.rules [] words)
 same_has words e = record {
   json = flag_by_default built_same same_rules words e (codes "json") refl (inl (refl, false_by_default));
-  reports = reads_reports built_same same_rules words e (inr (inl (refl, false_by_default))) (inr (inr (inr (inl (refl, false_by_default)))));
+  reports = reads_reports built_same same_rules words e (inr (inl (refl, false_by_default))) (inr (inr (inr (inl (refl, false_by_default)))))
+      (refl, (refl, (refl, (refl, (refl, (refl, tt))))));
 }
 
 verify_has : (words : List Text) → Passes built_verify words → HasVerify (rows_after built_verify.rules [] words)
@@ -517,12 +554,13 @@ verify_has words e =
     let given = is_true (is_given (codes "claims") rows) (neither_true (not (is_given (codes "claims") rows)) false checks.1).0 in
     record {
       claims = text_in ReportsText (codes "claims") _ (read_as_given ReportsText built_verify verify_rules words e (codes "claims") given);
-      reports = reads_reports built_verify verify_rules words e (inr (inl (refl, false_by_default))) (inr (inr (inr (inl (refl, false_by_default)))));
+      reports = reads_reports built_verify verify_rules words e (inr (inl (refl, false_by_default))) (inr (inr (inr (inl (refl, false_by_default)))))
+          (refl, (refl, (refl, (refl, (refl, (refl, tt))))));
     }
 
 -- ---- the whole parse
 
--- what a command comes to that the words name
+-- the outcome of a command that the words name
 abbrev Enters : Text → List Text → Shape → Type 0
 Enters name words s = is_help whole.top name ≡ false → answers_to name (label_of s) ≡ true → Passes s words → IsCommand (Some (rows_at s words))
 
@@ -609,7 +647,7 @@ run_command rows (inr (inr (inr (inr (inr (inr (inr (inl h)))))))) = other_name 
 run_command rows (inr (inr (inr (inr (inr (inr (inr (inr (inl h))))))))) = other_name _ _ h.0 refl
 run_command rows (inr (inr (inr (inr (inr (inr (inr (inr (inr h))))))))) = other_name _ _ h.0 refl
 
--- and so has `objects`
+-- so has the command `objects`
 pub objects_command : (rows : List Row) → IsCommand (Some (codes "objects", rows)) → HasObjects rows
 objects_command rows (inl h) = other_name _ _ h.0 refl
 objects_command rows (inr (inl h)) = h.1
@@ -622,7 +660,7 @@ objects_command rows (inr (inr (inr (inr (inr (inr (inr (inl h)))))))) = other_n
 objects_command rows (inr (inr (inr (inr (inr (inr (inr (inr (inl h))))))))) = other_name _ _ h.0 refl
 objects_command rows (inr (inr (inr (inr (inr (inr (inr (inr (inr h))))))))) = other_name _ _ h.0 refl
 
--- and so has `identify`
+-- so has the command `identify`
 pub identify_command : (rows : List Row) → IsCommand (Some (codes "identify", rows)) → HasIdentify rows
 identify_command rows (inl h) = other_name _ _ h.0 refl
 identify_command rows (inr (inl h)) = other_name _ _ h.0 refl
@@ -730,3 +768,85 @@ pub explain_of : (command : Option (List ℕ × List Row)) (rows : List Row) →
     → HasFlag (codes "explain") rows
 explain_of None rows e h = absurd h
 explain_of (Some (name, there)) rows e h = let same : there ≡ rows = cc in subst (λ (r : List Row). HasFlag (codes "explain") r) same (explain_flag name there h)
+
+-- a command that reports no progress has no flag that says so
+pub quiet_of : (command : Option (List ℕ × List Row)) → IsCommand command → option_map (λ (p : List ℕ × List Row). p.0) command ≢ Some (codes "run")
+    → option_map (λ (p : List ℕ × List Row). p.0) command ≢ Some (codes "objects") → Uses (codes "no-progress") command false
+quiet_of None h run objects = absurd h
+quiet_of (Some (name, rows)) h run objects = none_used (codes "no-progress") rows (none h)
+  where
+    none : IsCommand (Some (name, rows)) → HasNoProgress rows
+    none (inl h) = absurd (run (ap Some h.0))
+    none (inr (inl h)) = absurd (objects (ap Some h.0))
+    none (inr (inr (inl h))) = h.1.no_progress
+    none (inr (inr (inr (inl h)))) = h.1.no_progress
+    none (inr (inr (inr (inr (inl h))))) = h.1.no_progress
+    none (inr (inr (inr (inr (inr (inl h)))))) = h.1.no_progress
+    none (inr (inr (inr (inr (inr (inr (inl h))))))) = h.1.reports.no_progress
+    none (inr (inr (inr (inr (inr (inr (inr (inl h)))))))) = h.1.reports.no_progress
+    none (inr (inr (inr (inr (inr (inr (inr (inr (inl h))))))))) = h.1.reports.no_progress
+    none (inr (inr (inr (inr (inr (inr (inr (inr (inr h))))))))) = h.1.reports.no_progress
+
+-- ---- the numbers of what is asked for are in their ranges
+
+question_in : (name : Text) (rows : List Row) (question : Question) → IsCommand (Some (name, rows)) → GivesQuestion name rows question
+    → IsAnswered question × HasNumberIn 1 worker_limit (codes "workers") rows × HasCells question × HasLimit 9223372036854775807 (codes "input") rows
+question_in name rows (Settles bound cells) h gives =
+    let has = run_command rows (subst (λ (n : Text). IsCommand (Some (n, rows))) gives.0 h) in
+    let bound_in = number_within 1 settles_bound_limit (codes "bound") rows bound has.bound gives.1 in
+    ((bound_in.0, bound_in.1, tt), has.workers, limit_within 4294967295 (codes "cells") rows cells has.cells gives.2, has.collections.input)
+question_in name rows (Objects bound None near horizon) h gives =
+    let has = objects_command rows (subst (λ (n : Text). IsCommand (Some (n, rows))) gives.0 h) in
+    let known : Some _ ≡ None = sym (number_is 1 4294967295 (codes "cells") rows has.cells) ∙ gives.1.1 in
+    cc
+question_in name rows (Objects bound (Some cells) near horizon) h gives =
+    let has = objects_command rows (subst (λ (n : Text). IsCommand (Some (n, rows))) gives.0 h) in
+    let bound_in = number_within 1 objects_bound_limit (codes "bound") rows bound has.bound gives.1.0 in
+    let horizon_in = number_within 1 horizon_limit (codes "horizon") rows horizon has.horizon gives.1.3 in (
+      (bound_in.0, bound_in.1, horizon_in),
+      has.workers,
+      number_within 1 4294967295 (codes "cells") rows cells has.cells gives.1.1,
+      has.collections.input,
+    )
+
+lawful : (name : Text) (rows : List Row) (request : Request) → IsCommand (Some (name, rows)) → Gives name rows request → IsLawful request
+lawful name rows (Census census) h gives =
+    let asked = question_in name rows census.question h gives.0 in (
+      asked.0,
+      number_within 1 worker_limit (codes "workers") rows census.workers asked.1 gives.1,
+      asked.2,
+      limit_within 9223372036854775807 (codes "input") rows census.collections.input asked.3 gives.2.0,
+    )
+lawful name rows (Identify bound cells near horizon json names files) h gives =
+    let has = identify_command rows (subst (λ (n : Text). IsCommand (Some (n, rows))) gives.0 h) in
+    let bound_in = number_within 1 objects_bound_limit (codes "bound") rows bound has.bound gives.1.0 in
+    let horizon_in = number_within 1 horizon_limit (codes "horizon") rows horizon has.horizon gives.1.3 in
+    ((bound_in.0, bound_in.1, horizon_in), number_within 1 4294967295 (codes "cells") rows cells has.cells gives.1.1)
+lawful name rows (Advance generations file) h gives =
+    let has = advance_command rows (subst (λ (n : Text). IsCommand (Some (n, rows))) gives.0 h) in
+    (number_within 0 generation_limit (codes "generations") rows generations has.generations gives.1).1
+lawful name rows (Draw code rule) h gives = tt
+lawful name rows (Merge reports) h gives =
+    let has = merge_command rows (subst (λ (n : Text). IsCommand (Some (n, rows))) gives.0 h) in
+    limit_within 9223372036854775807 (codes "input") rows reports.input has.input gives.1.1
+lawful name rows (Table subject format names reports) h gives =
+    let has = table_command rows (subst (λ (n : Text). IsCommand (Some (n, rows))) gives.0 h) in
+    limit_within 9223372036854775807 (codes "input") rows reports.input has.reports.input gives.4.1
+lawful name rows (Page page reports) h gives =
+    let has = page_command rows (subst (λ (n : Text). IsCommand (Some (n, rows))) gives.0 h) in (
+      limit_within 4294967295 (codes "top") rows page.top has.top gives.1.3,
+      limit_within 9223372036854775807 (codes "input") rows reports.input has.reports.input gives.2.1,
+    )
+lawful name rows (Same json reports) h gives =
+    let has = same_command rows (subst (λ (n : Text). IsCommand (Some (n, rows))) gives.0 h) in
+    limit_within 9223372036854775807 (codes "input") rows reports.input has.reports.input gives.2.1
+lawful name rows (Verify claims reports) h gives =
+    let has = verify_command rows (subst (λ (n : Text). IsCommand (Some (n, rows))) gives.0 h) in
+    limit_within 9223372036854775807 (codes "input") rows reports.input has.reports.input gives.2.1
+
+pub asked_are_lawful : AskedAreLawful
+asked_are_lawful words request asks = go (subcommand_of census_app words) (is_command words asks.0) asks.1
+  where
+    go : (command : Option (List ℕ × List Row)) → IsCommand command → IsSomeAnd command (λ c. Gives c.0 c.1 request) → IsLawful request
+    go None h gives = absurd gives
+    go (Some (name, rows)) h gives = lawful name rows request h gives

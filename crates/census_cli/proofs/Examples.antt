@@ -1,119 +1,149 @@
--- What some words come to, by computing the definitions.
-use Rattle.std.proofs.Common.{◌≡◌, [], ◌∷◌, Some, None, true, false, codes, inl, inr, refl, lit≤}
+-- The outcome of some words, by computing the definitions.
+use Rattle.std.proofs.Common.{◌≡◌, ℕ, List, [], ◌∷◌, Bool, Option, Some, None, Vec, true, false, codes, map, inl, inr, refl}
+use Rattle.std.specs.Borrow.{Bor}
+use Rattle.std.specs.Global.{Global}
 use Rattle.clap.specs.Faults.{fault_of}
 use Rattle.clap.specs.declared.error.kind.ErrorKind.TheVariants.{ArgumentConflict, DisplayHelp, DisplayVersion, MissingSubcommand, TooManyValues, UnknownArgument, ValueValidation}
 use Rattle.clap.proofs.OnLiterals.{clap_on_literals}
+use Rattle.life_answer.specs.declared.question.Question.{Question}
 use Rattle.life_answer.specs.declared.question.Question.TheVariants.{Objects, Settles}
 use Rattle.census_cli.specs.CommandLine.{census_app}
-use Rattle.census_cli.specs.Asking.{AsksAdvance, AsksCensus, AsksDraw, AsksIdentify, AsksMerge, AsksPage, AsksSame, AsksTable, AsksToExplain, AsksVerify}
-use Rattle.census_cli.specs.Refusing.{AsksStrangePage, AsksTwoTables}
+use Rattle.census_cli.specs.Asking.{Asks, AsksToExplain}
+use Rattle.census_cli.specs.Refusing.{AreRefusedWords}
 use Rattle.census_cli.specs.declared.request.PageSort.TheVariants.{Report, Count}
+use Rattle.census_cli.specs.declared.request.Reports.{Reports}
+use Rattle.census_cli.specs.declared.request.Request.{Request}
+use Rattle.census_cli.specs.declared.request.Request.TheVariants as request
 use Rattle.census_cli.specs.declared.request.TableSubject.TheVariants.{Patterns, Codes}
 use Rattle.census_cli.specs.declared.request.TableFormat.TheVariants.{Csv, Json}
 
-run_alone : AsksCensus (codes "run" ∷ []) (Settles 1000 None) 4 None false false []
-unfolding clap_on_literals
-run_alone = (refl, record { rows = _; named = refl; asks = record { bound_is = refl; cells_are = refl; cells_in = tt }; answered = (lit≤ tt, lit≤ tt, tt); workers_are = refl; workers_in = (lit≤ tt, lit≤ tt); collections = record { input_is = refl; input_in = tt; recursive_is = refl; keep_going_is = refl; folders_are = refl } })
+-- texts that words name
+abbrev Texts : Type 0
+Texts = Vec (Bor (List ℕ)) Global
 
-run_among : AsksCensus (codes "run" ∷ codes "a" ∷ codes "--bound" ∷ codes "50" ∷ codes "b" ∷ codes "-w2" ∷ []) (Settles 50 None) 2 None false false (codes "a" ∷ codes "b" ∷ [])
-unfolding clap_on_literals
-run_among = (refl, record { rows = _; named = refl; asks = record { bound_is = refl; cells_are = refl; cells_in = tt }; answered = (lit≤ tt, lit≤ tt, tt); workers_are = refl; workers_in = (lit≤ tt, lit≤ tt); collections = record { input_is = refl; input_in = tt; recursive_is = refl; keep_going_is = refl; folders_are = refl } })
+abbrev Are : Texts → List (List ℕ) → Type 0
+Are texts words = words ≡ map (λ s. s.now) texts.items
 
-run_small : AsksCensus (codes "run" ∷ codes "--cells" ∷ codes "5" ∷ []) (Settles 1000 (Some 5)) 4 None false false []
-unfolding clap_on_literals
-run_small = (refl, record { rows = _; named = refl; asks = record { bound_is = refl; cells_are = refl; cells_in = (lit≤ tt, lit≤ tt) }; answered = (lit≤ tt, lit≤ tt, tt); workers_are = refl; workers_in = (lit≤ tt, lit≤ tt); collections = record { input_is = refl; input_in = tt; recursive_is = refl; keep_going_is = refl; folders_are = refl } })
+abbrev text : List ℕ → Bor (List ℕ)
+text word = record { ref_ptr = (0, 0); now = word }
 
-run_flags : AsksCensus (codes "run" ∷ codes "--recursive" ∷ codes "a" ∷ codes "-k" ∷ []) (Settles 1000 None) 4 None true true (codes "a" ∷ [])
-unfolding clap_on_literals
-run_flags = (refl, record { rows = _; named = refl; asks = record { bound_is = refl; cells_are = refl; cells_in = tt }; answered = (lit≤ tt, lit≤ tt, tt); workers_are = refl; workers_in = (lit≤ tt, lit≤ tt); collections = record { input_is = refl; input_in = tt; recursive_is = refl; keep_going_is = refl; folders_are = refl } })
+abbrev census : Question → ℕ → Bool → Bool → Texts → Request
+census question workers recursive keep_going folders = request.Census (record {
+  question = question;
+  workers = workers;
+  collections = record { input = None; recursive = recursive; keep_going = keep_going; folders = folders };
+})
 
-objects_alone : AsksCensus (codes "objects" ∷ []) (Objects 10000 (Some 1000000) false 1000) 4 None false false []
-unfolding clap_on_literals
-objects_alone = (refl, record { rows = _; named = refl; asks = record { bound_is = refl; cells_are = refl; cells_in = (lit≤ tt, lit≤ tt); near_is = refl; horizon_is = refl }; answered = (lit≤ tt, lit≤ tt, (lit≤ tt, lit≤ tt)); workers_are = refl; workers_in = (lit≤ tt, lit≤ tt); collections = record { input_is = refl; input_in = tt; recursive_is = refl; keep_going_is = refl; folders_are = refl } })
+abbrev reading : Bool → Option ℕ → Texts → Reports
+reading cut input words = record { cut = cut; input = input; words = words }
 
-objects_flags : AsksCensus (codes "objects" ∷ codes "-rb5" ∷ codes "a" ∷ codes "--near" ∷ []) (Objects 5 (Some 1000000) true 1000) 4 None true false (codes "a" ∷ [])
+run_alone : (texts : Texts) → Are texts [] → Asks (codes "run" ∷ []) (census (Settles 1000 None) 4 false false texts)
 unfolding clap_on_literals
-objects_flags = (refl, record { rows = _; named = refl; asks = record { bound_is = refl; cells_are = refl; cells_in = (lit≤ tt, lit≤ tt); near_is = refl; horizon_is = refl }; answered = (lit≤ tt, lit≤ tt, (lit≤ tt, lit≤ tt)); workers_are = refl; workers_in = (lit≤ tt, lit≤ tt); collections = record { input_is = refl; input_in = tt; recursive_is = refl; keep_going_is = refl; folders_are = refl } })
+run_alone texts are = (refl, ((refl, refl, refl), refl, (refl, refl, refl, are)))
 
-identify_among : AsksIdentify (codes "identify" ∷ codes "a" ∷ codes "-b" ∷ codes "50" ∷ codes "-" ∷ []) 50 1000000 false 1000 false None (codes "a" ∷ codes "-" ∷ [])
+run_among : (texts : Texts) → Are texts (codes "a" ∷ codes "b" ∷ []) → Asks (codes "run" ∷ codes "a" ∷ codes "--bound" ∷ codes "50" ∷ codes "b" ∷ codes "-w2" ∷ []) (census (Settles 50 None) 2 false false texts)
 unfolding clap_on_literals
-identify_among = (refl, record { rows = _; named = refl; asks = record { bound_is = refl; cells_are = refl; cells_in = (lit≤ tt, lit≤ tt); near_is = refl; horizon_is = refl }; answered = (lit≤ tt, lit≤ tt, (lit≤ tt, lit≤ tt)); json_is = refl; names_are = refl; files_are = refl })
+run_among texts are = (refl, ((refl, refl, refl), refl, (refl, refl, refl, are)))
 
-identify_near : AsksIdentify (codes "identify" ∷ codes "--near" ∷ []) 10000 1000000 true 1000 false None []
+run_small : (texts : Texts) → Are texts [] → Asks (codes "run" ∷ codes "--cells" ∷ codes "5" ∷ []) (census (Settles 1000 (Some 5)) 4 false false texts)
 unfolding clap_on_literals
-identify_near = (refl, record { rows = _; named = refl; asks = record { bound_is = refl; cells_are = refl; cells_in = (lit≤ tt, lit≤ tt); near_is = refl; horizon_is = refl }; answered = (lit≤ tt, lit≤ tt, (lit≤ tt, lit≤ tt)); json_is = refl; names_are = refl; files_are = refl })
+run_small texts are = (refl, ((refl, refl, refl), refl, (refl, refl, refl, are)))
 
-identify_small : AsksIdentify (codes "identify" ∷ codes "--cells" ∷ codes "7" ∷ codes "a" ∷ codes "--horizon=20" ∷ []) 10000 7 false 20 false None (codes "a" ∷ [])
+run_flags : (texts : Texts) → Are texts (codes "a" ∷ []) → Asks (codes "run" ∷ codes "--recursive" ∷ codes "a" ∷ codes "-k" ∷ []) (census (Settles 1000 None) 4 true true texts)
 unfolding clap_on_literals
-identify_small = (refl, record { rows = _; named = refl; asks = record { bound_is = refl; cells_are = refl; cells_in = (lit≤ tt, lit≤ tt); near_is = refl; horizon_is = refl }; answered = (lit≤ tt, lit≤ tt, (lit≤ tt, lit≤ tt)); json_is = refl; names_are = refl; files_are = refl })
+run_flags texts are = (refl, ((refl, refl, refl), refl, (refl, refl, refl, are)))
 
-advance_file : AsksAdvance (codes "advance" ∷ codes "4" ∷ codes "a" ∷ []) 4 (Some (codes "a"))
+objects_alone : (texts : Texts) → Are texts [] → Asks (codes "objects" ∷ []) (census (Objects 10000 (Some 1000000) false 1000) 4 false false texts)
 unfolding clap_on_literals
-advance_file = (refl, record { rows = _; named = refl; generations_are = refl; generations_in = lit≤ tt; file_is = refl })
+objects_alone texts are = (refl, ((refl, (refl, refl, refl, refl)), refl, (refl, refl, refl, are)))
 
-draw_glider : AsksDraw (codes "draw" ∷ codes "xq4_153" ∷ []) (codes "xq4_153") (codes "B3/S23")
+objects_flags : (texts : Texts) → Are texts (codes "a" ∷ []) → Asks (codes "objects" ∷ codes "-rb5" ∷ codes "a" ∷ codes "--near" ∷ []) (census (Objects 5 (Some 1000000) true 1000) 4 true false texts)
 unfolding clap_on_literals
-draw_glider = (refl, record { rows = _; named = refl; code_is = refl; rule_is = refl })
+objects_flags texts are = (refl, ((refl, (refl, refl, refl, refl)), refl, (refl, refl, refl, are)))
 
-merge_among : AsksMerge (codes "merge" ∷ codes "a" ∷ codes "-" ∷ []) false None (codes "a" ∷ codes "-" ∷ [])
+identify_among : (texts : Texts) → Are texts (codes "a" ∷ codes "-" ∷ []) → Asks (codes "identify" ∷ codes "a" ∷ codes "-b" ∷ codes "50" ∷ codes "-" ∷ []) (request.Identify 50 1000000 false 1000 false None texts)
 unfolding clap_on_literals
-merge_among = (refl, record { rows = _; named = refl; reading = record { cut_is = refl; input_is = refl; input_in = tt; reports_are = refl } })
+identify_among texts are = (refl, (refl, (refl, refl, refl, refl), refl, refl, are))
 
-merge_small : AsksMerge (codes "merge" ∷ codes "--input=9" ∷ codes "--cut" ∷ codes "a" ∷ []) true (Some 9) (codes "a" ∷ [])
+identify_near : (texts : Texts) → Are texts [] → Asks (codes "identify" ∷ codes "--near" ∷ []) (request.Identify 10000 1000000 true 1000 false None texts)
 unfolding clap_on_literals
-merge_small = (refl, record { rows = _; named = refl; reading = record { cut_is = refl; input_is = refl; input_in = (lit≤ tt, lit≤ tt); reports_are = refl } })
+identify_near texts are = (refl, (refl, (refl, refl, refl, refl), refl, refl, are))
 
-identify_named : AsksIdentify (codes "identify" ∷ codes "--json" ∷ codes "--names" ∷ codes "n.tsv" ∷ codes "a" ∷ []) 10000 1000000 false 1000 true (Some (codes "n.tsv")) (codes "a" ∷ [])
+identify_small : (texts : Texts) → Are texts (codes "a" ∷ []) → Asks (codes "identify" ∷ codes "--cells" ∷ codes "7" ∷ codes "a" ∷ codes "--horizon=20" ∷ []) (request.Identify 10000 7 false 20 false None texts)
 unfolding clap_on_literals
-identify_named = (refl, record { rows = _; named = refl; asks = record { bound_is = refl; cells_are = refl; cells_in = (lit≤ tt, lit≤ tt); near_is = refl; horizon_is = refl }; answered = (lit≤ tt, lit≤ tt, (lit≤ tt, lit≤ tt)); json_is = refl; names_are = refl; files_are = refl })
+identify_small texts are = (refl, (refl, (refl, refl, refl, refl), refl, refl, are))
 
-table_json : AsksTable (codes "table" ∷ codes "a" ∷ codes "--json" ∷ codes "b" ∷ []) Patterns Json None false None (codes "a" ∷ codes "b" ∷ [])
+identify_named : (texts : Texts) → Are texts (codes "a" ∷ []) → Asks (codes "identify" ∷ codes "--json" ∷ codes "--names" ∷ codes "n.tsv" ∷ codes "a" ∷ []) (request.Identify 10000 1000000 false 1000 true (Some (text (codes "n.tsv"))) texts)
 unfolding clap_on_literals
-table_json = (refl, record { rows = _; named = refl; subject_is = (refl, refl); format_is = (refl, refl, refl); names_are = refl; reading = record { cut_is = refl; input_is = refl; input_in = tt; reports_are = refl } })
+identify_named texts are = (refl, (refl, (refl, refl, refl, refl), refl, refl, are))
 
-table_codes : AsksTable (codes "table" ∷ codes "--codes" ∷ codes "a" ∷ []) Codes (Csv false) None false None (codes "a" ∷ [])
+advance_file : Asks (codes "advance" ∷ codes "4" ∷ codes "a" ∷ []) (request.Advance 4 (Some (text (codes "a"))))
 unfolding clap_on_literals
-table_codes = (refl, record { rows = _; named = refl; subject_is = (refl, refl); format_is = (refl, refl); names_are = refl; reading = record { cut_is = refl; input_is = refl; input_in = tt; reports_are = refl } })
+advance_file = (refl, (refl, refl, refl))
 
-table_safe : AsksTable (codes "table" ∷ codes "--safe" ∷ codes "a" ∷ codes "--csv" ∷ []) Patterns (Csv true) None false None (codes "a" ∷ [])
+draw_glider : Asks (codes "draw" ∷ codes "xq4_153" ∷ []) (request.Draw (text (codes "xq4_153")) (text (codes "B3/S23")))
 unfolding clap_on_literals
-table_safe = (refl, record { rows = _; named = refl; subject_is = (refl, refl); format_is = (refl, refl); names_are = refl; reading = record { cut_is = refl; input_is = refl; input_in = tt; reports_are = refl } })
+draw_glider = (refl, (refl, refl, refl))
 
-page_among : AsksPage (codes "page" ∷ codes "a" ∷ codes "-" ∷ []) (record { title = None; note = None; sort = Report; top = None; base = None; links = false; patterns = true }) false None (codes "a" ∷ codes "-" ∷ [])
+merge_among : (texts : Texts) → Are texts (codes "a" ∷ codes "-" ∷ []) → Asks (codes "merge" ∷ codes "a" ∷ codes "-" ∷ []) (request.Merge (reading false None texts))
 unfolding clap_on_literals
-page_among = (refl, record { rows = _; named = refl; title_is = refl; note_is = refl; sort_is = refl; top_is = refl; top_in = tt; base_is = refl; base_in = tt; links_is = refl; patterns_is = refl; reading = record { cut_is = refl; input_is = refl; input_in = tt; reports_are = refl } })
+merge_among texts are = (refl, (refl, (refl, refl, are)))
 
-page_sorted : AsksPage (codes "page" ∷ codes "--sort" ∷ codes "count" ∷ codes "--top=7" ∷ codes "--links" ∷ codes "--no-patterns" ∷ codes "--cut" ∷ []) (record { title = None; note = None; sort = Count; top = Some 7; base = None; links = true; patterns = false }) true None []
+merge_small : (texts : Texts) → Are texts (codes "a" ∷ []) → Asks (codes "merge" ∷ codes "--input=9" ∷ codes "--cut" ∷ codes "a" ∷ []) (request.Merge (reading true (Some 9) texts))
 unfolding clap_on_literals
-page_sorted = (refl, record { rows = _; named = refl; title_is = refl; note_is = refl; sort_is = refl; top_is = refl; top_in = (lit≤ tt, lit≤ tt); base_is = refl; base_in = tt; links_is = refl; patterns_is = refl; reading = record { cut_is = refl; input_is = refl; input_in = tt; reports_are = refl } })
+merge_small texts are = (refl, (refl, (refl, refl, are)))
 
-page_at : AsksPage (codes "page" ∷ codes "--base" ∷ codes "https://a.b" ∷ codes "a" ∷ []) (record { title = None; note = None; sort = Report; top = None; base = Some (record { ref_ptr = (0, 0); now = codes "https://a.b" }); links = false; patterns = true }) false None (codes "a" ∷ [])
+table_json : (texts : Texts) → Are texts (codes "a" ∷ codes "b" ∷ []) → Asks (codes "table" ∷ codes "a" ∷ codes "--json" ∷ codes "b" ∷ []) (request.Table Patterns Json None (reading false None texts))
 unfolding clap_on_literals
-page_at = (refl, record { rows = _; named = refl; title_is = refl; note_is = refl; sort_is = refl; top_is = refl; top_in = tt; base_is = refl; base_in = refl; links_is = refl; patterns_is = refl; reading = record { cut_is = refl; input_is = refl; input_in = tt; reports_are = refl } })
+table_json texts are = (refl, (refl, refl, refl, refl, (refl, refl, are)))
 
-page_in_no_order : AsksStrangePage (codes "page" ∷ codes "--sort=size" ∷ [])
+table_codes : (texts : Texts) → Are texts (codes "a" ∷ []) → Asks (codes "table" ∷ codes "--codes" ∷ codes "a" ∷ []) (request.Table Codes (Csv false) None (reading false None texts))
 unfolding clap_on_literals
-page_in_no_order = (refl, record { rows = _; named = refl; strange = inl (codes "size", refl, refl) })
+table_codes texts are = (refl, (refl, refl, refl, refl, (refl, refl, are)))
 
-page_at_no_address : AsksStrangePage (codes "page" ∷ codes "--base" ∷ codes "a.b" ∷ [])
+table_safe : (texts : Texts) → Are texts (codes "a" ∷ []) → Asks (codes "table" ∷ codes "--safe" ∷ codes "a" ∷ codes "--csv" ∷ []) (request.Table Patterns (Csv true) None (reading false None texts))
 unfolding clap_on_literals
-page_at_no_address = (refl, record { rows = _; named = refl; strange = inr (codes "a.b", refl, refl) })
+table_safe texts are = (refl, (refl, refl, refl, refl, (refl, refl, are)))
 
-same_among : AsksSame (codes "same" ∷ codes "--json" ∷ codes "a" ∷ codes "-" ∷ []) true false None (codes "a" ∷ codes "-" ∷ [])
+page_among : (texts : Texts) → Are texts (codes "a" ∷ codes "-" ∷ []) → Asks (codes "page" ∷ codes "a" ∷ codes "-" ∷ []) (request.Page (record { title = None; note = None; sort = Report; top = None; base = None; links = false; patterns = true }) (reading false None texts))
 unfolding clap_on_literals
-same_among = (refl, record { rows = _; named = refl; json_is = refl; reading = record { cut_is = refl; input_is = refl; input_in = tt; reports_are = refl } })
+page_among texts are = (refl, (refl, (refl, refl, refl, refl, refl, λ e. cc, refl, refl), (refl, refl, are)))
 
-verify_among : AsksVerify (codes "verify" ∷ codes "c.csv" ∷ codes "a" ∷ codes "-" ∷ []) (codes "c.csv") false None (codes "a" ∷ codes "-" ∷ [])
+page_sorted : (texts : Texts) → Are texts [] → Asks (codes "page" ∷ codes "--sort" ∷ codes "count" ∷ codes "--top=7" ∷ codes "--links" ∷ codes "--no-patterns" ∷ codes "--cut" ∷ []) (request.Page (record { title = None; note = None; sort = Count; top = Some 7; base = None; links = true; patterns = false }) (reading true None texts))
 unfolding clap_on_literals
-verify_among = (refl, record { rows = _; named = refl; claims_are = refl; reading = record { cut_is = refl; input_is = refl; input_in = tt; reports_are = refl } })
+page_sorted texts are = (refl, (refl, (refl, refl, refl, refl, refl, λ e. cc, refl, refl), (refl, refl, are)))
 
-table_both : AsksTwoTables (codes "table" ∷ codes "--json" ∷ codes "--csv" ∷ [])
+page_at : (texts : Texts) → Are texts (codes "a" ∷ []) → Asks (codes "page" ∷ codes "--base" ∷ codes "https://a.b" ∷ codes "a" ∷ []) (request.Page (record { title = None; note = None; sort = Report; top = None; base = Some (text (codes "https://a.b")); links = false; patterns = true }) (reading false None texts))
 unfolding clap_on_literals
-table_both = (refl, record { rows = _; named = refl; two = inl (refl, inl refl) })
+page_at texts are = (refl, (refl, (refl, refl, refl, refl, refl, λ e. cc, refl, refl), (refl, refl, are)))
 
-table_json_safe : AsksTwoTables (codes "table" ∷ codes "--safe" ∷ codes "--json" ∷ [])
+same_among : (texts : Texts) → Are texts (codes "a" ∷ codes "-" ∷ []) → Asks (codes "same" ∷ codes "--json" ∷ codes "a" ∷ codes "-" ∷ []) (request.Same true (reading false None texts))
 unfolding clap_on_literals
-table_json_safe = (refl, record { rows = _; named = refl; two = inl (refl, inr refl) })
+same_among texts are = (refl, (refl, refl, (refl, refl, are)))
+
+verify_among : (texts : Texts) → Are texts (codes "a" ∷ codes "-" ∷ []) → Asks (codes "verify" ∷ codes "c.csv" ∷ codes "a" ∷ codes "-" ∷ []) (request.Verify (text (codes "c.csv")) (reading false None texts))
+unfolding clap_on_literals
+verify_among texts are = (refl, (refl, refl, (refl, refl, are)))
+
+page_in_no_order : AreRefusedWords (codes "page" ∷ codes "--sort=size" ∷ [])
+unfolding clap_on_literals
+page_in_no_order = inr (refl, inr (refl, inl refl))
+
+page_at_no_address : AreRefusedWords (codes "page" ∷ codes "--base" ∷ codes "a.b" ∷ [])
+unfolding clap_on_literals
+page_at_no_address = inr (refl, inr (refl, inr refl))
+
+table_both : AreRefusedWords (codes "table" ∷ codes "--json" ∷ codes "--csv" ∷ [])
+unfolding clap_on_literals
+table_both = inr (refl, inl (refl, inl refl))
+
+table_json_safe : AreRefusedWords (codes "table" ∷ codes "--safe" ∷ codes "--json" ∷ [])
+unfolding clap_on_literals
+table_json_safe = inr (refl, inl (refl, inl refl))
+
+table_of_two : AreRefusedWords (codes "table" ∷ codes "--parts" ∷ codes "--codes" ∷ [])
+unfolding clap_on_literals
+table_of_two = inr (refl, inl (refl, inr refl))
 
 run_explained : AsksToExplain (codes "run" ∷ codes "a" ∷ codes "--explain" ∷ []) true
 unfolding clap_on_literals

@@ -1,19 +1,21 @@
--- What the getters of the matches give.
+-- What the getters of the matches return.
 use Rattle.std.proofs.Common.{◌≡◌, ℕ, ◌≤◌, List, Bool, true, false, Option, Some, None, Result, inl, inr, option_map, codes, refl, sym, ap, ◌∙◌, arith}
 use Rattle.std.specs.Prelude.{Box, IsSome}
 use Rattle.std.specs.Box.{box_value}
+use Rattle.std.specs.Option.{option_map_or}
+use Rattle.std.specs.Str.{bytes_eq}
 use Rattle.std.specs.Str.Parse.{ExplainsUnsignedError, HasUnsignedDigitsIfOk, ParsesUnsigned, digits_value, without_leading_plus}
 use Rattle.std.specs.declared.num.ParseIntError.{ParseIntError}
 use Rattle.clap.specs.Matches.{ReadsOne, found_of, one_text, subcommand_name_of}
 use Rattle.clap.specs.Simple.{subcommand_rows, subcommand_rows_of}
 use Rattle.clap.specs.Values.{IsUnsignedIn, bool_text}
-use Rattle.clap.specs.Walk.{Row, rows_of}
+use Rattle.clap.specs.Walk.{Row, one_of, rows_of}
 use Rattle.clap.specs.declared.parser.matches.ArgMatches.{ArgMatches}
 use Rattle.clap.specs.declared.parser.matches.ArgMatches.TheViews.{out-ArgMatches, out-SubCommand}
 use Rattle.clap.specs.declared.parser.matches.SubCommand.{SubCommand}
 use Rattle.clap.proofs.WalkLemmas.{one_text-rows}
-use Rattle.census_cli.specs.Asking.{IsFlag, IsLimit, argument_number}
-use Rattle.census_cli.specs.Holding.{HasFlag, HasLimit, HasNumber, HasNumberIn}
+use Rattle.census_cli.specs.Asking.{argument_number, is_used}
+use Rattle.census_cli.specs.Holding.{HasFlag, HasLimit, HasNumber, HasNumberIn, IsFlag, IsLimit}
 
 -- what `u64` reads of a text
 abbrev pub ReadsU64 : List ℕ → Result ℕ ParseIntError → Type 0
@@ -77,11 +79,24 @@ limit_within most id rows (Some n) (inr h) is = number_within 1 most id rows n h
 pub number_fits : (low high : ℕ) (id : List ℕ) (rows : List Row) → high ≤ 4294967295 → HasNumberIn low high id rows → HasNumber id rows
 number_fits low high id rows small h = (h.0, h.1, (h.2.0, h.2.1, omega arith, omega arith))
 
+-- a flag was used where its text says so
+flag_used : (id : List ℕ) (rows : List Row) (used : Bool) → IsFlag id rows used → is_used id rows ≡ used
+flag_used id rows true is = ap (λ (o : Option (List ℕ)). option_map_or (λ text. bytes_eq text (codes "true")) o false) is
+flag_used id rows false is = ap (λ (o : Option (List ℕ)). option_map_or (λ text. bytes_eq text (codes "true")) o false) is
+
+-- a flag that has no row was not used
+pub none_used : (id : List ℕ) (rows : List Row) → one_of id rows ≡ None → is_used id rows ≡ false
+none_used id rows none = ap (λ (o : Option (List ℕ)). option_map_or (λ text. bytes_eq text (codes "true")) o false) none
+
 -- a flag reads as its text says
-pub flag_read : (m : ArgMatches) (id : List ℕ) (r : Bool) → (one_text (found_of m) id ≡ Some (codes "true") → r ≡ true)
+flag_is : (m : ArgMatches) (id : List ℕ) (r : Bool) → (one_text (found_of m) id ≡ Some (codes "true") → r ≡ true)
     → (one_text (found_of m) id ≡ Some (codes "false") → r ≡ false) → HasFlag id (rows_of (found_of m)) → IsFlag id (rows_of (found_of m)) r
-flag_read m id r if_true if_false (true, is) = is ∙ ap (λ (b : Bool). Some (bool_text b)) (sym (if_true (one_text-rows (found_of m) id ∙ is)))
-flag_read m id r if_true if_false (false, is) = is ∙ ap (λ (b : Bool). Some (bool_text b)) (sym (if_false (one_text-rows (found_of m) id ∙ is)))
+flag_is m id r if_true if_false (true, is) = is ∙ ap (λ (b : Bool). Some (bool_text b)) (sym (if_true (one_text-rows (found_of m) id ∙ is)))
+flag_is m id r if_true if_false (false, is) = is ∙ ap (λ (b : Bool). Some (bool_text b)) (sym (if_false (one_text-rows (found_of m) id ∙ is)))
+
+pub flag_read : (m : ArgMatches) (id : List ℕ) (r : Bool) → (one_text (found_of m) id ≡ Some (codes "true") → r ≡ true)
+    → (one_text (found_of m) id ≡ Some (codes "false") → r ≡ false) → HasFlag id (rows_of (found_of m)) → is_used id (rows_of (found_of m)) ≡ r
+flag_read m id r if_true if_false has = flag_used id _ r (flag_is m id r if_true if_false has)
 
 pub some_is : {X : Type 0} (o : Option X) (x : X) → o ≡ Some x → IsSome o
 some_is o x e = rw e refl

@@ -1,4 +1,4 @@
--- How an error of clap is told.
+-- How an error of clap is reported.
 use Rattle.std.proofs.Common.{◌≡◌, ◌⊎◌, ℕ, List, inl, inr, subst}
 use Rattle.clap.specs.Faults.{fault_of}
 use Rattle.clap.specs.Kinds.{HasKind, IsAmong}
@@ -9,7 +9,8 @@ use Rattle.clap.specs.declared.error.kind.ErrorKind.{ErrorKind}
 use Rattle.clap.specs.declared.error.kind.ErrorKind.TheVariants.{OutOfMemory}
 use Rattle.census_cli.specs.Asking.{IsMatched}
 use Rattle.census_cli.specs.CommandLine.{census_app}
-use Rattle.census_cli.specs.Refusing.{RefusesCommand, RefusesWords, TellsKind}
+use Rattle.census_cli.specs.Holding.{RefusesCommand}
+use Rattle.census_cli.specs.Refusing.{RefusesWords, TellsKind}
 use Rattle.census_cli.specs.declared.fault.WordsFault.{WordsFault}
 use Rattle.census_cli.specs.declared.fault.WordsFault.TheVariants.{Help, Refused, Memory}
 
@@ -20,7 +21,7 @@ told words kind (Help text) (inr (version, same)) (inl memory) = cc
 told words kind (Help text) (inl help) (inr among) = inl (subst (λ (k : ErrorKind). IsAmong k (fault_of census_app words)) help among)
 told words kind (Help text) (inr (version, same)) (inr among) = inr (subst (λ (k : ErrorKind). IsAmong k (fault_of census_app words)) version among, same)
 told words kind (Refused text) tells (inl memory) = absurd (tells.2 memory)
-told words kind (Refused text) tells (inr among) = inl (record { kind = kind; among = among; no_help = tells.0; no_version = tells.1; no_memory = tells.2 })
+told words kind (Refused text) tells (inr among) = inl (kind, among, tells.0, tells.1, tells.2)
 told words kind Memory tells h = tt
 
 pub refuses : (app : App) (words : List (List ℕ)) (error : Error) (fault : WordsFault) → app ≡ census_app → TellsKind (kind_of error) fault
@@ -28,9 +29,8 @@ pub refuses : (app : App) (words : List (List ℕ)) (error : Error) (fault : Wor
 refuses app words error fault same tells h =
     told words (kind_of error) fault tells (subst (λ (a : App). HasKind (fault_of a words) error) same h)
 
--- words that clap takes are refused as the command that they name is
+-- words that clap accepts are refused as the command that they name is
 pub refuses_matched : (words : List (List ℕ)) (fault : WordsFault) → IsMatched words → RefusesCommand (subcommand_of census_app words) fault → RefusesWords words fault
 refuses_matched words (Help text) matched h = absurd h
-refuses_matched words (Refused text) matched (inl tables) = inr (inl (matched, tables))
-refuses_matched words (Refused text) matched (inr page) = inr (inr (matched, page))
+refuses_matched words (Refused text) matched h = inr (matched, h)
 refuses_matched words Memory matched h = tt

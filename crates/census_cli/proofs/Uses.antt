@@ -33,7 +33,7 @@ HasValue a = (nat_lt 0 (least_of a) ≡ true) ⊎ HasFirst a.missing
 abbrev pub IsUsual : Rule → Type 0
 IsUsual a = (is_request (action_of a) ≡ true) ⊎ ((keeps_values (action_of a) ≡ true) × HasValue a)
 
--- as many values as a use wants are some
+-- where a use wants at least one value, and its number of values is in range, there is a first value
 has_first : (least most : ℕ) (values : List Text) → nat_lt 0 least ≡ true → range_kinds least most (length values) ≡ [] → HasFirst values
 has_first least most [] some e =
     let fails : (if true then InvalidValue ∷ [] else []) ≡ [] = rw some at e in

@@ -1,285 +1,105 @@
 -- The command line of `census`, as clap reads it.
-use Rattle.std.specs.Prelude.{ℕ, List, [], ◌∷◌, Some, true, false, codes, fold}
+use Prim.Native.String.{String}
+use Rattle.std.specs.Prelude.{ℕ, List, [], ◌∷◌, Some, true, false, codes, fold, unwrap_or}
+use Rattle.std.specs.List.{find}
+use Rattle.std.specs.Str.{bytes_eq}
 use Rattle.clap.specs.Lexer.{usize_max}
 use Rattle.clap.specs.Walk.{Rule}
 use Rattle.clap.specs.Simple.{App, Shape, new_rule, new_shape, with_rule}
 use Rattle.clap.specs.declared.builder.action.ArgAction.TheVariants.{SetTrue}
 use Rattle.clap.specs.declared.builder.value_parser.ValueParser.TheVariants.{Unsigned}
-use Rattle.census_cli.specs.Limits.{generation_limit, horizon_limit, objects_bound_limit, settles_bound_limit, worker_limit}
 
--- `--bound N`
-abbrev pub bound_rule : Rule
-bound_rule = record (new_rule (codes "bound")) {
-  short = Some 98;
-  long = Some (codes "bound");
-  value_names = 1;
-  defaults = codes "1000" ∷ [];
-  parser = Some (Unsigned 1 settles_bound_limit);
-}
+-- `ID`, an argument by its place
+abbrev pub word : String → Rule
+word id = record (new_rule (codes id)) { value_names = 1 }
 
--- `--workers N`
-abbrev pub workers_rule : Rule
-workers_rule = record (new_rule (codes "workers")) {
-  short = Some 119;
-  long = Some (codes "workers");
-  value_names = 1;
-  defaults = codes "4" ∷ [];
-  parser = Some (Unsigned 1 worker_limit);
-}
+-- `ID..`, any number of them
+abbrev pub several : String → Rule
+several id = record (word id) { range = Some (record { start_inclusive = 1; end_inclusive = usize_max }) }
 
--- the `--bound N` of `objects` and of `identify`
+-- `--ID`
+abbrev pub flag : String → Rule
+flag id = record (new_rule (codes id)) { long = Some (codes id); action = Some SetTrue }
+
+-- `--ID VALUE`
+abbrev pub option : String → Rule
+option id = record (word id) { long = Some (codes id) }
+
+-- `--ID N`, from 1 to `most`
+abbrev pub number : String → ℕ → Rule
+number id most = record (option id) { parser = Some (Unsigned 1 most) }
+
+-- the first argument of `objects` and of `identify`, `-b N` or `--bound N`
 abbrev pub search_rule : Rule
-search_rule = record (new_rule (codes "bound")) {
-  short = Some 98;
-  long = Some (codes "bound");
-  value_names = 1;
-  defaults = codes "10000" ∷ [];
-  parser = Some (Unsigned 1 objects_bound_limit);
-}
+search_rule = record (number "bound" 100000) { short = Some 98; defaults = codes "10000" ∷ [] }
 
--- the `--cells N` of `run`, which has no default
-abbrev pub limit_rule : Rule
-limit_rule = record (new_rule (codes "cells")) {
-  long = Some (codes "cells");
-  value_names = 1;
-  parser = Some (Unsigned 1 4294967295);
-}
+-- their arguments of what an object is, before these
+abbrev pub with_objects : List Rule → List Rule
+with_objects later =
+    record (number "cells" 4294967295) { defaults = codes "1000000" ∷ [] }
+    ∷ flag "near" ∷ record (number "horizon" 10000) { defaults = codes "1000" ∷ [] } ∷ later
 
--- the `--cells N` of `objects` and of `identify`
-abbrev pub cells_rule : Rule
-cells_rule = record limit_rule { defaults = codes "1000000" ∷ [] }
+-- `-w N` or `--workers N`, of `run` and of `objects`
+abbrev pub workers_rule : Rule
+workers_rule = record (number "workers" 16) { short = Some 119; defaults = codes "4" ∷ [] }
 
--- `--near`
-abbrev pub near_rule : Rule
-near_rule = record (new_rule (codes "near")) { long = Some (codes "near"); action = Some SetTrue }
+-- their last arguments: `--input N`, `-r` or `--recursive`, `-k` or `--keep-going` and more
+abbrev pub census_rules : List Rule
+census_rules =
+    number "input" 9223372036854775807 ∷ record (flag "recursive") { short = Some 114 }
+    ∷ record (flag "keep-going") { short = Some 107 } ∷ flag "explain" ∷ flag "no-progress" ∷ several "folder" ∷ []
 
--- `--horizon N`
-abbrev pub horizon_rule : Rule
-horizon_rule = record (new_rule (codes "horizon")) {
-  long = Some (codes "horizon");
-  value_names = 1;
-  defaults = codes "1000" ∷ [];
-  parser = Some (Unsigned 1 horizon_limit);
-}
-
--- `--input N`
-abbrev pub input_rule : Rule
-input_rule = record (new_rule (codes "input")) {
-  long = Some (codes "input");
-  value_names = 1;
-  parser = Some (Unsigned 1 9223372036854775807);
-}
-
--- `--recursive`
-abbrev pub recursive_rule : Rule
-recursive_rule = record (new_rule (codes "recursive")) {
-  short = Some 114;
-  long = Some (codes "recursive");
-  action = Some SetTrue;
-}
-
--- `--keep-going`
-abbrev pub keep_going_rule : Rule
-keep_going_rule = record (new_rule (codes "keep-going")) {
-  short = Some 107;
-  long = Some (codes "keep-going");
-  action = Some SetTrue;
-}
-
--- `--explain`
-abbrev pub explain_rule : Rule
-explain_rule = record (new_rule (codes "explain")) {
-  long = Some (codes "explain");
-  action = Some SetTrue;
-}
-
--- `--no-progress`
-abbrev pub no_progress_rule : Rule
-no_progress_rule = record (new_rule (codes "no-progress")) {
-  long = Some (codes "no-progress");
-  action = Some SetTrue;
-}
-
--- `FOLDER..`
-abbrev pub folder_rule : Rule
-folder_rule = record (new_rule (codes "folder")) {
-  value_names = 1;
-  range = Some (record { start_inclusive = 1; end_inclusive = usize_max });
-}
-
--- the `FILE..` of `identify`
-abbrev pub files_rule : Rule
-files_rule = record (new_rule (codes "file")) {
-  value_names = 1;
-  range = Some (record { start_inclusive = 1; end_inclusive = usize_max });
-}
-
--- the N of `advance N`
-abbrev pub generations_rule : Rule
-generations_rule = record (new_rule (codes "generations")) {
-  value_names = 1;
-  required = true;
-  parser = Some (Unsigned 0 generation_limit);
-}
-
--- the FILE of `advance N [FILE]`
-abbrev pub file_rule : Rule
-file_rule = record (new_rule (codes "file")) { value_names = 1 }
-
--- the CODE of `draw CODE`
-abbrev pub code_rule : Rule
-code_rule = record (new_rule (codes "code")) { value_names = 1; required = true }
-
--- `--rule R`
-abbrev pub rule_rule : Rule
-rule_rule = record (new_rule (codes "rule")) {
-  long = Some (codes "rule");
-  value_names = 1;
-  defaults = codes "B3/S23" ∷ [];
-}
-
--- `--csv`
-abbrev pub csv_rule : Rule
-csv_rule = record (new_rule (codes "csv")) { long = Some (codes "csv"); action = Some SetTrue }
-
--- `--json`
-abbrev pub json_rule : Rule
-json_rule = record (new_rule (codes "json")) { long = Some (codes "json"); action = Some SetTrue }
-
--- `--safe`
-abbrev pub safe_rule : Rule
-safe_rule = record (new_rule (codes "safe")) { long = Some (codes "safe"); action = Some SetTrue }
-
--- `--parts`
-abbrev pub parts_rule : Rule
-parts_rule = record (new_rule (codes "parts")) { long = Some (codes "parts"); action = Some SetTrue }
-
--- `--codes`
-abbrev pub codes_rule : Rule
-codes_rule = record (new_rule (codes "codes")) { long = Some (codes "codes"); action = Some SetTrue }
-
--- `--names FILE`
-abbrev pub names_rule : Rule
-names_rule = record (new_rule (codes "names")) { long = Some (codes "names"); value_names = 1 }
-
--- `--title TEXT`
-abbrev pub title_rule : Rule
-title_rule = record (new_rule (codes "title")) { long = Some (codes "title"); value_names = 1 }
-
--- `--note TEXT`
-abbrev pub note_rule : Rule
-note_rule = record (new_rule (codes "note")) { long = Some (codes "note"); value_names = 1 }
-
--- `--sort ORDER`
-abbrev pub sort_rule : Rule
-sort_rule = record (new_rule (codes "sort")) {
-  long = Some (codes "sort");
-  value_names = 1;
-  defaults = codes "report" ∷ [];
-}
-
--- `--top N`
-abbrev pub top_rule : Rule
-top_rule = record (new_rule (codes "top")) {
-  long = Some (codes "top");
-  value_names = 1;
-  parser = Some (Unsigned 1 4294967295);
-}
-
--- `--base URL`
-abbrev pub base_rule : Rule
-base_rule = record (new_rule (codes "base")) { long = Some (codes "base"); value_names = 1 }
-
--- `--links`
-abbrev pub links_rule : Rule
-links_rule = record (new_rule (codes "links")) { long = Some (codes "links"); action = Some SetTrue }
-
--- `--no-patterns`
-abbrev pub no_patterns_rule : Rule
-no_patterns_rule = record (new_rule (codes "no-patterns")) {
-  long = Some (codes "no-patterns");
-  action = Some SetTrue;
-}
-
--- `--cut`
-abbrev pub cut_rule : Rule
-cut_rule = record (new_rule (codes "cut")) { long = Some (codes "cut"); action = Some SetTrue }
-
--- the `REPORT..` of the commands that read reports
-abbrev pub reports_rule : Rule
-reports_rule = record (new_rule (codes "report")) {
-  value_names = 1;
-  range = Some (record { start_inclusive = 1; end_inclusive = usize_max });
-}
-
--- the CLAIMS of `verify`
-abbrev pub claims_rule : Rule
-claims_rule = record (new_rule (codes "claims")) { value_names = 1; required = true }
+-- the last arguments of the commands that read reports
+abbrev pub reading_rules : List Rule
+reading_rules = flag "cut" ∷ number "input" 9223372036854775807 ∷ flag "explain" ∷ several "report" ∷ []
 
 -- a command of this name with these arguments, in order
-abbrev pub shape_with : List ℕ → List Rule → Shape
-shape_with name rules = record (new_shape name) { rules = rules }
+abbrev pub command : String → List Rule → Shape
+command name rules = record (new_shape (codes name)) { rules = rules }
 
--- the last arguments of the commands that read reports: how they are read, and which they are
-abbrev pub reading_rules : List Rule
-reading_rules = cut_rule ∷ input_rule ∷ explain_rule ∷ reports_rule ∷ []
+-- the commands of `census`
+abbrev pub commands : List Shape
+commands =
+    command "run" (record (number "bound" 1000000) { short = Some 98; defaults = codes "1000" ∷ [] }
+    ∷ workers_rule ∷ number "cells" 4294967295 ∷ census_rules)
+    ∷ command "objects" (search_rule ∷ workers_rule ∷ with_objects census_rules)
+    ∷ command "identify" (search_rule
+    ∷ with_objects (flag "json" ∷ option "names" ∷ flag "explain" ∷ several "file" ∷ []))
+    ∷ command "advance" (record (word "generations") { required = true; parser = Some (Unsigned 0 4194304) }
+    ∷ flag "explain" ∷ word "file" ∷ [])
+    ∷ command "draw" (record (word "code") { required = true }
+    ∷ record (option "rule") { defaults = codes "B3/S23" ∷ [] } ∷ flag "explain" ∷ [])
+    ∷ command "merge" reading_rules
+    ∷ command "table" (flag "csv" ∷ flag "json" ∷ flag "safe" ∷ flag "parts" ∷ flag "codes" ∷ option "names"
+    ∷ reading_rules)
+    ∷ command "page" (option "title" ∷ option "note" ∷ record (option "sort") { defaults = codes "report" ∷ [] }
+    ∷ number "top" 4294967295 ∷ option "base" ∷ flag "links" ∷ flag "no-patterns" ∷ reading_rules)
+    ∷ command "same" (flag "json" ∷ reading_rules)
+    ∷ command "verify" (record (word "claims") { required = true } ∷ reading_rules)
+    ∷ []
 
--- a command with these after its own arguments
-abbrev pub with_reading : App → App
-with_reading app = fold with_rule app reading_rules
-
-abbrev pub run_shape : Shape
-run_shape = shape_with (codes "run")
-    (bound_rule ∷ workers_rule ∷ limit_rule ∷ input_rule ∷ recursive_rule ∷ keep_going_rule
-    ∷ explain_rule ∷ no_progress_rule ∷ folder_rule ∷ [])
-
-abbrev pub objects_shape : Shape
-objects_shape = shape_with (codes "objects")
-    (search_rule ∷ workers_rule ∷ cells_rule ∷ near_rule ∷ horizon_rule ∷ input_rule ∷ recursive_rule ∷ keep_going_rule
-    ∷ explain_rule ∷ no_progress_rule ∷ folder_rule ∷ [])
-
-abbrev pub identify_shape : Shape
-identify_shape = shape_with (codes "identify")
-    (search_rule ∷ cells_rule ∷ near_rule ∷ horizon_rule ∷ json_rule ∷ names_rule ∷ explain_rule ∷ files_rule ∷ [])
-
-abbrev pub advance_shape : Shape
-advance_shape = shape_with (codes "advance") (generations_rule ∷ explain_rule ∷ file_rule ∷ [])
-
-abbrev pub draw_shape : Shape
-draw_shape = shape_with (codes "draw") (code_rule ∷ rule_rule ∷ explain_rule ∷ [])
-
-abbrev pub merge_shape : Shape
-merge_shape = shape_with (codes "merge") reading_rules
-
-abbrev pub table_shape : Shape
-table_shape = shape_with (codes "table")
-    (csv_rule ∷ json_rule ∷ safe_rule ∷ parts_rule ∷ codes_rule ∷ names_rule ∷ reading_rules)
-
-abbrev pub page_shape : Shape
-page_shape = shape_with (codes "page")
-    (title_rule ∷ note_rule ∷ sort_rule ∷ top_rule ∷ base_rule ∷ links_rule ∷ no_patterns_rule ∷ reading_rules)
-
-abbrev pub same_shape : Shape
-same_shape = shape_with (codes "same") (json_rule ∷ reading_rules)
-
-abbrev pub verify_shape : Shape
-verify_shape = shape_with (codes "verify") (claims_rule ∷ reading_rules)
-
--- `census` without its commands: it wants one, its words come without its own name, and it tells its version
-abbrev pub bare_app : App
-bare_app = record {
+-- `census`: it needs one of its commands, its words come without its own name, and it has a version
+abbrev pub census_app : App
+census_app = record {
   top = record (new_shape (codes "census")) {
+    is_leaf = false;
     no_binary_name = true;
     has_version = true;
     subcommand_required = true;
   };
-  subs = [];
+  subs = commands;
 }
 
--- `census`
-abbrev pub census_app : App
-census_app = record {
-  top = record bare_app.top { is_leaf = false };
-  subs = run_shape ∷ objects_shape ∷ identify_shape ∷ advance_shape ∷ draw_shape ∷ merge_shape
-      ∷ table_shape ∷ page_shape ∷ same_shape ∷ verify_shape ∷ [];
-}
+-- # How it is built
+
+-- one of its commands, by its name
+abbrev pub command_named : String → Shape
+command_named name = unwrap_or (find (λ s. bytes_eq s.name (codes name)) commands) (new_shape [])
+
+-- a command with the last arguments of those that read reports after its own
+abbrev pub with_reading : App → App
+with_reading app = fold with_rule app reading_rules
+
+-- `census` without its commands
+abbrev pub bare_app : App
+bare_app = record { top = record census_app.top { is_leaf = true }; subs = [] }

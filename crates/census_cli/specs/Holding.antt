@@ -1,9 +1,26 @@
--- What the matches of a command hold wherever clap gives them.
-use Rattle.std.specs.Prelude.{◌≡◌, ◌⊎◌, ℕ, List, Bool, Option, Some, None, codes}
-use Rattle.clap.specs.Values.{IsUnsignedIn}
+-- What the matches of a command hold whenever clap returns them, and what the parts that read them return.
+use Rattle.std.specs.Prelude.{◌≡◌, ◌⊎◌, ℕ, ◌≤◌, List, Bool, Option, Some, None, IsSomeAnd, codes}
+use Rattle.clap.specs.Values.{IsUnsignedIn, bool_text}
 use Rattle.clap.specs.Walk.{Row, first_of, one_of}
-use Rattle.census_cli.specs.Asking.{IsFlag}
+use Rattle.life_answer.specs.Questions.{IsAnswered}
+use Rattle.life_answer.specs.declared.question.Question.{Question}
+use Rattle.life_answer.specs.declared.question.Question.TheVariants.{Objects, Settles}
+use Rattle.census_cli.specs.Asking.{Asks, Gives, Uses}
 use Rattle.census_cli.specs.Limits.{generation_limit, horizon_limit, objects_bound_limit, settles_bound_limit, worker_limit}
+use Rattle.census_cli.specs.Refusing.{IsStrange}
+use Rattle.census_cli.specs.declared.fault.WordsFault.{WordsFault}
+use Rattle.census_cli.specs.declared.fault.WordsFault.TheVariants.{Help, Refused, Memory}
+use Rattle.census_cli.specs.declared.request.Asked.{Asked}
+use Rattle.census_cli.specs.declared.request.Request.{Request}
+use Rattle.census_cli.specs.declared.request.Request.TheVariants.{Census, Identify, Advance, Draw, Merge, Table, Page, Same, Verify}
+
+-- whether a flag was used, by its text
+abbrev pub IsFlag : List ℕ → List Row → Bool → Type 0
+IsFlag id rows used = one_of id rows ≡ Some (bool_text used)
+
+-- the command reports no progress, and has no flag that says so
+abbrev pub HasNoProgress : List Row → Type 0
+HasNoProgress rows = one_of (codes "no-progress") rows ≡ None
 
 -- a number of this range
 abbrev pub HasNumberIn : ℕ → ℕ → List ℕ → List Row → Type 0
@@ -40,7 +57,7 @@ pub record HasRun (rows : List Row) : Type 0 where
   pub explain : HasFlag (codes "explain") rows
   pub no_progress : HasFlag (codes "no-progress") rows
 
--- those of `objects` have theirs
+-- the matches of `objects` have their numbers and flags
 pub record HasObjects (rows : List Row) : Type 0 where
   pub bound : HasNumberIn 1 objects_bound_limit (codes "bound") rows
   pub workers : HasNumberIn 1 worker_limit (codes "workers") rows
@@ -51,7 +68,7 @@ pub record HasObjects (rows : List Row) : Type 0 where
   pub explain : HasFlag (codes "explain") rows
   pub no_progress : HasFlag (codes "no-progress") rows
 
--- those of `identify` have theirs
+-- the matches of `identify` have their numbers and flags
 pub record HasIdentify (rows : List Row) : Type 0 where
   pub bound : HasNumberIn 1 objects_bound_limit (codes "bound") rows
   pub cells : HasNumberIn 1 4294967295 (codes "cells") rows
@@ -59,25 +76,29 @@ pub record HasIdentify (rows : List Row) : Type 0 where
   pub horizon : HasNumberIn 1 horizon_limit (codes "horizon") rows
   pub json : HasFlag (codes "json") rows
   pub explain : HasFlag (codes "explain") rows
+  pub no_progress : HasNoProgress rows
 
--- those of `advance` have theirs
+-- the matches of `advance` have their number and flag
 pub record HasAdvance (rows : List Row) : Type 0 where
   pub generations : HasNumberIn 0 generation_limit (codes "generations") rows
   pub explain : HasFlag (codes "explain") rows
+  pub no_progress : HasNoProgress rows
 
--- those of `draw` have their texts
+-- the matches of `draw` have their texts and flag
 pub record HasDraw (rows : List Row) : Type 0 where
   pub code : HasText (codes "code") rows
   pub rule : HasText (codes "rule") rows
   pub explain : HasFlag (codes "explain") rows
+  pub no_progress : HasNoProgress rows
 
--- those of a command that reads reports have what says how: `merge` has no more
+-- the matches of a command that reads reports say how these are read; those of `merge` hold no more
 pub record HasReports (rows : List Row) : Type 0 where
   pub cut : HasFlag (codes "cut") rows
   pub input : HasLimit 9223372036854775807 (codes "input") rows
   pub explain : HasFlag (codes "explain") rows
+  pub no_progress : HasNoProgress rows
 
--- those of `table` have theirs
+-- the matches of `table` have their flags
 pub record HasTable (rows : List Row) : Type 0 where
   pub csv : HasFlag (codes "csv") rows
   pub json : HasFlag (codes "json") rows
@@ -86,7 +107,7 @@ pub record HasTable (rows : List Row) : Type 0 where
   pub of_codes : HasFlag (codes "codes") rows
   pub reports : HasReports rows
 
--- those of `page` have theirs
+-- the matches of `page` have their text, number and flags
 pub record HasPage (rows : List Row) : Type 0 where
   pub sort : HasText (codes "sort") rows
   pub top : HasLimit 4294967295 (codes "top") rows
@@ -94,17 +115,17 @@ pub record HasPage (rows : List Row) : Type 0 where
   pub no_patterns : HasFlag (codes "no-patterns") rows
   pub reports : HasReports rows
 
--- those of `same` have theirs
+-- the matches of `same` have their flags
 pub record HasSame (rows : List Row) : Type 0 where
   pub json : HasFlag (codes "json") rows
   pub reports : HasReports rows
 
--- those of `verify` have theirs
+-- the matches of `verify` have their text and flags
 pub record HasVerify (rows : List Row) : Type 0 where
   pub claims : HasText (codes "claims") rows
   pub reports : HasReports rows
 
--- a command with the matches that it has to have
+-- a command with the matches that it must have
 abbrev pub IsCommand : Option (List ℕ × List Row) → Type 0
 IsCommand None = ⊥
 IsCommand (Some (name, rows)) =
@@ -118,3 +139,53 @@ IsCommand (Some (name, rows)) =
     ⊎ (((name ≡ codes "page") × HasPage rows)
     ⊎ (((name ≡ codes "same") × HasSame rows)
     ⊎ ((name ≡ codes "verify") × HasVerify rows)))))))))
+
+-- ---- what the parts that read them return
+
+-- the command and its matches ask for this
+abbrev pub GivesRequest : Option (List ℕ × List Row) → Request → Type 0
+GivesRequest command request = IsSomeAnd command (λ c. Gives c.0 c.1 request)
+
+-- and say whether its faults are to be explained, and whether it is to be quiet
+abbrev pub GivesAsked : Option (List ℕ × List Row) → Asked → Type 0
+GivesAsked command asked =
+    GivesRequest command asked.request × Uses (codes "explain") command asked.explain
+    × Uses (codes "no-progress") command asked.quiet
+
+-- why a command and its matches are not a request
+abbrev pub RefusesCommand : Option (List ℕ × List Row) → WordsFault → Type 0
+RefusesCommand command (Help text) = ⊥
+RefusesCommand command (Refused text) = IsSomeAnd command (λ c. IsStrange c.0 c.1)
+RefusesCommand command Memory = Unit {0}
+
+-- ---- the numbers of what is asked for
+
+-- there is no limit, or it is from 1 to the most
+abbrev pub IsLimit : ℕ → Option ℕ → Type 0
+IsLimit most None = Unit {0}
+IsLimit most (Some n) = (1 ≤ n) × (n ≤ most)
+
+-- the largest number of cells of a pattern, which there always is where objects are asked for
+abbrev pub HasCells : Question → Type 0
+HasCells (Settles bound cells) = IsLimit 4294967295 cells
+HasCells (Objects bound None near horizon) = ⊥
+HasCells (Objects bound (Some cells) near horizon) = IsLimit 4294967295 (Some cells)
+
+-- its numbers are in their ranges
+abbrev pub IsLawful : Request → Type 0
+IsLawful (Census census) =
+    IsAnswered census.question × ((1 ≤ census.workers) × (census.workers ≤ worker_limit)) × HasCells census.question
+    × IsLimit 9223372036854775807 census.collections.input
+IsLawful (Identify bound cells near horizon json names files) =
+    IsAnswered (Objects bound (Some cells) near horizon) × IsLimit 4294967295 (Some cells)
+IsLawful (Advance generations file) = generations ≤ generation_limit
+IsLawful (Draw code rule) = Unit {0}
+IsLawful (Merge reports) = IsLimit 9223372036854775807 reports.input
+IsLawful (Table subject format names reports) = IsLimit 9223372036854775807 reports.input
+IsLawful (Page page reports) = IsLimit 4294967295 page.top × IsLimit 9223372036854775807 reports.input
+IsLawful (Same json reports) = IsLimit 9223372036854775807 reports.input
+IsLawful (Verify claims reports) = IsLimit 9223372036854775807 reports.input
+
+-- they are where words ask for it, as clap refuses others
+abbrev pub AskedAreLawful : Type 0
+AskedAreLawful = (words : List (List ℕ)) (request : Request) → Asks words request → IsLawful request

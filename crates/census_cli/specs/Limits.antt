@@ -1,4 +1,4 @@
--- The greatest numbers that are taken.
+-- The greatest numbers that are accepted.
 use Rattle.std.specs.Prelude.{ℕ}
 
 -- the bound of `run`

@@ -1,13 +1,9 @@
 //! The command line, built with `clap`.
-ghost use Rattle.std.specs.Prelude.{◌≡◌, IfOk, false};
+ghost use Rattle.std.specs.Prelude.{◌≡◌, ◌∷◌, [], IfOk, Some, codes, false, true};
 ghost use Rattle.clap.specs.Words.{app_of, rule_of, shape_of};
 ghost use Rattle.clap.specs.declared.builder.command.Command.TheViews.{out-Command};
-ghost use Rattle.census_cli.specs.CommandLine.{advance_shape, bare_app, census_app, draw_shape, identify_shape};
-ghost use Rattle.census_cli.specs.CommandLine.{merge_shape, objects_shape, page_shape, run_shape, same_shape, table_shape, verify_shape};
-ghost use Rattle.census_cli.specs.CommandLine.{base_rule, cut_rule, links_rule, names_rule, no_patterns_rule, note_rule, sort_rule, title_rule, top_rule, with_reading};
-ghost use Rattle.census_cli.specs.CommandLine.{bound_rule, cells_rule, claims_rule, code_rule, codes_rule, csv_rule, explain_rule, file_rule};
-ghost use Rattle.census_cli.specs.CommandLine.{files_rule, folder_rule, generations_rule, horizon_rule, input_rule, json_rule, keep_going_rule, limit_rule, near_rule};
-ghost use Rattle.census_cli.specs.CommandLine.{no_progress_rule, parts_rule, recursive_rule, reports_rule, rule_rule, safe_rule, search_rule, workers_rule};
+ghost use Rattle.clap.specs.declared.builder.value_parser.ValueParser.TheVariants.{Unsigned};
+ghost use Rattle.census_cli.specs.CommandLine.{bare_app, census_app, command_named, flag, number, option, search_rule, several, with_reading, word, workers_rule};
 
 use crate::fault::VERSION_TEXT;
 use crate::help;
@@ -28,7 +24,8 @@ const HORIZON_LIMIT: i64 = 10_000;
 const GENERATION_LIMIT: i64 = 4_194_304;
 
 fn bound<'a>(alloc: Global) -> Arg<'a>
-    ensures { (rule_of result ≡ bound_rule) × (result.global ≡ false) }
+    ensures { (rule_of result ≡ record (number "bound" 1000000) { short = Some 98; defaults = codes "1000" ∷ [] })
+        × (result.global ≡ false) }
 {
     Arg::new(alloc, "bound")
         .short('b')
@@ -52,7 +49,7 @@ fn search<'a>(alloc: Global) -> Arg<'a>
 }
 
 fn limit<'a>(alloc: Global) -> Arg<'a>
-    ensures { (rule_of result ≡ limit_rule) × (result.global ≡ false) }
+    ensures { (rule_of result ≡ number "cells" 4294967295) × (result.global ≡ false) }
 {
     Arg::new(alloc, "cells")
         .long("cells")
@@ -62,7 +59,8 @@ fn limit<'a>(alloc: Global) -> Arg<'a>
 }
 
 fn cells<'a>(alloc: Global) -> Arg<'a>
-    ensures { (rule_of result ≡ cells_rule) × (result.global ≡ false) }
+    ensures { (rule_of result ≡ record (number "cells" 4294967295) { defaults = codes "1000000" ∷ [] })
+        × (result.global ≡ false) }
 {
     Arg::new(alloc, "cells")
         .long("cells")
@@ -73,7 +71,7 @@ fn cells<'a>(alloc: Global) -> Arg<'a>
 }
 
 fn near<'a>(alloc: Global) -> Arg<'a>
-    ensures { (rule_of result ≡ near_rule) × (result.global ≡ false) }
+    ensures { (rule_of result ≡ flag "near") × (result.global ≡ false) }
 {
     Arg::new(alloc, "near")
         .long("near")
@@ -82,7 +80,8 @@ fn near<'a>(alloc: Global) -> Arg<'a>
 }
 
 fn horizon<'a>(alloc: Global) -> Arg<'a>
-    ensures { (rule_of result ≡ horizon_rule) × (result.global ≡ false) }
+    ensures { (rule_of result ≡ record (number "horizon" 10000) { defaults = codes "1000" ∷ [] })
+        × (result.global ≡ false) }
 {
     Arg::new(alloc, "horizon")
         .long("horizon")
@@ -93,7 +92,7 @@ fn horizon<'a>(alloc: Global) -> Arg<'a>
 }
 
 fn input<'a>(alloc: Global) -> Arg<'a>
-    ensures { (rule_of result ≡ input_rule) × (result.global ≡ false) }
+    ensures { (rule_of result ≡ number "input" 9223372036854775807) × (result.global ≡ false) }
 {
     Arg::new(alloc, "input")
         .long("input")
@@ -115,7 +114,7 @@ fn workers<'a>(alloc: Global) -> Arg<'a>
 }
 
 fn recursive<'a>(alloc: Global) -> Arg<'a>
-    ensures { (rule_of result ≡ recursive_rule) × (result.global ≡ false) }
+    ensures { (rule_of result ≡ record (flag "recursive") { short = Some 114 }) × (result.global ≡ false) }
 {
     Arg::new(alloc, "recursive")
         .short('r')
@@ -125,7 +124,7 @@ fn recursive<'a>(alloc: Global) -> Arg<'a>
 }
 
 fn keep_going<'a>(alloc: Global) -> Arg<'a>
-    ensures { (rule_of result ≡ keep_going_rule) × (result.global ≡ false) }
+    ensures { (rule_of result ≡ record (flag "keep-going") { short = Some 107 }) × (result.global ≡ false) }
 {
     Arg::new(alloc, "keep-going")
         .short('k')
@@ -135,7 +134,7 @@ fn keep_going<'a>(alloc: Global) -> Arg<'a>
 }
 
 fn explain<'a>(alloc: Global) -> Arg<'a>
-    ensures { (rule_of result ≡ explain_rule) × (result.global ≡ false) }
+    ensures { (rule_of result ≡ flag "explain") × (result.global ≡ false) }
 {
     Arg::new(alloc, "explain")
         .long("explain")
@@ -144,7 +143,7 @@ fn explain<'a>(alloc: Global) -> Arg<'a>
 }
 
 fn no_progress<'a>(alloc: Global) -> Arg<'a>
-    ensures { (rule_of result ≡ no_progress_rule) × (result.global ≡ false) }
+    ensures { (rule_of result ≡ flag "no-progress") × (result.global ≡ false) }
 {
     Arg::new(alloc, "no-progress")
         .long("no-progress")
@@ -153,7 +152,7 @@ fn no_progress<'a>(alloc: Global) -> Arg<'a>
 }
 
 fn folder<'a>(alloc: Global) -> Arg<'a>
-    ensures { (rule_of result ≡ folder_rule) × (result.global ≡ false) }
+    ensures { (rule_of result ≡ several "folder") × (result.global ≡ false) }
 {
     Arg::new(alloc, "folder")
         .value_name("FOLDER")
@@ -164,7 +163,7 @@ fn folder<'a>(alloc: Global) -> Arg<'a>
 }
 
 fn files<'a>(alloc: Global) -> Arg<'a>
-    ensures { (rule_of result ≡ files_rule) × (result.global ≡ false) }
+    ensures { (rule_of result ≡ several "file") × (result.global ≡ false) }
 {
     Arg::new(alloc, "file")
         .value_name("FILE")
@@ -173,7 +172,8 @@ fn files<'a>(alloc: Global) -> Arg<'a>
 }
 
 fn generations<'a>(alloc: Global) -> Arg<'a>
-    ensures { (rule_of result ≡ generations_rule) × (result.global ≡ false) }
+    ensures { (rule_of result ≡ record (word "generations") { required = true; parser = Some (Unsigned 0 4194304) })
+        × (result.global ≡ false) }
 {
     Arg::new(alloc, "generations")
         .value_name("N")
@@ -183,13 +183,13 @@ fn generations<'a>(alloc: Global) -> Arg<'a>
 }
 
 fn file<'a>(alloc: Global) -> Arg<'a>
-    ensures { (rule_of result ≡ file_rule) × (result.global ≡ false) }
+    ensures { (rule_of result ≡ word "file") × (result.global ≡ false) }
 {
     Arg::new(alloc, "file").value_name("FILE").help(help::FILE)
 }
 
 fn code<'a>(alloc: Global) -> Arg<'a>
-    ensures { (rule_of result ≡ code_rule) × (result.global ≡ false) }
+    ensures { (rule_of result ≡ record (word "code") { required = true }) × (result.global ≡ false) }
 {
     Arg::new(alloc, "code")
         .value_name("CODE")
@@ -198,7 +198,8 @@ fn code<'a>(alloc: Global) -> Arg<'a>
 }
 
 fn rule<'a>(alloc: Global) -> Arg<'a>
-    ensures { (rule_of result ≡ rule_rule) × (result.global ≡ false) }
+    ensures { (rule_of result ≡ record (option "rule") { defaults = codes "B3/S23" ∷ [] })
+        × (result.global ≡ false) }
 {
     Arg::new(alloc, "rule")
         .long("rule")
@@ -208,7 +209,7 @@ fn rule<'a>(alloc: Global) -> Arg<'a>
 }
 
 fn csv<'a>(alloc: Global) -> Arg<'a>
-    ensures { (rule_of result ≡ csv_rule) × (result.global ≡ false) }
+    ensures { (rule_of result ≡ flag "csv") × (result.global ≡ false) }
 {
     Arg::new(alloc, "csv")
         .long("csv")
@@ -217,7 +218,7 @@ fn csv<'a>(alloc: Global) -> Arg<'a>
 }
 
 fn json<'a>(alloc: Global) -> Arg<'a>
-    ensures { (rule_of result ≡ json_rule) × (result.global ≡ false) }
+    ensures { (rule_of result ≡ flag "json") × (result.global ≡ false) }
 {
     Arg::new(alloc, "json")
         .long("json")
@@ -226,7 +227,7 @@ fn json<'a>(alloc: Global) -> Arg<'a>
 }
 
 fn safe<'a>(alloc: Global) -> Arg<'a>
-    ensures { (rule_of result ≡ safe_rule) × (result.global ≡ false) }
+    ensures { (rule_of result ≡ flag "safe") × (result.global ≡ false) }
 {
     Arg::new(alloc, "safe")
         .long("safe")
@@ -235,7 +236,7 @@ fn safe<'a>(alloc: Global) -> Arg<'a>
 }
 
 fn parts<'a>(alloc: Global) -> Arg<'a>
-    ensures { (rule_of result ≡ parts_rule) × (result.global ≡ false) }
+    ensures { (rule_of result ≡ flag "parts") × (result.global ≡ false) }
 {
     Arg::new(alloc, "parts")
         .long("parts")
@@ -244,7 +245,7 @@ fn parts<'a>(alloc: Global) -> Arg<'a>
 }
 
 fn codes<'a>(alloc: Global) -> Arg<'a>
-    ensures { (rule_of result ≡ codes_rule) × (result.global ≡ false) }
+    ensures { (rule_of result ≡ flag "codes") × (result.global ≡ false) }
 {
     Arg::new(alloc, "codes")
         .long("codes")
@@ -253,7 +254,7 @@ fn codes<'a>(alloc: Global) -> Arg<'a>
 }
 
 fn reports<'a>(alloc: Global) -> Arg<'a>
-    ensures { (rule_of result ≡ reports_rule) × (result.global ≡ false) }
+    ensures { (rule_of result ≡ several "report") × (result.global ≡ false) }
 {
     Arg::new(alloc, "report")
         .value_name("REPORT")
@@ -262,7 +263,7 @@ fn reports<'a>(alloc: Global) -> Arg<'a>
 }
 
 fn names<'a>(alloc: Global) -> Arg<'a>
-    ensures { (rule_of result ≡ names_rule) × (result.global ≡ false) }
+    ensures { (rule_of result ≡ option "names") × (result.global ≡ false) }
 {
     Arg::new(alloc, "names")
         .long("names")
@@ -271,7 +272,7 @@ fn names<'a>(alloc: Global) -> Arg<'a>
 }
 
 fn title<'a>(alloc: Global) -> Arg<'a>
-    ensures { (rule_of result ≡ title_rule) × (result.global ≡ false) }
+    ensures { (rule_of result ≡ option "title") × (result.global ≡ false) }
 {
     Arg::new(alloc, "title")
         .long("title")
@@ -280,7 +281,7 @@ fn title<'a>(alloc: Global) -> Arg<'a>
 }
 
 fn note<'a>(alloc: Global) -> Arg<'a>
-    ensures { (rule_of result ≡ note_rule) × (result.global ≡ false) }
+    ensures { (rule_of result ≡ option "note") × (result.global ≡ false) }
 {
     Arg::new(alloc, "note")
         .long("note")
@@ -289,7 +290,8 @@ fn note<'a>(alloc: Global) -> Arg<'a>
 }
 
 fn sort<'a>(alloc: Global) -> Arg<'a>
-    ensures { (rule_of result ≡ sort_rule) × (result.global ≡ false) }
+    ensures { (rule_of result ≡ record (option "sort") { defaults = codes "report" ∷ [] })
+        × (result.global ≡ false) }
 {
     Arg::new(alloc, "sort")
         .long("sort")
@@ -299,7 +301,7 @@ fn sort<'a>(alloc: Global) -> Arg<'a>
 }
 
 fn top<'a>(alloc: Global) -> Arg<'a>
-    ensures { (rule_of result ≡ top_rule) × (result.global ≡ false) }
+    ensures { (rule_of result ≡ number "top" 4294967295) × (result.global ≡ false) }
 {
     Arg::new(alloc, "top")
         .long("top")
@@ -309,7 +311,7 @@ fn top<'a>(alloc: Global) -> Arg<'a>
 }
 
 fn base<'a>(alloc: Global) -> Arg<'a>
-    ensures { (rule_of result ≡ base_rule) × (result.global ≡ false) }
+    ensures { (rule_of result ≡ option "base") × (result.global ≡ false) }
 {
     Arg::new(alloc, "base")
         .long("base")
@@ -318,7 +320,7 @@ fn base<'a>(alloc: Global) -> Arg<'a>
 }
 
 fn links<'a>(alloc: Global) -> Arg<'a>
-    ensures { (rule_of result ≡ links_rule) × (result.global ≡ false) }
+    ensures { (rule_of result ≡ flag "links") × (result.global ≡ false) }
 {
     Arg::new(alloc, "links")
         .long("links")
@@ -327,7 +329,7 @@ fn links<'a>(alloc: Global) -> Arg<'a>
 }
 
 fn no_patterns<'a>(alloc: Global) -> Arg<'a>
-    ensures { (rule_of result ≡ no_patterns_rule) × (result.global ≡ false) }
+    ensures { (rule_of result ≡ flag "no-patterns") × (result.global ≡ false) }
 {
     Arg::new(alloc, "no-patterns")
         .long("no-patterns")
@@ -336,7 +338,7 @@ fn no_patterns<'a>(alloc: Global) -> Arg<'a>
 }
 
 fn cut<'a>(alloc: Global) -> Arg<'a>
-    ensures { (rule_of result ≡ cut_rule) × (result.global ≡ false) }
+    ensures { (rule_of result ≡ flag "cut") × (result.global ≡ false) }
 {
     Arg::new(alloc, "cut")
         .long("cut")
@@ -345,7 +347,7 @@ fn cut<'a>(alloc: Global) -> Arg<'a>
 }
 
 fn report_input<'a>(alloc: Global) -> Arg<'a>
-    ensures { (rule_of result ≡ input_rule) × (result.global ≡ false) }
+    ensures { (rule_of result ≡ number "input" 9223372036854775807) × (result.global ≡ false) }
 {
     Arg::new(alloc, "input")
         .long("input")
@@ -355,7 +357,7 @@ fn report_input<'a>(alloc: Global) -> Arg<'a>
 }
 
 fn claims<'a>(alloc: Global) -> Arg<'a>
-    ensures { (rule_of result ≡ claims_rule) × (result.global ≡ false) }
+    ensures { (rule_of result ≡ record (word "claims") { required = true }) × (result.global ≡ false) }
 {
     Arg::new(alloc, "claims")
         .value_name("CLAIMS")
@@ -364,7 +366,7 @@ fn claims<'a>(alloc: Global) -> Arg<'a>
 }
 
 fn run<'a>(alloc: Global) -> Result<Command<'a>, AllocError>
-    ensures { IfOk result (λ c. (shape_of c ≡ run_shape) × ((out-Command c).has_globals ≡ false)) }
+    ensures { IfOk result (λ c. (shape_of c ≡ command_named "run") × ((out-Command c).has_globals ≡ false)) }
 {
     Command::new(alloc, "run")
         .about("Report what the patterns of collections become")
@@ -382,7 +384,7 @@ fn run<'a>(alloc: Global) -> Result<Command<'a>, AllocError>
 
 fn objects<'a>(alloc: Global) -> Result<Command<'a>, AllocError>
     ensures { IfOk result
-        (λ c. (shape_of c ≡ objects_shape) × ((out-Command c).has_globals ≡ false)) }
+        (λ c. (shape_of c ≡ command_named "objects") × ((out-Command c).has_globals ≡ false)) }
 {
     Command::new(alloc, "objects")
         .about("Report the objects in what the patterns of collections become")
@@ -402,10 +404,10 @@ fn objects<'a>(alloc: Global) -> Result<Command<'a>, AllocError>
 
 fn identify<'a>(alloc: Global) -> Result<Command<'a>, AllocError>
     ensures { IfOk result
-        (λ c. (shape_of c ≡ identify_shape) × ((out-Command c).has_globals ≡ false)) }
+        (λ c. (shape_of c ≡ command_named "identify") × ((out-Command c).has_globals ≡ false)) }
 {
     Command::new(alloc, "identify")
-        .about("Read RLE texts and tell of each what its pattern is")
+        .about("Read RLE texts and say what each pattern is")
         .after_help(help::IDENTIFY)
         .arg(search(alloc))?
         .arg(cells(alloc))?
@@ -419,7 +421,7 @@ fn identify<'a>(alloc: Global) -> Result<Command<'a>, AllocError>
 
 fn advance<'a>(alloc: Global) -> Result<Command<'a>, AllocError>
     ensures { IfOk result
-        (λ c. (shape_of c ≡ advance_shape) × ((out-Command c).has_globals ≡ false)) }
+        (λ c. (shape_of c ≡ command_named "advance") × ((out-Command c).has_globals ≡ false)) }
 {
     Command::new(alloc, "advance")
         .about("Read an RLE text and write that of its generation N")
@@ -430,7 +432,7 @@ fn advance<'a>(alloc: Global) -> Result<Command<'a>, AllocError>
 }
 
 fn draw<'a>(alloc: Global) -> Result<Command<'a>, AllocError>
-    ensures { IfOk result (λ c. (shape_of c ≡ draw_shape) × ((out-Command c).has_globals ≡ false)) }
+    ensures { IfOk result (λ c. (shape_of c ≡ command_named "draw") × ((out-Command c).has_globals ≡ false)) }
 {
     Command::new(alloc, "draw")
         .about("Write the RLE text of the pattern that an apgcode names")
@@ -440,7 +442,7 @@ fn draw<'a>(alloc: Global) -> Result<Command<'a>, AllocError>
         .arg(explain(alloc))
 }
 
-// The command with the arguments of those that read reports after its own.
+// The command, with the arguments of those that read reports after its own.
 fn with_reading<'a>(alloc: Global, command: Command<'a>) -> Result<Command<'a>, AllocError>
     requires { (out-Command command).has_globals ≡ false }
     ensures { IfOk result
@@ -455,7 +457,7 @@ fn with_reading<'a>(alloc: Global, command: Command<'a>) -> Result<Command<'a>, 
 
 fn merge<'a>(alloc: Global) -> Result<Command<'a>, AllocError>
     ensures { IfOk result
-        (λ c. (shape_of c ≡ merge_shape) × ((out-Command c).has_globals ≡ false)) }
+        (λ c. (shape_of c ≡ command_named "merge") × ((out-Command c).has_globals ≡ false)) }
 {
     let merge = Command::new(alloc, "merge")
         .about("Make one report of several: all their collections, numbered on")
@@ -465,7 +467,7 @@ fn merge<'a>(alloc: Global) -> Result<Command<'a>, AllocError>
 
 fn table<'a>(alloc: Global) -> Result<Command<'a>, AllocError>
     ensures { IfOk result
-        (λ c. (shape_of c ≡ table_shape) × ((out-Command c).has_globals ≡ false)) }
+        (λ c. (shape_of c ≡ command_named "table") × ((out-Command c).has_globals ≡ false)) }
 {
     let table = Command::new(alloc, "table")
         .about("Write a row for each pattern of reports")
@@ -480,7 +482,7 @@ fn table<'a>(alloc: Global) -> Result<Command<'a>, AllocError>
 }
 
 fn page<'a>(alloc: Global) -> Result<Command<'a>, AllocError>
-    ensures { IfOk result (λ c. (shape_of c ≡ page_shape) × ((out-Command c).has_globals ≡ false)) }
+    ensures { IfOk result (λ c. (shape_of c ≡ command_named "page") × ((out-Command c).has_globals ≡ false)) }
 {
     let page = Command::new(alloc, "page")
         .about("Write one HTML page of reports, with pictures")
@@ -496,10 +498,10 @@ fn page<'a>(alloc: Global) -> Result<Command<'a>, AllocError>
 }
 
 fn same<'a>(alloc: Global) -> Result<Command<'a>, AllocError>
-    ensures { IfOk result (λ c. (shape_of c ≡ same_shape) × ((out-Command c).has_globals ≡ false)) }
+    ensures { IfOk result (λ c. (shape_of c ≡ command_named "same") × ((out-Command c).has_globals ≡ false)) }
 {
     let same = Command::new(alloc, "same")
-        .about("Tell which patterns of reports are one object")
+        .about("List the patterns of reports that are one object")
         .after_help(help::SAME)
         .arg(json(alloc))?;
     with_reading(alloc, same)
@@ -507,7 +509,7 @@ fn same<'a>(alloc: Global) -> Result<Command<'a>, AllocError>
 
 fn verify<'a>(alloc: Global) -> Result<Command<'a>, AllocError>
     ensures { IfOk result
-        (λ c. (shape_of c ≡ verify_shape) × ((out-Command c).has_globals ≡ false)) }
+        (λ c. (shape_of c ≡ command_named "verify") × ((out-Command c).has_globals ≡ false)) }
 {
     let verify = Command::new(alloc, "verify")
         .about("Compare claims about patterns with what reports say")
@@ -525,14 +527,14 @@ pub(crate) const SAFE_JSON: &str = "the argument '--safe' cannot be used with '-
 /// What is said of words that name two tables.
 pub(crate) const TWO_TABLES: &str = "the argument '--parts' cannot be used with '--codes'";
 
-/// How clap says this of arguments of `table` that are in conflict.
+/// Clap's words for arguments of `table` that are in conflict.
 pub(crate) fn conflict(alloc: Global, words: &str) -> Result<String, AllocError> {
     let mut command = table(alloc)?.bin_name("census table")?;
     let error = command.error(ErrorKind::ArgumentConflict, words)?;
     format!(in alloc; "{error}")
 }
 
-// How clap says that `page` takes no such value of an option, in words that end with why.
+// Clap's words for a value that an option of `page` does not take. They end with the reason.
 fn no_value(alloc: Global, value: &str, option: &str, why: &str) -> Result<String, AllocError> {
     let words = format!(in alloc; "invalid value '{value}' for '{option}'{why}")?;
     let mut command = page(alloc)?.bin_name("census page")?;
@@ -540,13 +542,13 @@ fn no_value(alloc: Global, value: &str, option: &str, why: &str) -> Result<Strin
     format!(in alloc; "{error}")
 }
 
-/// How it says that there is no such order of a page.
+/// Clap's words for an order of a page that does not exist.
 pub(crate) fn no_order(alloc: Global, word: &str) -> Result<String, AllocError> {
     let orders = "\n  [possible values: report, count, code, period, name]";
     no_value(alloc, word, "--sort <ORDER>", orders)
 }
 
-/// How it says that a base of a page is no address.
+/// Clap's words for a base of a page that is not an address.
 pub(crate) fn no_address(alloc: Global, text: &str) -> Result<String, AllocError> {
     let start = ": it does not begin with http:// or https://";
     no_value(alloc, text, "--base <URL>", start)

@@ -7,10 +7,10 @@ use clap::error::ErrorKind;
 use std::alloc::{AllocError, AllocFailed, Global};
 use thiserror::Error;
 
-/// Why words are no request. A text is what is to be printed, with its line ends.
+/// Why words are not a request. A text is what is to be printed, with its line ends.
 #[derive(Debug, PartialEq, Drop, Error)]
 pub enum WordsFault {
-    /// They ask for help or for the version, and this is it. It is for standard output.
+    /// They ask for help or for the version, and this is its text, for standard output.
     #[error("{0}")]
     Help(String),
     /// They are refused, and this says why. It is for standard error.
@@ -55,7 +55,7 @@ fn version_fault(alloc: Global) -> WordsFault
     }
 }
 
-// The fault that an error of clap is. The version is told by its own text, and not by clap's.
+// The fault for an error of clap. The version is reported by its own text, and not by clap's.
 pub(crate) fn fault_of(alloc: Global, error: &clap::Error) -> WordsFault
     ensures { TellsKind (kind_of error.now) result }
 {

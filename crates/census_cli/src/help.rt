@@ -65,12 +65,12 @@ A file that can't be read has FAULT 0 in the report";
 
 /// What `--explain` does.
 pub const EXPLAIN: &str = "\
-Tell of each fault on standard error also where it is, what is wrong and what
+Also say on standard error where each fault is, what is wrong and what
 would be right";
 
 /// What `--no-progress` does.
 pub const NO_PROGRESS: &str = "\
-Do not tell at a terminal how far the run has come";
+Do not show at a terminal how far the run has come";
 
 /// What `--input` does.
 pub const INPUT: &str = "\
@@ -79,7 +79,7 @@ Bytes that the files of the FOLDERs may have together, 1 to 9223372036854775807
 
 /// What `--names` does.
 pub const NAMES: &str = "\
-Tell the names of codes too. FILE has lines of a code, a tab and a name;
+Give the names of codes too. FILE has lines of a code, a tab and a name;
 - is standard input";
 
 /// What `--base` does.
@@ -90,7 +90,7 @@ http:// or https://";
 /// What `--cut` does.
 pub const CUT: &str = "\
 Take a report that was cut: collections that are whole are kept, and a line
-on standard error tells what was left out";
+on standard error says what was left out";
 
 /// What `--input` does where reports are read.
 pub const REPORT_INPUT: &str = "\
@@ -138,7 +138,7 @@ identify [--bound N] [--cells N] [--near] [--horizon N] [--json] [--names FILE]
       --horizon N  generations within which growth is looked for, 1 to 10000
                    [default: 1000]
       --json       JSON, one object a line
-      --names FILE tell the names of codes too: FILE has lines of a code, a tab
+      --names FILE give the names of codes too: FILE has lines of a code, a tab
                    and a name
   FILE             an RLE text; - is standard input; with no FILE standard input
                    is read
@@ -181,14 +181,14 @@ verify CLAIMS [REPORT]...
                    standard input
 merge, table, page, same and verify
       --cut        take a report that was cut: collections that are whole are
-                   kept, and a line on standard error tells what was left out
+                   kept, and a line on standard error says what was left out
       --input N    bytes that the REPORTs may have together, 1 to
                    9223372036854775807 [default: no limit]
 run and objects
       --no-progress
-                   do not tell at a terminal how far the run has come
+                   do not show at a terminal how far the run has come
 each of these
-      --explain    tell of each fault on standard error also where it is, what
+      --explain    also say on standard error where each fault is, what
                    is wrong and what would be right
 The help of each has examples: census help run
 
@@ -239,9 +239,9 @@ Lines of each text, with an empty line between two texts:
   population CELLS     of generation 0
   box WIDTH HEIGHT     around them
 and where the pattern recurs in the bound
-  onset GENERATION     the first that comes again,
-  period GENERATIONS   after so many,
-  displacement DX DY   moved so far to the right and down
+  onset GENERATION     the first that recurs,
+  period GENERATIONS   after this many generations,
+  displacement DX DY   moved this far to the right and down
   apgcode CODE         of what it has become
 or else where it has fallen apart in the bound
   onset GENERATION     the first that is ash,
@@ -288,7 +288,7 @@ The collections of the first REPORT come first, those of the others are numbered
 on, and the last line, end, has the sums.
 
 With --cut a report may have been cut, as where a run was stopped: collections
-that are whole are kept, and a line on standard error tells where it was cut, how
+that are whole are kept, and a line on standard error says where it was cut, how
 many of them are kept, and how many left out.
 
 Example: census merge part1.txt part2.txt >census.txt
@@ -301,10 +301,11 @@ Example: census merge part1.txt part2.txt >census.txt
 /// After the help of `table`.
 pub const TABLE: &str = with_statuses!(
     "\
-The columns: collection, collection_name, pattern, name, status (ok, ash, none,
-large or bad), rule, population, onset, period, dx, dy, code, fault; where a
+The columns: collection, collection_name, pattern, name, status (ok, ash, grows,
+none, large or bad), rule, population, onset, period, dx, dy, code, fault; where a
 name is no UTF-8, its bytes in hex in collection_name_hex or name_hex; then
-objects of what is ash, and generation, the first that is too large.
+objects of what is ash, generation, the first that is too large, engines of what
+grows, and fault_text, the fault in words.
 
 With --parts: collection, collection_name, pattern, name, rule, code, count.
 
@@ -377,9 +378,9 @@ pub const VERIFY: &str = with_statuses!(
     "\
 CLAIMS has comma-separated values under a row of names, as 'census table --csv'
 writes them: name, and as many as are claimed of collection_name, status, rule,
-population, onset, period, dx, dy, code and objects. An empty cell claims nothing,
-and other columns are passed over. A claim is about the one pattern of its name,
-in the collection of that name where it has one. What does not agree is written:
+population, onset, period, dx, dy, code, objects and engines. An empty cell claims
+nothing, and other columns are passed over. A claim is about the one pattern of its
+name, in the collection of that name where it has one. What does not agree is written:
 
   wrong NAME COLUMN CLAIMED FOUND  a cell that the table has otherwise; FOUND is
                                    - where the table has nothing

@@ -1,11 +1,9 @@
 //! What words ask for.
-ghost use Rattle.std.specs.Prelude.{◌≡◌, IfNone, IfOk, IfSome, MatchResult, Some, codes, false, map, option_map};
+ghost use Rattle.std.specs.Prelude.{◌≡◌, ◌≢◌, IfNone, IfOk, IfSome, MatchResult, Some, codes, false, map, option_map};
 ghost use Rattle.clap.specs.Words.{first_of, found_of, rows_of, subcommand_rows_of};
-ghost use Rattle.census_cli.specs.Asking.{AsksFor, Explains, GivesAsked, GivesCollections, GivesReports, GivesRequest, IsFlag, IsQuiet, argument_number, values_of};
-ghost use Rattle.census_cli.specs.Asking.{IsAddress, is_address, order_of};
-ghost use Rattle.census_cli.specs.Holding.{HasCollections, HasFlag, HasIdentify, HasLimit, HasNumber, HasObjects, HasPage, HasReports, HasRun, HasTable, HasText};
-ghost use Rattle.census_cli.specs.Holding.{IsCommand};
-ghost use Rattle.census_cli.specs.Refusing.{NamesFormat, NamesSubject, RefusesCommand, RefusesWords};
+ghost use Rattle.census_cli.specs.Asking.{AsksFor, Gives, GivesCollections, GivesReports, Uses, argument_number, format_asked, is_address, is_used, order_of, subject_asked, values_of};
+ghost use Rattle.census_cli.specs.Holding.{GivesAsked, GivesRequest, HasCollections, HasFlag, HasIdentify, HasLimit, HasNumber, HasObjects, HasPage, HasReports, HasRun, HasTable, HasText, IsCommand, RefusesCommand};
+ghost use Rattle.census_cli.specs.Refusing.{RefusesWords};
 
 use crate::command;
 use crate::fault::{WordsFault, fault_of};
@@ -18,14 +16,14 @@ use std::alloc::{AllocError, Global};
 pub enum TableFormat {
     /// Comma-separated values under a row of the columns' names.
     Csv {
-        /// Whether a `'` stands before each text that a spreadsheet may take for a formula.
+        /// Whether each text that a spreadsheet may take for a formula begins with an added `'`.
         safe: bool,
     },
     /// One JSON object a line.
     Json,
 }
 
-/// What a table has a row for each of.
+/// What each row of a table is about.
 #[derive(Clone, Copy, Debug, PartialEq, Eq)]
 pub enum TableSubject {
     /// A pattern.
@@ -36,7 +34,7 @@ pub enum TableSubject {
     Codes,
 }
 
-/// In which order the codes of a page stand.
+/// The order of the codes on a page.
 #[derive(Clone, Copy, Debug, PartialEq, Eq)]
 pub enum PageSort {
     /// As in the reports.
@@ -51,18 +49,18 @@ pub enum PageSort {
     Name,
 }
 
-/// What a page has beside what the reports say.
+/// What a page has in addition to what the reports say.
 #[derive(Clone, Copy, Debug, PartialEq, Eq)]
 pub struct PageAsked<'a> {
     /// Its title, where it has one of its own.
     pub title: Option<&'a str>,
-    /// What stands under the title, where there is something.
+    /// The text under the title, where there is one.
     pub note: Option<&'a str>,
-    /// In which order its codes stand.
+    /// The order of its codes.
     pub sort: PageSort,
-    /// How many codes of a collection it has, 1 to 4,294,967,295, where there is such a limit.
+    /// The largest number of codes of a collection, 1 to 4,294,967,295, where there is such a limit.
     pub top: Option<u32>,
-    /// Where the patterns are published, where its names are links: a text that begins with `http://` or `https://`.
+    /// The address where the patterns are published, where its names are links: a text that begins with `http://` or `https://`.
     pub base: Option<&'a str>,
     /// Whether its codes are links.
     pub links: bool,
@@ -75,20 +73,21 @@ pub struct PageAsked<'a> {
 pub struct Reports<'a> {
     /// Whether a report may have been cut.
     pub cut: bool,
-    /// How many bytes the reports may have together, 1 to 9,223,372,036,854,775,807, where there is such a limit.
+    /// The largest number of bytes of all reports together, 1 to 9,223,372,036,854,775,807, where there is such a limit.
     pub input: Option<u64>,
-    /// In the order of the words. `-` is standard input; where there is none that is read too.
+    /// In the order of the words. `-` is standard input; without any, standard input is read too.
     pub words: Vec<&'a str>,
 }
 
 /// The collections of a census, and how they are read.
 #[derive(Debug, PartialEq, Drop)]
 pub struct Collections<'a> {
-    /// How many bytes the files of the folders may have together, 1 to 9,223,372,036,854,775,807, where there is such a limit.
+    /// The largest number of bytes of the files of the folders together, 1 to 9,223,372,036,854,775,807, where there is such a
+    /// limit.
     pub input: Option<u64>,
     /// Whether the folders below a folder are collections too.
     pub recursive: bool,
-    /// Whether the census goes on past what can't be read.
+    /// Whether the census continues past what can't be read.
     pub keep_going: bool,
     /// In the order of the words. Where there is none, the collections are those of the bundle on standard input.
     pub folders: Vec<&'a str>,
@@ -110,27 +109,27 @@ pub struct Census<'a> {
 pub enum Request<'a> {
     /// The report of a census.
     Census(Census<'a>),
-    /// What the pattern of each of these files is, or, where there is none, that of standard input.
+    /// What the pattern of each of these files is, or, where there is none, that on standard input.
     Identify {
         /// How many generations are searched, 1 to 100,000.
         bound: u32,
-        /// How many live cells a pattern may have, 1 to 4,294,967,295.
+        /// The largest number of live cells of a pattern, 1 to 4,294,967,295.
         cells: u32,
         /// Whether what comes near each other is counted as one object.
         near: bool,
-        /// Within how many generations growth is looked for, 1 to 10,000.
+        /// The number of generations within which growth is looked for, 1 to 10,000.
         horizon: u32,
-        /// Whether each is told as a JSON object.
+        /// Whether each pattern is reported as a JSON object.
         json: bool,
         /// The file of the names of codes, where there is one. `-` is standard input.
         names: Option<&'a str>,
         /// In the order of the words. `-` is standard input.
         files: Vec<&'a str>,
     },
-    /// The RLE text of a pattern so many generations later, 0 to 4,194,304.
+    /// The RLE text of a pattern after `generations` generations, 0 to 4,194,304.
     Advance {
         generations: u32,
-        /// The file that has the pattern, `-` for standard input; where there is none it is standard input too.
+        /// The file that has the pattern; `-`, and no file, is standard input.
         file: Option<&'a str>,
     },
     /// The RLE text of what a code draws under the rule that a text names.
@@ -157,7 +156,7 @@ pub enum Request<'a> {
     },
     /// The patterns of reports that are one object.
     Same {
-        /// Whether each is told as a JSON object.
+        /// Whether each of these patterns is reported as a JSON object.
         json: bool,
         reports: Reports<'a>,
     },
@@ -169,12 +168,12 @@ pub enum Request<'a> {
     },
 }
 
-/// What words ask for, and how its faults are to be told.
+/// What words ask for, and how its faults are to be reported.
 #[derive(Debug, PartialEq, Drop)]
 pub struct Asked<'a> {
-    /// Whether a fault is told in a sentence too, with its place.
+    /// Whether a fault is also explained in a sentence, with its place.
     pub explain: bool,
-    /// Whether a terminal is not told how far a run has come.
+    /// Whether the progress of a run is kept from a terminal.
     pub quiet: bool,
     pub request: Request<'a>,
 }
@@ -209,7 +208,7 @@ fn long_limit(matches: &ArgMatches<'_>, id: &str) -> Option<u64>
 // Whether a flag was used.
 fn flag(matches: &ArgMatches<'_>, id: &str) -> bool
     requires { HasFlag id.now (rows_of (found_of matches.now)) }
-    ensures { IsFlag id.now (rows_of (found_of matches.now)) result }
+    ensures { is_used id.now (rows_of (found_of matches.now)) ≡ result }
 {
     matches.get_flag(id)
 }
@@ -244,9 +243,7 @@ fn texts<'a>(alloc: Global, matches: &ArgMatches<'a>, id: &str) -> Result<Vec<&'
 // The collections that the matches of a census name, and how they are read.
 fn collections_of<'a>(alloc: Global, census: &ArgMatches<'a>) -> Result<Collections<'a>, AllocError>
     requires { HasCollections (rows_of (found_of census.now)) }
-    ensures { IfOk result
-        (λ asked. GivesCollections (rows_of (found_of census.now)) asked.input asked.recursive asked.keep_going
-        (map (λ s. s.now) asked.folders.items)) }
+    ensures { IfOk result (GivesCollections (rows_of (found_of census.now))) }
 {
     Ok(Collections {
         input: long_limit(census, "input"),
@@ -259,7 +256,7 @@ fn collections_of<'a>(alloc: Global, census: &ArgMatches<'a>) -> Result<Collecti
 // What the matches of `run` ask for.
 fn run_of<'a>(alloc: Global, run: &ArgMatches<'a>) -> Result<Request<'a>, AllocError>
     requires { HasRun (rows_of (found_of run.now)) }
-    ensures { IfOk result (GivesRequest (Some (codes "run", rows_of (found_of run.now)))) }
+    ensures { IfOk result (Gives (codes "run") (rows_of (found_of run.now))) }
 {
     Ok(Request::Census(Census {
         question: Question::Settles {
@@ -274,7 +271,7 @@ fn run_of<'a>(alloc: Global, run: &ArgMatches<'a>) -> Result<Request<'a>, AllocE
 // What the matches of `objects` ask for.
 fn objects_of<'a>(alloc: Global, objects: &ArgMatches<'a>) -> Result<Request<'a>, AllocError>
     requires { HasObjects (rows_of (found_of objects.now)) }
-    ensures { IfOk result (GivesRequest (Some (codes "objects", rows_of (found_of objects.now)))) }
+    ensures { IfOk result (Gives (codes "objects") (rows_of (found_of objects.now))) }
 {
     Ok(Request::Census(Census {
         question: Question::Objects {
@@ -291,8 +288,7 @@ fn objects_of<'a>(alloc: Global, objects: &ArgMatches<'a>) -> Result<Request<'a>
 // What the matches of `identify` ask for.
 fn identify_of<'a>(alloc: Global, identify: &ArgMatches<'a>) -> Result<Request<'a>, AllocError>
     requires { HasIdentify (rows_of (found_of identify.now)) }
-    ensures { IfOk result
-        (GivesRequest (Some (codes "identify", rows_of (found_of identify.now)))) }
+    ensures { IfOk result (Gives (codes "identify") (rows_of (found_of identify.now))) }
 {
     Ok(Request::Identify {
         bound: number(identify, "bound"),
@@ -308,9 +304,7 @@ fn identify_of<'a>(alloc: Global, identify: &ArgMatches<'a>) -> Result<Request<'
 // The reports that the matches of a command name, and how they are read.
 fn reports_of<'a>(alloc: Global, command: &ArgMatches<'a>) -> Result<Reports<'a>, AllocError>
     requires { HasReports (rows_of (found_of command.now)) }
-    ensures { IfOk result
-        (λ reports. GivesReports (rows_of (found_of command.now)) reports.cut reports.input
-        (map (λ s. s.now) reports.words.items)) }
+    ensures { IfOk result (GivesReports (rows_of (found_of command.now))) }
 {
     Ok(Reports {
         cut: flag(command, "cut"),
@@ -322,7 +316,7 @@ fn reports_of<'a>(alloc: Global, command: &ArgMatches<'a>) -> Result<Reports<'a>
 // The format that the flags of `table` name, where they don't name two.
 fn format(table: &ArgMatches<'_>) -> Option<TableFormat>
     requires { HasTable (rows_of (found_of table.now)) }
-    ensures { NamesFormat (rows_of (found_of table.now)) result }
+    ensures { result ≡ format_asked (rows_of (found_of table.now)) }
 {
     match (flag(table, "csv"), flag(table, "json"), flag(table, "safe")) {
         (_, false, safe) => Some(TableFormat::Csv { safe }),
@@ -331,10 +325,10 @@ fn format(table: &ArgMatches<'_>) -> Option<TableFormat>
     }
 }
 
-// What the flags of `table` name for a row, where they don't name two.
+// What each row is about by the flags of `table`, where they don't name two.
 fn subject(table: &ArgMatches<'_>) -> Option<TableSubject>
     requires { HasTable (rows_of (found_of table.now)) }
-    ensures { NamesSubject (rows_of (found_of table.now)) result }
+    ensures { result ≡ subject_asked (rows_of (found_of table.now)) }
 {
     match (flag(table, "parts"), flag(table, "codes")) {
         (true, true) => None,
@@ -347,7 +341,7 @@ fn subject(table: &ArgMatches<'_>) -> Option<TableSubject>
 // What the matches of `table` ask for.
 fn table_of<'a>(alloc: Global, table: &ArgMatches<'a>) -> Result<Request<'a>, WordsFault>
     requires { HasTable (rows_of (found_of table.now)) }
-    ensures { MatchResult result (GivesRequest (Some (codes "table", rows_of (found_of table.now))))
+    ensures { MatchResult result (Gives (codes "table") (rows_of (found_of table.now)))
         (RefusesCommand (Some (codes "table", rows_of (found_of table.now)))) }
 {
     let Some(format) = format(table) else {
@@ -396,11 +390,11 @@ fn is_address(text: &str) -> bool
     text.starts_with(b"http://") || text.starts_with(b"https://")
 }
 
-// The base of a page, where it has one that is no address.
+// The base of a page, where it has one that is not an address.
 fn strange_base<'a>(base: Option<&'a str>) -> Option<&'a str>
     ensures some { IfSome result
         (λ text. (option_map (λ s. s.now) base.entry ≡ Some text.now) × (is_address text.now ≡ false)) }
-    ensures none { IfNone result (IsAddress (option_map (λ s. s.now) base.entry)) }
+    ensures none { IfNone result (option_map is_address (option_map (λ s. s.now) base.entry) ≢ Some false) }
 {
     let Some(text) = base else {
         return None;
@@ -411,7 +405,7 @@ fn strange_base<'a>(base: Option<&'a str>) -> Option<&'a str>
 // What the matches of `page` ask for.
 fn page_of<'a>(alloc: Global, page: &ArgMatches<'a>) -> Result<Request<'a>, WordsFault>
     requires { HasPage (rows_of (found_of page.now)) }
-    ensures { MatchResult result (GivesRequest (Some (codes "page", rows_of (found_of page.now))))
+    ensures { MatchResult result (Gives (codes "page") (rows_of (found_of page.now)))
         (RefusesCommand (Some (codes "page", rows_of (found_of page.now)))) }
 {
     let word = text(page, "sort");
@@ -493,7 +487,7 @@ fn request_of<'a>(alloc: Global, matches: &ArgMatches<'a>) -> Result<Request<'a>
 // Whether the flag `--explain` of the command was used.
 fn explains(matches: &ArgMatches<'_>) -> bool
     requires { IsCommand (subcommand_rows_of matches.now) }
-    ensures { Explains (subcommand_rows_of matches.now) result }
+    ensures { Uses (codes "explain") (subcommand_rows_of matches.now) result }
 {
     let Some((_, command)) = matches.subcommand() else {
         unreachable!()
@@ -504,7 +498,7 @@ fn explains(matches: &ArgMatches<'_>) -> bool
 // Whether the flag `--no-progress` of a command that has it was used.
 fn is_quiet(matches: &ArgMatches<'_>) -> bool
     requires { IsCommand (subcommand_rows_of matches.now) }
-    ensures { IsQuiet (subcommand_rows_of matches.now) result }
+    ensures { Uses (codes "no-progress") (subcommand_rows_of matches.now) result }
 {
     if let Some(run) = matches.subcommand_matches("run") {
         return flag(run, "no-progress");
@@ -515,7 +509,7 @@ fn is_quiet(matches: &ArgMatches<'_>) -> bool
     }
 }
 
-// What the matches ask for, and how its faults are to be told.
+// What the matches ask for, and how its faults are to be reported.
 fn asked_of<'a>(alloc: Global, matches: &ArgMatches<'a>) -> Result<Asked<'a>, WordsFault>
     requires { IsCommand (subcommand_rows_of matches.now) }
     ensures { MatchResult result (GivesAsked (subcommand_rows_of matches.now))
@@ -530,13 +524,13 @@ fn asked_of<'a>(alloc: Global, matches: &ArgMatches<'a>) -> Result<Asked<'a>, Wo
 
 /// What the words after the program's own name ask for.
 ///
-/// What words mean is what clap's matches for them say: their command, the value of each option or its default, whether
-/// each flag is used, and the folders, files or reports in order. Numbers are decimal, with any zeros or one `+` in front, and
-/// their ranges are clap's to judge.
-/// A fault other than `Memory` comes only where clap has no matches for the words: `Help` where it answers them with help
-/// or with the version, `Refused` where it refuses them. Alone words that name both formats of `table`, safe texts of JSON,
-/// or both parts and codes, and those that name an order of a page that there is none of, or a base that does not begin with
-/// `http://` or `https://`, are `Refused` though clap has matches for them.
+/// Words mean what clap's matches for them say: their command, the value of each option or its default, whether each flag is
+/// used, and the folders, files or reports in order. Numbers are decimal, with any zeros or one `+` in front, and clap checks
+/// their ranges.
+/// A fault other than `Memory` occurs only where clap has no matches for the words: `Help` where it answers them with help or
+/// with the version, `Refused` where it refuses them. There are these exceptions: words that name both formats of `table`, safe
+/// texts of JSON, or both parts and codes, an order of a page that does not exist, or a base that does not begin with `http://`
+/// or `https://`, are `Refused` though clap has matches for them.
 pub fn read_words<'a>(alloc: Global, words: &'a [&'a str]) -> Result<Asked<'a>, WordsFault>
     ensures { MatchResult result (AsksFor (map (λ s. s.now) words.entry.now))
         (RefusesWords (map (λ s. s.now) words.entry.now)) }

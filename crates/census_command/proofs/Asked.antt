@@ -4,7 +4,7 @@ use Rattle.std.specs.Borrow.{Bor}
 use Rattle.census_page.specs.Options.{options_of}
 use Rattle.census_page.specs.declared.options.PageOptions.{PageOptions}
 
--- the bytes that stand before the addresses of names
+-- the bytes before the addresses of names
 pub base_is : (page : PageOptions) (base : Option (Bor (List ℕ))) → (options_of (record {
   title = page.title;
   note = page.note;

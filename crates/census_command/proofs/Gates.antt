@@ -1,4 +1,4 @@
--- What the gate was told, by what was asked for and by what came of it.
+-- What the gate was told, by what was asked for and by the outcome.
 use Rattle.std.proofs.Common.{◌≡◌, ◌⊎◌, ℕ, Bool, List, Result, Ok, Err, Vec, inl, inr, sym, subst, ◌∙◌, arith, string_bytes, IfErr, MatchResult}
 use Rattle.std.specs.Global.{Global}
 use Rattle.watched.specs.Streams.{Reader, Sink, Streams}
@@ -14,7 +14,7 @@ use Rattle.census_command.specs.Gates.{Heard, HearsEnd, HearsKept, HearsOutcome,
 use Rattle.census_command.specs.Outcomes.{Answers, Concludes}
 use Rattle.census_command.specs.Requests.{Fails}
 use Rattle.census_command.proofs.Statuses.{never_done}
-use Rattle.census_errors.specs.Errors.{run_status}
+use Rattle.census_errors.specs.Messages.{run_status}
 use Rattle.census_errors.specs.Sources.{Folders, source_of}
 use Rattle.census_errors.specs.declared.run_error.RunError.{RunError}
 use Rattle.census_errors.specs.declared.run_error.RunError.TheVariants as run
@@ -22,7 +22,7 @@ use Rattle.census_errors.specs.declared.stopped.Stopped.{Stopped}
 use Rattle.census_folders.specs.Sources.{Asked}
 use Rattle.census_folders.specs.Tellings.{Tellings}
 
--- no error of a census has the status of what is done
+-- no error of a census has the status of success
 failed : (error : RunError) → run_status error ≡ 0 → ⊥
 failed (run.Bundle fault) none = omega arith
 failed (run.Folder fault) none = omega arith
@@ -34,13 +34,13 @@ failed run.Write none = omega arith
 -- # What is asked for
 
 module _ (shelf : Tellings) (before after : Reader) (old new : Heard) where
-  -- a census that goes on past what can't be read
+  -- a census that continues past what can't be read
   pub hears_kept : (census : CensusAsked) (quiet : Bool) (asked : Asked) (status : ℕ) → source_of census.collections ≡ Folders asked → HearsKept shelf asked quiet status old new
       → HearsEnd shelf (Census census) quiet status before after old new
   hears_kept census quiet asked status is (inl heard) = inl (subst (λ s. HearsRun shelf s quiet before after old new) (sym is) heard)
   hears_kept census quiet asked status is (inr (error, why, status_is, same)) = inr ((λ done. absurd (failed error (sym status_is ∙ done))), same)
 
-  -- what the first thing that goes wrong ends
+  -- what ends at the first thing that goes wrong
   pub hears_concluded : (request : Request) (quiet explain : Bool) (ended : Result (Vec ℕ Global) Stopped) (status : ℕ) (all left : Streams) (errors told : Sink)
       → IfErr ended (λ stopped. Fails stopped.error shelf request all left)
       → MatchResult ended (λ lines. HearsRequest shelf request quiet before after old new) (λ stopped. (new ≡ old) ⊎ HearsRequest shelf request quiet before after old new)
@@ -61,7 +61,7 @@ asks_help words text (inr (version, same)) = inr version
 module _ (shelf : Tellings) (words : List (List ℕ)) (before after : Reader) (old new : Heard) where
   -- what was asked for came to its end
   pub hears_asked : (asked : Wanted) (status : ℕ) → AsksFor words asked → HearsEnd shelf asked.request asked.quiet status before after old new → HearsOutcome shelf words status before after old new
-  hears_asked asked status is (inl heard) = inl (record { request = asked.request; asked = is.0; quiet = asked.quiet; is_quiet = is.2; heard = heard })
+  hears_asked asked status is (inl heard) = inl (asked, is, heard)
   hears_asked asked status is (inr (none, same)) = inr ((λ done. inl (asked.request, is.0, none done)), same)
 
   -- nothing that can be done was asked for

@@ -1,4 +1,4 @@
--- What a census that goes on past what can't be read wrote and told.
+-- What a census that continues past what can't be read wrote and reported.
 use Rattle.std.proofs.Common.{◌≡◌, ◌≢◌, ◌⊎◌, ℕ, ◌+◌, ◌<◌, false, List, [], ◌∷◌, ◌++◌, length, get_or, drop, inl, inr, refl, sym, ap, ◌∙◌}
 use Rattle.std.proofs.lemmas.List.{append_assoc, drop_more}
 use Rattle.census_folders.specs.declared.loss.Loss.{Loss}
@@ -27,7 +27,7 @@ status_kept (loss ∷ lost) lines status is none some = some (λ e. let both : l
 
 -- # Where collections come from
 
--- nothing goes on where it isn't asked for, or without a word
+-- nothing continues where it isn't asked for, or without a word
 pub stops_at_first : (from : Collections) (words : List (List ℕ)) → (from.keep_going ≡ false) ⊎ (words ≡ []) → StopsAtFirstLoss (source_by (asked_of from) words)
 stops_at_first from [] why = tt
 stops_at_first from (word ∷ words) (inl h) = ap on_loss_of h

@@ -1,4 +1,4 @@
--- The names of the text of a word.
+-- The names in the text of a word.
 use Rattle.std.proofs.Common.{◌≡◌, ℕ, List, Result, Ok, Err, MatchResult, inr}
 use Rattle.watched.specs.Streams.{Streams}
 use Rattle.census_folders.specs.Told.{Told}

@@ -1,4 +1,4 @@
--- What the streams are after a command, and how what is asked for ends.
+-- The streams after a command, and how what is asked for ends.
 use Rattle.std.proofs.Common.{◌≡◌, ◌≢◌, ◌⊎◌, ℕ, Bool, ◌++◌, Result, Ok, Err, Vec, false, inl, inr, ⊎_elim, sym, ap, ◌∙◌, subst, true, true≢false, IfErr, IfOk, OnOk}
 use Rattle.std.specs.Global.{Global}
 use Rattle.watched.specs.Streams.{PutsBytes, Reader, Sink, Streams}
@@ -25,7 +25,7 @@ pub neither : {A : Type 0} (s : Streams) → HasSoundStreams s → HasFailed s �
 neither s sound failed =
     absurd (⊎_elim (λ (t : s.input.failed ≡ true). true≢false (sym t ∙ sound.read)) (λ (t : s.output.failed ≡ true). true≢false (sym t ∙ sound.write)) failed)
 
--- the same of the streams before anything was told
+-- the streams have not failed, where they had not before anything was reported
 pub sound_told : (before after : Streams) → HasSoundStreams (untold before after) → HasSoundStreams after
 sound_told before after sound = record { read = sound.read; write = sound.write }
 
@@ -42,7 +42,7 @@ pub untold_is : (before reached : Streams) (told : Sink) → reached.errors ≡ 
     → reached ≡ untold before (record { input = reached.input; output = reached.output; errors = told })
 untold_is before reached told quiet = λ i. record { input = reached.input; output = reached.output; errors = quiet i }
 
--- # What the first thing that goes wrong ends
+-- # What ends at the first thing that goes wrong
 
 module _ (shelf : Tellings) (request : Request) (explain : Bool) (before reached : Streams) (errors : Sink) (quiet : reached.errors ≡ before.errors) where
   pub concluded : (ended : Result (Vec ℕ Global) Stopped) (status : ℕ)
@@ -70,13 +70,13 @@ module _ (shelf : Tellings) (request : Request) (explain : Bool) (before reached
 -- # A census
 
 module _ (shelf : Tellings) (census : CensusAsked) (explain : Bool) (status : ℕ) (before after : Streams) where
-  -- which goes on past what can't be read
+  -- a census that continues past what can't be read
   pub goes_on : (source : Source) (asked : Asked) → source ≡ Folders asked → asked.on_loss ≡ Keep
-      → Keeps shelf (record { asked = asked; question = census.question }) explain status before after
+      → Keeps shelf asked census.question explain status before after
       → EndsCensus shelf census source explain status before after
   goes_on source asked is keeps h = rw is (subst (λ (o : OnLoss). EndsOnLoss o shelf census asked explain status before after) (sym keeps) h)
 
-  -- which does not
+  -- a census that does not
   pub ends_at_first : (source : Source) → StopsAtFirstLoss source → EndsAtFirst shelf (Census census) explain status before after
       → EndsCensus shelf census source explain status before after
   ends_at_first Input stops h = h

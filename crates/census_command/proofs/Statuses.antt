@@ -1,4 +1,4 @@
--- What each exit status says of what the first thing that goes wrong ends.
+-- What each exit status says of what ends at the first thing that goes wrong.
 use Rattle.std.proofs.Common.{◌≡◌, ◌⊎◌, ℕ, Bool, List, ◌++◌, Option, None, Some, option_map, true, false, inl, inr, ⊎_elim, refl, sym, ◌∙◌, arith, true≢false, string_bytes, ◌||◌}
 use Rattle.watched.specs.Streams.{PutsBytes, Streams}
 use Rattle.census_folders.specs.Sources.{Asked}
@@ -11,8 +11,7 @@ use Rattle.census_cli.specs.declared.request.Request.{Request}
 use Rattle.census_cli.specs.declared.request.Request.TheVariants.{Census, Identify, Advance, Draw, Merge, Table, Page, Same, Verify}
 use Rattle.life_answer.specs.declared.question.Question.{Question}
 use Rattle.census_command.specs.Advances.{AdvanceFromFails, AdvancesFromInPart}
-use Rattle.census_errors.specs.Errors.{advance_status, run_status, status_of}
-use Rattle.census_errors.specs.Messages.{error_line}
+use Rattle.census_errors.specs.Messages.{advance_status, error_line, run_status, status_of}
 use Rattle.census_command.specs.Outcomes.{Answers, EndsAtFirst, Shows, ShowsInPart}
 use Rattle.census_command.specs.Statuses.{AreExplained, EndsPlainly, HelpsInPart, Statuses, StatusesSay}
 use Rattle.census_errors.specs.Files.{file_of}
@@ -204,7 +203,7 @@ module _ (shelf : Tellings) (words : List (List ℕ)) (at_terminal : Bool) (befo
       fails = inl (record { request = request; explain = explain; asked = asked; explained = explained; fails = fails; place = place; at = at; lines = lines });
     }
 
-    -- what was asked for failed, and the error was told
+    -- what was asked for failed, and the error was reported
     pub ends_failed : Statuses shelf words at_terminal (status_of error) before after
     ends_failed = case (says shelf before (untold before after) error request fails)
       where
@@ -276,7 +275,7 @@ module _ (shelf : Tellings) (words : List (List ℕ)) (at_terminal : Bool) (befo
       told = λ h. absurd (omega arith);
     }
 
-    -- a prefix of it was
+    -- a prefix of help was written
     ends_cut : (text : List ℕ) → AsksText words text → status ≡ 4 → ShowsInPart text before after → Statuses shelf words at_terminal status before after
     ends_cut text help is shows =
         let part : HelpsInPart words before after = record { text = text; asked = help; written = shows.written; unread = shows.unread } in
@@ -352,7 +351,7 @@ module _ (shelf : Tellings) (words : List (List ℕ)) (at_terminal : Bool) (befo
 
   says_plainly : (status : ℕ) → EndsPlainly shelf words at_terminal status before after → Statuses shelf words at_terminal status before after
   says_plainly status (inl h) = at_first h.asked status h.is h.ends
-  says_plainly status (inr h) = ends_answered shelf words at_terminal before after status h.fault h.why h.answers
+  says_plainly status (inr h) = ends_answered shelf words at_terminal before after status h.0 h.1 h.2
 
 pub statuses_say : StatusesSay
 statuses_say shelf words at_terminal status before after h = says_plainly shelf words at_terminal before after status h

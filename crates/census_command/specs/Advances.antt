@@ -29,7 +29,7 @@ pub record TextToAdvance : Type 0 where
   pub text : List ℕ
   pub generations : ℕ
 
--- the text of that generation of the pattern that the text means
+-- the text written is that of generation `generations` of the pattern that the given text means
 pub record IsAdvanced (given : TextToAdvance) (written : List ℕ) : Type 0 where
   pub pattern : Picture
   pub means : picture_of (reading given.text) ≡ Ok pattern
@@ -41,7 +41,7 @@ pub record IsRefusedText (text : List ℕ) (fault : RleFault) (told : Fault) (sp
   pub told_is : told ≡ text_fault text fault
   pub spot_is : spot ≡ spot_of_text text fault
 
--- why there is none
+-- why there is no text of a generation of this text
 abbrev pub RefusesText : AdvanceError → List ℕ → Type 0
 RefusesText (Text fault told spot) text = IsRefusedText text fault told spot
 RefusesText Memory text = Unit {0}
@@ -49,21 +49,15 @@ RefusesText error text = ⊥
 
 -- # Standard input
 
--- Standard input is a text that means a pattern, and the text of generation n of that pattern was written.
-pub record Advances (n : ℕ) (before after : Streams) : Type 0 where
+-- Standard input is a text that means a pattern, and the text of generation n of that pattern was written, or only a prefix, as
+-- `Puts` says: as much as the writer took.
+pub record AdvancesBy (Puts : Option (List ℕ) → Option (List ℕ) → List ℕ → Type 0) (n : ℕ)
+    (before after : Streams) : Type 0 where
   pub text : List ℕ
   pub pattern : Picture
   pub read : ReadsText before.input.unread after.input.unread text
   pub means : picture_of (reading text) ≡ Ok pattern
-  pub written : Appends before.output.written after.output.written (advanced_text pattern n)
-
--- as far as the writer took it
-pub record AdvancesInPart (n : ℕ) (before after : Streams) : Type 0 where
-  pub text : List ℕ
-  pub pattern : Picture
-  pub read : ReadsText before.input.unread after.input.unread text
-  pub means : picture_of (reading text) ≡ Ok pattern
-  pub written : AppendsFront before.output.written after.output.written (advanced_text pattern n)
+  pub written : Puts before.output.written after.output.written (advanced_text pattern n)
 
 -- standard input, read to its end, has this fault, and this is said of it
 pub record HasRleFault (fault : RleFault) (told : Fault) (spot : Spot) (before after : Streams) : Type 0 where
@@ -81,32 +75,23 @@ AdvanceFails (Text fault told spot) n before after = HasRleFault fault told spot
 AdvanceFails TooLong n before after = ReadsTooMuch before after × WritesNothing before after
 AdvanceFails Memory n before after = WritesNothing before after
 AdvanceFails (Read why) n before after = ReadFails before after
-AdvanceFails Write n before after = AdvancesInPart n before after × WriteFails after
+AdvanceFails Write n before after = AdvancesBy AppendsFront n before after × WriteFails after
 
 -- # A file
 
--- The file is a text that means a pattern, as the shelf tells, and the text of generation n of that pattern was written.
--- Nothing was read from standard input.
-pub record AdvancesFile (shelf : Tellings) (path : List ℕ) (n : ℕ) (before after : Streams) : Type 0 where
+-- According to the shelf the file is a text that means a pattern, and the text of generation n of that pattern was written, or
+-- only a prefix, as `Puts` says. Nothing was read from standard input.
+pub record AdvancesFileBy (Puts : Option (List ℕ) → Option (List ℕ) → List ℕ → Type 0) (shelf : Tellings) (path : List ℕ)
+    (n : ℕ) (before after : Streams) : Type 0 where
   pub text : List ℕ
   pub pattern : Picture
   pub told : GivesTold (shelf.held [] path) text
   pub within : length text ≤ input_limit
   pub means : picture_of (reading text) ≡ Ok pattern
-  pub written : Appends before.output.written after.output.written (advanced_text pattern n)
+  pub written : Puts before.output.written after.output.written (advanced_text pattern n)
   pub unread : after.input.unread ≡ before.input.unread
 
--- as far as the writer took it
-pub record AdvancesFileInPart (shelf : Tellings) (path : List ℕ) (n : ℕ) (before after : Streams) : Type 0 where
-  pub text : List ℕ
-  pub pattern : Picture
-  pub told : GivesTold (shelf.held [] path) text
-  pub within : length text ≤ input_limit
-  pub means : picture_of (reading text) ≡ Ok pattern
-  pub written : AppendsFront before.output.written after.output.written (advanced_text pattern n)
-  pub unread : after.input.unread ≡ before.input.unread
-
--- the file has this fault, as the shelf tells, and this is said of it
+-- according to the shelf the file has this fault, and this is said of it
 pub record HasFileFault (fault : RleFault) (told : Fault) (spot : Spot) (shelf : Tellings) (path : List ℕ) : Type 0 where
   pub text : List ℕ
   pub gives : GivesTold (shelf.held [] path) text
@@ -118,18 +103,36 @@ AdvanceFileFails (Text fault told spot) shelf path n before after = HasFileFault
 AdvanceFileFails TooLong shelf path n before after = MayExceed input_limit (shelf.held [] path) × IsUntouched before after
 AdvanceFileFails Memory shelf path n before after = IsUntouched before after
 AdvanceFileFails (Read why) shelf path n before after = MayFail (shelf.held [] path) why × IsUntouched before after
-AdvanceFileFails Write shelf path n before after = AdvancesFileInPart shelf path n before after × WriteFails after
+AdvanceFileFails Write shelf path n before after = AdvancesFileBy AppendsFront shelf path n before after × WriteFails after
 
 -- # Either
 
 abbrev pub AdvancesFrom : Tellings → Option (List ℕ) → ℕ → Streams → Streams → Type 0
-AdvancesFrom shelf None n before after = Advances n before after
-AdvancesFrom shelf (Some path) n before after = AdvancesFile shelf path n before after
+AdvancesFrom shelf None n before after = AdvancesBy Appends n before after
+AdvancesFrom shelf (Some path) n before after = AdvancesFileBy Appends shelf path n before after
 
 abbrev pub AdvancesFromInPart : Tellings → Option (List ℕ) → ℕ → Streams → Streams → Type 0
-AdvancesFromInPart shelf None n before after = AdvancesInPart n before after
-AdvancesFromInPart shelf (Some path) n before after = AdvancesFileInPart shelf path n before after
+AdvancesFromInPart shelf None n before after = AdvancesBy AppendsFront n before after
+AdvancesFromInPart shelf (Some path) n before after = AdvancesFileBy AppendsFront shelf path n before after
 
 abbrev pub AdvanceFromFails : AdvanceError → Tellings → Option (List ℕ) → ℕ → Streams → Streams → Type 0
 AdvanceFromFails error shelf None n before after = AdvanceFails error n before after
 AdvanceFromFails error shelf (Some path) n before after = AdvanceFileFails error shelf path n before after
+
+-- # What the parts that advance return
+
+-- all was written, of standard input
+abbrev pub Advances : ℕ → Streams → Streams → Type 0
+Advances n before after = AdvancesBy Appends n before after
+
+-- or a prefix
+abbrev pub AdvancesInPart : ℕ → Streams → Streams → Type 0
+AdvancesInPart n before after = AdvancesBy AppendsFront n before after
+
+-- all was written, of a file
+abbrev pub AdvancesFile : Tellings → List ℕ → ℕ → Streams → Streams → Type 0
+AdvancesFile shelf path n before after = AdvancesFileBy Appends shelf path n before after
+
+-- or a prefix
+abbrev pub AdvancesFileInPart : Tellings → List ℕ → ℕ → Streams → Streams → Type 0
+AdvancesFileInPart shelf path n before after = AdvancesFileBy AppendsFront shelf path n before after

@@ -1,5 +1,5 @@
 -- What `draw` writes, and what each of its errors says.
-use Rattle.std.specs.Prelude.{◌≡◌, ℕ, List, Ok, Err, Some, None}
+use Rattle.std.specs.Prelude.{◌≡◌, ℕ, List, Ok, Option, Err, Some, None}
 use Rattle.std.specs.Io.KnownBytes.{Appends}
 use Rattle.watched.specs.Streams.{Streams}
 use Rattle.watched.specs.Watching.{AppendsFront}
@@ -17,41 +17,40 @@ use Rattle.census_errors.specs.declared.draw_error.DrawError.TheVariants.{Rule a
 abbrev pub drawn_text : Rule → List ℕ → List ℕ
 drawn_text R code = rle_text R (normal (wechsler.cells_spelled (body_of code)))
 
--- what is to be drawn: a code, and the text of a rule
-pub record Drawing : Type 0 where
-  pub code : List ℕ
-  pub rule : List ℕ
-
 -- the rule text names a rule, the code's body has no fault, and this is its RLE text
-pub record IsDrawn (drawing : Drawing) (written : List ℕ) : Type 0 where
+pub record IsDrawn (code rule : List ℕ) (written : List ℕ) : Type 0 where
   pub named : Rule
-  pub names : rule_of drawing.rule ≡ Ok named
-  pub lawful : wechsler.refusal (body_of drawing.code) ≡ None
-  pub is : written ≡ drawn_text named drawing.code
+  pub names : rule_of rule ≡ Ok named
+  pub lawful : wechsler.refusal (body_of code) ≡ None
+  pub is : written ≡ drawn_text named code
 
--- The rule text has a fault, or else the body of the code has. The rule is judged first.
-abbrev pub RefusesCode : DrawError → Drawing → Type 0
-RefusesCode (RuleText fault) drawing = rule_of drawing.rule ≡ Err fault
-RefusesCode (Code fault) drawing =
-    ((R : Rule) × (rule_of drawing.rule ≡ Ok R)) × (wechsler.refusal (body_of drawing.code) ≡ Some fault)
-RefusesCode Memory drawing = Unit {0}
-RefusesCode Write drawing = ⊥
+-- The rule text has a fault, or else the body of the code has. The rule is checked first.
+abbrev pub RefusesCode : DrawError → List ℕ → List ℕ → Type 0
+RefusesCode (RuleText fault) code rule = rule_of rule ≡ Err fault
+RefusesCode (Code fault) code rule =
+    ((R : Rule) × (rule_of rule ≡ Ok R)) × (wechsler.refusal (body_of code) ≡ Some fault)
+RefusesCode Memory code rule = Unit {0}
+RefusesCode Write code rule = ⊥
 
--- The code's RLE text is what was written, and nothing was read.
-pub record Draws (drawing : Drawing) (before after : Streams) : Type 0 where
+-- The code's RLE text is what was written, or only a prefix of it, as `Puts` says: as much as the writer took. Nothing was read.
+pub record DrawsBy (Puts : Option (List ℕ) → Option (List ℕ) → List ℕ → Type 0) (code rule : List ℕ)
+    (before after : Streams) : Type 0 where
   pub text : List ℕ
-  pub drawn : IsDrawn drawing text
-  pub written : Appends before.output.written after.output.written text
-  pub unread : after.input.unread ≡ before.input.unread
-
--- as far as the writer took it
-pub record DrawsInPart (drawing : Drawing) (before after : Streams) : Type 0 where
-  pub text : List ℕ
-  pub drawn : IsDrawn drawing text
-  pub written : AppendsFront before.output.written after.output.written text
+  pub drawn : IsDrawn code rule text
+  pub written : Puts before.output.written after.output.written text
   pub unread : after.input.unread ≡ before.input.unread
 
 -- Why the code's RLE text was not written. Where the writer didn't fail, nothing was.
-abbrev pub DrawFails : DrawError → Drawing → Streams → Streams → Type 0
-DrawFails Write drawing before after = DrawsInPart drawing before after × WriteFails after
-DrawFails error drawing before after = RefusesCode error drawing × IsUntouched before after
+abbrev pub DrawFails : DrawError → List ℕ → List ℕ → Streams → Streams → Type 0
+DrawFails Write code rule before after = DrawsBy AppendsFront code rule before after × WriteFails after
+DrawFails error code rule before after = RefusesCode error code rule × IsUntouched before after
+
+-- # What the parts that draw return
+
+-- all of it was written
+abbrev pub Draws : List ℕ → List ℕ → Streams → Streams → Type 0
+Draws code rule before after = DrawsBy Appends code rule before after
+
+-- or a prefix
+abbrev pub DrawsInPart : List ℕ → List ℕ → Streams → Streams → Type 0
+DrawsInPart code rule before after = DrawsBy AppendsFront code rule before after

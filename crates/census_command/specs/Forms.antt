@@ -22,7 +22,7 @@ use Rattle.census_table.specs.declared.table.Format.TheVariants as format
 use Rattle.census_command.specs.declared.forms.Beside.{Beside}
 use Rattle.census_command.specs.declared.forms.Beside.TheVariants.{Names, Claims}
 
--- how a table is written, and what it has a row for each of
+-- how a table is written, and what each of its rows is about
 abbrev pub format_of : TableFormat → Format
 format_of (Csv safe) = format.Csv safe
 format_of Json = format.Json
@@ -32,7 +32,7 @@ subject_of Patterns = subject.Patterns
 subject_of Parts = subject.Parts
 subject_of Codes = subject.Codes
 
--- in which order the codes of a page stand
+-- the order of the codes on a page
 abbrev pub sort_of : PageSort → Sort
 sort_of asked.Report = sort.Report
 sort_of asked.Count = sort.Count
@@ -40,7 +40,7 @@ sort_of asked.Code = sort.Code
 sort_of asked.Period = sort.Period
 sort_of asked.Name = sort.Name
 
--- what a page is asked to have: its title and its note are those of a page that nothing is asked of, where there is none
+-- what a page is asked to have: where no title or no note is asked for, it has the default one
 abbrev pub options_asked : PageAsked → Options
 options_asked page = record {
   title = unwrap_or (option_map (λ s. s.now) page.title) default_options.title;

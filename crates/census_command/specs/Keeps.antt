@@ -1,4 +1,4 @@
--- A census that goes on past what can't be read: what was lost, and what it says.
+-- A census that continues past what can't be read: what was lost, and what it says.
 use Rattle.std.specs.Prelude.{◌≡◌, ◌⊎◌, ℕ, Bool, List, [], ◌∷◌, ◌++◌, None, Some, codes}
 use Rattle.std.specs.List.{flat_map}
 use Rattle.watched.specs.Streams.{PutsBytes, Streams}
@@ -9,10 +9,11 @@ use Rattle.census_folders.specs.Sources.{Asked, Reads, Stops}
 use Rattle.census_folders.specs.declared.fault.SourceFault.{SourceFault}
 use Rattle.census_folders.specs.declared.loss.Loss.{Loss}
 use Rattle.census_folders.specs.declared.reading.Kept.{Kept}
-use Rattle.census_errors.specs.Errors.{run_error_of_source, run_status}
-use Rattle.census_errors.specs.Messages.{error_line}
-use Rattle.census_errors.specs.Places.{kept_place}
-use Rattle.census_errors.specs.Sayings.{explained_at, run_fault, run_line, run_spot, said_if}
+use Rattle.census_errors.specs.Errors.{run_error_of_source}
+use Rattle.census_errors.specs.Messages.{error_line, run_status}
+use Rattle.census_errors.specs.Places.{kept_place, nowhere}
+use Rattle.census_errors.specs.declared.place.Place.{Place}
+use Rattle.census_errors.specs.Sayings.{explained_at, run_said, said_if}
 use Rattle.census_command.specs.BesideReports.{IfExplained, SaysBesideReport}
 use Rattle.census_folders.specs.Tellings.{Tellings}
 use Rattle.census_command.specs.Streams.{HasSoundStreams, IsUntouched, WriteFails}
@@ -36,37 +37,28 @@ kept_status (loss ∷ lost) = 4
 
 -- # What stops it
 
--- the line for an error, and one more where faults are explained
-abbrev pub error_lines : Bool → RunError → List ℕ
-error_lines explain error = error_line (command.Run error) ++ said_if explain (run_line error)
-
--- the same of an error that cut a report short, with the pattern where memory ran out, if it is known
-abbrev pub cut_lines : Bool → RunError → List ℕ
-cut_lines explain error =
-    error_line (command.Run error) ++ said_if explain (explained_at (run_fault error) None (run_spot error) (kept_place error))
+-- the line for an error, and one more where faults are explained, with this place
+abbrev pub error_lines : Bool → RunError → Place → List ℕ
+error_lines explain error place = error_line (command.Run error) ++ said_if explain (explained_at (run_said error) place)
 
 -- why nothing was read: out of memory, or there are too many folders, or too many files in one
 abbrev pub StopsKeeping : Tellings → Asked → RunError → Type 0
 StopsKeeping shelf asked error = (error ≡ Memory None) ⊎ ((fault : SourceFault) × (error ≡ run_error_of_source fault) × Stops shelf asked fault)
 
--- # What is written and told
+-- # What is written and reported
 
--- A census of folders that goes on past what can't be read: the folders, and what is asked of each pattern.
-pub record KeptCensus : Type 0 where
-  pub asked : Asked
-  pub question : Question
-
--- A report of what could be read was written, and a line was told for each loss, and then the lines that are said beside the
--- report, where faults are explained. Nothing was read from standard input.
-pub record KeepsWhole (shelf : Tellings) (keeping : KeptCensus) (explain : Bool) (status : ℕ)
+-- Of a census of folders that continues past what can't be read: a report of what could be read was written. A line was reported
+-- for each loss, and then the lines that are said beside the report, where faults are explained. Nothing was read from standard
+-- input.
+pub record KeepsWhole (shelf : Tellings) (asked : Asked) (question : Question) (explain : Bool) (status : ℕ)
     (before after : Streams) : Type 0 where
   pub kept : Kept
-  pub read : Reads shelf keeping.asked kept
-  pub report : WritesReport before.output.written after.output.written kept.bundle keeping.question
+  pub read : Reads shelf asked kept
+  pub report : WritesReport before.output.written after.output.written kept.bundle question
   pub unread : after.input.unread ≡ before.input.unread
   pub sound : HasSoundStreams after
   pub lines : List ℕ
-  pub said : IfExplained explain (SaysBesideReport shelf (Some keeping.asked) kept.bundle lines) lines
+  pub said : IfExplained explain (SaysBesideReport shelf (Some asked) kept.bundle lines) lines
   pub told : PutsBytes (lost_lines kept.lost ++ lines) before.errors after.errors
   pub status_is : status ≡ kept_status kept.lost
 
@@ -76,28 +68,30 @@ IsCut (Memory ticket) after = HasSoundStreams after
 IsCut Write after = WriteFails after
 IsCut error after = ⊥
 
--- A prefix of that report was written. A line was told for each loss, and then the error.
-pub record KeepsPart (shelf : Tellings) (keeping : KeptCensus) (explain : Bool) (status : ℕ)
+-- A prefix of that report was written. A line was reported for each loss, and then the error, where faults are explained with the
+-- pattern where memory ran out, if it is known.
+pub record KeepsPart (shelf : Tellings) (asked : Asked) (question : Question) (explain : Bool) (status : ℕ)
     (before after : Streams) : Type 0 where
   pub kept : Kept
-  pub read : Reads shelf keeping.asked kept
-  pub part : WritesPrefix before.output.written after.output.written kept.bundle keeping.question
+  pub read : Reads shelf asked kept
+  pub part : WritesPrefix before.output.written after.output.written kept.bundle question
   pub unread : after.input.unread ≡ before.input.unread
   pub error : RunError
   pub cut : IsCut error after
-  pub told : PutsBytes (lost_lines kept.lost ++ cut_lines explain error) before.errors after.errors
+  pub told : PutsBytes (lost_lines kept.lost ++ error_lines explain error (kept_place error)) before.errors after.errors
   pub status_is : status ≡ run_status error
 
--- Nothing was read or written, and the error was told.
-pub record KeepsNothing (shelf : Tellings) (keeping : KeptCensus) (explain : Bool) (status : ℕ)
+-- Nothing was read or written, and the error was reported.
+pub record KeepsNothing (shelf : Tellings) (asked : Asked) (question : Question) (explain : Bool) (status : ℕ)
     (before after : Streams) : Type 0 where
   pub error : RunError
-  pub why : StopsKeeping shelf keeping.asked error
+  pub why : StopsKeeping shelf asked error
   pub untouched : IsUntouched before after
-  pub told : PutsBytes (error_lines explain error) before.errors after.errors
+  pub told : PutsBytes (error_lines explain error nowhere) before.errors after.errors
   pub status_is : status ≡ run_status error
 
-abbrev pub Keeps : Tellings → KeptCensus → Bool → ℕ → Streams → Streams → Type 0
-Keeps shelf keeping explain status before after =
-    KeepsWhole shelf keeping explain status before after
-    ⊎ (KeepsPart shelf keeping explain status before after ⊎ KeepsNothing shelf keeping explain status before after)
+abbrev pub Keeps : Tellings → Asked → Question → Bool → ℕ → Streams → Streams → Type 0
+Keeps shelf asked question explain status before after =
+    KeepsWhole shelf asked question explain status before after
+    ⊎ (KeepsPart shelf asked question explain status before after
+    ⊎ KeepsNothing shelf asked question explain status before after)

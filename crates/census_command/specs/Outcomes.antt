@@ -1,4 +1,4 @@
--- What the program's words come to: what is written and told, and the exit status.
+-- What the program's words come to: what is written and reported, and the exit status.
 use Rattle.std.specs.Prelude.{◌≡◌, ℕ, ◌⊎◌, Bool, ◌||◌, List, [], ◌++◌, map, option_map, None, Some, Result, Ok, Err, Vec, string_bytes}
 use Rattle.std.specs.Global.{Global}
 use Rattle.std.specs.Io.KnownBytes.{Appends}
@@ -18,8 +18,8 @@ use Rattle.census_folders.specs.Sources.{Asked}
 use Rattle.census_folders.specs.Tellings.{Tellings}
 use Rattle.census_folders.specs.declared.loss.OnLoss.{OnLoss}
 use Rattle.census_folders.specs.declared.loss.OnLoss.TheVariants.{Keep, Stop}
-use Rattle.census_errors.specs.Errors.{IsArgumentsError, status_of}
-use Rattle.census_errors.specs.Messages.{error_line}
+use Rattle.census_errors.specs.Errors.{IsArgumentsError}
+use Rattle.census_errors.specs.Messages.{error_line, status_of}
 use Rattle.census_errors.specs.Places.{IsPlaceOf}
 use Rattle.census_errors.specs.Sayings.{line_said, said_if}
 use Rattle.census_errors.specs.Sources.{Source, Input, Folders, source_of}
@@ -40,9 +40,9 @@ use Rattle.census_command.specs.Streams.{HasSoundStreams, IsUntouched, TellsIf, 
 use Rattle.census_command.specs.declared.forms.Beside.{Beside}
 use Rattle.census_command.specs.declared.forms.Beside.TheVariants.{Names, Claims}
 
--- # What the first thing that goes wrong ends
+-- # What ends at the first thing that goes wrong
 
--- It was done. Where faults are explained, what is said beside it was told, and else nothing.
+-- It was done. Where faults are explained, what is said beside it was reported, otherwise nothing.
 pub record Succeeds (shelf : Tellings) (request : Request) (explain : Bool) (status : ℕ) (before after : Streams) : Type 0 where
   pub status_is : status ≡ 0
   pub lines : List ℕ
@@ -50,7 +50,7 @@ pub record Succeeds (shelf : Tellings) (request : Request) (explain : Bool) (sta
   pub sound : HasSoundStreams after
   pub told : TellsIf explain lines before.errors after.errors
 
--- An error ended it. Its line was told, and where faults are explained one more, with its place as far as that is known.
+-- An error ended it. Its line was reported, and where faults are explained one more, with its place as far as that is known.
 pub record FailsTold (shelf : Tellings) (request : Request) (explain : Bool) (status : ℕ) (before after : Streams) : Type 0 where
   pub error : CommandError
   pub status_is : status ≡ status_of error
@@ -59,7 +59,7 @@ pub record FailsTold (shelf : Tellings) (request : Request) (explain : Bool) (st
   pub at : IsPlaceOf shelf request error place
   pub lines : PutsBytes (error_line error ++ said_if explain (line_said request error place)) before.errors after.errors
 
--- The lines that are said beside what was done were told, where faults are explained, or the error that ended it was.
+-- The lines that are said beside what was done were reported, where faults are explained, or the error that ended it was.
 abbrev pub Concludes : Request → Result (Vec ℕ Global) Stopped → Bool → ℕ → Sink → Sink → Type 0
 Concludes request (Ok lines) explain status before after = (status ≡ 0) × TellsIf explain lines.items before after
 Concludes request (Err stopped) explain status before after =
@@ -75,7 +75,7 @@ EndsAtFirst shelf request explain status before after =
 -- of folders, by what reading them does at a loss
 abbrev pub EndsOnLoss : OnLoss → Tellings → CensusAsked → Asked → Bool → ℕ → Streams → Streams → Type 0
 EndsOnLoss Keep shelf census asked explain status before after =
-    Keeps shelf (record { asked = asked; question = census.question }) explain status before after
+    Keeps shelf asked census.question explain status before after
 EndsOnLoss Stop shelf census asked explain status before after = EndsAtFirst shelf (Census census) explain status before after
 
 abbrev pub EndsCensus : Tellings → CensusAsked → Source → Bool → ℕ → Streams → Streams → Type 0
@@ -96,7 +96,7 @@ EndsBeside shelf beside word reports explain status before after =
 
 -- # What is asked for
 
--- How it ends: what is written and told, and the exit status.
+-- How it ends: what is written and reported, and the exit status.
 abbrev pub Ends : Tellings → Request → Bool → ℕ → Streams → Streams → Type 0
 Ends shelf (Census census) explain status before after = EndsCensus shelf census (source_of census.collections) explain status before after
 Ends shelf (Identify bound cells near horizon json names files) explain status before after =
@@ -114,22 +114,16 @@ Ends shelf (Page page reports) explain status before after =
 Ends shelf (Same json reports) explain status before after = EndsForm shelf (form.Same json) reports explain status before after
 Ends shelf (Verify claims reports) explain status before after = EndsBeside shelf Claims claims.now reports explain status before after
 
--- The words ask for this, and it ended so. Faults are explained where that is asked for, and at a terminal.
-pub record EndsAsked (shelf : Tellings) (words : List (List ℕ)) (at_terminal : Bool) (status : ℕ) (before after : Streams) : Type 0 where
-  pub asked : Wanted
-  pub is : AsksFor words asked
-  pub ends : Ends shelf asked.request (asked.explain || at_terminal) status before after
-
 -- # Where nothing can be done
 
--- the text was written, nothing was read, and nothing told
+-- the text was written, nothing was read, and nothing was reported
 pub record Shows (text : List ℕ) (before after : Streams) : Type 0 where
   pub written : Appends before.output.written after.output.written text
   pub unread : after.input.unread ≡ before.input.unread
   pub sound : HasSoundStreams after
   pub quiet : after.errors ≡ before.errors
 
--- as far as the writer took it, and this was told
+-- only a prefix of the text was written, as much as the writer took, and this was reported
 pub record ShowsInPart (text : List ℕ) (before after : Streams) : Type 0 where
   pub written : AppendsFront before.output.written after.output.written text
   pub unread : after.input.unread ≡ before.input.unread
@@ -146,20 +140,16 @@ Answers (Refused text) status before after =
 Answers Memory status before after =
     (status ≡ 3) × IsUntouched before after × PutsBytes (error_line command.Memory) before.errors after.errors
 
--- The words ask for nothing that can be done: for help, or they are refused, or memory was refused while they were read.
-pub record AnswersWords (words : List (List ℕ)) (status : ℕ) (before after : Streams) : Type 0 where
-  pub fault : WordsFault
-  pub why : RefusesWords words fault
-  pub answers : Answers fault status before after
-
 -- # The words
 
--- What words come to.
+-- What words come to. They ask for this, and it ended like this: faults are explained where that is asked for, and at a terminal.
+-- Or they ask for nothing that can be done: for help, or they are refused, or memory was refused while they were read.
 abbrev pub Outcome : Tellings → List (List ℕ) → Bool → ℕ → Streams → Streams → Type 0
 Outcome shelf words at_terminal status before after =
-    EndsAsked shelf words at_terminal status before after ⊎ AnswersWords words status before after
+    ((asked : Wanted) × AsksFor words asked × Ends shelf asked.request (asked.explain || at_terminal) status before after)
+    ⊎ ((fault : WordsFault) × RefusesWords words fault × Answers fault status before after)
 
--- The system gives no arguments, for an error of this kind. Nothing is read or written, and its line is told.
+-- The system gives no arguments, for an error of this kind. Nothing is read or written, and its line is reported.
 pub record StopsUnread (kind : ErrorKind) (status : ℕ) (before after : Streams) : Type 0 where
   pub error : CommandError
   pub is : IsArgumentsError kind error

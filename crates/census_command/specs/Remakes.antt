@@ -5,7 +5,6 @@ use Rattle.watched.specs.Streams.{PutsBytes, PutsMoreBytes, Sink, Streams}
 use Rattle.census_folders.specs.Told.{Told}
 use Rattle.census_identify.specs.Hearing.{Hears}
 use Rattle.census_identify.specs.declared.heard.Heard.TheVariants as heard
-use Rattle.census_reports.specs.Errors as reports
 use Rattle.census_reports.specs.Outcomes.{ReportsFail, WritesReports}
 use Rattle.census_reports.specs.Texts.{RefusesWord}
 use Rattle.census_reports.specs.declared.error.ReportsError.{ReportsError}
@@ -16,9 +15,9 @@ use Rattle.census_reports.specs.declared.reading.Reading.{Reading}
 use Rattle.census_reports.specs.declared.reading.Written.{Written}
 use Rattle.census_merge.specs.declared.mending.Cut.{Cut}
 use Rattle.census_errors.specs.Cuts.{cut_line}
-use Rattle.census_errors.specs.Messages.{error_line}
+use Rattle.census_errors.specs.Messages.{error_line, status_of}
 use Rattle.census_errors.specs.Places.{IsReportsPlace}
-use Rattle.census_errors.specs.Sayings.{reports_line, said_if}
+use Rattle.census_errors.specs.Sayings.{explained_at, reports_said, said_if}
 use Rattle.census_command.specs.Forms.{form_beside}
 use Rattle.census_command.specs.Streams.{untold}
 use Rattle.census_command.specs.declared.forms.Beside.{Beside}
@@ -31,7 +30,7 @@ KeepsLaw form.Merged reading held files before after =
     reading.cut ≡ false → MergesLawfully reading.limit held files before after
 KeepsLaw _ reading held files before after = Unit {0}
 
--- a line was told for each text that was cut, in their order; once standard error has failed the lines are lost
+-- a line was reported for each text that was cut, in their order; once standard error has failed the lines are lost
 abbrev pub TellsCuts : List Cut → Sink → Sink → Type 0
 TellsCuts [] old new = new ≡ old
 TellsCuts (cut ∷ cuts) old new = (next : Sink) × PutsMoreBytes (cut_line cut) old next × TellsCuts cuts next new
@@ -40,7 +39,7 @@ TellsCuts (cut ∷ cuts) old new = (next : Sink) × PutsMoreBytes (cut_line cut)
 abbrev pub found_status : Bool → ℕ
 found_status found = if found then 5 else 0
 
--- What is made of the reports of these files was written, and nothing was told but where texts were cut.
+-- What is made of the reports of these files was written, and nothing was reported but where texts were cut.
 pub record RemakesWhole (held : List ℕ → Told) (form : Form) (reading : Reading) (files : List (List ℕ)) (status : ℕ)
     (before after : Streams) : Type 0 where
   pub written : Written
@@ -49,17 +48,18 @@ pub record RemakesWhole (held : List ℕ → Told) (form : Form) (reading : Read
   pub lawful : KeepsLaw form reading held files before (untold before after)
   pub told : TellsCuts written.cuts.items before.errors after.errors
 
--- The line of an error of these files was told, and where faults are explained one more, with its place as far as that is known.
+-- The line of an error of these files was reported, and where faults are explained one more, with its place as far as that is
+-- known.
 pub record TellsOfReports (held : List ℕ → Told) (files : List (List ℕ)) (error : ReportsError) (explain : Bool) (old new : Sink) : Type 0 where
   pub place : Place
   pub at : IsReportsPlace held error place
-  pub lines : PutsBytes (error_line (command.Reports error) ++ said_if explain (reports_line files error place)) old new
+  pub lines : PutsBytes (error_line (command.Reports error) ++ said_if explain (explained_at (reports_said files error) place)) old new
 
--- An error ended it, and was told.
+-- An error ended it, and was reported.
 pub record RemakesNot (held : List ℕ → Told) (form : Form) (reading : Reading) (files : List (List ℕ)) (explain : Bool) (status : ℕ)
     (before after : Streams) : Type 0 where
   pub error : ReportsError
-  pub status_is : status ≡ reports.status_of error
+  pub status_is : status ≡ status_of (command.Reports error)
   pub fails : ReportsFail error form reading held files before (untold before after)
   pub told : TellsOfReports held files error explain before.errors after.errors
 
@@ -81,11 +81,11 @@ pub record RemakesBeside (held : List ℕ → Told) (beside : Beside) (word : Li
   pub quiet : reached.errors ≡ before.errors
   pub remakes : Remakes held (form_beside beside text) reading files explain status reached after
 
--- The text was not read, for an error that was told.
+-- The text was not read, for an error that was reported.
 pub record MissesBeside (held : List ℕ → Told) (word : List ℕ) (explain : Bool) (status : ℕ)
     (before after : Streams) : Type 0 where
   pub error : ReportsError
-  pub status_is : status ≡ reports.status_of error
+  pub status_is : status ≡ status_of (command.Reports error)
   pub why : RefusesWord error held word before.input after.input
   pub unwritten : after.output ≡ before.output
   pub told : TellsOfReports held (word ∷ []) error explain before.errors after.errors

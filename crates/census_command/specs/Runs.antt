@@ -28,7 +28,7 @@ pub record ReportsInput (shelf : Tellings) (question : Question) (explain : Bool
   pub report : WritesReport before.output.written after.output.written bundle question
   pub said : IfExplained explain (SaysBesideReport shelf None bundle lines) lines
 
--- as far as the writer took it
+-- as `ReportsInput`, but only a prefix was written: as much as the writer took
 pub record ReportsInputInPart (question : Question) (before after : Streams) : Type 0 where
   pub bundle : List Folder
   pub read : ReadsFolders before.input.unread after.input.unread bundle
@@ -46,7 +46,7 @@ InputFails Write question before after = ReportsInputInPart question before afte
 
 -- # Folders
 
--- The folders were read, as the shelf tells, where reading ends at the first loss; so nothing was lost. A report of them was
+-- The folders were read, according to the shelf, where reading ends at the first loss; so nothing was lost. A report of them was
 -- written. Nothing was read from standard input. These lines are said beside the report, where faults are explained.
 pub record ReportsFolders (shelf : Tellings) (asked : Asked) (question : Question) (explain : Bool) (lines : List ℕ) (before after : Streams) : Type 0 where
   pub stops : asked.on_loss ≡ Stop
@@ -56,7 +56,7 @@ pub record ReportsFolders (shelf : Tellings) (asked : Asked) (question : Questio
   pub said : IfExplained explain (SaysBesideReport shelf (Some asked) kept.bundle lines) lines
   pub unread : after.input.unread ≡ before.input.unread
 
--- as far as the writer took it
+-- as `ReportsFolders`, but only a prefix was written: as much as the writer took
 pub record ReportsFoldersInPart (shelf : Tellings) (asked : Asked) (question : Question) (before after : Streams) : Type 0 where
   pub stops : asked.on_loss ≡ Stop
   pub kept : Kept
@@ -85,7 +85,7 @@ abbrev pub Runs : Tellings → Source → Question → Bool → List ℕ → Str
 Runs shelf Input question explain lines before after = ReportsInput shelf question explain lines before after
 Runs shelf (Folders asked) question explain lines before after = ReportsFolders shelf asked question explain lines before after
 
--- as far as the writer took it
+-- as `Runs`, but only a prefix was written: as much as the writer took
 abbrev pub RunsInPart : Tellings → Source → Question → Streams → Streams → Type 0
 RunsInPart shelf Input question before after = ReportsInputInPart question before after
 RunsInPart shelf (Folders asked) question before after = ReportsFoldersInPart shelf asked question before after

@@ -1,4 +1,4 @@
--- What the exit status says of words that ask for what the first thing that goes wrong ends, or for nothing that can be done.
+-- What the exit status says of words that ask for what ends at the first thing that goes wrong, or for nothing that can be done.
 use Rattle.std.specs.Prelude.{◌≡◌, ℕ, ◌≤◌, ◌<◌, ◌⊎◌, Bool, true, ◌||◌, List, [], ◌++◌, option_map, Option, None, Some, Err}
 use Rattle.std.specs.Io.KnownBytes.{Appends}
 use Rattle.watched.specs.Streams.{PutsBytes, Streams}
@@ -14,8 +14,9 @@ use Rattle.census_bundle.specs.Sizes.{input_limit}
 use Rattle.census_crew.specs.Bytes.{ReadsFault}
 use Rattle.census_cli.specs.Asking.{Asks, AsksFor, AsksToExplain, IsMatched}
 use Rattle.census_cli.specs.declared.request.Asked.{Asked as Wanted}
-use Rattle.census_command.specs.Outcomes.{AnswersWords, EndsAtFirst}
-use Rattle.census_cli.specs.Refusing.{AreRefusedWords, AsksHelp, AsksText}
+use Rattle.census_command.specs.Outcomes.{Answers, EndsAtFirst}
+use Rattle.census_cli.specs.Refusing.{AreRefusedWords, AsksHelp, AsksText, RefusesWords}
+use Rattle.census_cli.specs.declared.fault.WordsFault.{WordsFault}
 use Rattle.census_cli.specs.declared.request.Request.{Request}
 use Rattle.census_cli.specs.declared.request.Request.TheVariants.{Census, Advance, Draw}
 use Rattle.census_faults.specs.declared.fault.Fault.{Fault}
@@ -23,9 +24,8 @@ use Rattle.census_faults.specs.declared.spot.Spot.{Spot}
 use Rattle.census_folders.specs.Told.{MayExceed, MayFail}
 use Rattle.census_folders.specs.declared.unread.Unread.{Unread}
 use Rattle.census_command.specs.Advances.{HasFileFault, HasRleFault, ReadsTooMuch}
-use Rattle.census_errors.specs.Errors.{run_status, status_of}
 use Rattle.census_errors.specs.Files.{file_of}
-use Rattle.census_errors.specs.Messages.{error_line}
+use Rattle.census_errors.specs.Messages.{error_line, run_status, status_of}
 use Rattle.census_errors.specs.Places.{IsPlaceOf}
 use Rattle.census_command.specs.Requests.{Does, DoesInPart, Fails}
 use Rattle.census_command.specs.Runs.{FailsInFolders, RunsInPart}
@@ -41,7 +41,7 @@ use Rattle.census_errors.specs.declared.error.CommandError.TheVariants as comman
 
 -- # Which words these are
 
--- The words ask for this, which ended so.
+-- The words ask for this, which ended like this.
 pub record EndsAskedAtFirst (shelf : Tellings) (words : List (List ℕ)) (at_terminal : Bool) (status : ℕ) (before after : Streams) : Type 0 where
   pub asked : Wanted
   pub is : AsksFor words asked
@@ -49,7 +49,8 @@ pub record EndsAskedAtFirst (shelf : Tellings) (words : List (List ℕ)) (at_ter
 
 abbrev pub EndsPlainly : Tellings → List (List ℕ) → Bool → ℕ → Streams → Streams → Type 0
 EndsPlainly shelf words at_terminal status before after =
-    EndsAskedAtFirst shelf words at_terminal status before after ⊎ AnswersWords words status before after
+    EndsAskedAtFirst shelf words at_terminal status before after
+    ⊎ ((fault : WordsFault) × RefusesWords words fault × Answers fault status before after)
 
 -- # What is explained
 
@@ -61,7 +62,7 @@ pub record AreExplained (words : List (List ℕ)) (at_terminal explain : Bool) :
 
 -- # What is done
 
--- The words ask for something, and it was done. Where faults are explained, what is said beside it was told, and else
+-- The words ask for something, and it was done. Where faults are explained, what is said beside it was reported, otherwise
 -- nothing.
 pub record DoesAsked (shelf : Tellings) (words : List (List ℕ)) (at_terminal : Bool) (before after : Streams) : Type 0 where
   pub request : Request
@@ -87,14 +88,14 @@ RefusesCollections shelf Input before after =
     ((fault : BundleFault) × ReadsFault before.input.unread after.input.unread fault) ⊎ ReadsTooMuch before after
 RefusesCollections shelf (Folders asked) before after = (error : RunError) × FailsInFolders shelf asked error × (run_status error ≡ 1)
 
--- a file, or without one standard input, has a fault or is too long
+-- a file, or standard input where there is none, has a fault or is too long
 abbrev pub RefusesText : Tellings → Option (List ℕ) → Streams → Streams → Type 0
 RefusesText shelf None before after =
     ((fault : RleFault) × (told : Fault) × (spot : Spot) × HasRleFault fault told spot before after) ⊎ ReadsTooMuch before after
 RefusesText shelf (Some path) before after =
     ((fault : RleFault) × (told : Fault) × (spot : Spot) × HasFileFault fault told spot shelf path) ⊎ MayExceed input_limit (shelf.held [] path)
 
--- what a request is to be done with is refused
+-- the input of a request is refused
 abbrev pub RefusesInput : Tellings → Request → Streams → Streams → Type 0
 RefusesInput shelf (Census census) before after = RefusesCollections shelf (source_of census.collections) before after
 RefusesInput shelf (Advance generations file) before after = RefusesText shelf (file_of (option_map (λ s. s.now) file)) before after
@@ -111,7 +112,7 @@ pub record IsFaulty (shelf : Tellings) (words : List (List ℕ)) (before after :
 
 -- # What is cut short
 
--- The words ask for something, and it was done as far as the writer took it.
+-- The words ask for something, and it was done, but only a prefix was written: as much as the writer took.
 pub record DoesAskedInPart (shelf : Tellings) (words : List (List ℕ)) (before after : Streams) : Type 0 where
   pub request : Request
   pub asked : Asks words request
@@ -134,7 +135,7 @@ pub record ReportsAskedInPart (shelf : Tellings) (words : List (List ℕ)) (befo
   pub asked : Asks words request
   pub part : ReportsInPart shelf request before (untold before after)
 
--- a file may not be readable, as the shelf tells
+-- a file may not be readable, according to the shelf
 abbrev pub MissesFile : Tellings → Option (List ℕ) → Type 0
 MissesFile shelf None = ⊥
 MissesFile shelf (Some path) = (why : Unread) × MayFail (shelf.held [] path) why
@@ -156,9 +157,9 @@ pub record MissesFolder (shelf : Tellings) (words : List (List ℕ)) : Type 0 wh
   pub asked : Asks words request
   pub missed : StopsAtFolder shelf request
 
--- # What is told
+-- # What is reported
 
--- The words ask for something that failed with this error. Its line was told, and where faults are explained one more, with
+-- The words ask for something that failed with this error. Its line was reported, and where faults are explained one more, with
 -- its place as far as that is known.
 pub record FailsAsked (error : CommandError) (shelf : Tellings) (words : List (List ℕ)) (at_terminal : Bool) (before after : Streams) : Type 0 where
   pub request : Request
@@ -176,14 +177,14 @@ FailsReading command.Memory words before after = IsUntouched before after
 FailsReading command.Write words before after = HelpsInPart words before after × WriteFails after
 FailsReading error words before after = ⊥
 
--- There was an error of this status, and it was told.
+-- There was an error of this status, and it was reported.
 pub record TellsError (shelf : Tellings) (words : List (List ℕ)) (at_terminal : Bool) (status : ℕ) (before after : Streams) : Type 0 where
   pub error : CommandError
   pub status_is : status ≡ status_of error
   pub fails : FailsAsked error shelf words at_terminal before after
       ⊎ (FailsReading error words before after × PutsBytes (error_line error) before.errors after.errors)
 
--- Clap refuses the words, and some text was told; nothing was read or written.
+-- Clap refuses the words, and some text was reported; nothing was read or written.
 pub record TellsRefusal (words : List (List ℕ)) (before after : Streams) : Type 0 where
   pub refused : AreRefusedWords words
   pub untouched : IsUntouched before after
@@ -208,7 +209,7 @@ pub record Statuses (shelf : Tellings) (words : List (List ℕ)) (at_terminal : 
   pub noticed : HasFailed after → status ≡ 4
   pub told : 0 < status → TellsError shelf words at_terminal status before after ⊎ TellsRefusal words before after
 
--- so it is for each outcome of these words
+-- this holds for each outcome of these words
 abbrev pub StatusesSay : Type 0
 StatusesSay = (shelf : Tellings) (words : List (List ℕ)) (at_terminal : Bool) (status : ℕ) (before after : Streams)
     → EndsPlainly shelf words at_terminal status before after → Statuses shelf words at_terminal status before after

@@ -1,4 +1,4 @@
--- What stands in the streams of a command: one value before and one after.
+-- The streams of a command, by one value before and one after.
 use Rattle.std.specs.Prelude.{◌≡◌, ◌⊎◌, ℕ, Bool, true, false, List, MatchBool}
 use Rattle.watched.specs.Streams.{PutsBytes, Sink, Streams}
 
@@ -33,10 +33,10 @@ pub record WriteFails (after : Streams) : Type 0 where
 abbrev pub HasFailed : Streams → Type 0
 HasFailed s = (s.input.failed ≡ true) ⊎ (s.output.failed ≡ true)
 
--- the streams after, as they are before anything is told on standard error
+-- the streams after, as they were before anything was reported on standard error
 abbrev pub untold : Streams → Streams → Streams
 untold before after = record after { errors = before.errors }
 
--- this text was told, where it is asked for, and else nothing
+-- this text was reported, where it is asked for, otherwise nothing
 abbrev pub TellsIf : Bool → List ℕ → Sink → Sink → Type 0
 TellsIf asked text before after = MatchBool asked (PutsBytes text before after) (after ≡ before)

@@ -18,7 +18,7 @@ use std::alloc::Global;
 use std::io::{Read, Write};
 use watched::{Streams, put_all, read_all};
 
-// The error that the fault of a text is, with what is said of it.
+// The error for this fault of a text, with what is said of it.
 fn refused(text: &[u8], fault: RleFault) -> AdvanceError
     ensures { result ≡ advance_error_of_text text.now fault }
 {
@@ -95,11 +95,11 @@ fn advance_file<S: Shelf, I: Read, O: Write, E: Write>(
     Ok(())
 }
 
-/// Reads the RLE text of a file, or where there is none or it is `-` that on standard input, up to its end, and writes the
-/// RLE text of generation N of its pattern.
+/// Reads RLE text to its end, from a file, or from standard input where there is none or it is `-`. Writes the RLE text of
+/// generation N of its pattern.
 ///
-/// The whole text stands before its first byte is written, so nothing is written where the input is refused or memory is.
-/// A file that is no regular file is not opened, and can't be read.
+/// The whole text is made before its first byte is written, so nothing is written where the input is refused or memory is. A file
+/// that is not a regular file is not opened, and can't be read.
 pub fn advance<S: Shelf, I: Read, O: Write, E: Write>(
     shelf: &S,
     alloc: Global,

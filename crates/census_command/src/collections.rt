@@ -29,7 +29,7 @@ pub fn folders_of<'r, 'a>(collections: &'r Collections<'a>) -> Source<'r, 'a>
     }
 }
 
-/// Whether a census goes on past what can't be read. Without a folder none does.
+/// Whether a census continues past what can't be read. A census without a folder never does.
 pub fn goes_on(collections: &Collections<'_>) -> bool
     ensures folders { result ≡ true → source_of collections.now ≡ Folders (asked_of collections.now) }
     ensures keeps { result ≡ true → (asked_of collections.now).on_loss ≡ OnLoss.Keep }

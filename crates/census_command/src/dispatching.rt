@@ -1,13 +1,14 @@
 //! What the program does with its words.
 ghost use Rattle.std.specs.Prelude.{◌≡◌, ◌⊎◌, ◌||◌, false, map, IfErr, IfOk, MatchResult, OnOk};
 ghost use Rattle.census_cli.specs.declared.request.Request.TheVariants as request;
-ghost use Rattle.census_errors.specs.Errors.{status_of};
+ghost use Rattle.census_errors.specs.Messages.{status_of};
 ghost use Rattle.census_errors.specs.Messages.{error_line};
 ghost use Rattle.census_errors.specs.Places.{IsPlaceOf};
 ghost use Rattle.census_errors.specs.Sources.{StopsAtFirstLoss, source_of};
 ghost use Rattle.census_command.specs.Gates.{HearsEnd, HearsOutcome, HearsRequest};
 ghost use Rattle.census_command.specs.Outcomes.{Answers, Concludes, Ends, Outcome};
-ghost use Rattle.census_command.specs.Requests.{Does, Fails, IsLawful};
+ghost use Rattle.census_cli.specs.Holding.{IsLawful};
+ghost use Rattle.census_command.specs.Requests.{Does, Fails};
 ghost use Rattle.watched.specs.Streams.{PutsBytes};
 ghost use Rattle.census_command.specs.Streams.{HasSoundStreams, TellsIf};
 
@@ -31,8 +32,8 @@ use std::sync::Wait;
 use std::thread::Threads;
 use watched::{Output, Streams, put_all};
 
-// Writes the report of a census that ends at the first thing that can't be read. It gives the lines that are said beside
-// the report, where faults are explained.
+// Writes the report of a census that ends at the first thing that can't be read. Returns the lines that are said beside the
+// report, where faults are explained.
 fn report_census<S: Shelf, I: Read, O: Write, E: Write, G: Gate, R: Threads + Wait + Sync>(
     rt: &R,
     shelf: &S,
@@ -137,7 +138,7 @@ fn explains(asked: bool, at_terminal: bool) -> bool
     asked || at_terminal
 }
 
-// Tells lines, where they are asked for.
+// Reports lines on standard error, where they are asked for.
 fn tell_if<E: Write>(asked: bool, lines: &[u8], errors: &mut Output<E>)
     requires { errors.old.stream.failed ≡ false }
     ensures { TellsIf asked lines.now errors.old.stream errors.new.stream }
@@ -147,7 +148,7 @@ fn tell_if<E: Write>(asked: bool, lines: &[u8], errors: &mut Output<E>)
     }
 }
 
-// Tells what is said beside what was done, where faults are explained, or the error that ended it, and gives the exit status.
+// Reports what is said beside what was done, where faults are explained, or the error that ended it. Returns the exit status.
 fn conclude<E: Write>(
     request: &Request<'_>,
     ended: Result<Vec<u8>, Stopped>,
@@ -169,7 +170,7 @@ fn conclude<E: Write>(
     }
 }
 
-/// Tells an error by its line, and gives its exit status. That it can't be told changes nothing.
+/// Reports an error by its line, and returns its exit status. A line that can't be written changes nothing.
 pub fn stop<E: Write>(error: CommandError, errors: &mut Output<E>) -> u8
     requires { errors.old.stream.failed ≡ false }
     ensures status { result ≡ status_of error }
@@ -179,8 +180,8 @@ pub fn stop<E: Write>(error: CommandError, errors: &mut Output<E>) -> u8
     error.status()
 }
 
-/// Writes why words ask for nothing that can be done, and gives the exit status: help by its own text on standard output,
-/// and a refusal by its own text on standard error.
+/// Writes why words ask for nothing that can be done, and returns the exit status. Help is written by its own text to standard
+/// output, and a refusal by its own text to standard error.
 pub fn answer<I: Read, O: Write, E: Write>(fault: &WordsFault, streams: &mut Streams<I, O, E>) -> u8
     requires streams { HasSoundStreams streams.old }
     requires errors { streams.old.errors.failed ≡ false }
@@ -199,7 +200,7 @@ pub fn answer<I: Read, O: Write, E: Write>(fault: &WordsFault, streams: &mut Str
     }
 }
 
-// Does what is asked for, and gives the exit status.
+// Does what is asked for, and returns the exit status.
 fn carry_out<S: Shelf, I: Read, O: Write, E: Write, G: Gate, R: Threads + Wait + Sync>(
     rt: &R,
     shelf: &S,
@@ -290,38 +291,37 @@ fn carry_out<S: Shelf, I: Read, O: Write, E: Write, G: Gate, R: Threads + Wait +
     }
 }
 
-/// Does what the program `census` does with its words, which are those after its name, and gives its exit status.
+/// Does what the program `census` does with its words, which are those after its name, and returns its exit status.
 ///
-/// What the words mean is what clap's matches for them say. By `run` and by `objects` each worker passes the gate with a
-/// ticket before it works. Folders and files are read from the shelf, which may tell what stands on it; with `--recursive`
-/// the folders below those of the words too.
+/// The words mean what clap's matches for them say. With `run` and `objects` each worker passes the gate with a ticket before it
+/// works. Folders and files are read from the shelf, which may say what is on it; with `--recursive` the folders below those of
+/// the words are read too.
 ///
-/// - 0: what was asked for was done. By `run` and by `objects` the report of the folders, or without any of the bundle on
-///   standard input, was written: what their patterns become, or the objects in it; by `advance N` standard input is an
-///   RLE text, and the text of generation N was written; by `draw CODE [--rule R]` the text of the code's shape under the
-///   rule; by `merge` one report of reports that were read, by `table` a table of them, by `page` a page, by `same`
-///   their patterns that are one object, of which there are none, and by `verify` what does not agree between claims and
-///   them, which is nothing. With `--names` the file of names is read before the reports. Or help was asked for and written.
+/// - 0: what was asked for was done. With `run` and `objects` the report of the folders, or without any of the bundle on standard
+///   input, was written: what their patterns become, or the objects in them; with `advance N` the input is an RLE text, and the
+///   text of generation N was written; with `draw CODE [--rule R]` the text of the code's shape under the rule; with `merge` one
+///   report of the reports that were read, with `table` a table of them, with `page` a page, with `same` those of their patterns
+///   that are one object, of which there are none, and with `verify` what does not agree between claims and them, which is
+///   nothing. With `--names` the file of names is read before the reports. Or help was asked for and written.
 /// - 1: the collections, the pattern, the rule or the code is refused, and nothing was written.
 /// - 2: clap refuses the words, and not because memory was refused; nothing was read or written.
-/// - 3: memory was refused, and nothing was written, or by `run` and by `objects` a prefix of the report, or by `table`,
-///   `page`, `same` and `verify` one of what they write.
-/// - 5: what was asked for was done, and what was looked for was found: by `same` patterns that are one object, and by
+/// - 3: out of memory; nothing was written, or with `run` and `objects` a prefix of the report, or with `table`, `page`, `same`
+///   and `verify` a prefix of what they write.
+/// - 5: what was asked for was done, and what was looked for was found: with `same` patterns that are one object, and with
 ///   `verify` what does not agree.
-/// - 4: standard input or standard output has failed, or a folder could not be listed or a file of it be read. What was
-///   written is a prefix of what was asked for, or nothing; after a failed read it is nothing. With `--keep-going` it is
-///   the whole report of what could be read, after a line on standard error for each folder, file or name that was lost.
+/// - 4: standard input or standard output has failed, or a folder could not be listed, or a file of it could not be read. What
+///   was written is a prefix of what was asked for, or nothing; after a failed read it is nothing. With `--keep-going` it is the
+///   whole report of what could be read, after a line on standard error for each folder, file or name that was lost.
 ///
-/// Where the status is 0 or 5, nothing is written to standard error but a line for each report that was cut, with `--cut`. Else the
-/// error's one line is, or for status 2 clap's own text:
-/// whole where standard error does not fail, else a prefix of it. With `--explain`, and at a terminal, which standard error is
-/// where `at_terminal` is set, one more line
-/// follows the error's, which says where the fault is, what is wrong and what would be right; and after a report there is
-/// such a line for each pattern that it tells as `bad`, and then one for each whose text may hold the next pattern, and one
-/// with how many collections are empty and how many names were passed over that look like those of patterns.
+/// With status 0 or 5, nothing is written to standard error but, with `--cut`, a line for each report that was cut. Otherwise the
+/// error's one line is written there, or for status 2 clap's own text: whole where standard error does not fail, else a prefix of
+/// it. With `--explain`, and at a terminal (standard error is one where `at_terminal` is set), one more line follows the error's.
+/// It says where the fault is, what is wrong and what would be right. After a report there is such a line for each pattern that
+/// it reports as `bad`, then one for each pattern whose text may hold the next pattern, and one with how many collections are
+/// empty and how many names were passed over that look like those of patterns.
 ///
-/// The gate is told how many patterns a run has before it, and after it that it has ended, whatever ends it; with
-/// `--no-progress` it is told neither. By `identify` it is told to which generation each file has come.
+/// The gate is told how many patterns a run has before it, and after it that it has ended, whatever ends it; with `--no-progress`
+/// it is told neither. With `identify` it is told which generation each file has reached.
 pub fn dispatch<S: Shelf, I: Read, O: Write, E: Write, G: Gate, R: Threads + Wait + Sync>(
     rt: &R,
     shelf: &S,

@@ -13,8 +13,8 @@ use watched::{Streams, put_all};
 // The RLE text of what a code draws under a rule.
 fn drawn_text(alloc: Global, code: &[u8], rule: &[u8]) -> Result<Vec<u8>, DrawError>
     ensures { MatchResult result
-        (λ written. IsDrawn (record { code = code.now; rule = rule.now }) written.items)
-        (λ error. RefusesCode error (record { code = code.now; rule = rule.now })) }
+        (λ written. IsDrawn code.now rule.now written.items)
+        (λ error. RefusesCode error code.now rule.now) }
 {
     let rule = Rule::parse(rule)?;
     let shape = read_wechsler(alloc, body_of(code))?;
@@ -26,7 +26,7 @@ fn drawn_text(alloc: Global, code: &[u8], rule: &[u8]) -> Result<Vec<u8>, DrawEr
 /// Writes the RLE text of the shape that the body of a code spells, under the rule that a rule text names. The body is
 /// what follows the code's first `_`, or the whole code where there is none.
 ///
-/// The rule is judged before the code, and the whole text stands before its first byte is written.
+/// The rule is checked before the code, and the whole text is made before its first byte is written.
 pub fn draw<I: Read, O: Write, E: Write>(
     alloc: Global,
     code: &[u8],
@@ -35,10 +35,10 @@ pub fn draw<I: Read, O: Write, E: Write>(
 ) -> Result<(), DrawError>
     requires { HasSoundStreams streams.old }
     ensures done { OnOk result
-        (Draws (record { code = code.now; rule = rule.now }) streams.old streams.new) }
+        (Draws code.now rule.now streams.old streams.new) }
     ensures sound { OnOk result (HasSoundStreams streams.new) }
     ensures fails { IfErr result
-        (λ e. DrawFails e (record { code = code.now; rule = rule.now }) streams.old streams.new) }
+        (λ e. DrawFails e code.now rule.now streams.old streams.new) }
     ensures quiet { streams.new.errors ≡ streams.old.errors }
 {
     let written = drawn_text(alloc, code, rule)?;

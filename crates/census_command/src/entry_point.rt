@@ -33,7 +33,7 @@ fn own_words(alloc: Global, args: Args) -> Result<Vec<String>, AllocError>
     Ok(words)
 }
 
-// Does what the arguments ask for, and gives the exit status.
+// Does what the arguments ask for, and returns the exit status.
 fn dispatch_arguments<S: Shelf, I: Read, O: Write, E: Write, G: Gate, R: Threads + Wait + Sync>(
     rt: &R,
     shelf: &S,
@@ -72,8 +72,8 @@ fn dispatch_arguments<S: Shelf, I: Read, O: Write, E: Write, G: Gate, R: Threads
 /// The whole program `census` over any shelf, any gate and any streams: `dispatch` on all arguments but the first, which is the
 /// program's name, and its status as the exit status. Standard error is a terminal where `at_terminal` is set.
 ///
-/// Where the system gives no arguments, nothing is read or written, and the error's line is told: `out of memory` with
-/// status 3 where memory is refused, else `bad command line` with status 2, for an argument that is no text.
+/// Where the system gives no arguments, nothing is read or written, and the error's line is reported: `out of memory` with status
+/// 3 where memory is refused, else `bad command line` with status 2, for an argument that is not text.
 pub fn program<S: Shelf, I: Read, O: Write, E: Write, G: Gate, R: Threads + Wait + Sync>(
     rt: &R,
     shelf: &S,

@@ -20,7 +20,7 @@ pub fn format_of(format: TableFormat) -> Format
     }
 }
 
-/// What a table has a row for each of.
+/// What each row of a table is about.
 pub fn subject_of(subject: TableSubject) -> Subject
     ensures { result ≡ subject_of subject }
 {
@@ -31,7 +31,7 @@ pub fn subject_of(subject: TableSubject) -> Subject
     }
 }
 
-// In which order the codes of a page stand.
+// The order of the codes on a page.
 fn sort_of(sort: PageSort) -> Sort
     ensures { result ≡ sort_of sort }
 {
@@ -44,7 +44,7 @@ fn sort_of(sort: PageSort) -> Sort
     }
 }
 
-// The bytes of a text, or these where there is none.
+// The bytes of a text, or `other` where there is none.
 fn bytes_or<'a>(text: Option<&'a str>, other: &'a [u8]) -> &'a [u8]
     ensures { result.now ≡ unwrap_or (option_map (λ s. s.now) text.entry) other.entry.now }
 {
@@ -64,7 +64,7 @@ fn bytes_of<'a>(text: Option<&'a str>) -> Option<&'a [u8]>
     }
 }
 
-// How many codes a page has, where that is limited, as pages count them.
+// The largest number of codes on a page, where that is limited, as pages count them.
 fn count_of(top: Option<u32>) -> Option<u64>
     ensures { result ≡ top }
 {
@@ -90,7 +90,7 @@ pub fn options_asked<'a>(page: &PageAsked<'a>) -> PageOptions<'a>
     }
 }
 
-/// A table of this, without names of codes.
+/// A table of this subject in this format, without names of codes.
 pub fn table_form<'a>(subject: TableSubject, format: TableFormat) -> Form<'a>
     ensures { result ≡ form.Table (subject_of subject) (format_of format) None }
 {
@@ -101,7 +101,7 @@ pub fn table_form<'a>(subject: TableSubject, format: TableFormat) -> Form<'a>
     }
 }
 
-/// A table of this, with names of codes.
+/// A table of this subject in this format, with names of codes.
 pub fn names_beside(subject: TableSubject, format: TableFormat) -> Beside
     ensures { result ≡ beside.Names (subject_of subject) (format_of format) }
 {
@@ -126,11 +126,11 @@ pub fn reading_of(reports: &Reports<'_>) -> Reading
 pub enum Beside {
     /// A table with the names of codes that the text has.
     Names { subject: Subject, format: Format },
-    /// What does not agree with the claims that it has.
+    /// What does not agree with the claims that the text has.
     Claims,
 }
 
-/// This, with the text.
+/// What `beside` makes of reports, with this text.
 pub fn form_beside(beside: Beside, text: &[u8]) -> Form<'_>
     ensures { result ≡ form_beside beside text.entry }
 {

@@ -1,4 +1,4 @@
-//! `census identify`: what patterns are, told with the names of codes.
+//! `census identify`: what patterns are, reported with the names of codes.
 ghost use Rattle.std.specs.Prelude.{◌≡◌, ◌≤◌, [], false, map, option_map, MatchResult, Ok, OnOk};
 ghost use Rattle.census_identify.specs.Identifies.{Identifies};
 ghost use Rattle.census_facts.specs.NameLines.{names_in};
@@ -16,7 +16,7 @@ use std::alloc::Global;
 use std::io::{Read, Write};
 use watched::Streams;
 
-/// How an answer is told.
+/// The form of an answer.
 pub fn form_told(json: bool) -> Form
     ensures { result ≡ form_told json }
 {
@@ -55,11 +55,11 @@ fn names_of<S: Shelf, I: Read, O: Write, E: Write>(
     }
 }
 
-// Hands on to a gate to which generation each file has come.
+// Passes on to a gate which generation each file has reached.
 #[derive(Drop)]
 struct Reaching<'a, G> {
     gate: &'a G,
-    /// The last generation up to which it is told.
+    /// The last generation that may be reached.
     last: u32,
 }
 
@@ -69,7 +69,7 @@ impl<'a, G: Gate> Onlooker for Reaching<'a, G> {
     }
 }
 
-// Tells what the patterns of these files are, with these names.
+// Reports what the patterns of these files are, with these names.
 fn tell_named<S: Shelf, I: Read, O: Write, E: Write, G: Gate>(
     shelf: &S,
     alloc: Global,
@@ -93,10 +93,10 @@ fn tell_named<S: Shelf, I: Read, O: Write, E: Write, G: Gate>(
     identify(shelf, alloc, &reaching, inquiry, names, files, streams)
 }
 
-/// Tells what the patterns of these files are, as `identify` does, with the names of the text of a word, which is read
-/// first; `-` is standard input, and without a word there are no names. Where that text can't be read, is too long or has a
-/// fault, the status is that of the error, whose line was told, with one more where faults are explained; nothing was
-/// written, and no pattern was read. The gate is told to which generation each file has come, of three times the bound.
+/// Reports what the patterns of these files are, as `identify` does, with the names in the text of a word, which is read first;
+/// `-` is standard input, and without a word there are no names. Where that text can't be read, is too long or has a fault, the
+/// status is that of the error, whose line was reported, with one more where faults are explained; nothing was written, and no
+/// pattern was read. The gate is told which generation each file has reached, of three times the bound.
 pub fn tell_patterns<S: Shelf, I: Read, O: Write, E: Write, G: Gate>(
     shelf: &S,
     alloc: Global,

@@ -2,10 +2,11 @@
 ghost use Rattle.std.specs.Prelude.{◌≡◌, ◌≢◌, ◌≤◌, ◌++◌, [], false, IfOk, MatchResult, OnOk};
 ghost use Rattle.life_answer.specs.Questions.{IsAnswered};
 ghost use Rattle.census_folders.specs.Sources.{Reads, asked_by};
-ghost use Rattle.census_errors.specs.Errors.{run_status};
+ghost use Rattle.census_errors.specs.Messages.{run_status};
+ghost use Rattle.census_errors.specs.Places.{kept_place};
 ghost use Rattle.census_errors.specs.Sources.{asked_of};
 ghost use Rattle.census_command.specs.Gates.{HearsKept};
-ghost use Rattle.census_command.specs.Keeps.{Keeps, StopsKeeping, cut_lines, lost_line, lost_lines};
+ghost use Rattle.census_command.specs.Keeps.{Keeps, StopsKeeping, error_lines, lost_line, lost_lines};
 ghost use Rattle.watched.specs.Streams.{PutsMoreBytes};
 ghost use Rattle.census_command.specs.Streams.{HasSoundStreams};
 ghost use Rattle.census_bundle.specs.Sizes.{worker_limit};
@@ -25,7 +26,7 @@ use std::sync::Wait;
 use std::thread::Threads;
 use watched::{Output, Streams};
 
-// Appends the line that tells a loss.
+// Appends the line that reports a loss.
 fn push_line(alloc: Global, lines: &mut Vec<u8>, loss: &Loss) -> Result<(), AllocError>
     ensures { OnOk result (lines.new.items ≡ lines.old.items ++ lost_line loss.now) }
 {
@@ -36,7 +37,7 @@ fn push_line(alloc: Global, lines: &mut Vec<u8>, loss: &Loss) -> Result<(), Allo
     Ok(())
 }
 
-// Appends the lines that tell losses.
+// Appends the lines that report losses.
 fn push_lines(alloc: Global, lines: &mut Vec<u8>, lost: &[Loss]) -> Result<(), AllocError>
     ensures { OnOk result (lines.new.items ≡ lines.old.items ++ lost_lines lost.now) }
 {
@@ -46,7 +47,7 @@ fn push_lines(alloc: Global, lines: &mut Vec<u8>, lost: &[Loss]) -> Result<(), A
     Ok(())
 }
 
-// The lines that tell losses.
+// The lines that report losses.
 fn lines_of(alloc: Global, lost: &[Loss]) -> Result<Vec<u8>, AllocError>
     ensures { IfOk result (λ lines. lines.items ≡ lost_lines lost.now) }
 {
@@ -55,7 +56,7 @@ fn lines_of(alloc: Global, lost: &[Loss]) -> Result<Vec<u8>, AllocError>
     Ok(lines)
 }
 
-// Reads folders whatever is lost, and gives the lines that tell what was.
+// Reads folders whatever is lost. Returns what was read, and the lines that report what was lost.
 fn gather<S: Shelf>(
     shelf: &S,
     alloc: Global,
@@ -76,7 +77,7 @@ fn gather<S: Shelf>(
     }
 }
 
-// The exit status of a whole report, by the lines that tell what was lost.
+// The exit status of a whole report, by the lines that report what was lost.
 fn status_of_kept(lines: &[u8]) -> u8
     ensures none { lines.now ≡ [] → result ≡ 0 }
     ensures some { (lines.now ≢ []) → result ≡ 4 }
@@ -84,10 +85,10 @@ fn status_of_kept(lines: &[u8]) -> u8
     if lines.is_empty() { 0 } else { 4 }
 }
 
-// Tells the error of a report that was not written whole, after what was told before, and gives its exit status.
+// Reports the error that cut a report short, after what was reported before, and returns its exit status.
 fn tell_cut<E: Write>(alloc: Global, error: RunError, explain: bool, errors: &mut Output<E>) -> u8
     ensures status { result ≡ run_status error }
-    ensures told { PutsMoreBytes (cut_lines explain error) errors.old.stream errors.new.stream }
+    ensures told { PutsMoreBytes (error_lines explain error (kept_place error)) errors.old.stream errors.new.stream }
 {
     let place = kept_place(alloc, error);
     let saying = run_saying(error).at(&place);
@@ -97,25 +98,24 @@ fn tell_cut<E: Write>(alloc: Global, error: RunError, explain: bool, errors: &mu
     error.status()
 }
 
-/// Writes the report of a census of folders, or where it is recursive of those at and below them, and gives the exit status. Each worker passes the gate with a
-/// ticket before it works. Nothing is read from standard input.
+/// Writes the report of a census of folders, or where it is recursive of those at and below them, and returns the exit status.
+/// Each worker passes the gate with a ticket before it works. Nothing is read from standard input.
 ///
-/// What can't be listed or read doesn't end it: a file that can't be read is a lost entry, and so is, where there is a limit,
-/// one that would take the bytes of all files together past it; a folder that can't be listed
-/// one without entries, and what has no lawful name is left out, as `read_source` does.
-/// Before the report the line `census: lost PATH` goes to standard error for each of them, with each byte that no lawful
-/// name has as `\x` and two digits.
+/// What can't be listed or read does not end it. A file that can't be read is a lost entry; so is, where there is a limit, a file
+/// that would take the bytes of all files together past it. A folder that can't be listed is one without entries, and what has no
+/// lawful name is left out, as `read_source` does. Before the report the line `census: lost PATH` goes to standard error for each
+/// of them, with each byte that no lawful name has as `\x` and two digits.
 ///
 /// - 0: the report was written, and nothing was lost.
 /// - 1: there are too many folders, or too many files in one, and nothing was written.
 /// - 3: memory was refused, and nothing was written or a prefix of the report.
 /// - 4: the report was written, and something was lost; or standard output has failed, and a prefix of it was written.
 ///
-/// After status 1, and after a prefix or nothing at 3 and 4, the error's line was told too, and one more where faults are
+/// After status 1, and after a prefix or nothing at 3 and 4, the error's line was reported too, and one more where faults are
 /// explained: after a prefix with the number of the pattern at which memory ran out and that of its collection, if they are
-/// known. After a whole report those are the lines that explain what it tells as `bad`, and the hints at what may have been
-/// overlooked in the folders. The gate is told how many patterns the run has, and that it has ended, unless it is to be quiet;
-/// and nothing where nothing is run.
+/// known. After a whole report those are the lines that explain what it reports as `bad`, and the hints at what may have been
+/// overlooked in the folders. The gate is told how many patterns the run has, and that it has ended, unless it is to be quiet; it
+/// is told nothing where nothing is run.
 pub fn keep_going<S: Shelf, I: Read, O: Write, E: Write, G: Gate, R: Threads + Wait + Sync>(
     rt: &R,
     shelf: &S,
@@ -131,10 +131,8 @@ pub fn keep_going<S: Shelf, I: Read, O: Write, E: Write, G: Gate, R: Threads + W
     requires keeps { (asked_of census.now.collections).on_loss ≡ OnLoss.Keep }
     requires sound { HasSoundStreams streams.old }
     requires errors { streams.old.errors.failed ≡ false }
-    ensures kept { Keeps (S.tellings shelf.now) (record {
-      asked = asked_of census.now.collections;
-      question = census.now.question;
-    }) explain result streams.old streams.new }
+    ensures kept { Keeps (S.tellings shelf.now) (asked_of census.now.collections) census.now.question explain result
+        streams.old streams.new }
     ensures gate { HearsKept (S.tellings shelf.now) (asked_of census.now.collections) quiet result
         (G.heard gate.old) (G.heard gate.new) }
 {

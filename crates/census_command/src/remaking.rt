@@ -1,7 +1,8 @@
 //! `census merge`, `table`, `page`, `same` and `verify`: one report, a table, a page, patterns that are one object, or
 //! what does not agree with claims, made of reports.
 ghost use Rattle.std.specs.Prelude.{◌≡◌, [], false, map, IfErr, IfOk, OnOk};
-ghost use Rattle.census_reports.specs.Errors as reports;
+ghost use Rattle.census_errors.specs.Messages.{status_of};
+ghost use Rattle.census_errors.specs.declared.error.CommandError.TheVariants as command;
 ghost use Rattle.census_reports.specs.Outcomes.{ReportsFail, WritesReports};
 ghost use Rattle.census_command.specs.Forms.{reading_of};
 ghost use Rattle.census_command.specs.Remakes.{KeepsLaw, Remakes, RemakesWith, TellsCuts, TellsOfReports, found_status};
@@ -50,7 +51,7 @@ fn write<S: Shelf, I: Read, O: Write, E: Write>(
     }
 }
 
-// Tells an error of what is made of the reports of these files, and gives its exit status.
+// Reports an error of what is made of the reports of these files, and returns its exit status.
 pub(crate) fn stop_of<S: Shelf, E: Write>(
     shelf: &S,
     alloc: Global,
@@ -60,7 +61,7 @@ pub(crate) fn stop_of<S: Shelf, E: Write>(
     errors: &mut Output<E>,
 ) -> u8
     requires { errors.old.stream.failed ≡ false }
-    ensures status { result ≡ reports.status_of error }
+    ensures status { result ≡ status_of (command.Reports error) }
     ensures told { TellsOfReports ((S.tellings shelf.now).held []) (map (λ s. s.now) files.now) error
         explain errors.old.stream errors.new.stream }
 {
@@ -76,7 +77,7 @@ fn found_status(found: bool) -> u8
     if found { 5 } else { 0 }
 }
 
-// Tells a line for each text that was cut. It asks for no memory, and that a line can't be told changes nothing.
+// Reports a line for each text that was cut. It asks for no memory, and a line that can't be written changes nothing.
 fn tell_cuts<E: Write>(cuts: &[Cut], errors: &mut Output<E>)
     ensures { TellsCuts cuts.now errors.old.stream errors.new.stream }
 {
@@ -85,19 +86,19 @@ fn tell_cuts<E: Write>(cuts: &[Cut], errors: &mut Output<E>)
     }
 }
 
-/// Reads these reports, of `-` and without a file those of standard input, writes what this form makes of
-/// them, and gives the exit status.
+/// Reads these reports, writes what this form makes of them, and returns the exit status. For `-`, and without a file, those of
+/// standard input are read.
 ///
 /// - 0: it was written.
 /// - 5: it was written, and what was looked for was found.
-/// - 1: a text is no report, or too long, or all are together, or the reports have too many collections for one report, or a
-///   text that was read before them is faulty; nothing was written.
-/// - 3: memory was refused, and nothing was written, or a prefix of what is no report.
-/// - 4: a file can't be read or standard input has failed, and nothing was written; or standard output has failed, and a
-///   prefix was.
+/// - 1: a text is not a report, or is too long, or all are together, or the reports have too many collections for one report, or
+///   a text that was read before them is faulty; nothing was written.
+/// - 3: memory was refused, and nothing was written, or a prefix of what is not a report.
+/// - 4: a file can't be read or standard input has failed, and nothing was written; or standard output has failed, and a prefix
+///   was.
 ///
-/// Where the status is 0 or 5 a line was told for each text that was cut, and nothing else. Where it is another the error's
-/// line was told, and one more where faults are explained.
+/// With status 0 or 5 a line was reported for each text that was cut, and nothing else. With any other status the error's line
+/// was reported, and one more where faults are explained.
 pub fn remake<S: Shelf, I: Read, O: Write, E: Write>(
     shelf: &S,
     alloc: Global,
@@ -121,9 +122,9 @@ pub fn remake<S: Shelf, I: Read, O: Write, E: Write>(
     }
 }
 
-/// Reads the text of a word, `-` is standard input, writes what is made with it of these reports, and gives the
-/// exit status, as `remake` does. Where the text can't be read, or is too long, the status is that of the error, whose line
-/// was told, with one more where faults are explained; nothing was written, and no report was read.
+/// Reads the text of a word (`-` is standard input), writes what is made of these reports with it, and returns the exit status,
+/// as `remake` does. Where the text can't be read, or is too long, the status is that of the error, whose line was reported, with
+/// one more where faults are explained; nothing was written, and no report was read.
 pub fn remake_with<S: Shelf, I: Read, O: Write, E: Write>(
     shelf: &S,
     alloc: Global,

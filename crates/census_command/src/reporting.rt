@@ -11,8 +11,7 @@ ghost use Rattle.census_bundle.specs.Sizes.{worker_limit};
 use census_bundle::Bundle;
 use census_crew::{Gate, RunFault, Tally, run, run_untold};
 use census_faults::refusal_lines;
-use census_folders::{Shelf, Source};
-use census_hints::hint_lines;
+use census_folders::{Shelf, Source, hint_lines};
 use life_answer::Question;
 use std::alloc::{AllocError, Global};
 use std::io::Write;
@@ -20,7 +19,7 @@ use std::sync::Wait;
 use std::thread::Threads;
 use watched::Output;
 
-// The lines that are said beside a report of a bundle: those that explain what it tells as `bad`, and then the hints at what
+// The lines that are said beside a report of a bundle: those that explain what it reports as `bad`, and then the hints at what
 // may have been overlooked in the bundle.
 fn lines_beside<S: Shelf>(
     shelf: &S,
@@ -38,7 +37,7 @@ fn lines_beside<S: Shelf>(
     Ok(lines)
 }
 
-// The same where faults are explained, and else nothing.
+// The lines that are said beside a report of a bundle, where faults are explained; otherwise none.
 fn lines_of<S: Shelf>(
     shelf: &S,
     alloc: Global,
@@ -58,7 +57,7 @@ fn lines_of<S: Shelf>(
     }
 }
 
-// Writes the report of a bundle as `run` does, or, where that is to be quiet, as `run_untold` does.
+// Writes the report of a bundle as `run` does, or as `run_untold` does where it is to be quiet.
 fn run_as_asked<G: Gate, W: Write, R: Threads + Wait + Sync>(
     rt: &R,
     alloc: Global,
@@ -87,10 +86,10 @@ fn run_as_asked<G: Gate, W: Write, R: Threads + Wait + Sync>(
     }
 }
 
-/// Writes the report of a bundle as `run` does, and gives the lines that are said beside it, where faults are explained:
-/// those that explain what it tells as `bad`, and the hints at what may have been overlooked in the bundle. Only where that
-/// was read from folders, whose source is given, is the shelf asked what these list. Where memory is refused for these lines,
-/// the whole report was written. The gate is told of the run, unless that is to be quiet.
+/// Writes the report of a bundle as `run` does, and returns the lines that are said beside it, where faults are explained: those
+/// that explain what it reports as `bad`, and the hints at what may have been overlooked in the bundle. The shelf is asked what
+/// folders list only where the bundle was read from them, so that their source is given. Where memory is refused for these lines,
+/// the whole report was written. The gate is told of the run, unless it is to be quiet.
 pub fn report<S: Shelf, G: Gate, W: Write, R: Threads + Wait + Sync>(
     rt: &R,
     shelf: &S,

@@ -144,17 +144,17 @@ fn run_folders<S: Shelf, I: Read, O: Write, E: Write, G: Gate, R: Threads + Wait
 /// Writes the report of a census that ends at the first thing that can't be read. Each of its workers passes the gate with a
 /// ticket before it works. The collections are its folders on the shelf, and where it is recursive those below them, as
 /// `read_source` reads them; without a folder they are those of the bundle on standard input, which is read to its end. With
-/// folders nothing is read from it.
+/// folders nothing is read from standard input.
 ///
-/// What is answered are the lines that are said beside the report, where faults are explained: those that explain what it
-/// tells as `bad`, and the hints at what may have been overlooked in the collections. Or it is the error, and its place: the path
-/// of the folder or file that is lost; or where memory ran out at a pattern, its path, or without folders its numbers.
+/// Returns the lines that are said beside the report, where faults are explained: those that explain what it reports as `bad`,
+/// and the hints at what may have been overlooked in the collections. Or it returns the error and its place: the path of the
+/// folder or file that is lost; or where memory ran out at a pattern, its path, or without folders its numbers.
 ///
 /// All is read before the first byte is written, so nothing is written where a bundle, a folder or a file is refused or
 /// can't be read. Where memory is refused or the writer fails, what was written is nothing or a prefix of a report.
 ///
-/// The gate is told how many patterns the run has, and that it has ended, unless it is to be quiet; and nothing where nothing
-/// is run.
+/// The gate is told how many patterns the run has, and that it has ended, unless it is to be quiet; it is told nothing where
+/// nothing is run.
 pub fn run_command<S: Shelf, I: Read, O: Write, E: Write, G: Gate, R: Threads + Wait + Sync>(
     rt: &R,
     shelf: &S,

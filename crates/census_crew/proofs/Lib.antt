@@ -3,3 +3,11 @@ pub mod Steps
 pub mod Tallies
 pub mod RunStates
 pub mod Settles
+pub mod Orders
+pub mod Counts
+pub mod Sounds
+pub mod FeedSteps
+pub mod Fills
+pub mod Closes
+pub mod Places
+pub mod Draws

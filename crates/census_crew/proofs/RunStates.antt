@@ -35,7 +35,7 @@ state_sent p q t g bundle question taken = record {
       (subst (λ (s : Tickets). TalliesTaken t p.bundle p.question s) (sym taken) g.counted));
 }
 
--- so few patterns that one more can be counted
+-- there are few enough patterns that one more can be counted
 pub state_few : (p : Progress) (t : Tally) → IsRunState p t → (t.patterns < 2 ^ 63) × (t.resolved < 2 ^ 63) × (t.unresolved < 2 ^ 63) × (t.refused < 2 ^ 63)
 state_few p t g = (
   few t.patterns _ g.counted.patterns (count_small (λ a. true) p.bundle p.question p.taken g.small),
@@ -80,7 +80,7 @@ state_double p q t u w o g double h = state_kept p q t u g (subst (Offered p w q
 pub state_stranger : (p q : Progress) (t u : Tally) (w : Work) (o : Offer) → IsRunState p t → o ≡ Stranger → Offered p w q o → u.patterns ≡ t.patterns → u.resolved ≡ t.resolved → u.unresolved ≡ t.unresolved → u.refused ≡ t.refused → IsRunState q u
 state_stranger p q t u w o g stranger h = state_kept p q t u g (subst (Offered p w q) stranger h).1
 
--- where nothing is missing, all patterns were counted
+-- if nothing is missing, all patterns were counted
 pub state_whole : (k m : Option (List ℕ)) (p q : Progress) (t : Tally) → IsRunState q t → StaysInStep k p m q → HasAllTickets q.bundle q.taken → TalliesPatterns p.bundle p.question t
 state_whole k m p q t g stays all =
     subst (λ fs. TalliesPatterns fs p.question t) stays.same_bundle

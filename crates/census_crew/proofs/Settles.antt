@@ -1,4 +1,4 @@
--- The results of a list, offered in turn, and the end of a run.
+-- The results of a list, offered one after another, and the end of a run.
 use Rattle.std.proofs.Common.{◌≡◌, ℕ, ◌+◌, ◌^◌, ◌<◌, ◌≤◌, List, [], ◌∷◌, length, Option, Result, Ok, Err, MatchResult, inl, inr, refl, sym, subst, arith}
 use Rattle.census_bundle.specs.declared.bundle.Folder.{Folder}
 use Rattle.census_book.specs.Progress.{Progress, initial_progress}
@@ -9,7 +9,7 @@ use Rattle.census_crew.specs.Writing.{EndsInStep, StaysInStep, StopsInStep, Writ
 use Rattle.census_crew.proofs.Steps.{front_from_start, report_at_end, stops_after}
 use Rattle.life_answer.specs.declared.question.Question.{Question}
 
--- so many strangers were counted before the rest of the results
+-- n strangers were counted before the rest of the results
 pub record CountedBefore (b : List Folder) (question : Question) (all rest : List Work) (n : ℕ) : Type 0 where
   pub with_rest : (m : ℕ) → HasStrangers b question rest m → HasStrangers b question all (n + m)
   pub few : n + length rest ≤ length all

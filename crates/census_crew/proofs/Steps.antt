@@ -106,7 +106,7 @@ front_from_start k m p b question is stops =
     let s : StopsInStep k (initial_progress b question) m = subst (λ q. StopsInStep k q m) is stops in
     s.front k (in_step_start k b question)
 
--- what stays in step with a collector that has all and has sent all ends with a report
+-- what stays in step with a collector that has everything and has sent everything ends with a report
 pub ends_whole : (k m : Option (List ℕ)) (p q : Progress) → StaysInStep k p m q → q.unsent ≡ [] → HasAllTickets q.bundle q.taken → EndsInStep k p m
 ends_whole k m p q stays none all =
     let P : List Folder → Type 0 = λ b. (base : Option (List ℕ)) → IsInStep base k p → WritesReport base m b p.question in

@@ -96,7 +96,7 @@ one_taken b question taken w tally belongs not counted =
       refused = more is_refused tally.refused counted.refused;
     }
 
--- where each ticket is taken, all patterns of a kind were counted
+-- if each ticket is taken, all patterns of a kind were counted
 count_all : (kind : Answer → Bool) (b : List Folder) (question : Question) (taken : Tickets) → HasAllTickets b taken → taken_count kind b question taken ≡ count_of kind b question
 count_all kind b question taken all =
     sum_same (λ c (f : Folder). numbered_sum (λ i (e : Entry). one_if (kind (answer_to_entry question e))) 1 f.entries) (λ c (f : Folder). numbered_sum (λ i (e : Entry). cond (has_ticket taken (ticket c i)) (one_if (kind (answer_to_entry question e))) 0) 1 f.entries) 1 b

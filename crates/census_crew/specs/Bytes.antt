@@ -1,4 +1,4 @@
--- What is read and written where a bundle text is run.
+-- What is read and written when a bundle text is run.
 use Rattle.std.specs.Prelude.{◌≡◌, ◌≢◌, ◌≤◌, ◌⊎◌, ℕ, Bool, true, false, List, length, Option, None, Some, Result, Ok, Err, IfSome}
 use Rattle.std.specs.Io.KnownBytes.{Consumes, IsAtEnd}
 use Rattle.watched.specs.Streams.{Streams}
@@ -37,7 +37,7 @@ pub record ReadsFolders (old new : Option (List ℕ)) (b : List Folder) : Type 0
   pub lawful : fault_of text ≡ None
   pub holds : b ≡ folders_of text
 
--- what was read, by what is answered
+-- what was read, by what is returned
 abbrev pub ReadsBundle : Option (List ℕ) → Option (List ℕ) → Result (List Folder) BytesFault → Type 0
 ReadsBundle old new (Ok b) = ReadsFolders old new b
 ReadsBundle old new (Err Read) = Unit {0}
@@ -59,7 +59,7 @@ pub record RunsFront (question : Question) (before after : Streams) : Type 0 whe
   pub read : ReadsFolders before.input.unread after.input.unread bundle
   pub front : WritesPrefix before.output.written after.output.written bundle question
 
--- what was read and written, by what is answered
+-- what was read and written, by what is returned
 abbrev pub RunsBytes : Question → Streams → Streams → Result Tally BytesFault → Type 0
 RunsBytes question before after (Ok t) = RunsAll question before after t
 RunsBytes question before after (Err Read) = after.output.written ≡ before.output.written
@@ -68,7 +68,7 @@ RunsBytes question before after (Err (Bundle f)) = ReadsFault before.input.unrea
 RunsBytes question before after (Err Memory) = (after.output.written ≡ before.output.written) ⊎ RunsFront question before after
 RunsBytes question before after (Err Write) = RunsFront question before after
 
--- `Write` is answered where the writer has failed, and nothing else where it has
+-- `Write` is returned if and only if the writer has failed
 abbrev pub FitsBytesFault : {A : Type 0} → Result A BytesFault → Bool → Type 0
 FitsBytesFault (Ok a) failed = failed ≡ false
 FitsBytesFault (Err Read) failed = failed ≡ false
@@ -83,7 +83,7 @@ pub record HearsRun (before after : Streams) (old new : Option (List News)) : Ty
   pub read : ReadsFolders before.input.unread after.input.unread bundle
   pub heard : Hears old new (news_of bundle)
 
--- what the gate was told, by what is answered: nothing, where no bundle was read
+-- what the gate was told, by what is returned: nothing, if no bundle was read
 abbrev pub HearsBytes : Result Tally BytesFault → Streams → Streams → Option (List News) → Option (List News) → Type 0
 HearsBytes (Ok t) before after old new = HearsRun before after old new
 HearsBytes (Err Read) before after old new = new ≡ old

@@ -3,12 +3,12 @@ use Rattle.std.specs.Prelude.{◌≡◌, ℕ, ◌-◌, ◌^◌, List, [], ◌∷
 use Rattle.census_bundle.specs.declared.bundle.Folder.{Folder}
 use Rattle.census_format.specs.Lines.{pattern_count}
 
--- that a run of so many patterns is about to begin, or that it has ended
+-- a run of `patterns` patterns is about to begin, or a run has ended
 pub data News : Type 0 where
   Begun : (patterns : ℕ) → News
   Over : News
 
--- What a gate was told, in order, as far as it tells that. One that does was told this since.
+-- What a gate was told, in order, if it reports that. A gate that does was told this since.
 abbrev pub Hears : Option (List News) → Option (List News) → List News → Type 0
 Hears None new news = Unit {0}
 Hears (Some heard) new news = new ≡ Some (heard ++ news)
@@ -17,6 +17,6 @@ Hears (Some heard) new news = new ≡ Some (heard ++ news)
 abbrev pub told_count : List Folder → ℕ
 told_count b = min (pattern_count b) (2 ^ 64 - 1)
 
--- what a gate is told of a run of the bundle: how many patterns it has, before, and after it that it has ended
+-- what a gate is told of a run of the bundle: before it, how many patterns there are, and after it, that it has ended
 abbrev pub news_of : List Folder → List News
 news_of b = Begun (told_count b) ∷ Over ∷ []

@@ -5,3 +5,7 @@ pub mod Tallying
 pub mod Strangers
 pub mod RunStates
 pub mod Bytes
+pub mod Items
+pub mod Rule
+pub mod Fillings
+pub mod Feeds

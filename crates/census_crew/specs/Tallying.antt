@@ -31,7 +31,7 @@ pub record TalliesTaken (t : Tally) (b : List Folder) (question : Question) (tak
   pub unresolved : t.unresolved ≡ taken_count is_unresolved b question taken
   pub refused : t.refused ≡ taken_count is_refused b question taken
 
--- all patterns were counted, in all and by what is found of them: as many have an `ok`, a `none` and a `bad` line
+-- all patterns were counted, in all and by what is found of them: how many have an `ok`, a `none` and a `bad` line
 pub record TalliesPatterns (b : List Folder) (question : Question) (t : Tally) : Type 0 where
   pub patterns : t.patterns ≡ pattern_count b
   pub resolved : t.resolved ≡ count_of is_resolved b question

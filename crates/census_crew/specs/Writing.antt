@@ -1,4 +1,4 @@
--- What stands in a writer while a collector's text is written to it.
+-- What is in a writer while a collector's text is written to it.
 use Rattle.std.specs.Prelude.{◌≡◌, ℕ, List, ◌++◌, Option}
 use Rattle.std.specs.Io.KnownBytes.{Appends}
 use Rattle.census_bundle.specs.declared.bundle.Folder.{Folder}
@@ -31,10 +31,10 @@ pub record StaysInStep (old : Option (List ℕ)) (p : Progress) (new : Option (L
   pub same_question : q.question ≡ p.question
   pub in_step : (base : Option (List ℕ)) → IsInStep base old p → IsInStep base new q
 
--- whatever was in step before, a prefix of the report stands there afterwards
+-- whatever was in step before, a prefix of the report is in the writer afterwards
 pub record StopsInStep (old : Option (List ℕ)) (p : Progress) (new : Option (List ℕ)) : Type 0 where
   pub front : (base : Option (List ℕ)) → IsInStep base old p → WritesPrefix base new p.bundle p.question
 
--- whatever was in step before, a report stands there afterwards
+-- whatever was in step before, a report is in the writer afterwards
 pub record EndsInStep (old : Option (List ℕ)) (p : Progress) (new : Option (List ℕ)) : Type 0 where
   pub report : (base : Option (List ℕ)) → IsInStep base old p → WritesReport base new p.bundle p.question

@@ -30,7 +30,7 @@ pub enum BytesFault {
     /// The text is no bundle. Nothing was written.
     #[error("{0}")]
     Bundle(BundleFault),
-    /// A growth was refused. What was written is a prefix of a report of the bundle, or nothing.
+    /// Memory was refused. What was written is a prefix of a report of the bundle, or nothing.
     #[error("out of memory")]
     Memory,
     /// The writer has failed. What was written is a prefix of a report of the bundle.
@@ -56,12 +56,12 @@ fn read_input<R: Read>(alloc: Global, reader: &mut Input<R>) -> Result<Bundle, B
     }
 }
 
-/// Reads a bundle up to the end of standard input and writes the report of what is asked of its patterns, by 1 to 16
-/// workers, as `run` does, which tells the gate of the run; where no bundle was read it is told nothing. A bound is 1 to
-/// 1,000,000 generations. Neither standard input nor standard output has failed before, and nothing is told on standard
-/// error. `Ok` says that all was written. The input is read to its end before the first byte is written. After `Read`,
-/// `TooLong` and `Bundle` nothing was written; after `Memory` and `Write` nothing or a prefix of a report of the bundle.
-/// `Read` is answered where standard input has failed, and only there; `Write` where standard output has, and only there.
+/// Reads a bundle up to the end of standard input and writes the report of what is asked of its patterns, by 1 to 16 workers,
+/// as `run` does, which tells the gate of the run. If no bundle was read, the gate is told nothing. A bound is 1 to 1,000,000
+/// generations. Neither standard input nor standard output has failed before, and nothing is written to standard error. `Ok`
+/// says that everything was written. The input is read to its end before the first byte is written. After `Read`, `TooLong` and
+/// `Bundle` nothing was written; after `Memory` and `Write` nothing or a prefix of a report of the bundle. `Read` is returned
+/// if and only if standard input has failed, and `Write` if and only if standard output has.
 pub fn run_bytes<I: Read, O: Write, E: Write, G: Gate, R: Threads + Wait + Sync>(
     rt: &R,
     alloc: Global,

@@ -5,9 +5,9 @@ ghost use Rattle.census_crew.specs.Writing.{StaysInStep, StopsInStep};
 
 use crate::fault::RunFault;
 use crate::gate::Gate;
+use crate::handles::Hand;
 use crate::run_state::RunState;
 use crate::working::{Batch, Task, work_beside};
-use census_feed::Hand;
 use crossbeam_channel::Receiver;
 use std::alloc::Global;
 use std::io::Write;
@@ -34,7 +34,7 @@ impl<'c, 'a, W: Write> Drop for CollectTask<'c, 'a, W> {
     }
 }
 
-/// The state of the run when no more results came, or the writer failed.
+/// The state of the run once no more results come, or the writer has failed.
 struct TaskEnd<'c, 'a, W: Write> {
     state: RunState<'a>,
     written: Result<(), Failed>,
@@ -73,12 +73,12 @@ impl<'c, 'a, W: Write> Task for CollectTask<'c, 'a, W> {
     }
 }
 
-/// As many bytes are written although more results stand in the channel.
+/// `BLOCK_LEN` bytes are written even if more results are in the channel.
 const BLOCK_LEN: usize = 65_536;
 
-/// As many batches stand in the channel at most. A worker that has one more waits until the caller takes one, so that what
-/// was found takes no more memory where workers are faster than their caller. The caller waits for none of them while one
-/// stands there, and one that takes no more drops its end, by which each send fails at once.
+/// At most `CHANNEL_LEN` batches are in the channel. A worker that has one more waits until the caller takes one, so that what
+/// was found takes no more memory if workers are faster than their caller. The caller waits for none of them while a batch is
+/// there. A caller that takes no more drops its end, and then each send fails at once.
 const CHANNEL_LEN: usize = 1_024;
 
 // Ties a reference that came back to the one that was lent.
@@ -125,7 +125,7 @@ impl<'a> RunState<'a> {
         Ok(state)
     }
 
-    // The next batch, or none once the channel is closed. All that was released is written before the wait for it.
+    // The next batch, or none once the channel is closed. Everything released is written before waiting for it.
     fn next_batch<R: Wait, W: Write>(
         &mut self,
         rt: &R,
@@ -159,8 +159,8 @@ impl<'a> RunState<'a> {
         }
     }
 
-    // Takes what comes and writes what it releases, until the channel is closed. After a failed write the channel is
-    // closed from this end.
+    // Takes what comes and writes what it releases, until the channel is closed. After a failed write this end closes the
+    // channel.
     fn collect<R: Wait, W: Write>(
         &mut self,
         rt: &R,

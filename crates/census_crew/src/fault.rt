@@ -8,8 +8,8 @@ use watched::Failed;
 /// Why a run did not write its whole report. What it wrote is a prefix of a report.
 #[derive(Clone, Copy, Debug, PartialEq, Eq, Drop, Error)]
 pub enum RunFault {
-    /// A growth was refused. The writer has not failed. Where the caller itself worked a pattern then, or took what was
-    /// found of it, this is the ticket of that pattern.
+    /// Memory was refused. The writer has not failed. If the caller itself was working a pattern then, or taking what was found
+    /// of it, this is the ticket of that pattern.
     #[error("out of memory")]
     Memory { ticket: Option<Ticket> },
     /// The writer has failed.
@@ -21,7 +21,7 @@ impl RunFault {
     ghost use Rattle.std.specs.Prelude.{◌≡◌, Some};
     ghost use Rattle.census_crew.specs.declared.fault.RunFault.TheVariants.{Memory};
 
-    /// A growth was refused where the caller worked the pattern of this ticket, or took what was found of it.
+    /// Memory was refused while the caller worked the pattern of this ticket, or took what was found of it.
     pub(crate) fn memory_at(ticket: Ticket) -> RunFault
         ensures { result ≡ Memory (Some ticket) }
     {

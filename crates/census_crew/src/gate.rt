@@ -5,19 +5,19 @@ ghost use Rattle.census_crew.specs.Gates.{Begun, Hears, News, Over};
 
 use census_bundle::Ticket;
 
-/// Passed by each worker with a ticket that it took, before it works. It may hold the worker. It is told when a run begins
-/// and when that has ended.
+/// Each worker passes it with a ticket that it took, before it works. It may hold the worker. It is told when a run begins and
+/// when the run has ended.
 pub trait Gate: Sync {
     /// What the gate gives to a worker that passes.
     type Pass: Drop + Send + Sync;
 
-    // What it was told of runs, in order, as far as it tells that.
+    // What it was told of runs, in order, if it reports that.
     ghost heard: { Self → Option (List News) } = { λ _. None };
 
-    // Whether that is given to a worker with this ticket.
+    // Whether this pass is given to a worker with this ticket.
     ghost admits: { Self.Pass → Ticket → Type 0 };
 
-    /// A run of so many patterns is about to begin.
+    /// A run of `patterns` patterns is about to begin.
     fn begin(&mut self, patterns: u64)
         ensures { Hears (heard self.old) (heard self.new) (Begun patterns ∷ []) };
 
@@ -29,11 +29,11 @@ pub trait Gate: Sync {
     fn end(&mut self)
         ensures { Hears (heard self.old) (heard self.new) (Over ∷ []) };
 
-    /// Of what stands under this name a generation was reached, of so many.
+    /// Of what has this name, generation `_generation` of `_last` was reached.
     fn reached(&self, _name: &[u8], _generation: u32, _last: u32) {}
 }
 
-/// Holds no worker, and makes nothing of what it is told.
+/// Holds no worker, and ignores what it is told.
 #[derive(Drop)]
 pub struct OpenGate;
 

@@ -56,7 +56,7 @@ impl<'a> RunState<'a> {
         })
     }
 
-    /// Takes a result. `None` says that there was no memory to take it, though it is of this bundle and question.
+    /// Takes a result. `None` says that there was no memory to take it, although it is of this bundle and question.
     pub(crate) fn take(&mut self, done: Done<'a>) -> Option<Offer>
         ensures offered { IfSome result
             (λ o. Offered self.old.collector done.entry self.new.collector o) }
@@ -219,7 +219,7 @@ impl<'a> RunState<'a> {
         Ok(())
     }
 
-    /// Works what is missing, writes the rest of the report, and tells what was counted.
+    /// Works what is missing, writes the rest of the report, and returns what was counted.
     pub(crate) fn finish<W: Write>(
         mut self,
         alloc: Global,

@@ -10,11 +10,11 @@ ghost use Rattle.census_bundle.specs.Sizes.{worker_limit};
 
 use crate::fault::RunFault;
 use crate::gate::Gate;
+use crate::handles::{Feed, Hand};
 use crate::run_state::RunState;
 use crate::tally::Tally;
 use census_book::Done;
 use census_bundle::Bundle;
-use census_feed::{Feed, Hand};
 use life_answer::Question;
 use std::alloc::Global;
 use std::io::Write;
@@ -34,11 +34,11 @@ fn patterns_of(bundle: &Bundle) -> u64
 }
 
 /// Writes the report of what is asked of the bundle's patterns to a writer that has not failed. A bound is 1 to 1,000,000
-/// generations. The patterns are worked by 1 to 16 workers, each of which takes tickets and passes the gate with each
-/// before it works; the caller takes their results and writes, and then works itself what is missing. The gate is told
-/// before that how many patterns there are, and after it that the run has ended, whatever is answered. `Ok` says that all
-/// was written. After `Memory` or `Write` what was written is a prefix of a report; `Write` is answered where the writer has
-/// failed, and only there. A ticket that `Memory` tells is one of the bundle's.
+/// generations. The patterns are worked by 1 to 16 workers. Each takes tickets and passes the gate with each before it works.
+/// The caller takes their results and writes, and then works what is missing itself. Before that the gate is told how many
+/// patterns there are, and after it that the run has ended, whatever is returned. `Ok` says that everything was written. After
+/// `Memory` or `Write` what was written is a prefix of a report. `Write` is returned if and only if the writer has failed. A
+/// ticket that `Memory` has is one of the bundle's.
 pub fn run<G: Gate, W: Write, R: Threads + Wait + Sync>(
     rt: &R,
     alloc: Global,
@@ -67,7 +67,7 @@ pub fn run<G: Gate, W: Write, R: Threads + Wait + Sync>(
     written
 }
 
-/// Does what `run` does, and doesn't tell the gate how many patterns there are, nor that the run has ended.
+/// Does what `run` does, but doesn't tell the gate how many patterns there are, nor that the run has ended.
 pub fn run_untold<G: Gate, W: Write, R: Threads + Wait + Sync>(
     rt: &R,
     alloc: Global,
@@ -93,8 +93,8 @@ pub fn run_untold<G: Gate, W: Write, R: Threads + Wait + Sync>(
     run_on(rt, alloc, bundle, question, feed, hands, gate, out)
 }
 
-/// Does what `run_untold` does, from a feed that the caller filled from this bundle, and all the hands of that feed: each goes
-/// to a worker. A ticket that a hand took before is worked by the caller. Feed and hands are spent, whatever is answered.
+/// Does what `run_untold` does, with a feed that the caller filled from this bundle, and all the hands of that feed: each goes
+/// to a worker. The caller works any ticket that a hand took before. Feed and hands are spent, whatever is returned.
 pub fn run_on<G: Gate, W: Write, R: Threads + Wait + Sync>(
     rt: &R,
     alloc: Global,
@@ -123,11 +123,11 @@ pub fn run_on<G: Gate, W: Write, R: Threads + Wait + Sync>(
     state.finish(alloc, out)
 }
 
-/// Writes the report of what is asked of the bundle's patterns to a writer that has not failed, by workers of the caller's
-/// own, or by none. A bound is 1 to 1,000,000 generations. The results are offered in their order, and each ticket that is
-/// then missing is worked here. `Ok` says that all was written. After `Memory` or `Write` what was written is a prefix of a
-/// report; `Write` is answered where the writer has failed, and only there. A ticket that `Memory` tells is one of the
-/// bundle's. It waits for nobody.
+/// Writes the report of what is asked of the bundle's patterns to a writer that has not failed, by workers of the caller's own,
+/// or by none. A bound is 1 to 1,000,000 generations. The results are offered in their order, and each ticket that is then
+/// missing is worked here. `Ok` says that everything was written. After `Memory` or `Write` what was written is a prefix of a
+/// report. `Write` is returned if and only if the writer has failed. A ticket that `Memory` has is one of the bundle's. It
+/// waits for nobody.
 pub fn settle<'a, W: Write>(
     alloc: Global,
     bundle: &'a Bundle,

@@ -11,7 +11,7 @@ use life_answer::Answer;
 pub struct Tally {
     /// All patterns.
     pub patterns: u64,
-    /// The patterns with an `ok` or an `ash` line, which come again, or have fallen apart, within the bound.
+    /// The patterns with an `ok` or an `ash` line, which recur, or have fallen apart, within the bound.
     pub resolved: u64,
     /// The patterns with a `none` line, which don't.
     pub unresolved: u64,

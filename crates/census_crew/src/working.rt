@@ -1,11 +1,11 @@
-//! Workers, and work of the caller beside them.
+//! Workers, and the caller's work beside them.
 ghost use Rattle.std.specs.Prelude.{◌≡◌, ◌≤◌};
 ghost use Rattle.life_answer.specs.Questions.{IsAnswered};
 
 use crate::gate::{Gate, Passed, pass};
+use crate::handles::Hand;
 use census_book::Done;
 use census_bundle::Bundle;
-use census_feed::Hand;
 use crossbeam_channel::Sender;
 use life_answer::{Answer, Outcome, Question};
 use std::alloc::Global;
@@ -30,13 +30,13 @@ pub(crate) trait Task: Drop {
 /// Results that a worker sends together.
 pub(crate) type Batch<'a> = Vec<Done<'a>>;
 
-/// As many results a worker sends together at most.
+/// At most `BATCH_LEN` results are sent together by a worker.
 const BATCH_LEN: usize = 64;
 
 /// A pattern whose onset and period are at most this was quick work.
 const QUICK: u32 = 64;
 
-// Whether this was found by quick work, as the next of a collection is then likely to be too.
+// Whether this was found by quick work. The next result of a collection is then likely to be found so too.
 fn was_quick(answer: &Answer) -> bool {
     match answer {
         Answer::Found { finding, .. } => match &finding.outcome {
@@ -47,7 +47,7 @@ fn was_quick(answer: &Answer) -> bool {
     }
 }
 
-// An empty batch, with room where there is memory for it.
+// An empty batch, with room if there is memory for it.
 fn new_batch<'a>(alloc: Global) -> Batch<'a> {
     match Vec::with_capacity(alloc, BATCH_LEN) {
         Ok(batch) => batch,
@@ -55,13 +55,13 @@ fn new_batch<'a>(alloc: Global) -> Batch<'a> {
     }
 }
 
-/// How often a worker looks whether it may begin, which takes some tenths of a millisecond in all.
+/// How often a worker checks whether it may begin, which takes some tenths of a millisecond in all.
 const LOOKS: u32 = 4096;
 
-// The first batch of a worker, which it makes once all workers are started, and while no other makes its own. The first
-// growth in a thread maps memory for its later ones, as does the start of a thread, and a system lets in one thread at a
-// time there: those that meet fall asleep, and may be woken on one processor and share it while another has nothing to do.
-// A worker that has looked often enough begins anyhow.
+// The first batch of a worker. It makes the batch once all workers are started, and while no other makes its own. The first
+// growth in a thread maps memory for its later ones, as does the start of a thread, and a system lets in one thread at a time
+// there. Threads that meet there fall asleep, and may be woken on one processor and share it while another has nothing to do. A
+// worker that has checked `LOOKS` times begins anyway.
 fn first_batch<'a>(alloc: Global, beginning: &Mutex<()>) -> Batch<'a> {
     for _ in 0..LOOKS {
         if let Some(turn) = beginning.try_lock() {
@@ -74,8 +74,8 @@ fn first_batch<'a>(alloc: Global, beginning: &Mutex<()>) -> Batch<'a> {
     new_batch(alloc)
 }
 
-// Sends a batch and empties it, and says whether anybody is there to take it. Where as many stand in the channel as may, it
-// waits until one is taken.
+// Sends a batch and empties it, and returns whether anybody is there to take it. If the channel is full, it waits until a batch
+// is taken.
 fn send_batch<'a, R: Wait>(
     rt: &R,
     alloc: Global,
@@ -86,14 +86,14 @@ fn send_batch<'a, R: Wait>(
     results.send(rt, full).is_ok()
 }
 
-// Puts a result into a batch, and says whether it may wait there: it is kept, and was quick work.
+// Puts a result into a batch, and returns whether it may wait there: it is kept, and was quick work.
 fn put_in<'a>(batch: &mut Batch<'a>, done: Done<'a>) -> bool {
     let waits = was_quick(done.answer());
     batch.push(done).is_ok() && waits
 }
 
-// Works a pattern whose worker passed the gate, where its first generations tell it and results wait: where none does, the
-// pattern may take as long as it will. The result goes into the batch. `None` also where memory is out.
+// Works a pattern whose worker passed the gate, if its first generations are enough and results wait. If none waits, the
+// pattern may take as long as it needs. The result goes into the batch. `None` also when out of memory.
 fn work_soon<'a, P: Drop>(
     alloc: Global,
     bundle: &'a Bundle,
@@ -113,8 +113,8 @@ fn work_soon<'a, P: Drop>(
     }
 }
 
-// Works a pattern whose worker passed the gate, however long it takes. The result goes into the batch. `None` where memory
-// is out.
+// Works a pattern whose worker passed the gate, however long it takes. The result goes into the batch. `None` when out of
+// memory.
 fn work_long<'a, P: Drop>(
     alloc: Global,
     bundle: &'a Bundle,
@@ -131,9 +131,9 @@ fn work_long<'a, P: Drop>(
     }
 }
 
-// Takes tickets until none is left, works them, and sends what was found: the results of quick work several together,
-// any other at once. No result waits while a pattern goes past its first 256 generations, which are looked at twice where
-// results waited. A ticket that ran out of memory is left to the caller.
+// Takes tickets until none is left, works them, and sends what was found: the results of quick work several together, any other
+// at once. No result waits while a pattern goes beyond its first 256 generations. These are looked at twice if results waited.
+// A ticket that ran out of memory is left to the caller.
 fn work<'a, G: Gate, R: Wait>(
     rt: &R,
     alloc: Global,
@@ -172,9 +172,9 @@ fn work<'a, G: Gate, R: Wait>(
     let _ = results.send(rt, batch);
 }
 
-/// Gives each hand to a worker, and runs the task beside them. The workers' results come by the channel, which closes
-/// when the last of them has ended. It returns when they all have. Where no more workers can be started, those that were
-/// work alone, and where there is none, only the task runs.
+/// Gives each hand to a worker, and runs the task beside them. The workers' results come through the channel, which closes when
+/// the last of them has ended. It returns when they all have. If no more workers can be started, those that were work alone,
+/// and if there is none, only the task runs.
 pub(crate) fn work_beside<'a, G: Gate, R: Threads + Wait + Sync, S: Task>(
     rt: &R,
     alloc: Global,

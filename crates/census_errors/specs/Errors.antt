@@ -1,4 +1,4 @@
--- The error that the fault of a part is, and the exit status of each.
+-- The error for the fault of a part.
 use Rattle.std.specs.Prelude.{◌≡◌, ◌≢◌, ◌⊎◌, ℕ, List, None}
 use Rattle.std.specs.declared.io.ErrorKind.{ErrorKind}
 use Rattle.std.specs.declared.io.ErrorKind.TheVariants.{OutOfMemory}
@@ -29,8 +29,7 @@ use Rattle.census_errors.specs.declared.draw_error.DrawError.TheVariants as draw
 use Rattle.census_errors.specs.declared.run_error.RunError.{RunError}
 use Rattle.census_errors.specs.declared.run_error.RunError.TheVariants as run
 use Rattle.census_errors.specs.declared.error.CommandError.{CommandError}
-use Rattle.census_errors.specs.declared.error.CommandError.TheVariants.{Run, Advance, Draw, Reports, Arguments, Memory, Write}
-use Rattle.census_reports.specs.Errors as reports
+use Rattle.census_errors.specs.declared.error.CommandError.TheVariants.{Arguments, Memory}
 
 -- # Of `advance`
 
@@ -81,38 +80,6 @@ run_error_of_run runs.Write = run.Write
 
 -- # Of reading the arguments
 
--- memory was refused, or an argument is no text
+-- memory was refused, or an argument is not text
 abbrev pub IsArgumentsError : ErrorKind → CommandError → Type 0
 IsArgumentsError kind error = ((kind ≡ OutOfMemory) × (error ≡ Memory)) ⊎ ((kind ≢ OutOfMemory) × (error ≡ Arguments))
-
--- # The exit status
-
-abbrev pub advance_status : AdvanceError → ℕ
-advance_status (advance.Text fault told spot) = 1
-advance_status advance.TooLong = 1
-advance_status advance.Memory = 3
-advance_status (advance.Read why) = 4
-advance_status advance.Write = 4
-
-abbrev pub draw_status : DrawError → ℕ
-draw_status (draw.Rule fault) = 1
-draw_status (draw.Code fault) = 1
-draw_status draw.Memory = 3
-draw_status draw.Write = 4
-
-abbrev pub run_status : RunError → ℕ
-run_status (run.Bundle fault) = 1
-run_status (run.Folder fault) = 1
-run_status run.TooLong = 1
-run_status (run.Memory ticket) = 3
-run_status run.Read = 4
-run_status run.Write = 4
-
-abbrev pub status_of : CommandError → ℕ
-status_of (Run error) = run_status error
-status_of (Advance error) = advance_status error
-status_of (Draw error) = draw_status error
-status_of (Reports error) = reports.status_of error
-status_of Arguments = 2
-status_of Memory = 3
-status_of Write = 4

@@ -1,4 +1,4 @@
--- Where something stands that can't be read or is refused, as far as that is known.
+-- The place of something that can't be read or is refused, as far as that is known.
 use Rattle.std.specs.Prelude.{◌≡◌, ◌⊎◌, ℕ, ℤ, false, List, ◌++◌, Option, None, Some, IfSome, codes, decimal, if◌then◌else◌}
 use Rattle.std.specs.Option.{option_copied, option_or}
 use Rattle.census_bundle.specs.Sizes.{input_limit}
@@ -41,11 +41,11 @@ nowhere = record { path = None; word = None; is_file = false }
 
 -- # What is said at a place
 
--- a file that stands where a folder is wanted is told as that
+-- a file where a folder is wanted is reported as that fault
 abbrev pub fault_at_place : Fault → Place → Fault
 fault_at_place fault place = if place.is_file then FileForFolder else fault
 
--- the same is said as before, but of what stands at the place, as far as that is known
+-- what is said at this place, as far as the place is known: what it leaves open is as before
 pub record IsSaidAt (saying : Saying) (place : Place) (at : Saying) : Type 0 where
   pub fault_is : at.fault ≡ fault_at_place saying.fault place
   pub name_is : option_copied at.name ≡ option_or place.path (option_copied saying.name)
@@ -59,8 +59,8 @@ abbrev pub IsCausePlace : Option (List ℕ) → Cause → Place → Type 0
 IsCausePlace path (cause.Unread why) place = (place.path ≡ path) × IsSystemWord why.code place.word × (place.is_file ≡ why.is_file)
 IsCausePlace path cause place = place ≡ record { path = path; word = None; is_file = false }
 
--- Of what ends the reading of folders. What is lost has a path, which is left out only where a growth was refused for it; and
--- nothing else has a place.
+-- Of what ends the reading of folders. What is lost has a path, which is left out only where a growth was refused for it; nothing
+-- else has a place.
 abbrev pub IsFaultPlace : SourceFault → Place → Type 0
 IsFaultPlace (reading.Lost loss) place = IsCausePlace (Some loss.path) loss.cause place
 IsFaultPlace (reading.Unnamed cause) place = IsCausePlace None cause place
@@ -85,21 +85,21 @@ abbrev pub IsPlaceInBundle : List Folder → RunFault → Place → Type 0
 IsPlaceInBundle bundle (runs.Memory (Some ticket)) place = IfSome place.path (IsPathOf bundle ticket) × (place.word ≡ None) × (place.is_file ≡ false)
 IsPlaceInBundle bundle fault place = place ≡ nowhere
 
--- where it has no path: its numbers, if it is known
+-- the place of a pattern without a path: its numbers, if it is known
 abbrev pub kept_place : RunError → Place
 kept_place (run.Memory (Some ticket)) = record { path = Some (numbers_of ticket); word = None; is_file = false }
 kept_place error = nowhere
 
 -- # The place of an error
 
--- The folders were not all read, for this error, which stands at this place.
+-- The folders were not all read, for this error, which has this place.
 pub record StopsInFolders (shelf : Tellings) (asked : Asked) (error : RunError) (place : Place) : Type 0 where
   pub fault : SourceFault
   pub is : error ≡ run_error_of_source fault
   pub why : Stops shelf asked fault
   pub at : IsFaultPlace fault place
 
--- They were read, and no whole report of them was written, for this error, which stands at this place.
+-- They were read, and no whole report of them was written, for this error, which has this place.
 pub record StopsInBundle (shelf : Tellings) (asked : Asked) (error : RunError) (place : Place) : Type 0 where
   pub kept : Kept
   pub read : Reads shelf asked kept
@@ -107,15 +107,16 @@ pub record StopsInBundle (shelf : Tellings) (asked : Asked) (error : RunError) (
   pub is : error ≡ run_error_of_run fault
   pub at : IsPlaceInBundle kept.bundle fault place
 
-abbrev pub IsFoldersPlace : Tellings → Asked → RunError → Place → Type 0
-IsFoldersPlace shelf asked error place = StopsInFolders shelf asked error place ⊎ StopsInBundle shelf asked error place
-
 -- of a census of this source
 abbrev pub IsCensusPlace : Tellings → Source → RunError → Place → Type 0
 IsCensusPlace shelf source.Input error place = place ≡ kept_place error
-IsCensusPlace shelf (source.Folders asked) error place = IsFoldersPlace shelf asked error place
+IsCensusPlace shelf (source.Folders asked) error place =
+    StopsInFolders shelf asked error place ⊎ StopsInBundle shelf asked error place
 
--- of the file of `advance`, which is named anyway
+abbrev pub IsFoldersPlace : Tellings → Asked → RunError → Place → Type 0
+IsFoldersPlace shelf asked error place = IsCensusPlace shelf (source.Folders asked) error place
+
+-- of the file of `advance`, which is named in any case
 abbrev pub IsFilePlace : AdvanceError → Place → Type 0
 IsFilePlace (advance.Read why) place = (place.path ≡ None) × IsSystemWord why.code place.word × (place.is_file ≡ false)
 IsFilePlace error place = place ≡ nowhere

@@ -1,4 +1,4 @@
--- What is said of an error besides its line, where faults are explained.
+-- What is said of an error in addition to its line, where faults are explained.
 use Rattle.std.specs.Prelude.{◌≡◌, ℕ, ◌-◌, Bool, true, false, List, [], Option, None, option_map, slice_get}
 use Rattle.std.specs.Option.{option_copied, option_or}
 use Rattle.census_bundle.specs.declared.bundle.AddFault.TheVariants as add
@@ -30,101 +30,69 @@ use Rattle.census_errors.specs.declared.saying.Saying.{Saying}
 abbrev pub said : Saying → List ℕ
 said saying = explanation saying.fault (option_copied saying.name) saying.spot (option_copied saying.word)
 
--- where faults are explained, and else nothing
+-- the line where faults are explained, otherwise nothing
 abbrev pub said_if : Bool → List ℕ → List ℕ
 said_if true line = line
 said_if false line = []
 
--- this is the fault, the file and the place that are told, and no word of the system
-pub record Says (f : Fault) (name : Option (List ℕ)) (spot : Spot) (saying : Saying) : Type 0 where
-  pub fault_is : saying.fault ≡ f
-  pub name_is : option_copied saying.name ≡ name
-  pub spot_is : saying.spot ≡ spot
+-- what is said of an error: the fault, the file that has it, and its place there, as far as they are known
+abbrev pub Said : Type 0
+Said = Fault × Option (List ℕ) × Spot
+
+-- a fault of which no more is known
+abbrev pub alone : Fault → Said
+alone f = (f, None, Nowhere)
+
+-- this is what is reported, and there is no word of the system
+pub record Says (told : Said) (saying : Saying) : Type 0 where
+  pub fault_is : saying.fault ≡ told.0
+  pub name_is : option_copied saying.name ≡ told.1
+  pub spot_is : saying.spot ≡ told.2
   pub word_is : option_copied saying.word ≡ None
 
--- the line for a fault, with what is known of its place
-abbrev pub explained_at : Fault → Option (List ℕ) → Spot → Place → List ℕ
-explained_at f name spot place = explanation (fault_at_place f place) (option_or place.path name) spot (option_or place.word None)
+-- the line for it, with what else is known of its place
+abbrev pub explained_at : Said → Place → List ℕ
+explained_at told place =
+    explanation (fault_at_place told.0 place) (option_or place.path told.1) told.2 (option_or place.word None)
 
--- # Of `run` and of `objects`
+-- of `run` and of `objects`
+abbrev pub run_said : RunError → Said
+run_said (run.Bundle f) = (fault.Bundle f, None, spot_of_bundle f)
+run_said (run.Folder f) = alone (fault.Folder f)
+run_said run.TooLong = alone fault.TooLong
+run_said (run.Memory ticket) = alone fault.Memory
+run_said run.Read = alone fault.Read
+run_said run.Write = alone fault.Write
 
-abbrev pub run_fault : RunError → Fault
-run_fault (run.Bundle f) = fault.Bundle f
-run_fault (run.Folder f) = fault.Folder f
-run_fault run.TooLong = fault.TooLong
-run_fault (run.Memory ticket) = fault.Memory
-run_fault run.Read = fault.Read
-run_fault run.Write = fault.Write
+-- of `advance`, with the file where it has the fault
+abbrev pub advance_said : Option (List ℕ) → AdvanceError → Said
+advance_said file (advance.Text f told spot) = (told, file, spot)
+advance_said file advance.TooLong = (fault.TooLong, file, Nowhere)
+advance_said file advance.Memory = alone fault.Memory
+advance_said file (advance.Read why) = (fault.Read, file, Nowhere)
+advance_said file advance.Write = alone fault.Write
 
-abbrev pub run_spot : RunError → Spot
-run_spot (run.Bundle f) = spot_of_bundle f
-run_spot error = Nowhere
-
--- the line for an error
-abbrev pub run_line : RunError → List ℕ
-run_line error = explanation (run_fault error) None (run_spot error) None
-
--- # Of `advance`
-
-abbrev pub advance_fault : AdvanceError → Fault
-advance_fault (advance.Text f told spot) = told
-advance_fault advance.TooLong = fault.TooLong
-advance_fault advance.Memory = fault.Memory
-advance_fault (advance.Read why) = fault.Read
-advance_fault advance.Write = fault.Write
-
--- the file, where it has the fault
-abbrev pub advance_name : Option (List ℕ) → AdvanceError → Option (List ℕ)
-advance_name file advance.Memory = None
-advance_name file advance.Write = None
-advance_name file error = file
-
-abbrev pub advance_spot : AdvanceError → Spot
-advance_spot (advance.Text f told spot) = spot
-advance_spot error = Nowhere
-
--- # Of `draw`
-
-abbrev pub draw_fault : List ℕ → DrawError → Fault
-draw_fault rule (draw.Rule f) = rule_fault rule f
-draw_fault rule (draw.Code f) = fault.Code f
-draw_fault rule draw.Memory = fault.Memory
-draw_fault rule draw.Write = fault.Write
-
-abbrev pub draw_spot : List ℕ → DrawError → Spot
-draw_spot code (draw.Code f) = spot_of_code code f
-draw_spot code error = Nowhere
-
--- # Of what is made of reports
-
--- too many collections are told as too many folders
-abbrev pub reports_fault : ReportsError → Fault
-reports_fault (reports.Claims line) = fault.Claims
-reports_fault (reports.Names line) = fault.Names
-reports_fault (reports.Fault text line) = fault.Report
-reports_fault (reports.TooMany report) = fault.Folder add.TooMany
-reports_fault reports.TooLong = fault.TooLong
-reports_fault reports.Memory = fault.Memory
-reports_fault reports.Read = fault.Read
-reports_fault reports.Write = fault.Write
+-- of `draw`, for a code and a rule
+abbrev pub draw_said : List ℕ → List ℕ → DrawError → Said
+draw_said code rule (draw.Rule f) = alone (rule_fault rule f)
+draw_said code rule (draw.Code f) = (fault.Code f, None, spot_of_code code f)
+draw_said code rule draw.Memory = alone fault.Memory
+draw_said code rule draw.Write = alone fault.Write
 
 -- the file of a text, by its number from 1
 abbrev pub nth_file : List (List ℕ) → ℕ → Option (List ℕ)
 nth_file files number = file_of (slice_get files (number - 1))
 
-abbrev pub reports_name : List (List ℕ) → ReportsError → Option (List ℕ)
-reports_name files (reports.Fault text line) = nth_file files text
-reports_name files error = None
-
-abbrev pub reports_spot : ReportsError → Spot
-reports_spot (reports.Claims line) = Line line
-reports_spot (reports.Names line) = Line line
-reports_spot (reports.Fault text line) = Line line
-reports_spot error = Nowhere
-
--- the line for an error that stands at this place
-abbrev pub reports_line : List (List ℕ) → ReportsError → Place → List ℕ
-reports_line files error place = explained_at (reports_fault error) (reports_name files error) (reports_spot error) place
+-- of what is made of the reports of these files; too many collections are reported as too many folders
+abbrev pub reports_said : List (List ℕ) → ReportsError → Said
+reports_said files (reports.Claims line) = (fault.Claims, None, Line line)
+reports_said files (reports.Names line) = (fault.Names, None, Line line)
+reports_said files (reports.Fault text line) = (fault.Report, nth_file files text, Line line)
+reports_said files (reports.TooMany report) = alone (fault.Folder add.TooMany)
+reports_said files reports.TooLong = alone fault.TooLong
+reports_said files reports.Memory = alone fault.Memory
+reports_said files reports.Read = alone fault.Read
+reports_said files reports.Write = alone fault.Write
 
 -- # Of what is asked for
 
@@ -142,26 +110,15 @@ abbrev pub rule_in : Request → List ℕ
 rule_in (Draw code rule) = rule.now
 rule_in request = []
 
-abbrev pub fault_said : Request → CommandError → Fault
-fault_said request (command.Run e) = run_fault e
-fault_said request (command.Advance e) = advance_fault e
-fault_said request (command.Draw e) = draw_fault (rule_in request) e
-fault_said request (command.Reports e) = reports_fault e
-fault_said request command.Arguments = fault.Arguments
-fault_said request command.Memory = fault.Memory
-fault_said request command.Write = fault.Write
+abbrev pub said_of : Request → CommandError → Said
+said_of request (command.Run e) = run_said e
+said_of request (command.Advance e) = advance_said (file_in request) e
+said_of request (command.Draw e) = draw_said (code_in request) (rule_in request) e
+said_of request (command.Reports e) = reports_said [] e
+said_of request command.Arguments = alone fault.Arguments
+said_of request command.Memory = alone fault.Memory
+said_of request command.Write = alone fault.Write
 
-abbrev pub name_said : Request → CommandError → Option (List ℕ)
-name_said request (command.Advance e) = advance_name (file_in request) e
-name_said request error = None
-
-abbrev pub spot_said : Request → CommandError → Spot
-spot_said request (command.Run e) = run_spot e
-spot_said request (command.Advance e) = advance_spot e
-spot_said request (command.Draw e) = draw_spot (code_in request) e
-spot_said request (command.Reports e) = reports_spot e
-spot_said request error = Nowhere
-
--- the line for an error of what is asked for that stands at this place
+-- the line for an error of this request with this place
 abbrev pub line_said : Request → CommandError → Place → List ℕ
-line_said request error place = explained_at (fault_said request error) (name_said request error) (spot_said request error) place
+line_said request error place = explained_at (said_of request error) place

@@ -16,7 +16,7 @@ pub enum AdvanceError {
         fault: RleFault,
         /// What is said of it: the fault, or the kind of the rule that the text's header names.
         told: Fault,
-        /// Where it stands in the text.
+        /// Its place in the text.
         spot: Spot,
     },
     /// There are more bytes than one text may have.
@@ -79,7 +79,7 @@ impl From<Failed> for AdvanceError {
 
     ghost from_gives = { λ _ error. error ≡ Write };
 
-    /// Only the writer is answered by it: the reader's failure comes as a `ReadFault`.
+    /// It stands for a failure of the writer alone: the reader's failure comes as a `ReadFault`.
     fn from(_: Failed) -> AdvanceError {
         AdvanceError::Write
     }

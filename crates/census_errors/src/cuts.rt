@@ -9,8 +9,8 @@ use itoa::Buffer;
 // The most bytes that the line has: three numbers of 20 digits, and the words.
 const CUT_LIMIT: usize = 128;
 
-/// The line on standard error for a text that was cut: behind which line, how many collections are kept, and how many are
-/// left out. It asks for no memory.
+/// The line on standard error for a text that was cut: after which line, how many collections are kept, and how many are left
+/// out. It asks for no memory.
 pub fn cut_line(cut: Cut) -> ArrayString<CUT_LIMIT>
     ensures { result.bytes ≡ cut_line cut }
 {

@@ -1,6 +1,6 @@
 //! Why the program does not do what its arguments ask for, and the exit status of each error.
 ghost use Rattle.std.specs.Prelude.{◌≡◌};
-ghost use Rattle.census_errors.specs.Errors.{advance_status, draw_status, run_status, status_of};
+ghost use Rattle.census_errors.specs.Messages.{advance_status, draw_status, run_status, status_of};
 
 use crate::advance_error::AdvanceError;
 use crate::draw_error::DrawError;
@@ -22,7 +22,7 @@ pub enum CommandError {
     Draw(DrawError),
     #[error("{0}")]
     Reports(ReportsError),
-    /// An argument is no text.
+    /// An argument is not text.
     #[error("bad command line")]
     Arguments,
     /// Memory was refused while the arguments were read.
@@ -134,8 +134,8 @@ fn draw_status(error: DrawError) -> u8
 }
 
 impl CommandError {
-    /// The exit status: 1 where the input is refused, 2 for an argument that is no text, 3 where memory is refused, 4
-    /// where a stream, a folder or a file has failed.
+    /// The exit status: 1 where the input is refused, 2 for an argument that is not text, 3 where memory is refused, 4 where a
+    /// stream, a folder or a file has failed.
     pub fn status(self) -> u8
         ensures { result ≡ status_of self }
     {

@@ -1,10 +1,7 @@
 //! What is said of each error.
-ghost use Rattle.std.specs.Prelude.{◌≡◌, None, map, option_map};
+ghost use Rattle.std.specs.Prelude.{◌≡◌, map, option_map};
 ghost use Rattle.census_errors.specs.Files.{file_of};
-ghost use Rattle.census_errors.specs.Sayings.{Says, advance_fault, advance_name, advance_spot, code_in, draw_fault, draw_spot};
-ghost use Rattle.census_errors.specs.Sayings.{fault_said, file_in, name_said, nth_file, reports_fault, reports_name};
-ghost use Rattle.census_errors.specs.Sayings.{reports_spot, rule_in, run_fault, run_spot, spot_said};
-ghost use Rattle.census_faults.specs.declared.spot.Spot.TheVariants.{Nowhere};
+ghost use Rattle.census_errors.specs.Sayings.{Says, advance_said, alone, code_in, draw_said, file_in, nth_file, reports_said, rule_in, run_said, said_of};
 
 use crate::advance_error::AdvanceError;
 use crate::draw_error::DrawError;
@@ -19,7 +16,7 @@ use census_reports::ReportsError;
 
 // A fault whose place is not known.
 fn nowhere<'a>(fault: Fault) -> Saying<'a>
-    ensures { Says fault None Nowhere result }
+    ensures { Says (alone fault) result }
 {
     Saying {
         fault,
@@ -31,7 +28,7 @@ fn nowhere<'a>(fault: Fault) -> Saying<'a>
 
 /// What is said of an error of `run` or of `objects`.
 pub fn run_saying<'a>(error: RunError) -> Saying<'a>
-    ensures { Says (run_fault error) None (run_spot error) result }
+    ensures { Says (run_said error) result }
 {
     match error {
         RunError::Bundle(fault) => Saying {
@@ -50,7 +47,7 @@ pub fn run_saying<'a>(error: RunError) -> Saying<'a>
 
 // What is said of a fault of a file, or of standard input where there is none.
 fn of_file<'a>(fault: Fault, file: Option<&'a str>, spot: Spot) -> Saying<'a>
-    ensures { Says fault (option_map (λ s. s.now) file.entry) spot result }
+    ensures { Says (fault, option_map (λ s. s.now) file.entry, spot) result }
 {
     match file {
         Some(file) => Saying {
@@ -70,8 +67,7 @@ fn of_file<'a>(fault: Fault, file: Option<&'a str>, spot: Spot) -> Saying<'a>
 
 // What is said of an error of `advance` at a file, or at standard input where there is none.
 fn advance_saying<'a>(file: Option<&'a str>, error: AdvanceError) -> Saying<'a>
-    ensures { Says (advance_fault error) (advance_name (option_map (λ s. s.now) file.entry) error)
-        (advance_spot error) result }
+    ensures { Says (advance_said (option_map (λ s. s.now) file.entry) error) result }
 {
     match error {
         AdvanceError::Text { told, spot, .. } => of_file(told, file, spot),
@@ -84,7 +80,7 @@ fn advance_saying<'a>(file: Option<&'a str>, error: AdvanceError) -> Saying<'a>
 
 // What is said of an error of `draw` at a code and a rule.
 fn draw_saying<'a>(code: &[u8], rule: &[u8], error: DrawError) -> Saying<'a>
-    ensures { Says (draw_fault rule.now error) None (draw_spot code.now error) result }
+    ensures { Says (draw_said code.now rule.now error) result }
 {
     match error {
         DrawError::Rule(fault) => nowhere(rule_fault(rule, fault)),
@@ -99,7 +95,7 @@ fn draw_saying<'a>(code: &[u8], rule: &[u8], error: DrawError) -> Saying<'a>
     }
 }
 
-// The file of a text of these, by its number from 1.
+// The file of the text with this number, from 1, of these files.
 fn nth_file<'a>(files: &[&'a str], number: usize) -> Option<&'a str>
     ensures { option_map (λ s. s.now) result ≡ nth_file (map (λ s. s.now) files.now) number }
 {
@@ -108,8 +104,7 @@ fn nth_file<'a>(files: &[&'a str], number: usize) -> Option<&'a str>
 
 /// What is said of an error of what is made of the reports of these files.
 pub fn reports_saying<'a>(files: &[&'a str], error: ReportsError) -> Saying<'a>
-    ensures { Says (reports_fault error) (reports_name (map (λ s. s.now) files.now) error)
-        (reports_spot error) result }
+    ensures { Says (reports_said (map (λ s. s.now) files.now) error) result }
 {
     match error {
         ReportsError::Fault { text, line } => {
@@ -159,10 +154,9 @@ fn rule_in<'r>(request: &'r Request<'_>) -> &'r [u8]
     }
 }
 
-/// What is said of an error of what is asked for.
+/// What is said of an error of this request.
 pub fn saying_of<'r>(request: &'r Request<'_>, error: CommandError) -> Saying<'r>
-    ensures { Says (fault_said request.now error) (name_said request.now error)
-        (spot_said request.now error) result }
+    ensures { Says (said_of request.now error) result }
 {
     match error {
         CommandError::Run(error) => run_saying(error),

@@ -4,7 +4,7 @@ ghost use Rattle.census_errors.specs.Files.{file_of};
 
 use census_identify::is_input;
 
-/// The file of a word: `-` is none.
+/// The file that a word names. Neither `-` nor a missing word names one.
 pub fn file_of<'a>(word: Option<&'a str>) -> Option<&'a str>
     ensures { option_map (λ s. s.now) result ≡ file_of (option_map (λ s. s.now) word.entry) }
 {

@@ -1,5 +1,5 @@
-//! Why commands do not do what they are asked for: the errors, the exit status and the line of each, where it stands, and
-//! the line that explains it.
+//! Why commands do not do what they are asked for: the errors, the exit status and the line of each, its place, and the line
+//! that explains it.
 //!
 //! Tested in `tests_program`.
 #![tactic(auto)]

@@ -19,7 +19,7 @@ use life_text::rule_number;
 /// The most bytes of a line.
 const LINE_LIMIT: usize = 80;
 
-// What is called by these words and a number behind them.
+// The message that consists of these words and a number after them.
 fn message_at(words: &str, place: usize) -> Message
     requires { length words.now ≤ 40 }
     ensures { result.bytes ≡ words.now ++ decimal place }

@@ -1,10 +1,10 @@
-//! What is known of where something stands that can't be read.
+//! What is known of the place of something that can't be read.
 ghost use Rattle.std.specs.Prelude.{◌≡◌, false, None};
 ghost use Rattle.census_errors.specs.Places.{nowhere};
 
 use census_bundle::Text;
 
-/// What is known of where something stands that can't be read, or is refused.
+/// What is known of the place of something that can't be read, or is refused.
 #[derive(Drop)]
 pub struct Place {
     /// The path of the file, of the folder or of the pattern; or the numbers of a pattern that has none.

@@ -1,4 +1,4 @@
-//! Where something stands that can't be read or is refused.
+//! The place of something that can't be read or is refused.
 ghost use Rattle.std.specs.Prelude.{◌≡◌, ◌++◌, [], false, IfOk, IfSome, Some, codes};
 ghost use Rattle.census_errors.specs.Places.{IsCausePlace, IsFilePlace, IsPathOf, IsPlaceInBundle, IsReportsPlace, MayBeTooLong, MayBeUnread};
 ghost use Rattle.census_errors.specs.Places.{kept_place, numbers_of};
@@ -76,8 +76,8 @@ fn numbers_of(alloc: Global, ticket: Ticket) -> Option<Text>
     Text::of(alloc, numbers.as_str().as_bytes()).ok()
 }
 
-/// The place of an error of a census whose patterns have no path, or that goes on past what can't be read: the number of the
-/// pattern at which memory ran out and that of its collection, where they are known, and else nowhere. It takes no memory.
+/// The place of an error of a census whose patterns have no path, or that continues past what can't be read: the number of the
+/// pattern at which memory ran out and that of its collection, where they are known, otherwise nowhere. It takes no memory.
 pub fn kept_place(alloc: Global, error: RunError) -> Place
     ensures { result ≡ kept_place error }
 {
@@ -89,7 +89,7 @@ pub fn kept_place(alloc: Global, error: RunError) -> Place
     }
 }
 
-/// What is known of the file of `advance`, which is named anyway: what the system says of it, where it can't be read.
+/// What is known of the file of `advance`, which is named in any case: what the system says of it, where it can't be read.
 pub fn file_place(alloc: Global, error: AdvanceError) -> Place
     ensures { IsFilePlace error result }
 {
@@ -138,8 +138,7 @@ fn first_too_long<S: Shelf>(shelf: &S, alloc: Global, files: &[&str]) -> Option<
     None
 }
 
-// Where something stands that what is made of the reports of these files can't read or refuses, as far as a second look at
-// the shelf finds it.
+// The place of what can't be read or is refused among the reports of these files, as far as a second look at the shelf finds it.
 fn reports_place<S: Shelf>(shelf: &S, alloc: Global, files: &[&str], error: ReportsError) -> Place
     ensures { IsReportsPlace ((S.tellings shelf.now).held []) error result }
 {
@@ -150,8 +149,8 @@ fn reports_place<S: Shelf>(shelf: &S, alloc: Global, files: &[&str], error: Repo
     }
 }
 
-/// Where something stands that what is made of the reports of these files can't read or refuses, as far as a second look at
-/// the shelf finds it, and what the system says of it; where faults are explained, and else nowhere.
+/// The place of what can't be read or is refused among the reports of these files, as far as a second look at the shelf finds it,
+/// and what the system says of it; where faults are not explained, nowhere.
 pub fn reports_place_if<S: Shelf>(
     explain: bool,
     shelf: &S,

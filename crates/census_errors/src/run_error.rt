@@ -18,7 +18,7 @@ pub enum RunError {
     /// Standard input, or a file, has more bytes than one text may have.
     #[error("input too long")]
     TooLong,
-    /// Memory was refused. Where a run worked a pattern itself then, this is the ticket of that pattern.
+    /// Memory was refused. Where this happened while the run worked a pattern itself, this is the ticket of that pattern.
     #[error("out of memory")]
     Memory { ticket: Option<Ticket> },
     /// Standard input has failed, or a folder can't be listed, or a file can't be read.

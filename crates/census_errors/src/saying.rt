@@ -1,10 +1,9 @@
-//! What is said of an error besides its line, where faults are explained.
+//! What is said of an error in addition to its line, where faults are explained.
 ghost use Rattle.std.specs.Prelude.{◌≡◌, ◌++◌, None, Some, codes, decimal, false};
 ghost use Rattle.std.specs.Option.{option_copied};
 ghost use Rattle.census_faults.specs.Explained.{place_heading, spot_text, word_text};
 ghost use Rattle.census_faults.specs.Printed.{printable_text, printed_byte};
-ghost use Rattle.census_errors.specs.Errors.{status_of};
-ghost use Rattle.census_errors.specs.Messages.{error_line};
+ghost use Rattle.census_errors.specs.Messages.{error_line, status_of};
 ghost use Rattle.census_errors.specs.Sayings.{said, said_if};
 ghost use Rattle.census_errors.specs.Places.{IsSaidAt};
 ghost use Rattle.watched.specs.Streams.{PutsBytes, PutsMoreBytes};
@@ -17,7 +16,7 @@ use itoa::Buffer;
 use std::io::Write;
 use watched::Output;
 
-/// What is said of an error: its fault, where that stands, as far as it is known, and the system's word.
+/// What is said of an error: its fault, the place of that, as far as it is known, and the system's word.
 #[derive(Clone, Copy)]
 pub struct Saying<'a> {
     pub fault: Fault,
@@ -30,7 +29,7 @@ pub struct Saying<'a> {
 }
 
 impl<'a> Saying<'a> {
-    /// The same of what stands at this place, as far as that is known.
+    /// What is said of the error at this place, as far as the place is known. What the place leaves open is as in `self`.
     pub fn at(self, place: &'a Place) -> Saying<'a>
         ensures { IsSaidAt self.entry place.now result }
     {
@@ -56,7 +55,7 @@ impl<'a> Saying<'a> {
     }
 }
 
-// Tells a byte of a name as it is shown.
+// Writes a byte of a name as it is shown.
 fn tell_byte<E: Write>(byte: u8, errors: &mut Output<E>)
     ensures { PutsMoreBytes (printed_byte byte) errors.old.stream errors.new.stream }
 {
@@ -70,7 +69,7 @@ fn tell_byte<E: Write>(byte: u8, errors: &mut Output<E>)
     }
 }
 
-// Tells a name as it is shown.
+// Writes a name as it is shown.
 fn tell_bytes<E: Write>(name: &[u8], errors: &mut Output<E>)
     ensures { PutsMoreBytes (printable_text name.now) errors.old.stream errors.new.stream }
 {
@@ -79,7 +78,7 @@ fn tell_bytes<E: Write>(name: &[u8], errors: &mut Output<E>)
     }
 }
 
-// Tells a number and `:`.
+// Writes a number and `:`.
 fn tell_number<E: Write>(number: u64, errors: &mut Output<E>)
     ensures { PutsMoreBytes (decimal number ++ codes ":") errors.old.stream errors.new.stream }
 {
@@ -88,7 +87,7 @@ fn tell_number<E: Write>(number: u64, errors: &mut Output<E>)
     errors.tell(b":");
 }
 
-// Tells `LINE:` or `LINE:COLUMN:`, as far as they are known.
+// Writes `LINE:` or `LINE:COLUMN:`, as far as they are known.
 fn tell_spot<E: Write>(spot: Spot, errors: &mut Output<E>)
     ensures { PutsMoreBytes (spot_text spot) errors.old.stream errors.new.stream }
 {
@@ -102,7 +101,7 @@ fn tell_spot<E: Write>(spot: Spot, errors: &mut Output<E>)
     }
 }
 
-// Tells the place of a fault that no file is known of, and a blank where anything is known.
+// Writes the place of a fault whose file is not known, and a blank where anything is known.
 fn tell_place<E: Write>(spot: Spot, errors: &mut Output<E>)
     ensures { PutsMoreBytes (place_heading None spot) errors.old.stream errors.new.stream }
 {
@@ -115,7 +114,7 @@ fn tell_place<E: Write>(spot: Spot, errors: &mut Output<E>)
     }
 }
 
-// Tells the file of a fault, its place there as far as it is known, and a blank.
+// Writes the file of a fault, its place there as far as it is known, and a blank.
 fn tell_named<E: Write>(name: &[u8], spot: Spot, errors: &mut Output<E>)
     ensures { PutsMoreBytes (place_heading (Some name.now) spot) errors.old.stream errors.new.stream }
 {
@@ -125,7 +124,7 @@ fn tell_named<E: Write>(name: &[u8], spot: Spot, errors: &mut Output<E>)
     errors.tell(b" ");
 }
 
-// Tells what is known of where a fault stands, and a blank where anything is.
+// Writes what is known of the place of a fault, and a blank where anything is.
 fn tell_heading<E: Write>(name: Option<&[u8]>, spot: Spot, errors: &mut Output<E>)
     ensures { PutsMoreBytes (place_heading (option_copied name.entry) spot) errors.old.stream errors.new.stream }
 {
@@ -135,7 +134,7 @@ fn tell_heading<E: Write>(name: Option<&[u8]>, spot: Spot, errors: &mut Output<E
     }
 }
 
-// Tells ` (WORD)`.
+// Writes ` (WORD)`.
 fn tell_in_brackets<E: Write>(word: &[u8], errors: &mut Output<E>)
     ensures { PutsMoreBytes (word_text (Some word.now)) errors.old.stream errors.new.stream }
 {
@@ -144,7 +143,7 @@ fn tell_in_brackets<E: Write>(word: &[u8], errors: &mut Output<E>)
     errors.tell(b")");
 }
 
-// Tells ` (WORD)`, where there is a word.
+// Writes ` (WORD)`, where there is a word.
 fn tell_word<E: Write>(word: Option<&[u8]>, errors: &mut Output<E>)
     ensures { PutsMoreBytes (word_text (option_copied word.entry)) errors.old.stream errors.new.stream }
 {
@@ -154,8 +153,8 @@ fn tell_word<E: Write>(word: Option<&[u8]>, errors: &mut Output<E>)
     }
 }
 
-/// Tells what is said of an error, in a line that begins with two blanks, and asks for no memory. Where the stream has
-/// failed before, the line is lost.
+/// Writes what is said of an error, in a line that begins with two blanks, and asks for no memory. Where the stream has failed
+/// before, the line is lost.
 pub fn say<E: Write>(saying: Saying<'_>, errors: &mut Output<E>)
     ensures { PutsMoreBytes (said saying.entry) errors.old.stream errors.new.stream }
 {
@@ -166,7 +165,7 @@ pub fn say<E: Write>(saying: Saying<'_>, errors: &mut Output<E>)
     errors.tell(b"\n");
 }
 
-/// The same where faults are explained, and else nothing.
+/// Writes what is said of an error, as `say` does, where faults are explained, otherwise nothing.
 pub fn say_if<E: Write>(explain: bool, saying: Saying<'_>, errors: &mut Output<E>)
     ensures { PutsMoreBytes (said_if explain (said saying.entry)) errors.old.stream errors.new.stream }
 {
@@ -177,8 +176,8 @@ pub fn say_if<E: Write>(explain: bool, saying: Saying<'_>, errors: &mut Output<E
     }
 }
 
-/// Tells an error by its line, and by what is said of it where faults are explained, and gives its exit status. That it
-/// can't be told changes nothing.
+/// Reports an error by its line, and by what is said of it where faults are explained, and returns its exit status. A line that
+/// can't be written changes nothing.
 pub fn stop_saying<E: Write>(
     error: CommandError,
     saying: Saying<'_>,

@@ -1,4 +1,4 @@
-//! Commands that stopped: the error, and where it stands.
+//! Commands that stopped: the error, and its place.
 ghost use Rattle.std.specs.Prelude.{◌≡◌};
 ghost use Rattle.census_errors.specs.Errors.{run_error_of_run, run_error_of_source};
 ghost use Rattle.census_errors.specs.Places.{IsFaultPlace, IsPlaceInBundle, kept_place};
@@ -41,8 +41,8 @@ pub struct RunStopped {
 }
 
 impl RunStopped {
-    /// Its collections were not read from folders, for this fault. Where the word of the system takes memory and there is
-    /// none, it is left out, and so is a path that takes memory.
+    /// Its collections were not read from folders, for this fault. Where there is no memory for the word of the system, or for a
+    /// path, it is left out.
     pub fn reading(alloc: Global, fault: SourceFault) -> RunStopped
         ensures error { result.error ≡ run_error_of_source fault }
         ensures place { IsFaultPlace fault result.place }
@@ -67,8 +67,8 @@ impl RunStopped {
         }
     }
 
-    /// No whole report of this bundle was written, which was read from folders. Memory ran out at a pattern, whose path is
-    /// told where there is memory for it.
+    /// No whole report of this bundle, which was read from folders, was written. Where memory ran out at a pattern, the place is
+    /// the path of that pattern, if there is memory for the path.
     pub fn running(alloc: Global, bundle: &Bundle, fault: RunFault) -> RunStopped
         ensures error { result.error ≡ run_error_of_run fault }
         ensures place { IsPlaceInBundle bundle.now fault result.place }
@@ -79,7 +79,8 @@ impl RunStopped {
         }
     }
 
-    /// The same of a bundle on standard input, or of none, whose patterns have no paths: their numbers are told.
+    /// No whole report was written of a bundle on standard input, or of none. Its patterns have no paths, so the place is the
+    /// numbers of a pattern.
     pub fn unnamed(alloc: Global, error: RunError) -> RunStopped
         ensures error { result.error ≡ error }
         ensures place { result.place ≡ kept_place error }

@@ -16,7 +16,7 @@ by : (b : Bool) (v : Vec ℕ Global) (e : Entry) (o : Option (Vec ℕ Global)) (
 by true v e o f same later = ap Some (sym same)
 by false v e o f same later = later
 
--- what is looked up by a code is its name
+-- looking up a code gives its name
 pub looked_up : (code : List ℕ) (kept : List (Vec ℕ Global × Vec ℕ Global))
     → option_map (λ name. name.items) (lookup (λ key. pointwise nat_eq code key.items) kept) ≡ name_in (map entry_read kept) code
 looked_up code [] = refl
@@ -28,7 +28,7 @@ none-by : {X Y : Type 0} (f : X → Y) (o : Option X) → is_none (option_map f 
 none-by f None e = refl
 none-by f (Some x) e = absurd (cc)
 
--- a code that is not kept yet goes last
+-- a new code goes last
 pub kept-more : {S : Type 0} (m : IndexMap (Vec ℕ Global) (Vec ℕ Global) S) (code name : Vec ℕ Global) → is_none (name_in (map entry_read m.entries) code.items) ≡ true
     → map entry_read (insert_entry (λ a b. pointwise nat_eq a.items b.items) m.entries code name) ≡ map entry_read m.entries ++ entry code.items name.items ∷ []
 kept-more m code name none =

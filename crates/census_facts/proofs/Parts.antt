@@ -1,4 +1,4 @@
--- Parts and engines that are gone over one after another.
+-- Parts and engines that are visited one after another.
 use Rattle.std.proofs.Common.{◌≡◌, ℕ, suc, ◌+◌, ◌<◌, List, [], ◌∷◌, ◌++◌, length, map, take, Some, refl, sym, ap, ◌∙◌, append_assoc, append-nil, slice_get, arith}
 use Rattle.std.proofs.lemmas.List.{length-take, map-append}
 use Rattle.life_answer.specs.declared.part.Part.{Part}
@@ -11,7 +11,7 @@ text_of-append : (ls ms : List Line) → text_of (ls ++ ms) ≡ text_of ls ++ te
 text_of-append [] ms = refl
 text_of-append (l ∷ ls) ms = ap (λ t. l ++ t) (text_of-append ls ms) ∙ sym (append_assoc l (text_of ls) (text_of ms))
 
--- one line more
+-- one more line
 pub lines_taken : (line : Part → Line) (parts : List Part) (i : ℕ) (part : Part) → slice_get parts i ≡ Some part
     → text_of (map line (take (i + 1) parts)) ≡ text_of (map line (take i parts)) ++ line part
 lines_taken line parts i part at =
@@ -35,7 +35,7 @@ lines-append names e (line ∷ lines) engines =
     ∙ ap (λ n. engines_lines names (suc e) lines ++ block names n engines) (let same : suc e + length lines ≡ e + length (line ∷ lines) = omega arith in same))
     ∙ sym (append_assoc (block names e line) (engines_lines names (suc e) lines) (block names (e + length (line ∷ lines)) engines))
 
--- the lines of one kind of engines more
+-- the lines of one more kind of engines
 pub engines_taken : (names : List Entry) (lines : List Engines) (n : ℕ) (engines : Engines) → n < length lines → slice_get lines n ≡ Some engines →
     text_of (engines_lines names 1 (take (n + 1) lines))
     ≡ text_of (engines_lines names 1 (take n lines)) ++ (engine_line (n + 1) engines ++ text_of (map (emits_line names (n + 1)) engines.tale.emits))

@@ -42,7 +42,7 @@ left_len left = option_map_or (λ rest. 1 + length rest.now) left 0
 
 -- # Entries
 
--- where the first tab stands
+-- where the first tab is
 pub tab_found : (line : List ℕ) (at : ℕ) → IsFirstByte (is_byte 9) line (Some at) → position_or_len is_tab line ≡ at
 tab_found line at found =
     position_or_len_is is_tab line at 0 (omega (arith, found.0.high)) (λ k below. false_from_ne_true _ (found.0.before k (omega arith) below)) (λ within. found.1)
@@ -51,7 +51,7 @@ no_tab : (line : List ℕ) → IsFirstByte (is_byte 9) line None → position_or
 no_tab line none =
     position_or_len_is is_tab line (length line) 0 (omega arith) (λ k below. false_from_ne_true _ (none k (omega arith) below)) (λ within. absurd (omega arith))
 
--- without a tab all stands before it
+-- without a tab, everything comes before it
 pub all_before : (line : List ℕ) → IsFirstByte (is_byte 9) line None → before_first is_tab line ≡ line
 all_before line none = ap (λ k. take k line) (no_tab line none) ∙ take_all (length line) line (omega arith)
 

@@ -1,4 +1,4 @@
--- What is told of a pattern.
+-- What is reported of a pattern.
 use Rattle.std.specs.Prelude.{ℕ, ℤ, List, map}
 use Rattle.life_answer.specs.declared.part.Part.{Part}
 use Rattle.life_answer.specs.declared.tale.Engines.{Engines}
@@ -6,7 +6,7 @@ use Rattle.census_facts.specs.declared.fact.Fact.{Fact}
 use Rattle.census_facts.specs.declared.fact.Worth.{Worth}
 use Rattle.census_facts.specs.declared.fact.Worth.TheVariants as worth
 
--- a number, how wide and how high something is, how far it moves to the right and down, bytes, parts, or engines
+-- a number, a width and a height, a displacement to the right and down, bytes, parts, or engines
 pub data Content : Type 0 where
   number : ℕ → Content
   size : ℕ → ℕ → Content
@@ -15,7 +15,7 @@ pub data Content : Type 0 where
   parts : List Part → Content
   engines : List Engines → Content
 
--- what is told, and what it is called
+-- what is reported, and its name
 pub record Thing : Type 0 where
   pub name : List ℕ
   pub content : Content

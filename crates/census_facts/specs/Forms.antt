@@ -1,4 +1,4 @@
--- The forms in which things are told, with the names that objects have.
+-- The forms in which things are reported, with the names of objects.
 use Rattle.std.specs.Prelude.{ℕ, List, [], ◌∷◌}
 use Rattle.census_facts.specs.Names.{Entry}
 use Rattle.census_facts.specs.Facts.{Thing}
@@ -11,7 +11,7 @@ abbrev pub things_text : Form → List Entry → List Thing → List ℕ
 things_text Lines names things = things_lines names things
 things_text Json names things = object_line names things
 
--- what parts one text from the next: an LF, or nothing
+-- what separates one text from the next: an LF, or nothing
 abbrev pub separator : Form → List ℕ
 separator Lines = 10 ∷ []
 separator Json = []

@@ -1,4 +1,4 @@
--- The lines that tell of a pattern.
+-- The lines of a pattern's report.
 use Rattle.std.specs.Prelude.{ℕ, suc, Option, Some, None, List, [], ◌∷◌, ◌++◌, codes, decimal, map}
 use Rattle.std.specs.Fmt.{signed_decimal}
 use Rattle.life_answer.specs.declared.part.Part.{Part}
@@ -17,7 +17,7 @@ abbrev pub fields_text : List (List ℕ) → List ℕ
 fields_text [] = []
 fields_text (value ∷ values) = 32 ∷ value ++ fields_text values
 
--- a name and values, parted by blanks, and LF
+-- a name and values, separated by blanks, and LF
 unfoldable pub line : List ℕ → List (List ℕ) → Line
 line name values = name ++ fields_text values ++ codes "\n"
 
@@ -26,12 +26,12 @@ abbrev pub text_of : List Line → List ℕ
 text_of [] = []
 text_of (l ∷ ls) = l ++ text_of ls
 
--- an object's name, where it has one
+-- an object's name, if it has one
 abbrev pub name_values : Option (List ℕ) → List (List ℕ)
 name_values None = []
 name_values (Some name) = name ∷ []
 
--- `part`, the code of an object, how many parts are that object, and its name, where it has one
+-- `part`, the code of an object, how many parts are that object, and its name, if it has one
 abbrev pub part_line : List Entry → Part → Line
 part_line names part = line (codes "part") (part.code ∷ decimal part.count ∷ name_values (name_in names part.code))
 
@@ -41,20 +41,20 @@ engine_line e engines =
     line (codes "engine")
     (decimal e ∷ decimal engines.tale.period ∷ signed_decimal engines.tale.dx ∷ signed_decimal engines.tale.dy ∷ decimal engines.count ∷ [])
 
--- `emits`, the number of engines, the code of an object, how often each of them emits it in a period, and its name, where it
--- has one
+-- `emits`, the number of engines, the code of an object, how often each of them emits it in a period, and its name, if
+-- it has one
 abbrev pub emits_line : List Entry → ℕ → Part → Line
 emits_line names e part =
     line (codes "emits") (decimal e ∷ part.code ∷ decimal part.count ∷ name_values (name_in names part.code))
 
--- the `engine` lines, each with its `emits` lines behind it, of engines the first of which have the number e
+-- the `engine` lines, each followed by its `emits` lines, of engines numbered from e
 abbrev pub engines_lines : List Entry → ℕ → List Engines → List Line
 engines_lines names e [] = []
 engines_lines names e (engines ∷ lines) =
     (engine_line e engines ∷ map (emits_line names e) engines.tale.emits) ++ engines_lines names (suc e) lines
 
--- the lines of what is told under a name: of parts a `part` line for each code, and of engines how many they are, and their
--- lines
+-- the lines of what is reported under a name: of parts a `part` line for each code, and of engines how many they are,
+-- and their lines
 abbrev pub content_lines : List Entry → List ℕ → Content → List Line
 content_lines names name (told.number n) = line name (decimal n ∷ []) ∷ []
 content_lines names name (told.size width height) = line name (decimal width ∷ decimal height ∷ []) ∷ []

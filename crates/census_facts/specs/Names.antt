@@ -1,4 +1,4 @@
--- Codes and what they are called.
+-- Codes and their names.
 use Rattle.std.specs.Prelude.{ℕ, Bool, true, false, not, ◌&&◌, is_none, if◌then◌else◌, Option, Some, None, List, [], ◌∷◌, ◌++◌, find, nat_eq, option_map}
 use Rattle.std.specs.Cmp.Lexicographic.{pointwise}
 
@@ -14,7 +14,7 @@ entry code name = record { code = code; name = name }
 abbrev pub is_of : List ℕ → Entry → Bool
 is_of code entry = pointwise nat_eq code entry.code
 
--- what a code is called, where it has a name
+-- the name of a code, if it has one
 abbrev pub name_in : List Entry → List ℕ → Option (List ℕ)
 name_in entries code = option_map (λ entry. entry.name) (find (is_of code) entries)
 
@@ -26,10 +26,10 @@ is_empty (byte ∷ bytes) = false
 abbrev pub is_whole : Entry → Bool
 is_whole entry = not (is_empty entry.code) && not (is_empty entry.name)
 
--- it is whole, and no other has its code
+-- it is whole, and no other entry has its code
 abbrev pub may_add : List Entry → Entry → Bool
 may_add entries entry = is_whole entry && is_none (name_in entries entry.code)
 
--- with one more
+-- with one more entry
 abbrev pub with_entry : List Entry → Entry → Option (List Entry)
 with_entry entries entry = if may_add entries entry then Some (entries ++ entry ∷ []) else None

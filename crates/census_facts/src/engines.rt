@@ -7,7 +7,7 @@ use crate::names::Names;
 use life_answer::{Engines, Part};
 use std::alloc::AllocError;
 
-// The line of engines of which the same is told.
+// The line of engines with the same description.
 #[tactic(auto, unfolding(crate::specs::Lines::line))]
 fn push_engine(text: &mut Vec<u8>, number: u64, engines: &Engines) -> Result<(), AllocError>
     ensures { OnOk result (text.new.items ≡ text.old.items ++ engine_line number engines.now) }
@@ -21,7 +21,7 @@ fn push_engine(text: &mut Vec<u8>, number: u64, engines: &Engines) -> Result<(),
     Ok(())
 }
 
-// The line of those parts of what an engine emits that are one object.
+// The line of one object that an engine emits.
 #[tactic(auto, unfolding(crate::specs::Lines::line))]
 fn push_emitted(
     text: &mut Vec<u8>,
@@ -57,7 +57,7 @@ fn push_emits(
     Ok(())
 }
 
-/// Appends the lines of all engines, those of which the same is told together.
+/// Appends the lines of all engines. Engines with the same description share their lines.
 pub(crate) fn push_engines(
     text: &mut Vec<u8>,
     names: &Names,

@@ -1,4 +1,4 @@
-//! The forms in which facts are told.
+//! The forms in which facts are reported.
 ghost use Rattle.std.specs.Prelude.{◌≡◌, IfOk};
 ghost use Rattle.census_facts.specs.Facts.{things_in};
 ghost use Rattle.census_facts.specs.Forms.{separator, things_text};
@@ -9,17 +9,17 @@ use crate::names::Names;
 use crate::values::push_object;
 use std::alloc::{AllocError, Global};
 
-/// How facts are told.
+/// How facts are reported.
 #[derive(Clone, Copy, Debug, PartialEq, Eq)]
 pub enum Form {
-    /// A line for each, or some lines.
+    /// One or more lines for each.
     Lines,
-    /// A member for each, of one object on a line of its own.
+    /// A member for each, in one object on a line of its own.
     Json,
 }
 
 impl Form {
-    /// What parts what is told of a pattern from what is told of the next: an empty line, or nothing.
+    /// What separates the report of a pattern from that of the next: an empty line, or nothing.
     pub fn separator(self) -> &'static [u8]
         ensures { result.now ≡ separator self }
     {
@@ -30,7 +30,7 @@ impl Form {
     }
 }
 
-/// The facts in this form, with the names that objects have. The only error is out of memory.
+/// The facts in this form, with the names of objects. The only error is out of memory.
 pub fn facts_text(
     alloc: Global,
     form: Form,

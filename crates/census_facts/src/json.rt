@@ -1,4 +1,4 @@
-//! JSON on lines of its own, as a whole or by pieces, and what is told in it of objects and of engines.
+//! JSON on lines of its own, as a whole or in pieces, and the JSON of objects and of engines.
 //!
 //! Tested in `tests_reports` and in `tests_objects`.
 

@@ -1,5 +1,5 @@
-//! Facts that are told of a pattern, one after another, as lines or as one JSON object, and names of codes, read from a text. `json`
-//! has JSON on lines of its own.
+//! Facts about a pattern, one after another, as lines or as one JSON object, and names of codes, read from a text. `json` has
+//! JSON on lines of its own.
 //!
 //! Tested in `tests_objects`, and names here.
 #![tactic(auto)]

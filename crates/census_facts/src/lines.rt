@@ -40,7 +40,7 @@ fn push_one<I: Integer>(text: &mut Vec<u8>, name: &[u8], number: I) -> Result<()
     Ok(())
 }
 
-// The line of a name and of how wide and how high something is.
+// The line of a name, a width and a height.
 #[tactic(auto, unfolding(crate::specs::Lines::line))]
 fn push_size(text: &mut Vec<u8>, name: &[u8], width: u32, height: u32) -> Result<(), AllocError>
     ensures { OnOk result (text.new.items ≡ text.old.items
@@ -74,7 +74,7 @@ pub(crate) fn push_moves(text: &mut Vec<u8>, dx: &i32, dy: &i32) -> Result<(), A
     push_number(text, *dy)
 }
 
-// The line of a name and of how far something moves.
+// The line of a name and a displacement.
 #[tactic(auto, unfolding(crate::specs::Lines::line))]
 fn push_displacement(text: &mut Vec<u8>, name: &[u8], dx: &i32, dy: &i32) -> Result<(), AllocError>
     ensures { OnOk result (text.new.items ≡ text.old.items
@@ -86,7 +86,7 @@ fn push_displacement(text: &mut Vec<u8>, name: &[u8], dx: &i32, dy: &i32) -> Res
     Ok(())
 }
 
-// A blank and the name of the object of this code, where it has one.
+// A blank and the name of the object of this code, if it has one.
 pub(crate) fn push_name(text: &mut Vec<u8>, names: &Names, code: &[u8]) -> Result<(), AllocError>
     ensures { OnOk result (text.new.items
         ≡ text.old.items ++ fields_text (name_values (name_in names.now code.now))) }
@@ -97,7 +97,7 @@ pub(crate) fn push_name(text: &mut Vec<u8>, names: &Names, code: &[u8]) -> Resul
     }
 }
 
-// The line of those parts that are one object.
+// The line of the parts that are one object.
 #[tactic(auto, unfolding(crate::specs::Lines::line))]
 fn push_part(text: &mut Vec<u8>, names: &Names, part: &Part) -> Result<(), AllocError>
     ensures { OnOk result (text.new.items ≡ text.old.items ++ part_line names.now part.now) }

@@ -1,4 +1,4 @@
-//! Codes and what they are called.
+//! Codes and their names.
 ghost use Rattle.std.specs.Prelude.{◌≡◌, ◌++◌, [], ◌∷◌, if◌then◌else◌, is_none, map, true, IfOk, None, OnOk, Some};
 ghost use Rattle.std.specs.Option.{option_copied};
 ghost use Rattle.census_facts.specs.Names.{entry, may_add, name_in, with_entry};
@@ -8,7 +8,7 @@ use indexmap::IndexMap;
 use std::alloc::{AllocError, Global};
 use std::marker::Model;
 
-/// Codes, each with a name, in the order of the text that they were read from. No code stands twice.
+/// Codes, each with a name, in the order of the text that they were read from. No code appears twice.
 #[derive(Drop)]
 pub struct Names {
     names: IndexMap<Vec<u8>, Vec<u8>>,
@@ -24,7 +24,7 @@ impl Model for Names {
     ghost view = { λ n. map entry_read n.names.entries };
 }
 
-// Keeps a code that is not kept yet, and its name.
+// Keeps a new code and its name.
 fn keep(
     kept: &mut IndexMap<Vec<u8>, Vec<u8>>,
     alloc: Global,
@@ -49,7 +49,7 @@ impl Names {
         }
     }
 
-    /// What a code is called, where it has a name. The work does not grow with the number of names.
+    /// The name of a code, if it has one. The work does not grow with the number of names.
     pub fn name_of(&self, code: &[u8]) -> Option<&[u8]>
         ensures { option_copied result ≡ name_in self.now code.now }
     {
@@ -59,15 +59,15 @@ impl Names {
         }
     }
 
-    // Whether a code and a name are not empty, and the code is not that of an entry.
+    // Whether a code and a name are not empty, and no entry has the code.
     fn may_add(&self, code: &[u8], name: &[u8]) -> bool
         ensures { result ≡ may_add self.now (entry code.now name.now) }
     {
         !code.is_empty() && !name.is_empty() && self.name_of(code).is_none()
     }
 
-    /// Adds a code with its name. Returns whether neither is empty, and no entry has the code; otherwise nothing is added.
-    /// The only error is out of memory.
+    /// Adds a code with its name. Returns whether neither is empty and no entry has the code; otherwise nothing is
+    /// added. The only error is out of memory.
     pub fn add(&mut self, alloc: Global, code: &[u8], name: &[u8]) -> Result<bool, AllocError>
         ensures { IfOk result (λ added. with_entry self.old (entry code.now name.now)
             ≡ (if added then Some self.new else None)) }

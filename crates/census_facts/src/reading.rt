@@ -9,7 +9,7 @@ use crate::names::Names;
 use memchr::memchr;
 use std::alloc::{AllocError, Global};
 
-// The line before the first LF, and what stands behind that byte.
+// The line before the first LF, and what comes after that byte.
 fn split_line(text: &[u8]) -> (&[u8], Option<&[u8]>)
     ensures parts { slice_split is_line_feed text.now
         ≡ result.0.now ∷ option_map_or (λ rest. slice_split is_line_feed rest.now) result.1 [] }
@@ -31,14 +31,14 @@ fn content(line: &[u8]) -> &[u8]
     line
 }
 
-// Whether a line is nothing, or a comment.
+// Whether a line is empty or a comment.
 fn is_passed_over(line: &[u8]) -> bool
     ensures { result ≡ is_passed_over line.now }
 {
     line.is_empty() || line.starts_with(b"#")
 }
 
-// What stands before the first tab of a line, and behind it.
+// What comes before the first tab of a line, and what comes after it.
 fn split_entry(line: &[u8]) -> (&[u8], &[u8])
     ensures code { result.0.now ≡ before_first is_tab line.now }
     ensures name { result.1.now ≡ after_first is_tab line.now }
@@ -49,7 +49,7 @@ fn split_entry(line: &[u8]) -> (&[u8], &[u8])
     }
 }
 
-// Adds what a line says. Returns whether it says nothing, or names a code that has no name.
+// Adds what a line says. Returns whether the line is passed over, or names a code that had no name.
 fn take_line(names: &mut Names, alloc: Global, line: &[u8]) -> Result<bool, AllocError>
     ensures { IfOk result (λ goes_on. with_line names.old line.now
         ≡ (if goes_on then Some names.new else None)) }
@@ -61,12 +61,12 @@ fn take_line(names: &mut Names, alloc: Global, line: &[u8]) -> Result<bool, Allo
     names.add(alloc, code, name)
 }
 
-/// The names of a text. Each line has a code, a tab and its name. A line that begins with `#` is a comment, and one on
-/// which nothing stands is passed over. A CR at the end of a line is not part of it, further tabs are part of the name,
-/// and the last line ends with the text too.
+/// The names of a text. Each line has a code, a tab and its name. A line that begins with `#` is a comment, and an
+/// empty line is passed over. A CR at the end of a line is not part of it, further tabs are part of the name, and the
+/// end of the text also ends the last line.
 ///
-/// `Err` has the number, from 1, of the first other line that has no tab, no byte before its first tab or none behind it, or
-/// the code of an earlier line. The only error is out of memory.
+/// `Err` has the number, from 1, of the first other line that has no tab, has nothing before or after its first tab, or
+/// has the code of an earlier line. The only error is out of memory.
 pub fn read_names(alloc: Global, text: &[u8]) -> Result<Result<Names, usize>, AllocError>
     ensures { IfOk result
         (λ read. result_map_both (λ names. names) (λ line. line) read ≡ names_in text.now) }

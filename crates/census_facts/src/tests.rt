@@ -1,4 +1,4 @@
-//! Tests of names that are read, and of what codes are called.
+//! Tests of names that are read, and of the names of codes.
 
 use crate::{Names, read_names};
 use std::alloc::AllocError;

@@ -12,7 +12,7 @@ use life_answer::{Engines, Part};
 use serde_json::{Map, Value, put};
 use std::alloc::{AllocError, Global};
 
-// The list of how wide and how high something is.
+// The list of a width and a height.
 fn size_value(alloc: Global, width: u32, height: u32) -> Result<Value, AllocError>
     ensures { IfOk result (λ value. view value ≡ size_data width height) }
 {
@@ -35,7 +35,7 @@ fn part_values(alloc: Global, names: &Names, parts: &[Part]) -> Result<Vec<Value
     Ok(values)
 }
 
-// The object of engines of which the same is told.
+// The object of engines with the same description.
 fn kind_value(alloc: Global, names: &Names, kind: &Engines) -> Result<Value, AllocError>
     ensures { IfOk result (λ value. view value ≡ kind_data names.now kind.now) }
 {

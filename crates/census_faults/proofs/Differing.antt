@@ -1,5 +1,6 @@
--- What is told of a fault tells which it is.
+-- The sentence for a fault identifies it.
 use Rattle.std.proofs.Common.{◌≡◌, ℕ, List, [], ◌∷◌, Option, Some, None, if◌then◌else◌, sym, ap, ◌∙◌, refl}
+use Rattle.std.specs.Option.{option_map_or}
 use Rattle.std.specs.Str.{bytes_eq}
 use Rattle.life_cells.specs.declared.rule.RuleFault.TheVariants as rules
 use Rattle.life_text.specs.declared.rle.RleFault.{RleFault}
@@ -19,9 +20,8 @@ use Rattle.census_faults.specs.declared.fault.Fault.{Fault}
 use Rattle.census_faults.specs.declared.fault.Fault.TheVariants.{Text, File, Rule, Bundle, Folder, Code, Generation, Report, Claims, Names, TooLong, Read, FileForFolder, Write, Arguments, Words, Memory}
 use Rattle.census_faults.specs.Rle.Files.{file_kind}
 use Rattle.census_faults.specs.Rle.Rules.{rule_in_header, rule_kind}
-use Rattle.census_faults.specs.Rle.Sentences.{WordsDiffer, sentence_of_rule, words_of}
 use Rattle.census_faults.specs.Faults.{canonical_fault}
-use Rattle.census_faults.specs.Sentences.{FaultsDiffer, sentence_of}
+use Rattle.census_faults.specs.Sentences.{FaultsDiffer, WordsDiffer, sentence_of, words_of}
 
 -- the first of these faults that has the sentence, or out of memory
 abbrev told_among : List Fault → List ℕ → Fault
@@ -156,15 +156,16 @@ faults_differ f g is = sym (fault_tells f) ∙ ap told_by is ∙ fault_tells g
 
 -- # Of texts
 
--- the fault of a text that is told as this one: a kind of file is told where there is no header line, and a kind of rule where
--- the rule is not Life-like
+-- the fault of a text that is reported as this one: a kind of file is reported where there is no header line, and a kind of rule
+-- where the rule is not Life-like
 abbrev text_of : Fault → RleFault
 text_of (Text fault) = fault
 text_of (File kind) = rle.NoHeader
 text_of (Rule kind) = rle.Rule rules.NotLifeLike
 text_of fault = rle.Memory
 
-words_of_rule_tell : (rule : Option (List ℕ)) → text_of (told_by (sentence_of_rule rule)) ≡ rle.Rule rules.NotLifeLike
+words_of_rule_tell : (rule : Option (List ℕ))
+    → text_of (told_by (sentence_of (option_map_or (λ rule. Rule (rule_kind rule)) rule (Text (rle.Rule rules.NotLifeLike))))) ≡ rle.Rule rules.NotLifeLike
 words_of_rule_tell None = refl
 words_of_rule_tell (Some rule) = ap text_of (rule_tells (rule_kind rule))
 

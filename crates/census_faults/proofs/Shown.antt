@@ -10,7 +10,7 @@ use Rattle.census_faults.specs.Printed.{ShowsNameBytes, ShowsNames, printable_te
 
 -- # Bytes of lawful names alone
 
--- what stands for a byte that no lawful name has
+-- what is shown for a byte that no lawful name has
 abbrev escaped : ℕ → List ℕ
 escaped c = 92 ∷ 120 ∷ encode_lower (c ∷ [])
 

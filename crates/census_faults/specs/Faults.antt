@@ -1,5 +1,6 @@
 -- The faults of texts and of rules, and which of all faults are one.
-use Rattle.std.specs.Prelude.{ℕ, List, Option, Some, None}
+use Rattle.std.specs.Prelude.{ℕ, List}
+use Rattle.std.specs.Option.{option_map_or}
 use Rattle.life_cells.specs.declared.rule.RuleFault.{RuleFault}
 use Rattle.life_cells.specs.declared.rule.RuleFault.TheVariants as rules
 use Rattle.life_text.specs.declared.rle.RleFault.{RleFault}
@@ -19,14 +20,11 @@ use Rattle.census_faults.specs.declared.fault.Fault.TheVariants.{Text, File, Rul
 
 -- # Of texts and rules
 
--- of the rule that a header names, its kind
-abbrev pub header_fault : Option (List ℕ) → Fault
-header_fault None = Text (rle.Rule rules.NotLifeLike)
-header_fault (Some rule) = Rule (rule_kind rule)
-
+-- the kind of a text without a header line, and of the rule that a header names
 abbrev pub text_fault : List ℕ → RleFault → Fault
 text_fault text rle.NoHeader = File (file_kind text)
-text_fault text (rle.Rule rules.NotLifeLike) = header_fault (rule_in_header text)
+text_fault text (rle.Rule rules.NotLifeLike) =
+    option_map_or (λ rule. Rule (rule_kind rule)) (rule_in_header text) (Text (rle.Rule rules.NotLifeLike))
 text_fault text fault = Text fault
 
 abbrev pub rule_fault : List ℕ → RuleFault → Fault
@@ -35,7 +33,8 @@ rule_fault rule fault = Text (rle.Rule fault)
 
 -- # One fault under several names
 
--- out of memory is one fault, wherever it comes; a rule that isn't Life-like, or a text without a header line, of which no more is known, is of no other kind; and where a fault stands is no part of it
+-- Out of memory is one fault, wherever it occurs. A rule that isn't Life-like, or a text without a header line, of which no more
+-- is known, is of kind `Other`. Two faults that differ in their places alone are one.
 abbrev pub same_of_text : RleFault → Fault
 same_of_text rle.NoHeader = File files.Other
 same_of_text rle.BadHeader = Text rle.BadHeader
@@ -70,7 +69,7 @@ same_of_code (codes.CutRun at) = Code (codes.CutRun 0)
 same_of_code (codes.TooFar at) = Code (codes.TooFar 0)
 same_of_code codes.Memory = Memory
 
--- the one fault that these name
+-- the one fault that stands for all that are the same
 abbrev pub canonical_fault : Fault → Fault
 canonical_fault (Text fault) = same_of_text fault
 canonical_fault (File kind) = File kind

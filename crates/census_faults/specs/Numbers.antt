@@ -1,10 +1,7 @@
--- What the program's lines call a fault: its kind, its number and its place.
-use Rattle.std.specs.Prelude.{ℕ, List, [], ◌++◌, Option, Some, None, codes, decimal}
+-- The name of a fault in the program's lines: its kind, its number and its place.
+use Rattle.std.specs.Prelude.{ℕ, List, [], ◌++◌, Option, codes, decimal}
+use Rattle.std.specs.Option.{option_map_or}
 
-abbrev pub behind_number : Option ℕ → List ℕ
-behind_number None = []
-behind_number (Some at) = codes " at " ++ decimal at
-
--- `KIND fault N`, and ` at A` behind it where there is a place
+-- `KIND fault N`, followed by ` at A` where there is a place
 abbrev pub numbered : List ℕ → ℕ → Option ℕ → List ℕ
-numbered kind number at = kind ++ codes " fault " ++ decimal number ++ behind_number at
+numbered kind number at = kind ++ codes " fault " ++ decimal number ++ option_map_or (λ at. codes " at " ++ decimal at) at []

@@ -1,5 +1,7 @@
 -- The sentence for each fault: what is wrong, and what would be right.
 use Rattle.std.specs.Prelude.{◌≡◌, ℕ, List, codes}
+use Rattle.life_text.specs.Faults.{without_place}
+use Rattle.life_text.specs.declared.rle.RleFault.{RleFault}
 use Rattle.life_text.specs.declared.rle.RleFault.TheVariants as rle
 use Rattle.life_cells.specs.declared.reader.CodeFault.{CodeFault}
 use Rattle.life_cells.specs.declared.reader.CodeFault.TheVariants as code
@@ -10,7 +12,7 @@ use Rattle.census_bundle.specs.declared.bundle.AddFault.TheVariants as add
 use Rattle.census_faults.specs.Rle.Sentences as texts
 use Rattle.census_faults.specs.declared.fault.Fault.{Fault}
 use Rattle.census_faults.specs.declared.fault.Fault.TheVariants.{Text, File, Rule, Bundle, Folder, Code, Generation, Report, Claims, Names, TooLong, Read, FileForFolder, Write, Arguments, Words, Memory}
-use Rattle.census_faults.specs.Faults.{canonical_fault}
+use Rattle.census_faults.specs.Faults.{canonical_fault, text_fault}
 
 abbrev pub bundle_sentence : BundleFault → List ℕ
 bundle_sentence (bundle.StrayText line) = codes "text stands on a line that belongs to no pattern: it must come after a line `@file NAME`"
@@ -33,7 +35,7 @@ code_sentence (code.CutRun at) = codes "a `y` has no count in a code: a digit or
 code_sentence (code.TooFar at) = codes "a live cell of the code is too far out: its column and its row, counted from 0, must be at most 1048575"
 code_sentence code.Memory = texts.sentence_of rle.Memory
 
--- those of texts, of other files and of rules are told as everywhere
+-- the sentences for texts, for other files and for rules are those used elsewhere
 abbrev pub sentence_of : Fault → List ℕ
 sentence_of (Text fault) = texts.sentence_of fault
 sentence_of (File kind) = texts.file_sentence_of kind
@@ -53,8 +55,17 @@ sentence_of Arguments = codes "an argument is no text: each must be in UTF-8"
 sentence_of Words = codes "the words ask for nothing that there is: they must be as `census --help` tells"
 sentence_of Memory = texts.sentence_of rle.Memory
 
--- # No two have the same
+-- the sentence for a fault of a text: for a text without a header line it says what the text is, and for a rule that is not
+-- Life-like of which kind the rule is
+abbrev pub words_of : List ℕ → RleFault → List ℕ
+words_of text fault = sentence_of (text_fault text fault)
 
--- what is told by one sentence is one fault
+-- # No two sentences are the same
+
+-- faults with one sentence are one fault
 abbrev pub FaultsDiffer : Type 0
 FaultsDiffer = (f g : Fault) → sentence_of f ≡ sentence_of g → canonical_fault f ≡ canonical_fault g
+
+-- for all texts: faults with one sentence differ in their byte at most
+abbrev pub WordsDiffer : Type 0
+WordsDiffer = (text other : List ℕ) (f g : RleFault) → words_of text f ≡ words_of other g → without_place f ≡ without_place g

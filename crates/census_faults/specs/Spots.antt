@@ -1,4 +1,4 @@
--- Where a fault stands.
+-- The place of a fault.
 use Rattle.std.specs.Prelude.{ℕ, ◌+◌, ◌-◌, List, length, min}
 use Rattle.life_text.specs.declared.rle.RleFault.{RleFault}
 use Rattle.life_text.specs.declared.rle.RleFault.TheVariants as rle
@@ -11,7 +11,7 @@ use Rattle.census_bundle.specs.declared.fault.BundleFault.TheVariants as bundle
 use Rattle.census_faults.specs.declared.spot.Spot.{Spot}
 use Rattle.census_faults.specs.declared.spot.Spot.TheVariants.{Nowhere, Line, At}
 
--- at the place that is to be looked at
+-- the place at which a reader should look
 abbrev pub spot_of_text : List ℕ → RleFault → Spot
 spot_of_text text rle.Memory = Nowhere
 spot_of_text text fault = At (place_of_fault text fault)
@@ -24,13 +24,9 @@ spot_of_bundle (bundle.BadName line) = Line line
 spot_of_bundle (bundle.TooMany line) = Line line
 spot_of_bundle bundle.Memory = Nowhere
 
--- how many bytes stand before the body
-abbrev pub body_start : List ℕ → ℕ
-body_start code = length code - length (body_of code)
-
--- the place of a byte of the body in the code as a whole; a byte past the body's end counts as the end
+-- the place of a byte of the body in the code as a whole; a byte after the body's end counts as the end
 abbrev pub body_spot : List ℕ → ℕ → Spot
-body_spot code at = At (line_and_column code (body_start code + min at (length (body_of code))))
+body_spot code at = At (line_and_column code (length code - length (body_of code) + min at (length (body_of code))))
 
 abbrev pub spot_of_code : List ℕ → CodeFault → Spot
 spot_of_code text code.Empty = body_spot text 0

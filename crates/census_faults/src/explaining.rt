@@ -47,7 +47,7 @@ fn push_spot(line: &mut Vec<u8>, spot: Spot) -> Result<(), AllocError>
     Ok(())
 }
 
-// Appends what is known of where the fault stands, and a blank where anything is.
+// Appends what is known of the place of the fault, and a blank where anything is.
 fn push_heading(line: &mut Vec<u8>, name: Option<&[u8]>, spot: Spot) -> Result<(), AllocError>
     ensures { OnOk result
         (line.new.items ≡ line.old.items ++ place_heading (option_copied name.entry) spot) }

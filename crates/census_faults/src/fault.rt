@@ -1,15 +1,14 @@
 //! What can be wrong.
 ghost use Rattle.std.specs.Prelude.{◌≡◌};
-ghost use Rattle.census_faults.specs.Rle.Sentences.{words_of};
 ghost use Rattle.census_faults.specs.Faults.{rule_fault, text_fault};
-ghost use Rattle.census_faults.specs.Sentences.{sentence_of};
+ghost use Rattle.census_faults.specs.Sentences.{sentence_of, words_of};
 
 use crate::rle::{FileKind, RuleKind, file_kind, rule_in_header, rule_kind};
 use census_bundle::{AddFault, BundleFault};
 use life_cells::{CodeFault, RuleFault};
 use life_text::RleFault;
 
-/// What can be wrong, wherever it is told.
+/// What can be wrong, wherever it is reported.
 #[derive(Clone, Copy, Debug, PartialEq, Eq, Drop)]
 pub enum Fault {
     /// An RLE text has this fault.
@@ -24,7 +23,7 @@ pub enum Fault {
     Folder(AddFault),
     /// The body of a code has this fault.
     Code(CodeFault),
-    /// A number of generations is above 4,194,304, or is no number.
+    /// A number of generations is above 4,194,304, or is not a number.
     Generation,
     /// A line is not one that a report has there.
     Report,
@@ -36,23 +35,23 @@ pub enum Fault {
     TooLong,
     /// A folder can't be listed, or a file or standard input can't be read.
     Read,
-    /// A file stands where a folder is wanted.
+    /// There is a file where a folder is wanted.
     FileForFolder,
     /// Standard output has failed.
     Write,
-    /// An argument is no text.
+    /// An argument is not text.
     Arguments,
-    /// The words of the command line ask for nothing that there is.
+    /// The words of the command line ask for something that does not exist.
     Words,
     /// Memory was refused.
     Memory,
 }
 
-/// The fault of an RLE text. Where it has no header line, it is what the text is instead, and where the rule is not
-/// Life-like, the kind of the rule that the header names.
+/// The fault of an RLE text. Where the text has no header line, it is the kind of file that the text is instead, and where the
+/// rule is not Life-like, the kind of the rule that the header names.
 pub fn text_fault(text: &[u8], fault: RleFault) -> Fault
     ensures value { result ≡ text_fault text.now fault }
-    // Its sentence is the one that is told of the text elsewhere.
+    // Its sentence is the one that is reported for the text elsewhere.
     ensures words { sentence_of result ≡ words_of text.now fault }
 {
     match fault {
@@ -65,8 +64,8 @@ pub fn text_fault(text: &[u8], fault: RleFault) -> Fault
     }
 }
 
-/// The fault of a rule text: the kind of rule that it names where it is not Life-like, and any other fault as for the rule of
-/// an RLE text.
+/// The fault of a rule text: the kind of rule that it names where it is not Life-like, and any other fault as for the rule of an
+/// RLE text.
 pub fn rule_fault(rule: &[u8], fault: RuleFault) -> Fault
     ensures { result ≡ rule_fault rule.now fault }
 {

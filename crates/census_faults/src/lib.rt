@@ -1,5 +1,5 @@
-//! Every fault that the program tells, in words: the line that explains an error, and the line that explains why a
-//! pattern was refused. `rle` has those of patterns' texts.
+//! Every fault that the program reports, in words: the line that explains an error, and the line that explains why a pattern was
+//! refused. `rle` has those of patterns' texts.
 //!
 //! Tested in `tests_objects`.
 #![tactic(auto)]

@@ -1,4 +1,4 @@
-//! What the program's lines call an error, in few words.
+//! The names of errors in the program's lines, in few words.
 ghost use Rattle.std.specs.Prelude.{◌≡◌, ◌≤◌, length};
 ghost use Rattle.census_faults.specs.Numbers.{numbered};
 
@@ -8,10 +8,10 @@ use itoa::Buffer;
 // The most bytes of a message.
 const MESSAGE_LIMIT: usize = 64;
 
-/// What an error is called. It asks for no memory.
+/// The name of an error. It asks for no memory.
 pub type Message = ArrayString<MESSAGE_LIMIT>;
 
-/// What is called by these words.
+/// The message that consists of these words.
 pub fn message(words: &str) -> Message
     requires { length words.now ≤ 40 }
     ensures { result.bytes ≡ words.now }
@@ -21,7 +21,7 @@ pub fn message(words: &str) -> Message
     message
 }
 
-/// A fault of this kind by its number: `KIND fault N`, and ` at A` behind it where the fault has a place.
+/// A fault of this kind by its number: `KIND fault N`, followed by ` at A` where the fault has a place.
 pub fn numbered(kind: &str, number: u8, at: Option<usize>) -> Message
     requires { length kind.now ≤ 20 }
     ensures { result.bytes ≡ numbered kind.now number at }

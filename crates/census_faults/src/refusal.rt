@@ -31,9 +31,9 @@ fn line_of(
     Ok(line)
 }
 
-/// The line that explains why the pattern of this text is refused, of a collection and a pattern with these names: two
-/// blanks, `COLLECTION/NAME:LINE:COLUMN: `, the sentence for the text's fault, and a line feed. `None` where the text
-/// means a pattern. Each byte of a name that is below 32 or 127 is written as `\x` and its two digits.
+/// The line that explains why the pattern of this text is refused, for a collection and a pattern with these names: two blanks,
+/// `COLLECTION/NAME:LINE:COLUMN: `, the sentence for the text's fault, and a line feed. `None` where the text means a pattern.
+/// Each byte of a name that is below 32 or 127 is written as `\x` and its two digits.
 pub fn refusal_line(
     alloc: Global,
     collection: &[u8],

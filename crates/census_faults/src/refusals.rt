@@ -1,6 +1,7 @@
-//! The lines that explain what a report of a bundle tells as refused.
+//! The lines that explain what a report of a bundle gives as refused.
 ghost use Rattle.std.specs.Prelude.{◌≡◌, ◌++◌, IfOk, OnOk};
-ghost use Rattle.census_faults.specs.BundleRefusals.{entry_lines, folder_lines, lost_line, refusal_lines};
+ghost use Rattle.census_faults.specs.BundleRefusals.{entry_lines, lost_line, refusal_lines};
+ghost use Rattle.std.specs.List.{flat_map};
 
 use crate::explaining::explanation;
 use crate::fault::Fault;
@@ -48,7 +49,7 @@ fn push_entry(
 
 // Appends the lines of a collection.
 fn push_folder(alloc: Global, lines: &mut Vec<u8>, folder: &Folder) -> Result<(), AllocError>
-    ensures { OnOk result (lines.new.items ≡ lines.old.items ++ folder_lines folder.now) }
+    ensures { OnOk result (lines.new.items ≡ lines.old.items ++ flat_map (entry_lines folder.now.name) folder.now.entries) }
 {
     let collection = folder.name.as_slice();
     for entry in folder.entries.as_slice() {
@@ -57,9 +58,9 @@ fn push_folder(alloc: Global, lines: &mut Vec<u8>, folder: &Folder) -> Result<()
     Ok(())
 }
 
-/// The lines that explain what a report of a bundle tells as `bad`, one for each such line of it, collection by collection
-/// and each in the order of its patterns: that of `refusal_line` for a text with a fault, and for one that is lost that of
-/// what can't be read, with no line or column.
+/// The lines that explain what a report of a bundle gives as `bad`, one for each such line of it, collection by collection, and
+/// within each in the order of its patterns. For a text with a fault it is that of `refusal_line`, and for one that is lost that
+/// of what can't be read, with no line or column.
 pub fn refusal_lines(alloc: Global, bundle: &Bundle) -> Result<Vec<u8>, AllocError>
     ensures { IfOk result (λ lines. lines.items ≡ refusal_lines bundle.now) }
 {

@@ -92,9 +92,8 @@ pub fn sentence(fault: Fault) -> &'static str
     }
 }
 
-/// What tells a fault tells which it is. Two faults with one sentence are one: they differ at most in where they stand,
-/// or both are out of memory, or both are a rule that is not Life-like, or a text without a header line, and of no kind
-/// that has a name.
+/// The sentence for a fault identifies it. Two faults with one sentence are one: they differ at most in their places, or both are
+/// out of memory, or both are a rule that is not Life-like, or a text without a header line, and of no kind that has a name.
 pub fn faults_differ()
     ensures { FaultsDiffer }
 {}

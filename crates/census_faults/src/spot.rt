@@ -1,14 +1,14 @@
-//! Where a fault stands.
-ghost use Rattle.std.specs.Prelude.{◌≡◌, ◌+◌, length};
+//! The place of a fault.
+ghost use Rattle.std.specs.Prelude.{◌≡◌, ◌+◌, ◌-◌, length};
 ghost use Rattle.life_cells.specs.TextOrder.{body_of};
-ghost use Rattle.census_faults.specs.Spots.{body_spot, body_start, spot_of_bundle, spot_of_code, spot_of_text};
+ghost use Rattle.census_faults.specs.Spots.{body_spot, spot_of_bundle, spot_of_code, spot_of_text};
 
 use crate::rle::{Place, line_and_column, place_of};
 use census_bundle::BundleFault;
 use life_cells::{CodeFault, body_of};
 use life_text::RleFault;
 
-/// What is known of where a fault stands in what was read.
+/// What is known of the place of a fault in what was read.
 #[derive(Clone, Copy, Debug, PartialEq, Eq, Drop)]
 pub enum Spot {
     /// Nothing.
@@ -19,7 +19,7 @@ pub enum Spot {
     At(Place),
 }
 
-/// Where a fault of an RLE text stands: at the line and the column at which the text is to be looked at.
+/// The place of a fault of an RLE text: the line and the column at which a reader should look.
 pub fn spot_of_text(text: &[u8], fault: &RleFault) -> Spot
     ensures { result ≡ spot_of_text text.now fault.now }
 {
@@ -29,7 +29,7 @@ pub fn spot_of_text(text: &[u8], fault: &RleFault) -> Spot
     }
 }
 
-/// Where a fault of a bundle text stands: on its line.
+/// The place of a fault of a bundle text: its line.
 pub fn spot_of_bundle(fault: BundleFault) -> Spot
     ensures { result ≡ spot_of_bundle fault }
 {
@@ -43,15 +43,15 @@ pub fn spot_of_bundle(fault: BundleFault) -> Spot
     }
 }
 
-// How many bytes stand before the body of a code.
+// The number of bytes before the body of a code.
 fn body_start(code: &[u8]) -> usize
-    ensures value { result ≡ body_start code.now }
+    ensures value { result ≡ length code.now - length (body_of code.now) }
     ensures within { result + length (body_of code.now) ≡ length code.now }
 {
     code.len() - body_of(code).len()
 }
 
-// The spot of a byte of a code's body. A byte past its end counts as the end.
+// The spot of a byte of a code's body. A byte after its end counts as the end.
 fn body_spot(code: &[u8], at: usize) -> Spot
     ensures { result ≡ body_spot code.now at }
 {
@@ -59,8 +59,7 @@ fn body_spot(code: &[u8], at: usize) -> Spot
     Spot::At(line_and_column(code, body_start(code) + at))
 }
 
-/// Where a fault of a code's body stands: at its byte in the code as a whole, and at the code's end where it has no
-/// body.
+/// The place of a fault of a code's body: its byte in the code as a whole, or the code's end where it has no body.
 pub fn spot_of_code(code: &[u8], fault: CodeFault) -> Spot
     ensures { result ≡ spot_of_code code.now fault }
 {

@@ -1,5 +1,5 @@
 -- What was read so far, and where reading stops.
-use Rattle.std.proofs.Common.{◌≡◌, ℕ, ◌+◌, ◌<◌, Bool, true, false, MatchBool, List, [], ◌∷◌, ◌++◌, length, take, get_or, Vec, Global, Bor, Result, Ok, Err, IsOk, MatchResult, Option, Some, sym, ap, ◌∙◌, arith}
+use Rattle.std.proofs.Common.{◌≡◌, ℕ, ◌+◌, ◌<◌, Bool, true, false, MatchBool, List, [], ◌∷◌, ◌++◌, length, take, get_or, Vec, Global, Bor, Result, Ok, Err, IsOk, MatchResult, Some, sym, ap, ◌∙◌, arith}
 use Rattle.std.specs.List.{FoldsTo}
 use Rattle.std.proofs.lemmas.Fn.{FoldsTo-push}
 use Rattle.std.proofs.lemmas.List.{get_or-map, length-map, map_more, take-map}
@@ -17,9 +17,9 @@ use Rattle.census_folders.specs.declared.loss.OnLoss.{OnLoss}
 use Rattle.census_folders.specs.declared.loss.OnLoss.TheVariants.{Stop, Keep}
 use Rattle.census_folders.specs.declared.reading.Kept.{Kept}
 use Rattle.census_folders.specs.Listings.{IsChosen}
-use Rattle.census_folders.specs.Losses.{StopsAt}
+use Rattle.census_folders.specs.Losses.{EndsAmong, StopsAt}
 use Rattle.census_folders.specs.Paths.{path_of}
-use Rattle.census_folders.specs.Reading.{AddsEntry, AddsLost, AddsText, GivesText, IsFullFor, KeepsFile, KeepsFiles, KeepsFolder, StopsFile, StopsFolder, StopsInFolder, StopsInFolders, loss_of, without}
+use Rattle.census_folders.specs.Reading.{AddsEntry, AddsLost, AddsText, GivesText, IsFullFor, KeepsFile, KeepsFiles, KeepsFolder, StopsFile, StopsFolder, StopsInFolder, loss_of, without}
 use Rattle.census_folders.specs.Tellings.{Tellings}
 use Rattle.census_folders.specs.Told.{Told, GivesTold}
 use Rattle.census_folders.proofs.Listings.{bytes_of, words_of}
@@ -67,12 +67,14 @@ stops_in_folder on_loss shelf word names i name text listing old mid fault withi
       lists = lists;
       names = bytes_of names;
       chosen = chosen;
-      place = i;
-      name = text;
-      is = slice_get-get_or (bytes_of names) i text (omega (arith, length-map names (λ n. n.items))) ∙ ap (λ n. Some n) item;
-      kept = mid;
-      before = rw take-map before;
-      why = why;
+      file = record {
+        place = i;
+        item = text;
+        is = slice_get-get_or (bytes_of names) i text (omega (arith, length-map names (λ n. n.items))) ∙ ap (λ n. Some n) item;
+        kept = mid;
+        before = rw take-map before;
+        why = why;
+      };
     }
 
 -- a file of this text was added, or not
@@ -94,12 +96,12 @@ next_folder on_loss shelf words i d start mid new within before more =
     rw (map_more (λ s. s.now) words i d within) (FoldsTo-push (KeepsFolder on_loss shelf) start (words_of (take i words)) mid (get_or words i d).now new before more)
 
 pub stops_reading : (on_loss : OnLoss) (shelf : Tellings) (words : List (Bor (List ℕ))) (i : ℕ) (d : Bor (List ℕ)) (start mid : Kept) (fault : SourceFault) → i < length words
-    → FoldsTo (KeepsFolder on_loss shelf) start (words_of (take i words)) mid → StopsFolder on_loss shelf (get_or words i d).now mid fault → StopsInFolders on_loss shelf start (words_of words) fault
+    → FoldsTo (KeepsFolder on_loss shelf) start (words_of (take i words)) mid → StopsFolder on_loss shelf mid (get_or words i d).now fault → EndsAmong (KeepsFolder on_loss shelf) (StopsFolder on_loss shelf) start (words_of words) fault
 stops_reading on_loss shelf words i d start mid fault within before why =
     let word = (get_or words i d).now in
     record {
       place = i;
-      word = word;
+      item = word;
       is = slice_get-get_or (words_of words) i word (omega (arith, length-map words (λ s. s.now))) ∙ ap (λ w. Some w) (get_or-map (λ s. s.now) words i d word within);
       kept = mid;
       before = rw take-map before;

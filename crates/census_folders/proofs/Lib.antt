@@ -5,3 +5,5 @@ pub mod Walked
 pub mod Planted
 pub mod Keeps
 pub mod Quiet
+mod Words
+mod Rows

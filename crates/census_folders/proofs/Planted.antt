@@ -8,7 +8,7 @@ use Rattle.census_folders.specs.declared.loss.Loss.{Loss}
 use Rattle.census_folders.specs.declared.loss.OnLoss.{OnLoss}
 use Rattle.census_folders.specs.Losses.{StopsAt}
 use Rattle.census_folders.specs.Tellings.{Tellings}
-use Rattle.census_folders.specs.Trees.{AddsFolders, AddsTree, AreTrees, HoldsTrees, LosesInTrees}
+use Rattle.census_folders.specs.Trees.{AddsTree, AreTrees, HoldsTrees, LosesInTrees}
 use Rattle.census_folders.specs.Walks.{HoldsTree, IsTree, LosesInTree}
 use Rattle.census_folders.proofs.Listings.{words_of}
 use Rattle.census_folders.proofs.Reaches.{weaker}
@@ -24,10 +24,9 @@ loses_at_tree on_loss shelf words i d mid lost loss within before why =
     let word = (get_or words i d).now in
     record {
       place = i;
-      word = word;
+      item = word;
       is = slice_get-get_or (words_of words) i word (omega (arith, length-map words (λ s. s.now))) ∙ ap (λ w. Some w) (get_or-map (λ s. s.now) words i d word within);
-      folders = mid;
-      lost = lost;
+      kept = record { folders = mid; lost = lost };
       before = rw take-map before;
       why = why;
     }
@@ -41,4 +40,4 @@ stops_at_tree on_loss shelf words i d mid lost fault within before why =
 pub next_folders : (shelf : Tellings) (words : List (Bor (List ℕ))) (i : ℕ) (d : Bor (List ℕ)) (mid tree new : List (List ℕ)) → i < length words
     → AreTrees shelf (words_of (take i words)) mid → IsTree shelf (get_or words i d).now tree → new ≡ mid ++ tree → AreTrees shelf (words_of (take (i + 1) words)) new
 next_folders shelf words i d mid tree new within told is added =
-    rw (map_more (λ s. s.now) words i d within) (FoldsTo-push (AddsFolders shelf) [] (words_of (take i words)) mid (get_or words i d).now new told (record { tree = tree; is = is; added = added }))
+    rw (map_more (λ s. s.now) words i d within) (FoldsTo-push (λ old word new. (tree : List (List ℕ)) × IsTree shelf word tree × (new ≡ old ++ tree)) [] (words_of (take i words)) mid (get_or words i d).now new told (tree, is, added))

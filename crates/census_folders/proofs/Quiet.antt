@@ -1,5 +1,5 @@
--- Where reading ends at the first loss nothing is lost.
-use Rattle.std.proofs.Common.{◌≡◌, ℕ, Bool, true, false, MatchBool, List, [], ◌∷◌, ◌++◌, Result, Ok, Err, inl, inr, zero, suc, length, refl, sym, ap, ◌∙◌, arith, append-nil}
+-- Where reading ends at the first loss, nothing is lost.
+use Rattle.std.proofs.Common.{◌≡◌, ℕ, Bool, true, false, MatchBool, List, [], ◌∷◌, ◌++◌, Result, Ok, Err, inl, inr, suc, refl, sym, ap, ◌∙◌, arith, append-nil}
 use Rattle.std.specs.List.{All, FoldsTo}
 use Rattle.census_bundle.specs.Names.{is_name}
 use Rattle.census_folders.specs.declared.loss.Cause.{Cause}
@@ -9,12 +9,12 @@ use Rattle.census_folders.specs.declared.loss.OnLoss.{OnLoss}
 use Rattle.census_folders.specs.declared.loss.OnLoss.TheVariants.{Stop, Keep}
 use Rattle.census_folders.specs.declared.reading.Kept.{Kept}
 use Rattle.census_folders.specs.Paths.{path_of}
-use Rattle.census_folders.specs.Reading.{AddsEntry, AddsFolder, AddsText, FillsFolder, KeepsFile, KeepsFiles, KeepsFolder, with_empty, without}
+use Rattle.census_folders.specs.Reading.{AddsEntry, AddsFolder, AddsText, FillsFolder, KeepsFiles, KeepsFolder, with_empty, without}
 use Rattle.census_folders.specs.Sources.{Asked, FindsFolders, Reads}
 use Rattle.census_folders.specs.Tellings.{Tellings}
 use Rattle.census_folders.specs.Told.{Told}
 use Rattle.census_folders.specs.Trees.{AddsTree, Planted}
-use Rattle.census_folders.specs.Walks.{IsVisit, Visit, lost_below, lost_in}
+use Rattle.census_folders.specs.Walks.{IsVisit, Visit, lost_below}
 use Rattle.census_folders.proofs.Reaches.{never}
 
 module _ (on_loss : OnLoss) (stop : on_loss ≡ Stop) (shelf : Tellings) where
@@ -33,7 +33,7 @@ module _ (on_loss : OnLoss) (stop : on_loss ≡ Stop) (shelf : Tellings) where
 
   quiet_filling : (word : List ℕ) (old new : Kept) → FillsFolder on_loss shelf word old new → new.lost ≡ old.lost
   quiet_filling word old new (inl listed) = quiet_files (shelf.held word) word listed.names old new listed.files
-  quiet_filling word old new (inr unlisted) = never on_loss unlisted.loses.0 stop
+  quiet_filling word old new (inr unlisted) = never on_loss unlisted.0 stop
 
   quiet_folder : (word : List ℕ) (old new : Kept) → KeepsFolder on_loss shelf old word new → new.lost ≡ old.lost
   quiet_folder word old new keeps = case (is_name word) keeps

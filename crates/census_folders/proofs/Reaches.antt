@@ -1,5 +1,5 @@
 -- The folders of a folder that were found, and those that were lost.
-use Rattle.std.proofs.Common.{◌≡◌, ℕ, Bool, true, false, List, [], ◌∷◌, ◌++◌, map, IsUtf8, refl, sym, ap, ◌∙◌, append_assoc, append-nil}
+use Rattle.std.proofs.Common.{◌≡◌, ℕ, Bool, true, false, not, List, [], ◌∷◌, ◌++◌, map, IsUtf8, refl, sym, ap, ◌∙◌, append_assoc, append-nil}
 use Rattle.std.specs.List.{filter}
 use Rattle.std.specs.Str.{is_utf8}
 use Rattle.std.proofs.lemmas.Bool.{false_from_ne_true}
@@ -13,7 +13,7 @@ use Rattle.census_folders.specs.declared.loss.Loss.{Loss}
 use Rattle.census_folders.specs.declared.loss.OnLoss.{OnLoss}
 use Rattle.census_folders.specs.declared.loss.OnLoss.TheVariants.{Stop, Keep}
 use Rattle.census_folders.specs.Losses.{IsFirst, StopsAt, lost_at}
-use Rattle.census_folders.specs.Paths.{is_any, is_foreign, path_of}
+use Rattle.census_folders.specs.Paths.{is_any, path_of}
 use Rattle.census_folders.specs.Told.{silent}
 use Rattle.census_folders.specs.Walks.{AreAllowed, lost_names}
 
@@ -75,7 +75,7 @@ first_of_them on_loss folder name old mid left rest all loss is any none whole s
     let give = (λ (n : List ℕ). lost_at (path_of folder n) (cause.Unread silent)) in
     let names = filter is_any rest in
     let same : lost_names folder (filter is_any left) ≡ lost_names folder all = append_cancel_left old (lost_names folder (filter is_any left)) (lost_names folder all) (ap (λ ls. ls ++ lost_names folder (filter is_any left)) (sym (none stop)) ∙ whole) in
-    let here : lost_names folder (filter is_any left) ≡ lost_names folder (name ∷ []) ++ lost_names folder names = ap (lost_names folder) (taken name left rest is any) ∙ given_first give is_foreign name names in
+    let here : lost_names folder (filter is_any left) ≡ lost_names folder (name ∷ []) ++ lost_names folder names = ap (lost_names folder) (taken name left rest is any) ∙ given_first give (λ n. not (is_utf8 n)) name names in
     (first.0 ++ lost_names folder names, sym same ∙ here ∙ ap (λ ls. ls ++ lost_names folder names) first.1)
 
 pub first_of_all : (on_loss : OnLoss) (folder name : List ℕ) (old mid : List Loss) (left rest all : List (List ℕ)) (fault : SourceFault) → left ≡ name ∷ rest → is_any name ≡ true
@@ -95,6 +95,6 @@ weaker on_loss P Q (Unnamed cause_) goes why = (why.0, why.1, goes (lost_at why.
 weaker on_loss P Q TooMany goes why = why
 weaker on_loss P Q Memory goes why = tt
 
--- reading doesn't go on where it ends
+-- reading does not continue where it ends
 pub never : {A : Type 0} (on_loss : OnLoss) → on_loss ≡ Keep → on_loss ≡ Stop → A
 never on_loss keep stop = absurd cc

@@ -1,5 +1,5 @@
--- The folders that were walked so far, and what comes of the next.
-use Rattle.std.proofs.Common.{◌≡◌, inl, inr, ℕ, ◌+◌, ◌<◌, ◌≤◌, true, false, Bool, List, [], ◌∷◌, ◌++◌, length, map, take, get_or, String, string_bytes, Vec, Global, Result, Ok, Err, IsErr, Some, refl, true≢false, sym, ap, ◌∙◌, subst, arith, length-append, append-nil, nat_le}
+-- The folders that were walked so far, and what the next one adds.
+use Rattle.std.proofs.Common.{◌≡◌, inl, inr, ℕ, ◌+◌, ◌<◌, ◌≤◌, true, false, Bool, List, [], ◌∷◌, ◌++◌, length, map, take, get_or, String, string_bytes, Vec, Global, Result, Ok, Err, IsErr, refl, true≢false, sym, ap, ◌∙◌, subst, arith, length-append, append-nil, nat_le}
 use Rattle.std.specs.List.{All, filter}
 use Rattle.std.specs.List.Sorted.{IsPermutation}
 use Rattle.std.proofs.lemmas.List.{flat_map_more, get_or-map, length-map, length-take, map-append, take-append-le, take_all, take_more}
@@ -17,7 +17,7 @@ use Rattle.census_folders.specs.Losses.{StopsAt}
 use Rattle.census_folders.specs.Paths.{is_any}
 use Rattle.census_folders.specs.Tellings.{Tellings}
 use Rattle.census_folders.specs.Told.{Told}
-use Rattle.census_folders.specs.Walks.{AddsVisit, HoldsTree, GivesNames, IsFirstInner, IsUnread, IsTree, IsVisit, LosesInTree, LosesInner, LosesVisit, Visit, inner_paths, lost_below, lost_in, names_given, paths, paths_below, was_taken}
+use Rattle.census_folders.specs.Walks.{AddsVisit, HoldsTree, GivesNames, IsFirstInner, IsUnread, IsTree, IsVisit, LosesInTree, LosesInner, LosesVisit, Visit, inner_paths, is_taken, lost_below, lost_in, names_given, paths, paths_below}
 use Rattle.census_folders.proofs.Reaches.{never, weaker}
 
 -- some name was chosen where some name is there
@@ -28,15 +28,15 @@ any_chosen listing names count chosen is = ap (nat_le 1) (is ∙ length_permutat
 pub path_at : (found : List (String Global)) (at : ℕ) (item : String Global) (path : List ℕ) → at < length found → item ≡ get_or found at item → path ≡ string_bytes item → path ≡ get_or (map string_bytes found) at path
 path_at found at item path within is same = same ∙ ap string_bytes is ∙ sym (get_or-map string_bytes found at item path within)
 
--- So many folders of those that were found were walked. Those of them that are taken were chosen. What was lost in them
--- comes after what was lost before.
+-- `count` folders of those that were found were walked. Those of them that are taken were chosen. What was lost in them comes
+-- after what was lost before.
 pub record Walked (on_loss : OnLoss) (shelf : Tellings) (word : List ℕ) (found chosen : List (List ℕ)) (before after : List Loss) (count : ℕ) : Type 0 where
   pub visits : List Visit
   pub told : All (IsVisit on_loss shelf) visits
   pub found_are : found ≡ word ∷ paths_below visits
   pub order : paths visits ≡ take count found
   pub within : count ≤ length found
-  pub chosen_are : chosen ≡ paths (filter was_taken visits)
+  pub chosen_are : chosen ≡ paths (filter (λ w. is_taken w.listing) visits)
   pub lost_are : after ≡ before ++ lost_below visits
 
 pub none_walked : (on_loss : OnLoss) (shelf : Tellings) (word : List ℕ) (found : List (List ℕ)) (lost : List Loss) → found ≡ word ∷ [] → Walked on_loss shelf word found [] lost lost 0
@@ -50,7 +50,7 @@ none_walked on_loss shelf word found lost is = record {
   lost_are = sym (append-nil lost);
 }
 
--- so many folders were walked
+-- `count` folders were walked
 count_walked : (on_loss : OnLoss) (shelf : Tellings) (word : List ℕ) (found chosen : List (List ℕ)) (before after : List Loss) (count : ℕ) (w : Walked on_loss shelf word found chosen before after count) → length w.visits ≡ count
 count_walked on_loss shelf word found chosen before after count w =
     omega (arith, length-map w.visits (λ v. v.path), ap length w.order, length-take count found, w.within)
@@ -58,7 +58,7 @@ count_walked on_loss shelf word found chosen before after count w =
 -- what one more folder does to those that were found
 more_found : (on_loss : OnLoss) (shelf : Tellings) (word path : List ℕ) (found more chosen : List (List ℕ)) (start lost later : List Loss) (count : ℕ) (taken : Bool) → count < length found → path ≡ get_or found count path
     → Walked on_loss shelf word found chosen start lost count → AddsVisit on_loss shelf path found more lost later taken → (more_chosen : List (List ℕ))
-    → ((v : Visit) → v.path ≡ path → was_taken v ≡ taken → more_chosen ≡ chosen ++ paths (filter was_taken (v ∷ []))) → Walked on_loss shelf word more more_chosen start later (count + 1)
+    → ((v : Visit) → v.path ≡ path → is_taken v.listing ≡ taken → more_chosen ≡ chosen ++ paths (filter (λ w. is_taken w.listing) (v ∷ []))) → Walked on_loss shelf word more more_chosen start later (count + 1)
 more_found on_loss shelf word path found more chosen start lost later count taken within at before adds more_chosen choose =
     let v = adds.visit in
     let visits = before.visits in
@@ -72,15 +72,15 @@ more_found on_loss shelf word path found more chosen start lost later count take
       found_are = adds.added ∙ ap (λ ns. ns ++ names) before.found_are ∙ flat_map_more (λ w. inner_paths w.path w.inner) (word ∷ []) visits v;
       order = map-append (λ w. w.path) visits (v ∷ []) ∙ cc (before.order, adds.at, first, next);
       within = omega arith;
-      chosen_are = choose v adds.at (sym adds.has) ∙ ap (λ ns. ns ++ paths (filter was_taken (v ∷ []))) before.chosen_are ∙ sym (ap paths (filter-append was_taken visits (v ∷ [])) ∙ map-append (λ w. w.path) (filter was_taken visits) (filter was_taken (v ∷ [])));
+      chosen_are = choose v adds.at (sym adds.has) ∙ ap (λ ns. ns ++ paths (filter (λ w. is_taken w.listing) (v ∷ []))) before.chosen_are ∙ sym (ap paths (filter-append (λ w. is_taken w.listing) visits (v ∷ [])) ∙ map-append (λ w. w.path) (filter (λ w. is_taken w.listing) visits) (filter (λ w. is_taken w.listing) (v ∷ [])));
       lost_are = adds.losses ∙ ap (λ ls. ls ++ lost_in v.listing v.path v.inner) before.lost_are ∙ flat_map_more (λ w. lost_in w.listing w.path w.inner) start visits v;
     }
 
 -- the folder is chosen where it is taken
-choose_it : (path : List ℕ) (chosen : List (List ℕ)) (taken : Bool) → taken ≡ true → (v : Visit) → v.path ≡ path → was_taken v ≡ taken → chosen ++ path ∷ [] ≡ chosen ++ paths (filter was_taken (v ∷ []))
+choose_it : (path : List ℕ) (chosen : List (List ℕ)) (taken : Bool) → taken ≡ true → (v : Visit) → v.path ≡ path → is_taken v.listing ≡ taken → chosen ++ path ∷ [] ≡ chosen ++ paths (filter (λ w. is_taken w.listing) (v ∷ []))
 choose_it path chosen taken true_ v at is = rw (is, true_) (ap (λ p. chosen ++ p ∷ []) (sym at))
 
-pass_it : (path : List ℕ) (chosen : List (List ℕ)) (taken : Bool) → taken ≡ false → (v : Visit) → v.path ≡ path → was_taken v ≡ taken → chosen ≡ chosen ++ paths (filter was_taken (v ∷ []))
+pass_it : (path : List ℕ) (chosen : List (List ℕ)) (taken : Bool) → taken ≡ false → (v : Visit) → v.path ≡ path → is_taken v.listing ≡ taken → chosen ≡ chosen ++ paths (filter (λ w. is_taken w.listing) (v ∷ []))
 pass_it path chosen taken false_ v at is = rw (is, false_) (sym (append-nil chosen))
 
 pub one_more_taken : (on_loss : OnLoss) (shelf : Tellings) (word path : List ℕ) (found more chosen : List (List ℕ)) (start lost later : List Loss) (count : ℕ) (taken : Bool) → taken ≡ true → count < length found → path ≡ get_or found count path
@@ -95,7 +95,7 @@ one_more_left on_loss shelf word path found more chosen start lost later count t
 
 -- # Whichever are taken
 
--- So many folders of those that were found were walked, and the walk went on past what can't be told.
+-- `count` folders of those that were found were walked, and the walk continued past what can't be determined.
 pub record Toured (shelf : Tellings) (word : List ℕ) (found : List (List ℕ)) (lost : List Loss) (count : ℕ) : Type 0 where
   pub chosen : List (List ℕ)
   pub walked : Walked Keep shelf word found chosen [] lost count
@@ -154,7 +154,7 @@ whole_tree on_loss shelf word found chosen sorted start lost count all walked mo
 pub ends_listing : (on_loss : OnLoss) (shelf : Tellings) (path : List ℕ) (fault : SourceFault) → StopsAt on_loss (IsUnread (shelf.listed path) path) ⊥ fault → StopsAt on_loss (LosesVisit shelf path) ⊥ fault
 ends_listing on_loss shelf path fault why = weaker on_loss (IsUnread (shelf.listed path) path) (LosesVisit shelf path) fault (λ loss unread. inl unread) why
 
--- it is listed, and the folders in it are not all told
+-- it is listed, and not all the folders in it can be determined
 ends_inner : (on_loss : OnLoss) (shelf : Tellings) (path : List ℕ) (listing : Result (List ℕ) Unread) (fault : SourceFault) → GivesNames on_loss (shelf.listed path) listing
     → StopsAt on_loss (LosesInner (shelf.inner path) path) ⊥ fault → StopsAt on_loss (LosesVisit shelf path) ⊥ fault
 ends_inner on_loss shelf path (Ok listing) (Lost loss) told why = (why.0, inr (listing, told, why.1))
@@ -178,7 +178,7 @@ pub ends_name : (on_loss : OnLoss) (shelf : Tellings) (path : List ℕ) (listing
 ends_name on_loss shelf path listing inner fault told gives why =
     ends_inner on_loss shelf path listing fault told (weaker on_loss (IsFirstInner path inner) (LosesInner (shelf.inner path) path) fault (λ loss first. first_inner on_loss (shelf.inner path) path inner loss gives first) why)
 
--- where the folders in a folder can't be told, the walk goes on
+-- where the folders in a folder can't be determined, the walk continues
 pub goes_on : (on_loss : OnLoss) (told : Told) (inner : Result (Vec ℕ Global) Unread) → GivesNames on_loss told (names_given inner) → IsErr inner → on_loss ≡ Keep
 goes_on on_loss told (Ok bytes) gives none = absurd (true≢false (sym none))
 goes_on on_loss told (Err why) gives none = gives.0

@@ -13,11 +13,11 @@ is_pattern_name name = ends_with nat_eq name (codes ".rle")
 abbrev pub is_end : ℕ → Bool
 is_end byte = nat_eq byte 0
 
--- the names that stand in a list and end in `.rle`
+-- the names in a list that end in `.rle`
 abbrev pub pattern_names_in : List ℕ → List (List ℕ)
 pattern_names_in listing = filter is_pattern_name (slice_split is_end listing)
 
--- each byte by byte not below the one before it
+-- in the order of their bytes: none is below the one before it
 abbrev pub AreInOrder : List (List ℕ) → Type 0
 AreInOrder names = IsSorted (slice_cmp nat_cmp) names
 

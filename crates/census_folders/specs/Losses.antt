@@ -1,5 +1,6 @@
 -- What is lost, and where reading ends.
-use Rattle.std.specs.Prelude.{◌≡◌, ℕ, [], ◌∷◌, ◌++◌, List, length, map, None}
+use Rattle.std.specs.Prelude.{◌≡◌, ℕ, [], ◌∷◌, ◌++◌, List, length, take, slice_get, None, Some}
+use Rattle.std.specs.List.{FoldsTo}
 use Rattle.census_bundle.specs.declared.bundle.Folder.{Folder}
 use Rattle.census_bundle.specs.declared.ticket.Ticket.{Ticket}
 use Rattle.census_bundle.specs.Growing.{last_entries}
@@ -18,7 +19,7 @@ lost_at path cause = record { path = path; cause = cause; entry = None }
 abbrev pub last_place : List Folder → Ticket
 last_place b = record { folder = length b; number = length (last_entries b) }
 
--- reading goes on past one more loss
+-- reading continues past one more loss
 abbrev pub Loses : OnLoss → Loss → List Loss → List Loss → Type 0
 Loses on_loss loss before after = (on_loss ≡ Keep) × (after ≡ before ++ loss ∷ [])
 
@@ -26,8 +27,18 @@ Loses on_loss loss before after = (on_loss ≡ Keep) × (after ≡ before ++ los
 abbrev pub IsFirst : List Loss → Loss → Type 0
 IsFirst lost loss = (more : List Loss) × (lost ≡ loss ∷ more)
 
--- Why reading stops: where it ends at the first loss, at one of this kind, of which the cause is told where there is no memory for
--- its path; where this holds, since there are too many; or out of memory.
+-- Where something ends that goes from item to item: the items before this place lead from the start to what is kept, and at the
+-- one at this place it ends so.
+pub record EndsAmong {S A F : Type 0} (Goes : S → A → S → Type 0) (Ends : S → A → F → Type 0) (start : S) (items : List A) (end : F) : Type 0 where
+  pub place : ℕ
+  pub item : A
+  pub is : slice_get items place ≡ Some item
+  pub kept : S
+  pub before : FoldsTo Goes start (take place items) kept
+  pub why : Ends kept item end
+
+-- Why reading stops: at a loss of this kind, where it ends at the first loss (without memory for its path, only the cause is
+-- reported); because there are too many, where `many` holds; or out of memory.
 abbrev pub StopsAt : OnLoss → (Loss → Type 0) → Type 0 → SourceFault → Type 0
 StopsAt on_loss IsAt many (Lost loss) = (on_loss ≡ Stop) × IsAt loss
 StopsAt on_loss IsAt many (Unnamed cause) = (on_loss ≡ Stop) × (path : List ℕ) × IsAt (lost_at path cause)

@@ -1,7 +1,6 @@
--- Paths of what stands in a folder.
-use Rattle.std.specs.Prelude.{ℕ, Bool, not, List, ◌++◌, length, nat_eq, nat_le, codes, if◌then◌else◌}
+-- Paths of what is in a folder.
+use Rattle.std.specs.Prelude.{ℕ, Bool, List, ◌++◌, length, nat_eq, nat_le, codes, if◌then◌else◌}
 use Rattle.std.specs.List.{ends_with, filter, slice_split}
-use Rattle.std.specs.Str.{is_utf8}
 use Rattle.census_folders.specs.Listings.{is_end}
 
 -- the path of a name in a folder
@@ -12,10 +11,6 @@ path_of folder name = (if ends_with nat_eq folder (codes "/") then folder else f
 abbrev pub is_any : {A : Type 0} → List A → Bool
 is_any xs = nat_le 1 (length xs)
 
--- the names that a byte 0 ends, of which none is empty
+-- the names that a byte 0 ends, without the empty ones
 abbrev pub names_in : List ℕ → List (List ℕ)
 names_in inner = filter is_any (slice_split is_end inner)
-
--- the name is no UTF-8
-abbrev pub is_foreign : List ℕ → Bool
-is_foreign name = not (is_utf8 name)

@@ -1,14 +1,11 @@
 -- Folders that were read, and what was lost.
-use Rattle.std.specs.Prelude.{◌≡◌, ◌⊎◌, ℕ, ◌<◌, ◌≤◌, ◌∷◌, [], ◌++◌, true, false, List, length, take, slice_get, Option, Some, None, Result, Ok, Err, IsOk, MatchBool, if◌then◌else◌}
+use Rattle.std.specs.Prelude.{◌≡◌, ◌⊎◌, ℕ, ◌<◌, ◌≤◌, ◌∷◌, [], ◌++◌, true, false, List, length, Option, Some, None, Result, Ok, Err, IsOk, MatchBool, if◌then◌else◌}
 use Rattle.std.specs.List.{FoldsTo}
-use Rattle.census_bundle.specs.declared.bundle.Folder.{Folder}
-use Rattle.census_bundle.specs.declared.ticket.Ticket.{Ticket}
 use Rattle.census_bundle.specs.Entries.{entry_of, lost_entry}
 use Rattle.census_bundle.specs.Growing.{last_entries, with_entry, with_folder}
 use Rattle.census_bundle.specs.Names.{is_name}
 use Rattle.census_bundle.specs.Sizes.{count_limit, input_limit}
 use Rattle.census_folders.specs.declared.fault.SourceFault.{SourceFault}
-use Rattle.census_folders.specs.declared.fault.SourceFault.TheVariants.{TooMany}
 use Rattle.census_folders.specs.declared.loss.Cause.{Cause}
 use Rattle.census_folders.specs.declared.loss.Cause.TheVariants.{BadName, Unread, TooLong}
 use Rattle.census_folders.specs.declared.loss.Loss.{Loss}
@@ -16,7 +13,7 @@ use Rattle.census_folders.specs.declared.loss.OnLoss.{OnLoss}
 use Rattle.census_folders.specs.declared.loss.OnLoss.TheVariants.{Stop, Keep}
 use Rattle.census_folders.specs.declared.reading.Kept.{Kept}
 use Rattle.census_folders.specs.Listings.{IsChosen}
-use Rattle.census_folders.specs.Losses.{Loses, StopsAt, last_place, lost_at}
+use Rattle.census_folders.specs.Losses.{EndsAmong, StopsAt, last_place, lost_at}
 use Rattle.census_folders.specs.Paths.{path_of}
 use Rattle.census_folders.specs.Sums.{Fits, limit_after, most_of}
 use Rattle.census_folders.specs.Tellings.{Tellings}
@@ -48,8 +45,8 @@ pub record AddsLost (path name : List ℕ) (cause : Cause) (old new : Kept) : Ty
   pub lost : new.lost ≡ old.lost ++ record { path = path; cause = cause; entry = Some (last_place new.bundle) } ∷ []
   pub left : new.left ≡ old.left
 
--- The file of this path and name was added to the last folder. Where its text is lost it is an entry without one, and where
--- its name isn't lawful it is left out; then reading goes on past a loss.
+-- The file of this path and name was added to the last folder. Where its text is lost it is an entry without one, and where its
+-- name isn't lawful it is left out; in both cases reading continues past a loss.
 abbrev pub AddsText : OnLoss → List ℕ → List ℕ → Result (List ℕ) Cause → Kept → Kept → Type 0
 AddsText on_loss path name (Ok text) old new = MatchBool (is_name name) (AddsEntry name text old new) ((on_loss ≡ Keep) × (new ≡ without path BadName old))
 AddsText on_loss path name (Err cause) old new = (on_loss ≡ Keep) × MatchBool (is_name name) (AddsLost path name cause old new) (new ≡ without path cause old)
@@ -104,13 +101,10 @@ pub record KeepsListed (on_loss : OnLoss) (shelf : Tellings) (word : List ℕ) (
   pub chosen : IsChosen listing names
   pub files : KeepsFiles on_loss (shelf.held word) word old names new
 
--- the folder can't be listed: it has no entry, and reading goes on past that loss
-pub record KeepsUnlisted (on_loss : OnLoss) (shelf : Tellings) (word : List ℕ) (old new : Kept) : Type 0 where
-  pub loss : Loss
-  pub why : IsUnread (shelf.listed word) word loss
-  pub loses : Loses on_loss loss old.lost new.lost
-  pub bundle : new.bundle ≡ old.bundle
-  pub left : new.left ≡ old.left
+-- the folder can't be listed: it has no entry, and reading continues past that loss
+abbrev pub KeepsUnlisted : OnLoss → Tellings → List ℕ → Kept → Kept → Type 0
+KeepsUnlisted on_loss shelf word old new =
+    (on_loss ≡ Keep) × (loss : Loss) × IsUnread (shelf.listed word) word loss × (new ≡ record old { lost = old.lost ++ loss ∷ [] })
 
 -- the files of the folder were added to the last folder
 abbrev pub FillsFolder : OnLoss → Tellings → List ℕ → Kept → Kept → Type 0
@@ -125,18 +119,13 @@ pub record AddsFolder (on_loss : OnLoss) (shelf : Tellings) (word : List ℕ) (o
 abbrev pub KeepsFolder : OnLoss → Tellings → Kept → List ℕ → Kept → Type 0
 KeepsFolder on_loss shelf old word new = MatchBool (is_name word) (AddsFolder on_loss shelf word old new) ((on_loss ≡ Keep) × (new ≡ without word BadName old))
 
--- the files before this place were added; the file at this place was not
+-- the folder was listed, and its pattern files were added up to one that was not
 pub record StopsInFolder (on_loss : OnLoss) (shelf : Tellings) (word : List ℕ) (old : Kept) (fault : SourceFault) : Type 0 where
   pub listing : List ℕ
   pub lists : GivesTold (shelf.listed word) listing
   pub names : List (List ℕ)
   pub chosen : IsChosen listing names
-  pub place : ℕ
-  pub name : List ℕ
-  pub is : slice_get names place ≡ Some name
-  pub kept : Kept
-  pub before : KeepsFiles on_loss (shelf.held word) word old (take place names) kept
-  pub why : StopsFile on_loss (shelf.held word name) word name kept fault
+  pub file : EndsAmong (λ old name. KeepsFile on_loss (shelf.held word name) word name old) (λ old name. StopsFile on_loss (shelf.held word name) word name old) old names fault
 
 -- why the files of a folder are not added: it can't be listed, or one of them is not added
 abbrev pub StopsFilling : OnLoss → Tellings → List ℕ → Kept → SourceFault → Type 0
@@ -144,22 +133,13 @@ StopsFilling on_loss shelf word old fault =
     StopsAt on_loss (IsUnread (shelf.listed word) word) ⊥ fault ⊎ StopsInFolder on_loss shelf word old fault
 
 -- why a folder is not added: its word isn't a lawful name, there is no room for it, or its files are not added
-abbrev pub StopsFolder : OnLoss → Tellings → List ℕ → Kept → SourceFault → Type 0
-StopsFolder on_loss shelf word old fault =
+abbrev pub StopsFolder : OnLoss → Tellings → Kept → List ℕ → SourceFault → Type 0
+StopsFolder on_loss shelf old word fault =
     StopsAt on_loss (λ loss. (is_name word ≡ false) × (loss ≡ lost_at word BadName)) ((is_name word ≡ true) × (count_limit ≤ length old.bundle)) fault
     ⊎ ((is_name word ≡ true) × (length old.bundle < count_limit) × StopsFilling on_loss shelf word (with_empty word old) fault)
 
 -- # Several folders
 
--- nothing is read so far, this was lost on the way, and so many bytes may be read in all
+-- nothing is read so far, this was lost on the way, and `limit` bytes may be read in all, where there is a limit
 abbrev pub kept_at_start : Option ℕ → List Loss → Kept
 kept_at_start limit lost = record { bundle = []; lost = lost; left = limit }
-
--- the folders of the words before this place were added; the folder of the word at this place was not
-pub record StopsInFolders (on_loss : OnLoss) (shelf : Tellings) (start : Kept) (words : List (List ℕ)) (fault : SourceFault) : Type 0 where
-  pub place : ℕ
-  pub word : List ℕ
-  pub is : slice_get words place ≡ Some word
-  pub kept : Kept
-  pub before : FoldsTo (KeepsFolder on_loss shelf) start (take place words) kept
-  pub why : StopsFolder on_loss shelf word kept fault

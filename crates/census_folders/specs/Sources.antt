@@ -6,13 +6,13 @@ use Rattle.census_folders.specs.declared.loss.Loss.{Loss}
 use Rattle.census_folders.specs.declared.loss.OnLoss.{OnLoss}
 use Rattle.census_folders.specs.declared.reading.Kept.{Kept}
 use Rattle.census_folders.specs.declared.source.Source.{Source}
-use Rattle.census_folders.specs.Losses.{StopsAt}
-use Rattle.census_folders.specs.Reading.{KeepsFolder, StopsInFolders, kept_at_start}
+use Rattle.census_folders.specs.Losses.{EndsAmong, StopsAt}
+use Rattle.census_folders.specs.Reading.{KeepsFolder, StopsFolder, kept_at_start}
 use Rattle.census_folders.specs.Tellings.{Tellings}
 use Rattle.census_folders.specs.Trees.{HoldsTrees, LosesInTrees}
 
--- What is read: the folders of words; whether those below them are read too; how many bytes their files may have together,
--- where there is a limit; and what reading does at a loss.
+-- What is read: the folders of words; whether those below them are read too; how many bytes their files may have in all, where
+-- there is a limit; and what reading does at a loss.
 pub record Asked : Type 0 where
   pub words : List (List ℕ)
   pub below : Bool
@@ -22,24 +22,24 @@ pub record Asked : Type 0 where
 abbrev pub asked_by : Source → Asked
 asked_by source = record { words = map (λ s. s.now) source.words.now; below = source.below; limit = source.limit; on_loss = source.on_loss }
 
--- the folders of the words, or where it is asked for those at and below them, and what was lost on the way
+-- the folders of the words, or those at and below them where these are asked for, and what was lost on the way
 abbrev pub FindsFolders : OnLoss → Tellings → Bool → List (List ℕ) → List (List ℕ) → List Loss → Type 0
 FindsFolders on_loss shelf true words folders lost = HoldsTrees on_loss shelf words folders lost
 FindsFolders on_loss shelf false words folders lost = (folders ≡ words) × (lost ≡ [])
 
--- This was read, and this was lost, as the shelf tells: first on the way to folders, then in them.
+-- This was read, and this was lost, according to the shelf: first on the way to folders, then in them.
 pub record Reads (shelf : Tellings) (asked : Asked) (kept : Kept) : Type 0 where
   pub folders : List (List ℕ)
   pub way : List Loss
   pub found : FindsFolders asked.on_loss shelf asked.below asked.words folders way
   pub reads : FoldsTo (KeepsFolder asked.on_loss shelf) (kept_at_start asked.limit way) folders kept
 
--- the folders were found, and were not all read
+-- the folders were found, and read up to one that was not
 pub record StopsReading (shelf : Tellings) (asked : Asked) (fault : SourceFault) : Type 0 where
   pub folders : List (List ℕ)
   pub way : List Loss
   pub found : FindsFolders asked.on_loss shelf asked.below asked.words folders way
-  pub why : StopsInFolders asked.on_loss shelf (kept_at_start asked.limit way) folders fault
+  pub why : EndsAmong (KeepsFolder asked.on_loss shelf) (StopsFolder asked.on_loss shelf) (kept_at_start asked.limit way) folders fault
 
 -- Why what is asked for was not read. Where reading ends at the first loss: all before was read, and this is lost.
 abbrev pub Stops : Tellings → Asked → SourceFault → Type 0

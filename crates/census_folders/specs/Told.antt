@@ -1,12 +1,12 @@
--- What a shelf tells of what a folder lists or of what a file holds, and what a reading gives by it.
-use Rattle.std.specs.Prelude.{◌≡◌, ℕ, ℤ, ◌<◌, false, List, length, Option, Some, None}
+-- What a shelf says of what a folder lists or of what a file holds, and what a reading returns by it.
+use Rattle.std.specs.Prelude.{◌≡◌, ℕ, ℤ, ◌<◌, false, List, length, Option, None, IfNone}
 use Rattle.watched.specs.declared.reading.ReadFault.{ReadFault}
 use Rattle.watched.specs.declared.reading.ReadFault.TheVariants as reads
 use Rattle.census_folders.specs.declared.unread.ShelfFault.{ShelfFault}
 use Rattle.census_folders.specs.declared.unread.ShelfFault.TheVariants as shelf
 use Rattle.census_folders.specs.declared.unread.Unread as unread
 
--- Nothing is told, or that it can't be read and why, or its bytes. Of a folder the bytes are its names, each ended by a byte 0.
+-- It says nothing, or that it can't be read and why, or its bytes. The bytes of a folder are its names, each ended by a byte 0.
 pub data Told : Type 0 where
   Untold : Told
   Unreadable : (why : unread.Unread) → Told
@@ -16,10 +16,9 @@ pub data Told : Type 0 where
 abbrev pub silent : unread.Unread
 silent = record { code = None; is_file = false }
 
--- Where an error has a number, what the system says of it, if there is memory for it; and else nothing.
+-- Where an error has a number, what the system says of it, if there is memory for it; otherwise nothing.
 abbrev pub IsSystemWord : Option ℤ → Option (List ℕ) → Type 0
-IsSystemWord None word = word ≡ None
-IsSystemWord (Some code) word = Unit {0}
+IsSystemWord code word = IfNone code (word ≡ None)
 
 -- the fault of a shelf, by that of a reader
 abbrev pub shelf_fault_of : ReadFault → ShelfFault
@@ -27,7 +26,7 @@ shelf_fault_of reads.Read = shelf.Unread silent
 shelf_fault_of reads.TooLong = shelf.TooLong
 shelf_fault_of reads.Memory = shelf.Memory
 
--- a reading that gives these bytes gives what is told
+-- a reading that returns these bytes returns what the shelf says
 abbrev pub GivesTold : Told → List ℕ → Type 0
 GivesTold Untold bytes = Unit {0}
 GivesTold (Unreadable why) bytes = ⊥
@@ -45,7 +44,7 @@ MayExceed limit Untold = Unit {0}
 MayExceed limit (Unreadable why) = ⊥
 MayExceed limit (Holds bytes) = limit < length bytes
 
--- why a file of at most so many bytes is not read
+-- why a file of at most `limit` bytes is not read
 abbrev pub RefusesFile : ℕ → Told → ShelfFault → Type 0
 RefusesFile limit told (shelf.Unread why) = MayFail told why
 RefusesFile limit told shelf.TooLong = MayExceed limit told

@@ -1,8 +1,9 @@
 -- The folders at and below several words, tree by tree, and what was lost on the way to them.
-use Rattle.std.specs.Prelude.{◌≡◌, ℕ, [], ◌++◌, List, take, slice_get, Some}
+use Rattle.std.specs.Prelude.{◌≡◌, ℕ, [], ◌++◌, List}
 use Rattle.std.specs.List.{FoldsTo}
 use Rattle.census_folders.specs.declared.loss.Loss.{Loss}
 use Rattle.census_folders.specs.declared.loss.OnLoss.{OnLoss}
+use Rattle.census_folders.specs.Losses.{EndsAmong}
 use Rattle.census_folders.specs.Tellings.{Tellings}
 use Rattle.census_folders.specs.Walks.{HoldsTree, IsTree, LosesInTree}
 
@@ -22,22 +23,12 @@ abbrev pub HoldsTrees : OnLoss → Tellings → List (List ℕ) → List (List �
 HoldsTrees on_loss shelf words folders lost =
     FoldsTo (AddsTree on_loss shelf) (record { folders = []; lost = [] }) words (record { folders = folders; lost = lost })
 
--- the trees of the words before this place were told; in that of the word at this place this is lost
-pub record LosesInTrees (on_loss : OnLoss) (shelf : Tellings) (words : List (List ℕ)) (loss : Loss) : Type 0 where
-  pub place : ℕ
-  pub word : List ℕ
-  pub is : slice_get words place ≡ Some word
-  pub folders : List (List ℕ)
-  pub lost : List Loss
-  pub before : HoldsTrees on_loss shelf (take place words) folders lost
-  pub why : LosesInTree on_loss shelf word loss
-
--- all folders at and below a word come after those of the words before it
-pub record AddsFolders (shelf : Tellings) (old : List (List ℕ)) (word : List ℕ) (new : List (List ℕ)) : Type 0 where
-  pub tree : List (List ℕ)
-  pub is : IsTree shelf word tree
-  pub added : new ≡ old ++ tree
+-- the trees of the words before this place were found; in that of the word at this place this is lost
+abbrev pub LosesInTrees : OnLoss → Tellings → List (List ℕ) → Loss → Type 0
+LosesInTrees on_loss shelf words loss =
+    EndsAmong (AddsTree on_loss shelf) (λ found word. LosesInTree on_loss shelf word) (record { folders = []; lost = [] }) words loss
 
 -- These are all folders at and below each of the words, in the order of the words.
 abbrev pub AreTrees : Tellings → List (List ℕ) → List (List ℕ) → Type 0
-AreTrees shelf words folders = FoldsTo (AddsFolders shelf) [] words folders
+AreTrees shelf words folders =
+    FoldsTo (λ old word new. (tree : List (List ℕ)) × IsTree shelf word tree × (new ≡ old ++ tree)) [] words folders

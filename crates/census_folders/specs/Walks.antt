@@ -1,5 +1,5 @@
 -- The folders at and below a folder.
-use Rattle.std.specs.Prelude.{◌≡◌, ◌⊎◌, ℕ, [], ◌∷◌, ◌++◌, Bool, true, List, length, map, take, slice_get, Result, Ok, Err, Some, Vec}
+use Rattle.std.specs.Prelude.{◌≡◌, ◌⊎◌, ℕ, [], ◌∷◌, ◌++◌, Bool, true, not, List, length, map, take, slice_get, Result, Ok, Err, Some, Vec}
 use Rattle.std.specs.Global.{Global}
 use Rattle.std.specs.List.{All, filter, flat_map}
 use Rattle.std.specs.List.Sorted.{IsPermutation}
@@ -11,25 +11,25 @@ use Rattle.census_folders.specs.declared.loss.OnLoss.TheVariants.{Stop, Keep}
 use Rattle.census_folders.specs.declared.unread.Unread.{Unread}
 use Rattle.census_folders.specs.Listings.{AreInOrder, pattern_names_in}
 use Rattle.census_folders.specs.Losses.{IsFirst, lost_at}
-use Rattle.census_folders.specs.Paths.{is_any, is_foreign, names_in, path_of}
+use Rattle.census_folders.specs.Paths.{is_any, names_in, path_of}
 use Rattle.census_folders.specs.Tellings.{Tellings}
 use Rattle.census_folders.specs.Told.{Told, GivesTold, MayFail, silent}
 
 -- # One folder
 
--- A folder that was walked: its path, what it lists, and the names of the folders in it, each ended by a byte 0; or why
--- these can't be told.
+-- A folder that was walked: its path, what it lists, and the names of the folders in it, each ended by a byte 0; or why these
+-- can't be determined.
 pub record Visit : Type 0 where
   pub path : List ℕ
   pub listing : Result (List ℕ) Unread
   pub inner : Result (List ℕ) Unread
 
--- the bytes of what was given
+-- the bytes that were returned
 abbrev pub names_given : Result (Vec ℕ Global) Unread → Result (List ℕ) Unread
 names_given (Ok bytes) = Ok bytes.items
 names_given (Err why) = Err why
 
--- these are the names that are told; or they can't be told, and the walk goes on
+-- these are the names that the shelf says; or they can't be determined, and the walk continues
 abbrev pub GivesNames : OnLoss → Told → Result (List ℕ) Unread → Type 0
 GivesNames on_loss told (Ok bytes) = GivesTold told bytes
 GivesNames on_loss told (Err why) = (on_loss ≡ Keep) × MayFail told why
@@ -39,50 +39,47 @@ abbrev pub is_taken : Result (List ℕ) Unread → Bool
 is_taken (Ok listing) = is_any (pattern_names_in listing)
 is_taken (Err why) = true
 
-abbrev pub was_taken : Visit → Bool
-was_taken v = is_taken v.listing
-
 -- the paths of the folders in a folder whose names are UTF-8
 abbrev pub inner_paths : List ℕ → Result (List ℕ) Unread → List (List ℕ)
 inner_paths path (Ok inner) = map (path_of path) (filter is_utf8 (names_in inner))
 inner_paths path (Err why) = []
 
--- those of these names in a folder that are no UTF-8
+-- the losses of those of these names in a folder that are not UTF-8
 abbrev pub lost_names : List ℕ → List (List ℕ) → List Loss
-lost_names path names = map (λ name. lost_at (path_of path name) (cause.Unread silent)) (filter is_foreign names)
+lost_names path names = map (λ name. lost_at (path_of path name) (cause.Unread silent)) (filter (λ name. not (is_utf8 name)) names)
 
--- What is lost in a folder: the folders in it whose names are no UTF-8; or the folder itself, where it can be listed and
--- the folders in it can't be told.
+-- What is lost in a folder: the folders in it whose names are not UTF-8; or the folder itself, where it can be listed and the
+-- folders in it can't be determined.
 abbrev pub lost_in : Result (List ℕ) Unread → List ℕ → Result (List ℕ) Unread → List Loss
 lost_in listing path (Ok inner) = lost_names path (names_in inner)
 lost_in (Ok listing) path (Err why) = lost_at path (cause.Unread why) ∷ []
 lost_in (Err unlisted) path (Err why) = []
 
--- where reading ends at the first loss there is none
+-- where reading ends at the first loss, nothing is lost
 abbrev pub AreAllowed : OnLoss → List Loss → Type 0
 AreAllowed on_loss lost = on_loss ≡ Stop → lost ≡ []
 
--- the folder lists this and has these folders in it, as the shelf tells
+-- according to the shelf the folder lists this and has these folders in it
 pub record IsVisit (on_loss : OnLoss) (shelf : Tellings) (v : Visit) : Type 0 where
   pub lists : GivesNames on_loss (shelf.listed v.path) v.listing
   pub holds : GivesNames on_loss (shelf.inner v.path) v.inner
   pub allowed : AreAllowed on_loss (lost_in v.listing v.path v.inner)
 
--- the names of a folder of which this is told can't be told
+-- by what the shelf says of it, a folder may not be readable, and this is the loss
 abbrev pub IsUnread : Told → List ℕ → Loss → Type 0
 IsUnread told path loss = (why : Unread) × MayFail told why × (loss ≡ lost_at path (cause.Unread why))
 
--- this is the first of the folders in a folder whose name is no UTF-8
+-- this is the first of the folders in a folder whose name is not UTF-8
 abbrev pub IsFirstInner : List ℕ → Result (List ℕ) Unread → Loss → Type 0
 IsFirstInner path (Ok inner) loss = IsFirst (lost_names path (names_in inner)) loss
 IsFirstInner path (Err why) loss = ⊥
 
--- the folders in a folder can't be told, or this is the first of them whose name is no UTF-8
+-- the folders in a folder can't be determined, or this is the first of them whose name is not UTF-8
 abbrev pub LosesInner : Told → List ℕ → Loss → Type 0
 LosesInner told path loss =
     IsUnread told path loss ⊎ ((inner : List ℕ) × GivesTold told inner × IsFirst (lost_names path (names_in inner)) loss)
 
--- what the walk loses first in a folder: it can't be listed; or it is listed, and the folders in it are not all told
+-- what the walk loses first in a folder: it can't be listed; or it is listed, and not all the folders in it can be determined
 abbrev pub LosesVisit : Tellings → List ℕ → Loss → Type 0
 LosesVisit shelf path loss =
     IsUnread (shelf.listed path) path loss
@@ -101,18 +98,19 @@ paths_below visits = flat_map (λ v. inner_paths v.path v.inner) visits
 abbrev pub lost_below : List Visit → List Loss
 lost_below visits = flat_map (λ v. lost_in v.listing v.path v.inner) visits
 
--- The folder of the word, and each folder that is told in one that was walked, was walked. The folders are exactly those
--- of them that can't be listed or that list a name that ends in `.rle`, in the order of their paths' bytes. What was lost comes
--- after what was lost before.
+-- The folder of the word was walked, and each folder in one that was walked. The folders are exactly those of them that can't be
+-- listed or that list a name that ends in `.rle`, in the order of their paths' bytes. What was lost comes after what was lost
+-- before.
 pub record HoldsTree (on_loss : OnLoss) (shelf : Tellings) (word : List ℕ) (folders : List (List ℕ)) (before after : List Loss) : Type 0 where
   pub visits : List Visit
   pub told : All (IsVisit on_loss shelf) visits
   pub whole : paths visits ≡ word ∷ paths_below visits
-  pub same : IsPermutation (paths (filter was_taken visits)) folders
+  pub same : IsPermutation (paths (filter (λ v. is_taken v.listing) visits)) folders
   pub order : AreInOrder folders
   pub losses : after ≡ before ++ lost_below visits
 
--- All folders at and below the word: its own, and each that is told in one of them. What can't be told holds none.
+-- All folders at and below the word: its own, and each folder in one of them. A folder whose folders can't be determined has
+-- none.
 pub record IsTree (shelf : Tellings) (word : List ℕ) (folders : List (List ℕ)) : Type 0 where
   pub visits : List Visit
   pub told : All (IsVisit Keep shelf) visits

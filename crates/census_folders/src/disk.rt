@@ -17,10 +17,10 @@ use std::rt::Files;
 use std::{fs, io};
 use watched::{Input, read_all};
 
-/// So many times the system is asked again where a signal interrupts it.
+/// The number of times that the system is asked again where a signal interrupts it.
 const TRIES: u32 = 1_000;
 
-// What the system answers, which is asked again where a signal interrupts it.
+// The system's answer, where it is asked again if a signal interrupts it.
 fn answered<T: Drop, F: Fn() -> io::Result<T>>(ask: F) -> io::Result<T>
     requires { F.IsAlwaysCallable ask }
 {
@@ -33,7 +33,7 @@ fn answered<T: Drop, F: Fn() -> io::Result<T>>(ask: F) -> io::Result<T>
     ask()
 }
 
-// Where the system is out of memory, so is the call.
+// The fault for an error of the system: out of memory where the system is, otherwise unread.
 fn fault_of(error: io::Error) -> ShelfFault
     ensures { RefusesList Untold result }
 {
@@ -66,7 +66,7 @@ fn read_opened<F: Read + Drop>(
     }
 }
 
-// All the bytes of what was opened. It is read by 8192 bytes and more, since what lists a folder asks for room for a name.
+// All the bytes of what was opened. It is read by 8192 bytes or more at a time, since listing a folder needs room for a name.
 fn list_opened<F: Read + Drop>(alloc: Global, opened: io::Result<F>) -> io::Result<Vec<u8>>
     ensures whole { IfOk opened
         (λ file. IfOk result (λ bytes. IfSome (F.remaining file) (λ all. bytes.items ≡ all))) }
@@ -92,7 +92,7 @@ fn is_regular(found: io::Result<Metadata>) -> Result<bool, ShelfFault>
     }
 }
 
-// The path of a name in a folder. The system's paths are UTF-8, so that no other name has one.
+// The path of a name in a folder. The system's paths are UTF-8, so that a name that is not has none.
 fn path_in(alloc: Global, folder: &str, name: &[u8]) -> Result<PathBuf, ShelfFault>
     ensures path { IfOk result (λ path. path_buf_bytes path ≡ path_join folder.now name.now) }
     ensures fault { IfErr result (RefusesList Untold) }
@@ -103,19 +103,19 @@ fn path_in(alloc: Global, folder: &str, name: &[u8]) -> Result<PathBuf, ShelfFau
     Ok(Path::new(folder).join(alloc, name)?)
 }
 
-// Whether a name is none, or that of the folder itself or of the one that it stands in.
+// Whether a name is empty, or that of the folder itself or of the one above it.
 fn is_own(name: &[u8]) -> bool {
     name.is_empty() || name == b".".as_slice() || name == b"..".as_slice()
 }
 
-// Whether a name of which nobody can tell whether it is that of a folder is taken for one, so that the walk tells that it
-// is lost. Reading the folder that it stands in tells that of a name that ends in `.rle`.
+// Whether a name is taken for that of a folder where it can't be found out, so that the walk reports it as lost. A name that ends
+// in `.rle` is reported as lost when the folder with this name in it is read.
 fn is_taken_for_folder(name: &[u8]) -> bool {
     !name.ends_with(b".rle")
 }
 
-// Whether a name in a folder is that of a folder, or taken for one: a name that is not UTF-8 can't be asked for, and one
-// may be gone. A link is none, whatever it leads to.
+// Whether a name in a folder is that of a folder, or taken for one: a name that is not UTF-8 can't be asked for, and one may be
+// gone. A link is not a folder, whatever it leads to.
 fn is_folder<R: Files>(
     files: &R,
     alloc: Global,
@@ -135,7 +135,7 @@ fn is_folder<R: Files>(
     }
 }
 
-// A regular file that was opened. What stands in its place since it was looked at is refused.
+// A regular file that was opened. What has replaced it since it was checked is refused.
 fn regular_file<F: OpenFile + Drop>(opened: io::Result<F>) -> io::Result<F> {
     let file = opened?;
     if answered(|| file.metadata())?.is_file() {
@@ -145,16 +145,16 @@ fn regular_file<F: OpenFile + Drop>(opened: io::Result<F>) -> io::Result<F> {
     }
 }
 
-// The names in a folder, each ended by a byte 0. The list of a folder that is removed meanwhile ends early, so that it is
-// looked whether it is still there.
+// The names in a folder, each ended by a byte 0. The list of a folder that is removed meanwhile ends early, so this checks
+// whether the folder is still there.
 fn names_at<R: Files>(files: &R, alloc: Global, path: Path) -> io::Result<Vec<u8>> {
     let names = list_opened(alloc, answered(|| files.open_dir(path.as_str())))?;
     answered(|| fs::metadata(files, path))?;
     Ok(names)
 }
 
-// Why a folder of this path can't be listed, by the error. Where something stands there that is no folder, the system says no
-// more of it; it may be a file.
+// Why a folder of this path can't be listed, by the error. Where there is something else than a folder, the system says no more
+// of it; it may be a file.
 fn unlisted<R: Files>(files: &R, alloc: Global, folder: &str, error: io::Error) -> ShelfFault
     ensures { RefusesList Untold result }
 {

@@ -10,7 +10,7 @@ pub enum SourceFault {
     Lost(Loss),
     /// Reading ends at the first loss, for this cause, and a growth was refused for its path.
     Unnamed(Cause),
-    /// There are 65,535 folders before one, or as many files before one in its folder.
+    /// There are 65,535 folders before one, or 65,535 files before one in its folder.
     TooMany,
     /// A growth was refused.
     Memory,

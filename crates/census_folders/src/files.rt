@@ -16,7 +16,7 @@ use crate::unread::{ShelfFault, Unread};
 use census_bundle::AddFault;
 use std::alloc::Global;
 
-// The bytes of a file in a folder, which is not opened where it is no regular file.
+// The bytes of a file in a folder. What is not a regular file is not opened.
 fn read_file<S: Shelf>(
     shelf: &S,
     alloc: Global,
@@ -68,7 +68,7 @@ fn add_text(
     }
 }
 
-// Adds a pattern file whose text is lost to the last folder, where reading goes on. A name that isn't lawful is left out.
+// Adds a pattern file whose text is lost to the last folder, where reading continues. A name that isn't lawful is left out.
 fn keep_lost(
     alloc: Global,
     kept: &mut Kept,

@@ -25,14 +25,14 @@ pub enum Cause {
 pub enum OnLoss {
     /// It ends there.
     Stop,
-    /// It goes on.
+    /// It continues.
     Keep,
 }
 
 /// A folder that can't be listed, a file that can't be read, or a name that isn't lawful.
 #[derive(Drop)]
 pub struct Loss {
-    /// The word of a folder, or the path of a file: the folder's word, a slash where it ends in none, and the name.
+    /// The word of a folder, or the path of a file: the folder's word, a slash where the word does not end in one, and the name.
     pub path: Text,
     pub cause: Cause,
     /// The entry of a file that can't be read, which has no text.
@@ -90,7 +90,7 @@ impl Losses {
     }
 }
 
-// Reading ends at the loss of what has this path, which is told where there is memory for it.
+// The fault of reading that ends at the loss of what has this path. The path is kept where there is memory for it.
 pub fn stop_at(alloc: Global, path: &[u8], cause: Cause) -> SourceFault
     ensures { StopsAt OnLoss.Stop (λ loss. loss ≡ lost_at path.now cause) ⊥ result }
 {

@@ -1,7 +1,8 @@
 //! Reading folders of pattern files.
 ghost use Rattle.std.specs.Prelude.{◌≡◌, ◌<◌, length, map, MatchResult};
 ghost use Rattle.std.specs.List.{FoldsTo};
-ghost use Rattle.census_folders.specs.Reading.{FillsFolder, KeepsFolder, StopsFilling, StopsFolder, StopsInFolders, kept_at_start};
+ghost use Rattle.census_folders.specs.Reading.{FillsFolder, KeepsFolder, StopsFilling, StopsFolder, kept_at_start};
+ghost use Rattle.census_folders.specs.Losses.{EndsAmong};
 
 use crate::fault::SourceFault;
 use crate::files::add_file;
@@ -17,7 +18,7 @@ use std::alloc::Global;
 pub struct Kept {
     pub bundle: Bundle,
     pub lost: Losses,
-    /// How many bytes might still be read, where there is a limit.
+    /// How many bytes may still be read, where there is a limit.
     pub left: Option<u64>,
 }
 
@@ -64,7 +65,7 @@ fn add_folder<S: Shelf>(
 ) -> Result<(), SourceFault>
     ensures { MatchResult result
         (λ _. KeepsFolder on_loss (S.tellings shelf.now) kept.old word.now kept.new)
-        (StopsFolder on_loss (S.tellings shelf.now) word.now kept.old) }
+        (StopsFolder on_loss (S.tellings shelf.now) kept.old word.now) }
 {
     match kept.bundle.add_folder(word.as_bytes()) {
         Ok(()) => fill_folder(shelf, alloc, on_loss, kept, word),
@@ -82,7 +83,7 @@ fn add_folder<S: Shelf>(
     }
 }
 
-// Reads the folders of these words into a bundle, after this was lost on the way to them.
+// Reads the folders of these words into a bundle. `way` is what was lost on the way to them.
 pub fn read_folders<S: Shelf>(
     shelf: &S,
     alloc: Global,
@@ -94,8 +95,8 @@ pub fn read_folders<S: Shelf>(
     ensures { MatchResult result
         (FoldsTo (KeepsFolder on_loss (S.tellings shelf.now)) (kept_at_start limit way)
         (map (λ s. s.now) folders.now))
-        (StopsInFolders on_loss (S.tellings shelf.now) (kept_at_start limit way)
-        (map (λ s. s.now) folders.now)) }
+        (EndsAmong (KeepsFolder on_loss (S.tellings shelf.now)) (StopsFolder on_loss (S.tellings shelf.now))
+        (kept_at_start limit way) (map (λ s. s.now) folders.now)) }
 {
     let mut kept = Kept {
         bundle: Bundle::empty(alloc),

@@ -6,12 +6,12 @@ ghost use Rattle.census_folders.specs.Told.{GivesTold, MayFail, RefusesFile, Ref
 use crate::unread::ShelfFault;
 use std::alloc::Global;
 
-/// A shelf of folders, each with files. It may tell what stands on it: of a folder its names, of a file of a folder its
-/// bytes, or that it can't be read. A disk tells nothing.
+/// A shelf of folders, each with files. It may say what is on it: the names in a folder, the bytes of a file in a folder, or that
+/// one can't be read. A disk says nothing.
 pub trait Shelf {
-    // What it tells: what the folder of a path lists, its names, each ended by a byte 0; which folders stand in that
-    // folder, their names, each ended by a byte 0, where a link to one is none; and what the file of a name in the folder of
-    // a path holds.
+    // What it says: what the folder of a path lists, its names, each ended by a byte 0; which folders are in that folder, their
+    // names, each ended by a byte 0, where a link to a folder does not count; and what the file of a name in the folder of a path
+    // holds.
     ghost tellings: { Self → Tellings } = { λ _. tells_nothing };
 
     // Whether the file of this name in the folder of this path may be opened: it is a regular file, or a link to one.

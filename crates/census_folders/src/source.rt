@@ -19,7 +19,7 @@ pub struct Source<'r, 'a> {
     pub words: &'r [&'a str],
     /// Whether the folders below them are read too.
     pub below: bool,
-    /// How many bytes their files may have together, where there is a limit.
+    /// How many bytes their files may have in all, where there is a limit.
     pub limit: Option<u64>,
     pub on_loss: OnLoss,
 }
@@ -36,28 +36,28 @@ pub fn borrowed_words(alloc: Global, words: &[String]) -> Result<Vec<&str>, Allo
     Ok(texts)
 }
 
-/// Reads the folders of words into a bundle: for each word, in their order, one folder of that name, whose entries are the
-/// files in the folder whose names end in `.rle`, under their names and in the order of the bytes of these. Where those
-/// below them are read too, these are for each word the folder itself and all folders below it that list such a name, in
-/// the order of the bytes of their paths, each under its path. The path of a folder in another is that one's, a slash where it
-/// ends in none, and the name. Links to folders are not followed, and what is no regular file is not opened.
+/// Reads the folders of words into a bundle: for each word, in order, one folder of that name. Its entries are the files in the
+/// folder whose names end in `.rle`, under their names and in the order of the bytes of these. Where the folders below are read
+/// too, each word stands for those of the folder itself and all folders below it that list such a name, in the order of the bytes
+/// of their paths, each under its path. The path of a folder in another is the path of the other, a slash where that does not end
+/// in one, and the name. Links to folders are not followed, and what is not a regular file is not opened.
 ///
-/// All folders are found before the first is read. A word that isn't a lawful name is refused before its folder is listed,
-/// and so is folder number 65,536; a folder is listed before its first file is read, and a file is read before its name or
-/// its number is refused. Where there is a limit, no more bytes of a file are read than tells that it passes it.
+/// All folders are found before the first is read. A word that isn't a lawful name is refused before its folder is listed, and so
+/// is folder number 65,536. A folder is listed before its first file is read, and a file is read before its name or its number is
+/// refused. Where there is a limit, no more bytes of a file are read than show that it exceeds the limit.
 ///
-/// Lost is a folder that can't be listed, or in which the folders can't be told; a folder whose name is no UTF-8, since
-/// paths are; a file that can't be read, or has more than 67,108,864 bytes, or more than may still be read; and a folder
-/// or a file whose name isn't lawful. Where reading ends at the first loss, that is answered, and nothing after it is opened.
-/// Where it goes on, a file that can't be read or has too many bytes is a lost entry, a folder that can't be listed one
-/// without entries, and what has no lawful name is left out. What was lost is told in order: first on the way to the
-/// folders, then in them.
+/// These are lost: a folder that can't be listed, or in which the folders can't be determined; a folder whose name is not UTF-8,
+/// since paths are; a file that can't be read, or has more than 67,108,864 bytes, or more than may still be read; and a folder or
+/// a file whose name isn't lawful. Where reading ends at the first loss, that is returned, and nothing after it is opened. Where
+/// it continues, a file that can't be read or has too many bytes is a lost entry, a folder that can't be listed is one without
+/// entries, and what has no lawful name is left out. What was lost is listed in order: first on the way to the folders, then in
+/// them.
 ///
-/// `TooMany` is answered at the folder of number 65,536, and at the file of that number in a folder. `Memory` is answered
-/// where a growth was refused.
+/// `TooMany` is returned at folder number 65,536, and at file number 65,536 in a folder. `Memory` is returned where a growth was
+/// refused.
 ///
-/// What a folder lists and what its files hold is the shelf's word. Where it tells them, what is read and what is lost is
-/// exactly what it tells, and so is the place at which reading ends. A disk tells nothing.
+/// The shelf may say what a folder lists and what its files hold. Where it does, what is read and what is lost is exactly what it
+/// says, and so is the place at which reading ends. A disk says nothing.
 pub fn read_source<S: Shelf>(
     shelf: &S,
     alloc: Global,

@@ -4,7 +4,7 @@ ghost use Rattle.census_folders.specs.Sums.{Fits, limit_after, most_of};
 
 use census_bundle::INPUT_LIMIT;
 
-// The most bytes of the next file, where so many may still be read in all.
+// The most bytes of the next file, where `left` bytes may still be read in all.
 pub fn most_of(left: Option<u64>) -> usize
     ensures { result ≡ most_of left }
 {
@@ -14,7 +14,7 @@ pub fn most_of(left: Option<u64>) -> usize
     }
 }
 
-// What may still be read after so many bytes.
+// What may still be read after `count` bytes.
 pub fn limit_after(left: Option<u64>, count: usize) -> Option<u64>
     requires { Fits left count }
     ensures { result ≡ limit_after left count }

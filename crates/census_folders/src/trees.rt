@@ -38,9 +38,9 @@ pub fn folders_below_each<S: Shelf>(
     Ok(Trees { folders, lost })
 }
 
-/// All folders at and below each of these words, word by word, each under its path, whatever they list. Links to folders are
-/// not followed. A folder that can't be listed is among them, and nothing below one in which the folders can't be told; what
-/// has a name that is no UTF-8 is left out.
+/// All folders at and below each of these words, word by word, each under its path, whatever they list. Links to folders are not
+/// followed. A folder that can't be listed is among them. Nothing below a folder is, where the folders in it can't be determined.
+/// What has a name that is not UTF-8 is left out.
 pub fn every_folder<S: Shelf>(
     shelf: &S,
     alloc: Global,

@@ -29,7 +29,7 @@ impl Unread {
         }
     }
 
-    /// What the system says of it. Where that takes memory and there is none, nothing is told.
+    /// What the system says of it, or nothing where that takes memory and there is none.
     pub fn word(self, alloc: Global) -> Option<Text>
         ensures { IsSystemWord self.code result }
     {
@@ -41,7 +41,7 @@ impl Unread {
     }
 }
 
-/// Why a shelf gives no list of a folder, or no bytes of a file.
+/// Why a shelf returns no list of a folder, or no bytes of a file.
 #[derive(Clone, Copy, Debug, PartialEq, Eq, Drop, Error)]
 pub enum ShelfFault {
     /// The folder can't be listed, or the file can't be read.
@@ -71,7 +71,7 @@ impl From<ReadFault> for ShelfFault {
 
     ghost from_gives = { λ read fault. fault ≡ shelf_fault_of read };
 
-    /// The system's error is not known any more.
+    /// The system's error is no longer known.
     fn from(fault: ReadFault) -> ShelfFault {
         match fault {
             ReadFault::Read => ShelfFault::Unread(Unread::silent()),

@@ -33,7 +33,7 @@ fn is_any(name: &[u8]) -> bool
     name.len() >= 1
 }
 
-// Adds the path of a folder of a folder to those that were found. It is lost where its name is no UTF-8, since paths are.
+// Adds the path of a folder of a folder to those that were found. It is lost where its name is not UTF-8, since paths are.
 fn add_name(
     alloc: Global,
     on_loss: OnLoss,
@@ -96,7 +96,7 @@ fn add_names(
     Ok(())
 }
 
-// Ends the walk at a folder that can't be told, or goes on without it.
+// Ends the walk at a folder that can't be read, or continues without it.
 fn pass(
     alloc: Global,
     on_loss: OnLoss,
@@ -113,7 +113,7 @@ fn pass(
     }
 }
 
-// What a folder lists. Where it can't be listed, the walk ends there, or goes on.
+// What a folder lists. Where it can't be listed, the walk ends there, or continues.
 fn list_in<S: Shelf>(
     shelf: &S,
     alloc: Global,
@@ -132,7 +132,7 @@ fn list_in<S: Shelf>(
     }
 }
 
-// The names of the folders in a folder. Where they can't be told, the walk ends there, or goes on.
+// The names of the folders in a folder. Where they can't be determined, the walk ends there, or continues.
 fn list_folders_in<S: Shelf>(
     shelf: &S,
     alloc: Global,
@@ -151,7 +151,7 @@ fn list_folders_in<S: Shelf>(
     }
 }
 
-// Whether a folder is taken that lists this: it can't be listed, or lists a name that ends in `.rle`.
+// Whether a folder with this listing is taken: it can't be listed, or lists a name that ends in `.rle`.
 fn is_taken(alloc: Global, listing: &Result<Vec<u8>, Unread>) -> Result<bool, AllocError>
     ensures { IfOk result (λ taken. taken ≡ is_taken (names_given listing.now)) }
 {
@@ -164,8 +164,8 @@ fn is_taken(alloc: Global, listing: &Result<Vec<u8>, Unread>) -> Result<bool, Al
     }
 }
 
-// Adds the folders of a folder that lists this to those that were found. Where they can't be told, and the walk goes on, the
-// folder is lost, unless it can't be listed either.
+// Adds the folders of a folder with this listing to those that were found. Where they can't be determined, and the walk
+// continues, the folder is lost, unless it can't be listed either.
 fn add_folders(
     alloc: Global,
     on_loss: OnLoss,
@@ -195,7 +195,7 @@ fn add_folders(
     }
 }
 
-// Adds the folders of a folder to those that were found. Whether the folder is taken.
+// Adds the folders of a folder to those that were found. Returns whether the folder is taken.
 fn visit<S: Shelf>(
     shelf: &S,
     alloc: Global,
@@ -215,12 +215,12 @@ fn visit<S: Shelf>(
     Ok(is_taken(alloc, &listing)?)
 }
 
-// The folders at and below this one that list at least one name that ends in `.rle`, in the order of their paths' bytes. The
-// path of a folder in another is that one's, a slash where it ends in none, and the name; so each path begins with the word.
-// Links to folders are not followed.
+// The folders at and below this one that list at least one name that ends in `.rle`, in the order of their paths' bytes. The path
+// of a folder in another is the path of the other, a slash where that does not end in one, and the name; so each path begins with
+// the word. Links to folders are not followed.
 //
-// The walk ends at a folder that can't be listed, or in which the folders can't be told, and at a folder whose name is no
-// UTF-8; or it goes on. Then the first of these is among the folders that come out, and the others are lost.
+// The walk ends at a folder that can't be listed, or in which the folders can't be determined, and at a folder whose name is not
+// UTF-8; or it continues. Then a folder that can't be listed is among those returned, and the others are lost.
 pub fn folders_below<S: Shelf>(
     shelf: &S,
     alloc: Global,
@@ -248,7 +248,7 @@ pub fn folders_below<S: Shelf>(
     Ok(chosen)
 }
 
-// All folders at and below this one, each under its path. The walk goes on past what can't be told.
+// All folders at and below this one, each under its path. The walk continues past what can't be determined.
 pub fn every_folder_below<S: Shelf>(
     shelf: &S,
     alloc: Global,

@@ -26,7 +26,7 @@ objects_in-append : (ps qs : List Part) → objects_in (ps ++ qs) ≡ objects_in
 objects_in-append [] qs = sym (zero-add (objects_in qs))
 objects_in-append (p ∷ ps) qs = let e = objects_in-append ps qs in omega arith
 
--- one part more
+-- one more part
 pub objects_taken : (parts : List Part) (i : ℕ) (part : Part) → slice_get parts i ≡ Some part → objects_in (take (i + 1) parts) ≡ objects_in (take i parts) + part.count
 objects_taken parts i part at =
     let e : objects_in (take (i + 1) parts) ≡ objects_in (take i parts ++ part ∷ []) = ap objects_in (take_one_more parts i part at) in
@@ -46,7 +46,7 @@ part_objects-append rule (p ∷ ps) qs =
     ap (λ ks. replicate p.count (object rule p.code) ++ ks) (part_objects-append rule ps qs)
     ∙ sym (append_assoc (replicate p.count (object rule p.code)) (part_objects rule ps) (part_objects rule qs))
 
--- one part more
+-- one more part
 pub part_objects_taken : (rule : Rule) (parts : List Part) (i : ℕ) (part : Part) → slice_get parts i ≡ Some part
     → part_objects rule (take (i + 1) parts) ≡ part_objects rule (take i parts) ++ replicate part.count (object rule part.code)
 part_objects_taken rule parts i part at =
@@ -67,13 +67,13 @@ length-ash a rule finding onset parts is_found is_ash =
     ap (λ x. length (objects (x ∷ []))) is_found ∙ ap (λ o. length (outcome_objects rule o ++ [])) is_ash
     ∙ ap length (append-nil (part_objects rule parts)) ∙ length-part_objects rule parts
 
--- one line more
+-- one more line
 pub lines_taken : {A : Type 0} (f : A → Row) (xs : List A) (i : ℕ) (x : A) → slice_get xs i ≡ Some x → text_of (map f (take (i + 1) xs)) ≡ text_of (map f (take i xs)) ++ line_of (f x)
 lines_taken f xs i x at =
     ap text_of (map_taken f xs i x at)
     ∙ text-append (map f (take i xs)) (f x ∷ []) ∙ ap (λ t. text_of (map f (take i xs)) ++ t) (append-nil (line_of (f x)))
 
--- one answer more
+-- one more answer
 pub objects_more : (before now : List Answer) (a : Answer) (n : ℕ) → now ≡ before ++ a ∷ [] → length (objects before) ≤ n → length (objects (a ∷ [])) ≤ 4294967296 → length (objects now) ≤ n + 4294967296
 objects_more before now a n is few more =
     let e : length (objects now) ≡ length (objects before ++ objects (a ∷ [])) = ap (λ xs. length (objects xs)) is ∙ ap length (objects-append before (a ∷ [])) in

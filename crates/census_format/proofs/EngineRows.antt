@@ -22,7 +22,7 @@ module _ (c i : ℕ) where
       ∙ sym (append_assoc (engine_rows c i e line) (rows_of_engines c i (suc e) lines)
       (engine_rows c i (e + length (line ∷ lines)) engines))
 
-  -- one line more
+  -- one more line
   pub rows_taken : (lines : List Engines) (n : ℕ) (engines : Engines) → n < length lines → slice_get lines n ≡ Some engines →
       text_of (rows_of_engines c i 1 (take (n + 1) lines))
       ≡ text_of (rows_of_engines c i 1 (take n lines)) ++ text_of (engine_rows c i (n + 1) engines)

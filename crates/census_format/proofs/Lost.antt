@@ -8,7 +8,7 @@ use Rattle.life_answer.specs.declared.question.Question.{Question}
 use Rattle.life_model.specs.Rule.{Rule}
 use Rattle.census_format.specs.Lines.{answer_to_entry}
 
--- of entries with one text, or both lost, the same is found
+-- the same is found of entries with one text that are both lost or both not lost
 pub same_answer : (question : Question) (e f : Entry) → e.text ≡ f.text → e.is_lost ≡ f.is_lost → answer_to_entry question e ≡ answer_to_entry question f
 unfolding answer_to_entry
 same_answer question e f texts losses = λ i. if losses i then Refused 0 else answer_to_question question (texts i)

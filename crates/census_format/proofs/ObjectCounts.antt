@@ -70,7 +70,7 @@ said bound most e rule finding onset period dx dy code is recurs (Ok pattern) re
       ap (λ r. object r code) parts.0 ∙ ap (object R) codes,
     )
 
--- and of one that resolves it is said
+-- and a pattern that resolves is said to
 to_say : (bound : ℕ) (most : Option ℕ) (e : Entry) (s : Resolves bound most e) → answer_in bound most e ≡ Found s.rule (finding_with s.cells
     (Recurs s.recurrence.onset s.recurrence.period s.recurrence.displacement.0 s.recurrence.displacement.1 (settled_object bound most e s).code))
 to_say bound most e s =
@@ -97,7 +97,7 @@ count_shown k rule (Recurs onset period dx dy code) rest apart = count_first (sa
 count_shown k rule (Ash onset parts) rest apart = absurd (apart onset parts refl)
 count_shown k rule _ rest apart = sym (zero-add (count_by (same_object k) rest))
 
--- where it is asked which generation comes again, nothing has fallen apart
+-- where it is asked which generation recurs, nothing has fallen apart
 no_ash : (bound : ℕ) (most : Option ℕ) (e : Entry) (rule : Rule) (finding : Finding) → answer_in bound most e ≡ Found rule finding
     → (onset : ℕ) (parts : List Part) → finding.outcome ≡ Ash onset parts → ⊥
 no_ash bound most e rule finding is onset parts ash =
@@ -124,7 +124,7 @@ module _ (bound : ℕ) (most : Option ℕ) (pattern : Entry) (s : Resolves bound
   abbrev into : Entry → Type 0
   into e = SettlesInto bound most e s.rule (settled_cells bound most pattern s)
 
-  -- two patterns that resolve under one rule have one code exactly where they settle into one object
+  -- two patterns that resolve under one rule have one code exactly if they settle into one object
   one_code : (e : Entry) (r : Resolves bound most e) → settled_object bound most pattern s ≡ settled_object bound most e r → into e
   one_code e r is =
       let rules : s.rule ≡ r.rule = ap (λ (k : Object). k.rule) is in

@@ -80,7 +80,7 @@ module _ (F : ℕ → Folder → List Group) where
       ∙ ap (λ xs. xs ++ lines_of d (gathered F (suc c) fs)) (lines_of-other c d (F c f) (λ same. absurd (omega arith)))
       ∙ from d (suc c) j fs (omega arith)
 
-  -- of each collection the list has what F gives
+  -- for each collection the list has what F gives
   pub lines_of-gathered : (d : ℕ) (b : List Folder) → lines_of d (gathered F 1 b) ≡ given F d (element_at b d)
   lines_of-gathered zero b = below 0 1 b (omega arith)
   lines_of-gathered (suc j) b = from (suc j) 1 j b (omega arith)

@@ -34,7 +34,7 @@ use Rattle.census_format.specs.PartCounts.{parts_as, fallen_as, all_fallen_as, C
 use Rattle.census_format.proofs.Lost.{found_answer}
 use Rattle.census_format.proofs.Tallies.{count_first, count_none, any_distinct, count_distinct}
 
--- ---- where objects are asked for, no pattern is said to come again
+-- ---- where objects are asked for, no pattern is said to recur
 
 module _ (onset period : ℕ) (dx dy : ℤ) (code : List ℕ) where
   census_found-apart : (near : Bool) (R : Rule) (b from : ℕ) (o : Option (List Generation)) → census_found near R b from o ≡ Recurs onset period dx dy code → ⊥

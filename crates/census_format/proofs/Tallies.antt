@@ -62,7 +62,7 @@ module _ {A : Type 0} (same : A → A → Bool) (exact : (x y : A) → same x y 
   with_last : A → List A → List A → List A
   with_last k xs ds = cond (list_any (same k) xs) ds (ds ++ k ∷ [])
 
-  -- one more at the end is one more, or stands there already
+  -- one more at the end is one more, or is there already
   distinct_push : (k : A) (xs : List A) → distinct_elements same (xs ++ k ∷ []) ≡ cond (list_any (same k) xs) (distinct_elements same xs) (distinct_elements same xs ++ k ∷ [])
   distinct_push k [] = refl
   distinct_push k (x ∷ xs) =
@@ -159,7 +159,7 @@ module _ {A : Type 0} (same : A → A → Bool) (exact : (x y : A) → same x y 
       ∙ tally_more n (xs ++ k ∷ []) k v left
       ∙ ap (tally same) (append_assoc xs (k ∷ []) (replicate (suc n) k))
 
-  -- some more, with their count raised by so many
+  -- n more, with their count raised by n
   pub tally_push_all : (xs : List A) (k : A) (n v : ℕ) → 1 ≤ n → v ≡ count_by (same k) xs + n → insert_entry same (tally same xs) k v ≡ tally same (xs ++ replicate n k)
   tally_push_all xs k zero v some is = absurd (omega arith)
   tally_push_all xs k (suc n) v some is = tally_more n xs k v is
@@ -180,7 +180,7 @@ module _ {A : Type 0} (same : A → A → Bool) (exact : (x y : A) → same x y 
         | false ↦ λ e no. count_first (same k) x xs ∙ ap (λ b. cond b 1 0 + count_by (same k) xs) e ∙ zero-add (count_by (same k) xs) ∙ count_none k xs no
       ] refl none
 
-  -- the count that a look-up finds, 0 where it finds none
+  -- the count that a look-up finds, 0 if it finds none
   pub lookup_tally : (k : A) (xs : List A) → unwrap_or (lookup (same k) (tally same xs)) 0 ≡ count_by (same k) xs
   lookup_tally k xs =
       ap (λ o. unwrap_or o 0) (found (λ y. count_by (same y) xs) k (distinct_elements same xs) ∙ ap (λ b. cond b (Some (count_by (same k) xs)) None) (any_distinct k xs))
@@ -206,7 +206,7 @@ module _ {A : Type 0} (same : A → A → Bool) (exact : (x y : A) → same x y 
         | false ↦ λ e. count_first (same k) y left ∙ ap (λ n. cond (same k y) 1 0 + n) (count_filter k x apart ys) ∙ sym (count_first (same k) y ys)
       ] refl
 
-  -- what stands among these stands once among the distinct ones
+  -- what is among these is once among the distinct ones
   pub count_distinct : (k : A) (xs : List A) → list_any (same k) xs ≡ true → count_by (same k) (distinct_elements same xs) ≡ 1
   count_distinct k [] none = absurd (false≢true none)
   count_distinct k (x ∷ xs) some =

@@ -15,7 +15,7 @@ use Rattle.census_rows.specs.declared.row.Outcome as rows
 use Rattle.census_rows.specs.declared.row.Outcome.TheVariants as outcome
 use Rattle.census_rows.specs.Kinds.{said, same_class}
 
--- these bytes, wherever they stand
+-- these bytes, wherever they are
 abbrev pub lent : List ℕ → Bor (List ℕ)
 lent bytes = record { ref_ptr = (0, 0); now = bytes }
 
@@ -27,15 +27,15 @@ finding_of Unresolved = finding.Unresolved
 finding_of (Large generation) = finding.Large generation
 finding_of (Grows engines) = finding.Grows (engines_in engines)
 
--- with the rule and the population of generation 0; where the text is refused, the number of its fault, or 0
+-- with the rule and the population of generation 0; if the text is refused, the number of its fault, or 0
 abbrev pub outcome_of : Answer → rows.Outcome
 outcome_of (Found rule found) = outcome.Found (lent (rule_text rule)) found.population (finding_of found.outcome)
 outcome_of (Refused number) = outcome.Bad number
 
--- how a pattern of which this was found counts
+-- the class of a pattern of which this was found
 abbrev pub class_of : Answer → Class
 class_of answer = (said (outcome_of answer)).class
 
--- whether it counts so
+-- whether it is of this class
 abbrev pub is_of : Class → Answer → Bool
 is_of class answer = same_class (class_of answer) class

@@ -16,7 +16,7 @@ use Rattle.life_answer.specs.declared.question.Question.{Question}
 use Rattle.life_answer.specs.declared.tale.Engines.{Engines}
 use Rattle.census_format.specs.Found.{is_of, lent, outcome_of}
 
--- the row of a line, or the rows of one pattern, which stand together
+-- the row of a line, or the rows of one pattern, which stay together
 abbrev pub Group : Type 0
 Group = List Row
 
@@ -37,8 +37,7 @@ pattern_row c i found name = row.Line c i (outcome_of found) (lent name)
 abbrev pub part_row : ℕ → ℕ → Part → Row
 part_row c i part = row.Part c i (lent part.code) part.count
 
--- The collection, the pattern's number, that of these engines among the pattern's, what is told of the way of each, and how
--- many they are.
+-- The collection, the pattern's number, that of these engines among the pattern's, the way of each, and how many they are.
 abbrev pub engine_row : ℕ → ℕ → ℕ → Engines → Row
 engine_row c i e engines =
     row.Engine c i e engines.tale.period engines.tale.dx engines.tale.dy engines.count
@@ -48,23 +47,23 @@ engine_row c i e engines =
 abbrev pub emits_row : ℕ → ℕ → ℕ → Part → Row
 emits_row c i e part = row.Emits c i e (lent part.code) part.count
 
--- the `engine` row of engines of which the same is told, and after it their `emits` rows
+-- the `engine` row of engines with the same tale, and after it their `emits` rows
 abbrev pub engine_rows : ℕ → ℕ → ℕ → Engines → List Row
 engine_rows c i e engines = engine_row c i e engines ∷ map (emits_row c i e) engines.tale.emits
 
--- those of all these engines, the first of which have the number e
+-- the rows of all these engines, the first of which have the number e
 abbrev pub rows_of_engines : ℕ → ℕ → ℕ → List Engines → List Row
 rows_of_engines c i e [] = []
 rows_of_engines c i e (engines ∷ lines) = engine_rows c i e engines ++ rows_of_engines c i (suc e) lines
 
--- the rows that tell more of what becomes of a pattern: the `part` rows of what has fallen apart, and the `engine` and `emits`
+-- the rows that say more of what becomes of a pattern: the `part` rows of what has fallen apart, and the `engine` and `emits`
 -- rows of what grows
 abbrev pub outcome_rows : ℕ → ℕ → Outcome → List Row
 outcome_rows c i (Ash onset parts) = map (part_row c i) parts
 outcome_rows c i (Grows engines) = rows_of_engines c i 1 engines
 outcome_rows c i _ = []
 
--- those of a pattern of which this was found
+-- the rows that say more of a pattern of which this was found
 abbrev pub rows_behind : ℕ → ℕ → Answer → List Row
 rows_behind c i (Found rule finding) = outcome_rows c i finding.outcome
 rows_behind c i (Refused number) = []
@@ -73,12 +72,12 @@ rows_behind c i (Refused number) = []
 unfoldable pub answer_to_entry : Question → Entry → Answer
 answer_to_entry question e = if e.is_lost then Refused 0 else answer_to_question question e.text
 
--- the `line` row of a pattern, and after it the rows that tell more
+-- the `line` row of a pattern, and after it the rows that say more
 unfoldable pub pattern_rows : Question → ℕ → ℕ → Entry → Group
 pattern_rows question c i e =
     pattern_row c i (answer_to_entry question e) e.name ∷ rows_behind c i (answer_to_entry question e)
 
--- those of these patterns, the first of which has the number i
+-- the rows of these patterns, the first of which has the number i
 abbrev pub pattern_lines : Question → ℕ → ℕ → List Entry → List Group
 pattern_lines question c i [] = []
 pattern_lines question c i (e ∷ es) = pattern_rows question c i e ∷ pattern_lines question c (suc i) es
@@ -87,7 +86,7 @@ pattern_lines question c i (e ∷ es) = pattern_rows question c i e ∷ pattern_
 abbrev pub answers : Question → List Entry → List Answer
 answers question es = map (answer_to_entry question) es
 
--- it comes again, has fallen apart or grows
+-- it recurs, has fallen apart or grows
 abbrev pub is_resolved : Answer → Bool
 is_resolved = is_of class.Resolved
 
@@ -99,7 +98,8 @@ is_unresolved = is_of class.Unresolved
 abbrev pub is_refused : Answer → Bool
 is_refused = is_of class.Refused
 
--- the collection, how many patterns it has, and of how many of them it is said `ok`, `ash` or `grows`, `none` or `large`, and `bad`
+-- the collection, how many patterns it has, and how many of them are reported as `ok`, `ash` or `grows`, as `none` or `large`,
+-- and as `bad`
 unfoldable pub close_line : Question → ℕ → Folder → Group
 close_line question c f =
     let found = answers question f.entries in

@@ -15,8 +15,8 @@ use Rattle.life_answer.specs.declared.question.Question.TheVariants as question
 use Rattle.census_format.specs.Lines.{answers}
 use Rattle.census_format.specs.Objects.{Object, object, objects, same_object, tally}
 
--- The pattern isn't lost; it is a set of cells under a rule that settles within the bound, and none of its generations up
--- to the bound is too large.
+-- The pattern isn't lost. It is a set of cells under a rule that settles within the bound, and none of its generations up to
+-- the bound is too large.
 pub record Resolves (bound : ℕ) (most : Option ℕ) (e : Entry) : Type 0 where
   pub rule : Rule
   pub cells : Generation
@@ -41,8 +41,8 @@ pub record SettlesInto (bound : ℕ) (most : Option ℕ) (e : Entry) (R : Rule) 
   pub same_rule : resolves.rule ≡ R
   pub one : AreOneObject R (settled_cells bound most e resolves) H
 
--- The line with this rule and code and this number counts those of the patterns that settle, under this rule, into the
--- object of one of them.
+-- The line has the rule and code of one of the patterns, and its number is how many of the patterns settle, under this rule,
+-- into the object of that one.
 pub record CountsObject (bound : ℕ) (most : Option ℕ) (es : List Entry) (line : Object × ℕ) : Type 0 where
   pub pattern : Entry
   pub among : Contains es pattern

@@ -1,4 +1,4 @@
--- Two objects are the same exactly where they are one.
+-- Two objects are the same exactly if they are one.
 use Rattle.std.proofs.Common.{◌≡◌, ℕ, Bool, true, false, ◌&&◌, eqb, List, ◌++◌, refl, sym, ap, ◌∙◌, Decides, nat_eq}
 use Rattle.std.proofs.lemmas.Bool.{false≢true}
 use Rattle.std.proofs.lemmas.Bool.Decides.{Decides-eqb}
@@ -55,6 +55,6 @@ same_object_partial = partial_equiv_from_equiv same_object_equivalence
 abbrev pub fed_object : Object → fed.HashWrites
 fed_object o = (fed.u16 o.rule.birth ++ fed.u16 o.rule.survival) ++ fed.slice fed.u8 o.code
 
--- objects that are the same feed a hasher the same
+-- objects that are the same feed a hasher alike
 pub same_object_fed : (k l : Object) → same_object k l ≡ true → fed_object k ≡ fed_object l
 same_object_fed k l e = ap fed_object (one_object k l e)

@@ -34,13 +34,13 @@ abbrev pub part_objects : Rule → List Part → List Object
 part_objects rule [] = []
 part_objects rule (part ∷ parts) = replicate part.count (object rule part.code) ++ part_objects rule parts
 
--- the objects that this is the outcome of
+-- the objects of this outcome
 abbrev pub outcome_objects : Rule → Outcome → List Object
 outcome_objects rule (Recurs onset period dx dy code) = object rule code ∷ []
 outcome_objects rule (Ash onset parts) = part_objects rule parts
 outcome_objects rule _ = []
 
--- what the resolved ones among these are, in their order
+-- the objects of the resolved ones among these, in their order
 abbrev pub objects : List Answer → List Object
 objects [] = []
 objects (Found rule finding ∷ found) = outcome_objects rule finding.outcome ++ objects found
@@ -51,7 +51,7 @@ abbrev pub distinct_elements : {A : Type 0} → (A → A → Bool) → List A �
 distinct_elements same [] = []
 distinct_elements same (x ∷ xs) = x ∷ filter (λ y. not (same x y)) (distinct_elements same xs)
 
--- each of these once, in the order of first appearance, and how often it stands there
+-- each of these once, in the order of first appearance, and how often it occurs
 abbrev pub tally : {A : Type 0} → (A → A → Bool) → List A → List (A × ℕ)
 tally same xs = map (λ x. (x, count_by (same x) xs)) (distinct_elements same xs)
 

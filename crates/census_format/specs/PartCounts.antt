@@ -1,4 +1,4 @@
--- What the counts of a closing say of what the objects count as that patterns fall apart into.
+-- What the counts of a closing say of the objects that patterns fall apart into, by what these count as.
 use Rattle.std.specs.Prelude.{◌≡◌, ℕ, ◌+◌, ◌≤◌, Bool, if◌then◌else◌, List, [], ◌∷◌, Option, count_by}
 use Rattle.std.specs.List.{All, sum_by}
 use Rattle.census_bundle.specs.declared.bundle.Entry.{Entry}
@@ -25,13 +25,13 @@ fallen_as k (Refused number) = 0
 abbrev pub all_fallen_as : (bound : ℕ) (most : Option ℕ) (near : Bool) (horizon : ℕ) → List Entry → Object → ℕ
 all_fallen_as bound most near horizon es k = sum_by (λ (e : Entry). fallen_as k (answer_to_entry (question.Objects bound most near horizon) e)) es
 
--- The line with this rule and code and this number counts the objects that have them, of which there are some.
+-- The line's number is how many objects have its rule and code, of which there are some.
 pub record CountsParts (bound : ℕ) (most : Option ℕ) (near : Bool) (horizon : ℕ) (es : List Entry) (line : Object × ℕ) : Type 0 where
   pub count : line.1 ≡ all_fallen_as bound most near horizon es line.0
   pub some : 1 ≤ line.1
 
--- Each `code` line of a collection counts the objects that have its rule and code, and each rule and code that an object
--- has stand in one line, whether what is near one another is one object or not.
+-- Each `code` line of a collection counts the objects that have its rule and code, and each rule and code that an object has is
+-- in one line, whether what is near one another is one object or not.
 abbrev pub CodesCountParts : Type 0
 CodesCountParts =
     (bound : ℕ) (most : Option ℕ) (near : Bool) (horizon : ℕ) (es : List Entry)

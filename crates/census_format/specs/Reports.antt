@@ -24,22 +24,22 @@ section_of question c (Some f) = folder_section question c f
 abbrev pub section : List Folder → Question → ℕ → List Group
 section b question c = section_of question c (element_at b c)
 
--- rows that stand together, and the collection that they belong to
+-- rows that stay together, and the collection that they belong to
 pub record Owned : Type 0 where
   pub owner : ℕ
   pub group : Group
 
--- those that belong to the collection c, in their order
+-- the groups that belong to the collection c, in their order
 abbrev pub lines_of : ℕ → List Owned → List Group
 lines_of c [] = []
 lines_of c (l ∷ ls) = if l.owner == c then (l.group ∷ lines_of c ls) else lines_of c ls
 
--- the bytes of all
+-- the bytes of all groups
 abbrev pub owned_text : List Owned → List ℕ
 owned_text [] = []
 owned_text (l ∷ ls) = text_of l.group ++ owned_text ls
 
--- The text is the rows of the sections of all collections, interleaved line by line, and then the `end` row. The rows of one
+-- The text is the rows of the sections of all collections, interleaved line by line, followed by the `end` row. The rows of one
 -- pattern stay together.
 pub record IsReport (b : List Folder) (question : Question) (text : List ℕ) : Type 0 where
   pub groups : List Owned
@@ -72,7 +72,7 @@ has_all b taken = all_from taken 1 b
 abbrev pub end_if : Bool → List Folder → List ℕ
 end_if whole b = if whole then text_of (end_line b) else []
 
--- the closing lines where the collection has arrived whole
+-- the closing lines if the collection has arrived whole
 abbrev pub closing_if : Bool → Question → ℕ → Folder → List Group
 closing_if whole question c f = if whole then closing question c f else []
 
@@ -85,7 +85,7 @@ opening question c (f ∷ fs) =
 abbrev pub text_at_start : List Folder → Question → List ℕ
 text_at_start b question = opening question 1 b ++ end_if (pattern_count b == 0) b
 
--- the lines of a collection that taking one of its tickets releases, where its run grows from k to m
+-- the lines of a collection that taking one of its tickets releases, if its run grows from k to m
 abbrev pub folder_out : Question → ℕ → Folder → ℕ → ℕ → List Group
 folder_out question c f k m =
     take (m - k) (drop k (pattern_lines question c 1 f.entries)) ++ closing_if (m == length f.entries) question c f
@@ -94,6 +94,6 @@ abbrev pub folder_text_released : Question → Option Folder → Tickets → Tic
 folder_text_released question None taken t = []
 folder_text_released question (Some f) taken t = groups_text (folder_out question t.folder f (run_of taken t.folder f) (run_of (with_ticket taken t) t.folder f))
 
--- what taking a ticket releases, where these were taken before
+-- what taking a ticket releases, if these were taken before
 abbrev pub text_released : List Folder → Question → Tickets → Ticket → List ℕ
 text_released b question taken t = folder_text_released question (element_at b t.folder) taken t ++ end_if (has_all b (with_ticket taken t)) b

@@ -82,7 +82,7 @@ impl<'a> Object<'a> {
     }
 }
 
-// Counts an object so many times more.
+// Counts an object `count` more times.
 fn count_object<'a>(
     counts: &mut IndexMap<Object<'a>, u64>,
     object: Object<'a>,
@@ -118,7 +118,7 @@ fn count_parts<'a>(
     Ok(())
 }
 
-// Counts the objects that were found, where some were.
+// Counts the objects that were found, if any.
 fn count_answer<'a>(
     counts: &mut IndexMap<Object<'a>, u64>,
     answer: &'a Answer,
@@ -184,7 +184,7 @@ fn push_codes(text: &mut Vec<u8>, c: u32, counts: &IndexMap<Object, u64>) -> Res
     Ok(())
 }
 
-// How many of these count so.
+// How many of these are of this class.
 fn count_of(answers: &[&Answer], class: Class) -> usize
     ensures { result ≡ count_by (is_of class) (map (λ a. a.now) answers.now) }
 {

@@ -34,7 +34,7 @@ fn push_moved(text: &mut Vec<u8>, moved: i32) -> Result<(), AllocError>
     push_field(text, buffer.format(moved).as_bytes())
 }
 
-// After how many generations an engine comes again, and how far to the right and down it then stands.
+// After how many generations an engine recurs, and how far to the right and down it is then.
 fn push_way(text: &mut Vec<u8>, tale: &Tale) -> Result<(), AllocError>
     ensures { OnOk result (text.new.items ≡ text.old.items ++ fields_text
         (decimal tale.now.period ∷ signed_decimal tale.now.dx ∷ signed_decimal tale.now.dy ∷ [])) }
@@ -44,7 +44,7 @@ fn push_way(text: &mut Vec<u8>, tale: &Tale) -> Result<(), AllocError>
     push_moved(text, tale.dy)
 }
 
-// The line of engines of which the same is told.
+// The line of engines with the same tale.
 fn push_engine(
     text: &mut Vec<u8>,
     ticket: Ticket,
@@ -94,7 +94,7 @@ fn push_emits(
     Ok(())
 }
 
-/// The lines of all engines, those of which the same is told together.
+/// The lines of all engines, those with the same tale together.
 pub(crate) fn push_engines(
     text: &mut Vec<u8>,
     ticket: Ticket,

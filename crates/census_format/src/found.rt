@@ -42,7 +42,7 @@ pub(crate) fn finding_of<'a>(outcome: &'a Outcome) -> Finding<'a>
     }
 }
 
-/// How a pattern of which this was found counts.
+/// The class of a pattern of which this was found.
 pub fn class_of(answer: &Answer) -> Class
     ensures { result ≡ class_of answer.now }
 {
@@ -52,7 +52,7 @@ pub fn class_of(answer: &Answer) -> Class
     }
 }
 
-/// Whether it counts so.
+/// Whether it is of this class.
 pub(crate) fn is_of(class: Class, answer: &Answer) -> bool
     ensures { result ≡ is_of class answer.now }
 {

@@ -1,6 +1,6 @@
 //! The format of a report: its lines, the counts of its codes, and what a report of a bundle is (`specs/Reports.antt`).
 //!
-//! Tested in `tests_runs`.
+//! Tested in `tests_program`.
 #![tactic(auto)]
 
 mod closing;

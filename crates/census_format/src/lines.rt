@@ -56,7 +56,7 @@ fn push_outcome(text: &mut Vec<u8>, answer: &Answer) -> Result<(), AllocError>
     }
 }
 
-/// The line of a pattern of which this was found, as far as its name.
+/// The line of a pattern of which this was found, up to its name.
 #[tactic(auto, unfolding(crate::specs::Heads::line_head))]
 pub fn push_head(text: &mut Vec<u8>, ticket: Ticket, answer: &Answer) -> Result<(), AllocError>
     ensures { OnOk result

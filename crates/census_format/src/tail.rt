@@ -1,4 +1,4 @@
-//! The lines behind that of a pattern.
+//! The lines after that of a pattern.
 ghost use Rattle.std.specs.Prelude.{◌≡◌, ◌++◌, OnOk};
 ghost use Rattle.census_format.specs.Heads.{line_tail};
 
@@ -8,7 +8,7 @@ use census_bundle::Ticket;
 use life_answer::{Answer, Outcome};
 use std::alloc::AllocError;
 
-/// The lines behind that of a pattern of which this was found: the `part` lines of what has fallen apart, and the `engine` and
+/// The lines after that of a pattern of which this was found: the `part` lines of what has fallen apart, and the `engine` and
 /// `emits` lines of what grows.
 #[tactic(auto, unfolding(crate::specs::Heads::line_tail))]
 pub fn push_tail(text: &mut Vec<u8>, ticket: Ticket, answer: &Answer) -> Result<(), AllocError>

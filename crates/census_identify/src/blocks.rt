@@ -10,4 +10,4 @@ mod size;
 
 pub use block_text::{BlockText, block};
 pub use inquiry::{HORIZON_LIMIT, Inquiry};
-pub use known::{Known, known_of};
+pub use known::known_of;

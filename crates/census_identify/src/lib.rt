@@ -1,5 +1,5 @@
-//! What is told of single patterns: a block of lines for each text that means one, and a line for each that can't be
-//! read or has a fault. `blocks` has what is written of one pattern.
+//! What is reported about single patterns: a block of lines for each text that means one, and a line for each that can't be read
+//! or has a fault. `blocks` has what is written about one pattern.
 //!
 //! Tested in `tests_objects`.
 #![tactic(auto)]
@@ -13,7 +13,7 @@ mod identifying;
 mod onlooker;
 mod told;
 
-pub use blocks::{BlockText, HORIZON_LIMIT, Inquiry, Known, block};
+pub use blocks::{BlockText, HORIZON_LIMIT, Inquiry, block};
 pub use bytes::Bytes;
 pub use error::IdentifyError;
 pub use heard::{Heard, is_input, read_file};

@@ -4,10 +4,11 @@ use Rattle.std.specs.Prelude.{⊤}
 use Rattle.std.specs.Cmp.Lexicographic.{pointwise}
 use Rattle.std.specs.Fmt.{digit_glyph, digits, digits_onto}
 use Rattle.std.specs.List.{AllByRecursion as Each, list_all, position_or_len}
+use Rattle.std.specs.Option.{option_map, option_map_or}
 use Rattle.std.proofs.lemmas.Bool.{eqb-true, le-leb, lt-ltb}
 use Rattle.std.proofs.lemmas.Bool.Decides.{Decides-eqb}
 use Rattle.std.proofs.lemmas.Slice.Eq.{slice_eq-Decides}
-use Rattle.census_readback.specs.Codes.{CodeStart, code_start, is_code, is_code_after, is_start, on_start, start_at, tells}
+use Rattle.census_readback.specs.Codes.{CodeStart, code_start, is_code, is_code_after, is_start, tells}
 use Rattle.life_answer.proofs.Findings.{first_from-found}
 use Rattle.life_answer.specs.Answers.{outcome_at, outcome_from, outcome_of}
 use Rattle.life_answer.specs.Apgcode.{bodies, code_of}
@@ -81,8 +82,9 @@ start letter n = record { letter = letter; number = decimal n }
 started : (letter n : ℕ) (body : List ℕ) → code_start (120 ∷ letter ∷ ((decimal n ++ 95 ∷ []) ++ body)) ≡ Some (start letter n)
 started letter n body =
     let ds = decimal n in
-    ap (λ w. start_at letter w (position (λ b. b == 95) w)) (append_assoc ds (95 ∷ []) body)
-    ∙ ap (start_at letter (ds ++ 95 ∷ body)) (marked ds body (decimal-digits n))
+    let start_at : List ℕ → Option ℕ → Option CodeStart = λ text. option_map (λ at. record { letter = letter; number = take at text }) in
+    ap (λ w. start_at w (position (λ b. b == 95) w)) (append_assoc ds (95 ∷ []) body)
+    ∙ ap (start_at (ds ++ 95 ∷ body)) (marked ds body (decimal-digits n))
     ∙ ap (λ (w : List ℕ). Some (record { letter = letter; number = w })) (take-front ds (95 ∷ body))
 
 same : (ds : List ℕ) → pointwise nat_eq ds ds ≡ true
@@ -94,8 +96,8 @@ IsAfter moved period code = is_code_after moved period code ≡ true
 after-start : (moved : Bool) (period letter n : ℕ) (body : List ℕ) → 0 < period → (is_start (start letter n) && tells moved period (start letter n)) ≡ true
     → IsAfter moved period (120 ∷ letter ∷ ((decimal n ++ 95 ∷ []) ++ body))
 after-start moved period letter n body some told =
-    ap (λ b. b && on_start (λ s. is_start s && tells moved period s) (code_start (120 ∷ letter ∷ ((decimal n ++ 95 ∷ []) ++ body)))) (lt-ltb 0 period some)
-    ∙ ap (on_start (λ s. is_start s && tells moved period s)) (started letter n body) ∙ told
+    ap (λ b. b && option_map_or (λ s. is_start s && tells moved period s) (code_start (120 ∷ letter ∷ ((decimal n ++ 95 ∷ []) ++ body))) false) (lt-ltb 0 period some)
+    ∙ ap (λ o. option_map_or (λ s. is_start s && tells moved period s) o false) (started letter n body) ∙ told
 
 still-told : (population : ℕ) (body : List ℕ) → IsAfter false 1 (120 ∷ 115 ∷ ((decimal population ++ 95 ∷ []) ++ body))
 still-told population body =
@@ -123,7 +125,7 @@ at-rest period population body some =
     one : (period : ℕ) → eqb period 1 ≡ true → period ≡ 1
     one period e = eqb-true period 1 e
 
--- the code of what comes again so
+-- the code of what recurs so
 pub code-told : (R : Rule) (H : Generation) (period : ℕ) (d : Cell) → 0 < period → is_code_after (not (same_cell d origin)) period (code_of R H period d) ≡ true
 unfolding code_of
 code-told R H period d some =
@@ -137,7 +139,7 @@ code-told R H period d some =
 -- what begins as such a code begins as a code
 pub after-code : (moved : Bool) (period : ℕ) (code : List ℕ) → IsAfter moved period code → is_code code ≡ true
 after-code moved period code h =
-    (elim (code_start code) as (λ o. on_start (λ s. is_start s && tells moved period s) o ≡ true → on_start is_start o ≡ true) [
+    (elim (code_start code) as (λ o. option_map_or (λ s. is_start s && tells moved period s) o false ≡ true → option_map_or is_start o false ≡ true) [
       | Nothing ↦ λ e. absurd (cc)
       | Some s ↦ λ e. (both (is_start s) (tells moved period s) e).0
     ]) (both (ltb 0 period) _ h).1
@@ -164,7 +166,7 @@ outcome-told R G b = from-told R G b (first_onset R G b)
 
 -- ---- the codes of parts
 
--- where it has a byte it is a code
+-- a text that has a byte is a code
 abbrev pub IsCodeIfSome : List ℕ → Type 0
 IsCodeIfSome code = 0 < length code → is_code code ≡ true
 

@@ -23,7 +23,7 @@ use Rattle.life_answer.specs.declared.question.Question.{Question}
 use Rattle.life_answer.specs.declared.question.Question.TheVariants.{Objects, Settles}
 use Rattle.life_answer.specs.declared.tale.Engines.{Engines}
 use Rattle.life_answer.specs.Told.{growth_told, told_of_engines}
-use Rattle.life_growth.specs.Fates.Decided.{growth_of}
+use Rattle.life_objects.specs.Growth.Fates.Decided.{growth_of}
 use Rattle.life_objects.specs.Decided.Decided.{ash_of}
 use Rattle.life_model.specs.Evolution.{generation}
 use Rattle.life_model.specs.Generation.{Generation}
@@ -106,7 +106,7 @@ unless-coded : (outcome : Outcome) (large : Option ℕ) → IsCoded outcome → 
 unless-coded outcome None h = h
 unless-coded outcome (Some n) h = tt
 
--- the codes of what is told of growth have no blank
+-- the codes of what is reported of growth have no blank
 abbrev AreSolidEngines : Option (List Engines) → Type 0
 AreSolidEngines None = ⊤
 AreSolidEngines (Some told) = Each IsSolidEngines told

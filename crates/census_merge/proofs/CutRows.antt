@@ -24,7 +24,7 @@ small-number (Code collection rule code count) h = h.0
 small-number (Close collection patterns resolved unresolved refused) h = h.0
 small-number (End collections patterns) h = h.0
 
--- a row with the text of one that can be cut is spelled so
+-- a row that has the text of a row that can be cut is spelled as that row
 pub same-spelling : (row told : Row) → IsRow row → IsCut told → row_text row ≡ row_text told → spelling row ≡ spelling told
 same-spelling row told h k e =
     let items : (spelling row).word ∷ decimal (spelling row).number ∷ (spelling row).fields ≡ (spelling told).word ∷ decimal (spelling told).number ∷ (spelling told).fields =

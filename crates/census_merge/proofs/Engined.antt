@@ -1,16 +1,16 @@
--- The rows of an engine fit what was told, where it comes behind the engine before it.
+-- The rows of an engine fit what was told, if it comes after the engine before it.
 use Rattle.std.proofs.Common.{◌≡◌, ℕ, ◌+◌, ◌-◌, ◌<◌, ◌≤◌, Bool, true, false, ◌&&◌, cond, eqb, leb, ltb, Some, None as Nothing, List, [], ◌∷◌, ◌++◌, map, length, Ordering, Less, Equal, Greater, ap, ◌∙◌, sym, subst, refl, arith, append_assoc}
 use Rattle.std.specs.Cmp.Lexicographic.{slice_cmp}
 use Rattle.std.specs.List.{AllByRecursion as Each}
 use Rattle.std.specs.Option.{option_map}
-use Rattle.std.specs.Ordering.{ordering_then}
+use Rattle.std.specs.Ordering.{is_lt, ordering_then}
 use Rattle.std.proofs.lemmas.Bool.{eq-eqb, le-leb, lt-ltb}
 use Rattle.std.proofs.lemmas.List.{append-nil, length-map}
 use Rattle.census_format.specs.Found.{lent}
 use Rattle.census_readback.specs.Codes.{is_code}
 use Rattle.census_readback.specs.Engines.{Emitted, LastEngine, after_emits, after_engine, begun, compared, compared_by, compared_with, emitted_cmp, to_compare, way_cmp, with_emitted}
 use Rattle.census_readback.specs.Lawful.{is_lawful, is_way}
-use Rattle.census_readback.specs.Told.{Told, emits_told, engine_told, is_less, told_by, with_engine}
+use Rattle.census_readback.specs.Told.{Told, emits_told, engine_told, told_by, with_engine}
 use Rattle.census_readback.specs.declared.engines.Way.{Way}
 use Rattle.census_rows.specs.declared.row.Row.{Row}
 use Rattle.census_rows.specs.declared.row.Row.TheVariants.{Engine, Emits}
@@ -23,11 +23,11 @@ use Rattle.census_merge.proofs.Taken.{Rise, fits, told-one}
 abbrev pub emitted_part : part.Part → Emitted
 emitted_part p = record { code = p.code; count = p.count }
 
--- the row of a part of what engines emit
+-- the row of one part of what an engine emits
 abbrev pub emits_row : ℕ → ℕ → ℕ → part.Part → Row
 emits_row c i e p = Emits c i e (lent p.code) p.count
 
--- it is told by its row
+-- its row is lawful
 abbrev pub IsLawfulEmitted : part.Part → Type 0
 IsLawfulEmitted p = (0 < p.count) × (is_code p.code ≡ true)
 
@@ -36,11 +36,11 @@ emits-lawful c i e p some h =
     ap (λ b. b && (is_code p.code && ltb 0 p.count)) (lt-ltb 0 e some)
     ∙ ap (λ b. b && ltb 0 p.count) h.1 ∙ lt-ltb 0 p.count h.0
 
--- it comes behind the engine before it, or will when it has emitted all this
+-- it comes after the engine before it, or will once it has emitted all this
 abbrev Comes : LastEngine → List Emitted → Type 0
 Comes e xs = cond e.rises (Unit {0}) (slice_cmp emitted_cmp e.before xs ≡ Less)
 
--- after one row more
+-- after one more row
 record Emitting (e : LastEngine) (x : Emitted) (xs : List Emitted) : Type 0 where
   after : LastEngine
   emits-it : after_emits e x ≡ Some after
@@ -88,7 +88,7 @@ emitting e x xs comes = by e.rises refl comes
     }
     by false known h = emitting-with e.before e x xs known (ap (λ (b : Bool). cond b (Some e) (compared_with e.before e x)) known) h
 
--- an engine that has emitted all comes behind the one before it
+-- an engine that has emitted all comes after the one before it
 ended : (e : LastEngine) → Comes e [] → e.rises ≡ true
 ended e comes = by e.rises refl comes
   where
@@ -119,9 +119,9 @@ emits-fit : (t : Told) (c e : ℕ) (x : Emitted) (after : LastEngine) → t.coll
     → after_emits t.engine x ≡ Some after → emits_told t c e x.code x.count ≡ Some (with_engine t t.left x.code after)
 emits-fit t c e x after owner number later is =
     let told = option_map (with_engine t t.left x.code) (after_emits t.engine x) in
-    ap (λ b. cond (b && (eqb e t.engine.number && is_less (shorter_cmp t.last x.code))) told Nothing) (eq-eqb c t.collection (sym owner))
-    ∙ ap (λ b. cond (b && is_less (shorter_cmp t.last x.code)) told Nothing) (eq-eqb e t.engine.number (sym number))
-    ∙ ap (λ o. cond (is_less o) told Nothing) later ∙ ap (option_map (with_engine t t.left x.code)) is
+    ap (λ b. cond (b && (eqb e t.engine.number && is_lt (shorter_cmp t.last x.code))) told Nothing) (eq-eqb c t.collection (sym owner))
+    ∙ ap (λ b. cond (b && is_lt (shorter_cmp t.last x.code)) told Nothing) (eq-eqb e t.engine.number (sym number))
+    ∙ ap (λ o. cond (is_lt o) told Nothing) later ∙ ap (option_map (with_engine t t.left x.code)) is
 
 emits-told : (c i e : ℕ) (parts : List part.Part) (t : Told) → 0 < e → t.collection ≡ c → t.engine.number ≡ e → Rise (Some t.last) parts → Each IsLawfulEmitted parts
     → Comes t.engine (map emitted_part parts) → Engined t (map (emits_row c i e) parts) t.left e t.engine.way (t.engine.emits ++ map emitted_part parts)
@@ -158,11 +158,11 @@ emits-told c i e (p ∷ parts) t some owner number rise lawful comes =
       rises = others.rises;
     }
 
--- an engine that goes this way and emits this comes behind the last one
+-- an engine that goes this way and emits this comes after the last one
 abbrev pub ComesBehind : LastEngine → Way → List Emitted → Type 0
 ComesBehind e way xs = ordering_then (way_cmp e.way way) (slice_cmp emitted_cmp e.emits xs) ≡ Less
 
--- what an engine has to be compared with, where it comes behind the last one
+-- what an engine has to be compared with, if it comes after the last one
 record Begun (order : Ordering) (emits xs : List Emitted) : Type 0 where
   before : List Emitted
   is : to_compare order emits ≡ Some before
@@ -189,8 +189,8 @@ engine-fits t c k e way before owner few rises next is =
 engine-lawful : (c i e k : ℕ) (way : Way) → is_way way.period way.dx way.dy ≡ true → 0 < k → is_lawful (Engine c i e way.period way.dx way.dy k) ≡ true
 engine-lawful c i e k way goes some = ap (λ b. b && ltb 0 k) goes ∙ lt-ltb 0 k some
 
--- The row of engines of which the same is told, and the rows of what each of them emits: they come behind the last ones, emit
--- something, in the order of codes, and are no more than are left.
+-- The row of engines that are alike, and the rows of what each of them emits. They come after the last ones, emit something, in
+-- the order of codes, and are no more than are left.
 pub engine-told : (c i e k : ℕ) (way : Way) (parts : List part.Part) (t : Told) → t.collection ≡ c → k ≤ t.left → 0 < k → t.engine.rises ≡ true → e ≡ t.engine.number + 1
     → is_way way.period way.dx way.dy ≡ true → 0 < length parts → Rise (Some []) parts → Each IsLawfulEmitted parts → ComesBehind t.engine way (map emitted_part parts)
     → Engined t (Engine c i e way.period way.dx way.dy k ∷ map (emits_row c i e) parts) (t.left - k) e way (map emitted_part parts)

@@ -1,4 +1,4 @@
--- Rows under other numbers stand on lines too.
+-- Rows under other numbers are on lines too.
 use Rattle.std.proofs.Common.{◌≡◌, ℕ, zero, suc, ◌+◌, ◌%◌, ◌<◌, ◌≤◌, ◌^◌, true, false, List, [], ◌∷◌, ◌++◌, refl, arith, take, drop, codes, decimal}
 use Rattle.std.specs.Prelude.{if◌then◌else◌}
 use Rattle.std.proofs.lemmas.Fmt.{decimal_by_steps}
@@ -82,7 +82,7 @@ lines-front zero xs h = tt
 lines-front (suc n) [] h = tt
 lines-front (suc n) (x ∷ xs) h = (h.0, lines-front n xs h.1)
 
--- those of collections of reports
+-- no row has a collection number too large for a report
 abbrev pub AreSmall : List Row → Type 0
 AreSmall [] = Unit {0}
 AreSmall (row ∷ rows) = (collection_of row ≤ count_limit) × AreSmall rows

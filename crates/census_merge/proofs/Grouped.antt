@@ -11,7 +11,7 @@ use Rattle.life_answer.specs.declared.question.Question.{Question}
 use Rattle.census_merge.specs.Telling.{rows_in}
 use Rattle.census_merge.proofs.Solid.{each-append}
 
--- each row of each group is so in the group's collection
+-- each row of each group holds this in the group's collection
 abbrev pub EachIn : (ℕ → Row → Type 0) → List Owned → Type 0
 EachIn P groups = Each (λ (l : Owned). Each (P l.owner) l.group) groups
 
@@ -19,7 +19,7 @@ tail-each : (P : ℕ → Row → Type 0) (c : ℕ) (l : Owned) (ls : List Owned)
 tail-each P c l ls =
     elim (eqb l.owner c) as (λ v. Each (Each (P c)) (cond v (l.group ∷ lines_of c ls) (lines_of c ls)) → Each (Each (P c)) (lines_of c ls)) [ true ↦ λ h. h.1 | false ↦ λ h. h ]
 
--- what is so of the rows of each section is so of the rows of the groups
+-- what holds for the rows of each section holds for the rows of the groups
 pub in-groups : (P : ℕ → Row → Type 0) (groups : List Owned) → ((c : ℕ) → Each (Each (P c)) (lines_of c groups)) → EachIn P groups
 in-groups P [] h = tt
 in-groups P (l ∷ ls) h =
@@ -34,7 +34,7 @@ pub in-rows : (P : ℕ → Row → Type 0) (Q : Row → Type 0) → ((c : ℕ) (
 in-rows P Q f [] h = tt
 in-rows P Q f (l ∷ ls) h = each-append Q l.group (rows_in ls) (each-then (P l.owner) Q (f l.owner) l.group h.0) (in-rows P Q f ls h.1)
 
--- the same, of groups that are the sections of a bundle
+-- what holds for the rows of a bundle's sections holds for the rows of groups that are these sections
 pub in-sections : (P : ℕ → Row → Type 0) (Q : Row → Type 0) → ((c : ℕ) (row : Row) → P c row → Q row) → (b : List Folder) (question : Question) (groups : List Owned)
     → ((c : ℕ) → lines_of c groups ≡ section b question c) → ((c : ℕ) → Each (Each (P c)) (section b question c)) → Each Q (rows_in groups)
 in-sections P Q f b question groups are h = in-rows P Q f groups (in-groups P groups (λ c. subst (Each (Each (P c))) (sym (are c)) (h c)))

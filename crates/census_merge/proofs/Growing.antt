@@ -1,4 +1,4 @@
--- The rows of all engines of a pattern fit what was told, where these come one behind the other.
+-- The rows of all engines of a pattern fit what was told, if each engine comes after the one before it.
 use Rattle.std.proofs.Common.{◌≡◌, ℕ, suc, ◌+◌, ◌<◌, true, ◌&&◌, Some, List, [], ◌∷◌, ◌++◌, map, length, Ordering, Less, Equal, Greater, ap, ◌∙◌, sym, subst, refl, arith}
 use Rattle.std.specs.Cmp.{nat_cmp_is}
 use Rattle.std.specs.Cmp.Lexicographic.{slice_cmp}
@@ -16,7 +16,7 @@ use Rattle.life_cells.specs.TextOrder.{shorter_cmp}
 use Rattle.census_merge.proofs.Engined.{IsLawfulEmitted, emits_row, emitted_part, engine-told}
 use Rattle.census_merge.proofs.Taken.{Rise, told-then}
 
--- engines of which the same is told: their way, what each emits, and how many they are
+-- engines that are alike: their way, what each emits, and how many they are
 abbrev pub Line : Type 0
 Line = Way × List part.Part × ℕ
 
@@ -29,13 +29,13 @@ abbrev pub engines_of : List Line → ℕ
 engines_of [] = 0
 engines_of (l ∷ lines) = l.2 + engines_of lines
 
--- each comes behind the one before it, the first behind one that goes this way and emits this
+-- each comes after the one before it, the first after one that goes this way and emits this
 abbrev pub AllBehind : Way → List Emitted → List Line → Type 0
 AllBehind way xs [] = Unit {0}
 AllBehind way xs (l ∷ lines) =
     (ordering_then (way_cmp way l.0) (slice_cmp emitted_cmp xs (map emitted_part l.1)) ≡ Less) × AllBehind l.0 (map emitted_part l.1) lines
 
--- what is told of them is lawful
+-- what the row says of them is lawful
 abbrev pub IsLawfulLine : Line → Type 0
 IsLawfulLine l =
     (is_way l.0.period l.0.dx l.0.dy ≡ true) × (0 < l.2) × (0 < length l.1) × Rise (Some []) l.1 × Each IsLawfulEmitted l.1
@@ -86,7 +86,7 @@ way-first v w o =
     ap (ordering_then (nat_cmp v.period w.period)) (then-then (int_cmp v.dx w.dx) (int_cmp v.dy w.dy) o)
     ∙ then-then (nat_cmp v.period w.period) (ordering_then (int_cmp v.dx w.dx) (int_cmp v.dy w.dy)) o
 
--- lists of parts stand to one another as what their rows tell
+-- lists of parts are ordered as what their rows say
 pub parts-stand : (ps qs : List part.Part)
     → slice_cmp (λ p q. ordering_then (shorter_cmp p.code q.code) (nat_cmp p.count q.count)) ps qs ≡ slice_cmp emitted_cmp (map emitted_part ps) (map emitted_part qs)
 parts-stand [] [] = refl
@@ -94,7 +94,7 @@ parts-stand [] (q ∷ qs) = refl
 parts-stand (p ∷ ps) [] = refl
 parts-stand (p ∷ ps) (q ∷ qs) = ap (ordering_then (emitted_cmp (emitted_part p) (emitted_part q))) (parts-stand ps qs)
 
--- each engine comes behind none at all
+-- each engine comes after none at all
 pub behind-none : (way : Way) (xs : List Emitted) → 0 < way.period → ordering_then (way_cmp no_engine.way way) (slice_cmp emitted_cmp no_engine.emits xs) ≡ Less
 behind-none way xs some =
     ap (λ o. ordering_then (ordering_then o (ordering_then (int_cmp no_engine.way.dx way.dx) (int_cmp no_engine.way.dy way.dy))) (slice_cmp emitted_cmp no_engine.emits xs))

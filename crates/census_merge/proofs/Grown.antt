@@ -1,4 +1,4 @@
--- What is told of growth can be told by rows, where it is in range.
+-- Rows can report growth, if it is in range.
 use Rattle.std.proofs.Common.{◌≡◌, ℕ, suc, ◌+◌, ◌<◌, ◌≤◌, ℤ, pos, negsuc, neg_ℤ, ◌≤ℤ◌, true, ◌&&◌, leb, Bool, Some, List, [], ◌∷◌, ◌++◌, map, length, Less, refl, sym, ap, subst, ◌∙◌, arith}
 use Rattle.std.specs.Prelude.{unsigned_abs}
 use Rattle.std.specs.Cmp.Lexicographic.{slice_cmp}
@@ -32,7 +32,7 @@ use Rattle.census_merge.proofs.Growing.{AllBehind, IsLawfulLine, Line, behind-no
 use Rattle.census_merge.proofs.PartsFound.{AreFairParts, IsCounted, parts-fair, rise-some}
 use Rattle.census_merge.proofs.Tales.{told-holds}
 
--- ---- what is told of growth
+-- ---- what is reported of growth
 
 abbrev Rises : Engines → Engines → Type 0
 Rises line next = tale_cmp line.tale next.tale ≡ Less
@@ -72,7 +72,7 @@ pub engines-are : (lines : List Engines) → engines_of (map line_of lines) ≡ 
 engines-are [] = refl
 engines-are (line ∷ lines) = ap (λ n. line.count + n) (engines-are lines)
 
--- ---- they come one behind the other
+-- ---- each comes after the one before it
 
 behind : (s t : Tale) → tale_cmp s t ≡ Less
     → ordering_then (way_cmp (way_of s) (way_of t)) (slice_cmp emitted_cmp (map emitted_part s.emits) (map emitted_part t.emits)) ≡ Less

@@ -1,4 +1,4 @@
--- Rows that tell of several bundles, made one report.
+-- Rows of reports of several bundles, made one report.
 use Rattle.std.proofs.Common.{◌≡◌, ℕ, zero, suc, ◌+◌, ◌-◌, List, [], ◌∷◌, ◌++◌, map, ap, ◌∙◌, sym, refl, arith, length, length-append, append-nil, append_assoc, eq-zero-or-pos, ⊎_elim, slice_get}
 use Rattle.std.specs.List.{AllByRecursion as Each}
 use Rattle.std.proofs.lemmas.List.{map-append}
@@ -66,7 +66,7 @@ then-others b question rows others t =
     let last = End (length b) (pattern_count b) in
     ap (λ w. w ++ others) (t.whole ∙ ap (λ e. t.body ++ e) (end-is b)) ∙ append_assoc t.body (last ∷ []) others
 
--- What reports tell of their bundles, where so many collections come before them.
+-- What reports say of their bundles, where n collections come before them.
 record TellOn (n : ℕ) (question : Question) (b : List Folder) (rows : List Row) : Type 0 where
   groups : List Owned
   sections : (c : ℕ) → lines_of c groups ≡ section_of question c (element_at b (c - n))

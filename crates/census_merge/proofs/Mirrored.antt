@@ -1,4 +1,4 @@
--- The rows of the collections that are kept may stand as a report.
+-- The rows of the collections that are kept may come as a report.
 use Rattle.std.proofs.Common.{◌≡◌, ◌≢◌, ℕ, ◌+◌, ◌-◌, ◌<◌, ◌≤◌, ◌^◌, Bool, true, false, ◌&&◌, ◌||◌, eqb, ltb, Some, None as Nothing, List, [], ◌∷◌, ap, ◌∙◌, sym, refl, arith, subst, length, inl, inr}
 use Rattle.std.specs.Prelude.{◌⊎◌, if◌then◌else◌}
 use Rattle.std.specs.List.{list_all}
@@ -49,7 +49,7 @@ pub record Mirrors (all : List Row) (s v : Reading) : Type 0 where
   pub patterns : v.patterns ≤ s.patterns
   pub fits : s.patterns < 2 ^ 64
 
--- the last line is told whole, or its collection is not closed yet
+-- all of the last line is told, or its collection is not closed yet
 abbrev pub IsReadyAt : Told → Reading → Type 0
 IsReadyAt t s = (is_told t ≡ true) ⊎ (is_behind (place_at s.places (t.collection - 1)) ≡ false)
 
@@ -86,7 +86,7 @@ module _ (all : List Row) (s k v : Reading) (r : Row) (own : is_end r ≡ false)
     fits = (let e = ap (λ (x : Reading). x.patterns) h.is in omega (arith, e, h.fits));
   }
 
-  -- one of a collection that is kept
+  -- a row of a collection that is kept
   abbrev after : Reading
   after = record { places = with_place v.places (n - 1) h.place; patterns = v.patterns + patterns_opened r; ended = false }
 

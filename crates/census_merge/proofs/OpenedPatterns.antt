@@ -32,7 +32,7 @@ codes-open-none (Code c rule code k ∷ rows) h = let e = codes-open-none rows h
 codes-open-none (Close c n a b d ∷ rows) h = absurd h
 codes-open-none (End n k ∷ rows) h = absurd h
 
--- how many patterns so many collections open, from this one on
+-- how many patterns `count` collections open, from `first` on
 abbrev total : ℕ → ℕ → List Row → ℕ
 total first zero rows = 0
 total first (suc count) rows = patterns_in (rows_of first rows) + total (suc first) count rows

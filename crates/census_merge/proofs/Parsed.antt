@@ -22,7 +22,7 @@ abbrev after : List ℕ → List ℕ
 after [] = []
 after (b ∷ bytes) = cond (eqb b 32) bytes (after bytes)
 
--- so many fields, and what follows them
+-- the first n fields, and what follows them
 abbrev fields_of : ℕ → List ℕ → List (List ℕ)
 fields_of zero text = text ∷ []
 fields_of (suc n) text = first text ∷ fields_of n (after text)
@@ -54,7 +54,7 @@ after-of : (word text : List ℕ) → HasNoBlank word → after (word ++ 32 ∷ 
 after-of [] text h = refl
 after-of (b ∷ word) text h = ap (λ v. cond v (word ++ 32 ∷ text) (after (word ++ 32 ∷ text))) (ne_eqb b 32 h.0) ∙ after-of word text h.1
 
--- no blank is in a word or a field, but in the last
+-- no blank is in the word or in any field but the last
 abbrev ArePlain : List ℕ → List (List ℕ) → Type 0
 ArePlain word [] = ⊤
 ArePlain word (f ∷ fields) = HasNoBlank word × ArePlain f fields

@@ -89,7 +89,7 @@ goes-behind : (b : Bool) (p : Place) → (if b then Some Behind else None) ≡ S
 goes-behind true p h = (let same : Behind ≡ p = cc in sym (ap is_behind same))
 goes-behind false p h = absurd (cc)
 
--- a row leads behind its collection exactly where it closes it
+-- a row leads to the place after its collection exactly if it closes it
 pub leads-behind : (q p : Place) (r : Row) → place_after q r ≡ Some p → is_behind p ≡ is_close r
 leads-behind Before p (Open c m name) h =
     let t : Tally = record { patterns = m; read = 0; resolved = 0; unresolved = 0; refused = 0; behind = behind.Nothing; counts = nothing_counted; told = 0 } in
@@ -111,7 +111,7 @@ leads-behind (Within t) p (Close c m a b d) h = goes-behind (closes_with t (reco
 leads-behind (Within t) p (End m k) h = absurd (cc)
 leads-behind Behind p r h = absurd (cc)
 
--- nothing leads on from there
+-- no row leads on from there
 not-behind : (q p : Place) (r : Row) → place_after q r ≡ Some p → is_behind q ≡ false
 not-behind Before p r h = refl
 not-behind (Within t) p r h = refl
@@ -141,7 +141,7 @@ or-false : (b : Bool) → b ≡ (b || false)
 or-false true = refl
 or-false false = refl
 
--- after a row those are closed that were, and the one that it closes
+-- after a row the collections that were closed are closed, and so is the one that it closes
 pub closed-more : (s t : Reading) (r : Row) (c : ℕ) → Taken s t r → 0 < c → is_behind (place_at t.places (c - 1)) ≡ (is_behind (place_at s.places (c - 1)) || closes c r)
 closed-more s t r c h low =
     let d = collection_of r in

@@ -1,4 +1,4 @@
--- The rows that say what is said of a bundle stand on lines, where their numbers are in range.
+-- The rows that say what is said of a bundle are on lines, if their numbers are in range.
 use Rattle.std.proofs.Common.{◌≡◌, ℕ, zero, suc, ◌+◌, ◌-◌, ◌<◌, ⊎_elim, eq-zero-or-pos, replicate, ◌≤◌, ◌^◌, Bool, None as Nothing, Some, List, [], ◌∷◌, ◌++◌, map, length, count_by, slice_get, sym, refl, arith, subst}
 use Rattle.std.specs.List.{AllByRecursion as Each}
 use Rattle.std.specs.Prelude.{FitsSigned}

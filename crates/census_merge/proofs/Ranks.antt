@@ -16,7 +16,7 @@ module _ (all : List Row) where
   next : (c : ℕ) (b : Bool) → is_closed all (suc c) ≡ b → closed_to all (suc c) ≡ closed_to all c + one b
   next c b e = ap (λ v. closed_to all c + one v) e
 
-  -- one more, or not
+  -- one more collection is closed, or none
   grows : (c : ℕ) (b : Bool) → is_closed all (suc c) ≡ b → closed_to all c ≤ closed_to all (suc c)
   grows c true e = omega (arith, next c true e)
   grows c false e = omega (arith, next c false e)

@@ -6,6 +6,7 @@ use Rattle.census_bundle.specs.declared.bundle.Folder.{Folder}
 use Rattle.census_bundle.specs.Sizes.{count_limit}
 use Rattle.census_format.specs.Lines.{end_line, pattern_count}
 use Rattle.census_format.specs.Reports.{IsReport, Owned, section, section_of}
+use Rattle.census_readback.proofs.Interleaved.{reports-complete}
 use Rattle.census_readback.specs.Shapes.{AreOfCollections, IsSection, IsWholeReport, all_rows, patterns_in, rows_of}
 use Rattle.census_readback.specs.Steps.{collection_of}
 use Rattle.census_readback.specs.Texts.{AllLines, IsLine}
@@ -29,7 +30,7 @@ use Rattle.census_merge.proofs.Texts.{owned-rows}
 use Rattle.census_merge.proofs.WholeBundles.{report-tells}
 use Rattle.census_rows.proofs.Texts.{text-append}
 
--- the row stands on a line, and its collection is this one of so many
+-- the row is on a line, and its collection is c, one of `most`
 abbrev IsPlaced : ℕ → ℕ → Row → Type 0
 IsPlaced most c row = IsLine row × (collection_of row ≡ c) × (0 < c) × (c ≤ most)
 
@@ -41,7 +42,7 @@ place-all : (most c : ℕ) (all : List (List Row)) → 0 < c → c ≤ most → 
 place-all most c [] low high h p = tt
 place-all most c (rows ∷ all) low high h p = (place-one most c rows low high h.0 p.0, place-all most c all low high h.1 p.1)
 
--- the row stands on a line, and its collection is one of so many
+-- the row is on a line, and its collection is one of `most`
 abbrev IsOfMany : ℕ → Row → Type 0
 IsOfMany most row = IsLine row × (0 < collection_of row) × (collection_of row ≤ most)
 
@@ -115,7 +116,7 @@ module _ (b : List Folder) (question : Question) (bundle : IsBundle b) (range : 
               ((few, few-patterns b bundle.0), (end-cut (length b) (pattern_count b)).flat);
           whole = report.whole ∙ ap (λ w. w ++ text_of (end_line b)) (owned-rows report.groups) ∙ ap (λ rows. text_of body ++ text_of rows) (end-is b)
               ∙ sym (text-append body (the_end ∷ []));
-          shape = record {
+          shape = reports-complete rows (record {
             reports = rows ∷ [];
             some = omega arith;
             whole = sym (append-nil rows);
@@ -124,6 +125,6 @@ module _ (b : List Folder) (question : Question) (bundle : IsBundle b) (range : 
                   (report-tells b question report.groups (length b) (pattern_count b) bundle range report.sections),
               tt,
             );
-          };
+          });
         };
       }

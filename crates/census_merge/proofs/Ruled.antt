@@ -3,7 +3,7 @@ use Rattle.std.proofs.Common.{◌≡◌, ℕ, zero, suc, ◌+◌, ◌-◌, ◌^�
 use Rattle.std.specs.Prelude.{⊤, codes, is_some}
 use Rattle.std.specs.Int.{bit_at}
 use Rattle.std.specs.List.{AllByRecursion as Each, list_all, range_with_len}
-use Rattle.std.specs.Option.{option_and_then}
+use Rattle.std.specs.Option.{option_and_then, option_map_or}
 use Rattle.std.proofs.Math.Pow.{pow-lt}
 use Rattle.std.proofs.lemmas.Bool.{le-leb}
 use Rattle.std.proofs.lemmas.Bool.Decides.{nat_tests}
@@ -12,7 +12,7 @@ use Rattle.std.proofs.lemmas.Nat.Bits.{bit_at_lowest}
 use Rattle.census_bundle.specs.declared.bundle.Entry.{Entry}
 use Rattle.census_format.specs.Lines.{answer_to_entry, answers}
 use Rattle.census_format.specs.Objects.{Object, object, objects, outcome_objects, part_objects}
-use Rattle.census_readback.specs.Rules.{after_rising, is_rule, is_set_text}
+use Rattle.census_readback.specs.Rules.{after_rising, is_rule}
 use Rattle.life_answer.specs.Questions.{answer_to, answer_to_question}
 use Rattle.life_answer.specs.declared.finding.Answer.{Answer}
 use Rattle.life_answer.specs.declared.finding.Answer.TheVariants.{Found, Refused}
@@ -37,7 +37,7 @@ use Rattle.texts.specs.Bytes.{after_one_of, is_blank, is_in, without_ends}
 
 -- ---- printed rules
 
--- no digit of a rule stands at the front
+-- no digit of a rule is at the front
 abbrev Stops : List ℕ → Type 0
 Stops rest = (least : ℕ) → 48 ≤ least → after_rising least rest ≡ rest
 
@@ -58,7 +58,7 @@ after-set set a (suc n) least rest low under within stops =
       | false ↦ after-set set (a + 1) n least rest low (omega (arith, under)) (omega (arith, within)) stops
     ]
 
--- no birth has 0 neighbours, and none and no survival more than 8
+-- no birth has 0 neighbours, and no birth or survival has more than 8
 abbrev pub IsLifeLike : Rule → Type 0
 IsLifeLike rule = ((bit_at rule.birth 0 == 1) ≡ false) × (rule.birth < 512) × (rule.survival < 512)
 
@@ -79,7 +79,8 @@ survivals set =
 
 pub rule-printed : (rule : Rule) → IsLifeLike rule → is_rule (rule_text rule) ≡ true
 rule-printed rule ruled =
-    let behind : List ℕ → Bool = λ w. is_set_text (option_and_then (λ rest. after_one_of (codes "S") rest) (after_one_of (codes "/") w)) in
+    let behind : List ℕ → Bool = λ w.
+    option_map_or (λ rest. length (after_rising 48 rest) == 0) (option_and_then (λ rest. after_one_of (codes "S") rest) (after_one_of (codes "/") w)) false in
     ap (λ w. behind (after_rising 49 w)) (append_assoc (set_text rule.birth) (codes "/S") (set_text rule.survival))
     ∙ ap behind (births rule (83 ∷ set_text rule.survival) ruled)
     ∙ ap (λ w. length w == 0) (survivals rule.survival)

@@ -1,4 +1,4 @@
--- Rows that say the same are told alike.
+-- Rows that say the same are written alike.
 use Rattle.std.proofs.Common.{◌≡◌, ℕ, ℤ, ◌+◌, List, [], ◌∷◌, ◌++◌, codes, decimal, ap, ◌∙◌, refl}
 use Rattle.std.specs.Fmt.{signed_decimal}
 use Rattle.census_rows.specs.declared.kinds.Field.{Field}

@@ -51,7 +51,7 @@ by-word (Code collection rule code count) e = refl
 by-word (Close collection patterns resolved unresolved refused) e = refl
 by-word (End collections patterns) e = let no : true ≡ false = e in absurd (cc)
 
--- rows that are spelled as rows that last, last
+-- rows that are spelled as rows that end no report, end none
 pub all-lasting : (rows others : List Row) → map spelling rows ≡ map spelling others → Each IsLasting others → Each IsLasting rows
 all-lasting [] others e h = tt
 all-lasting (row ∷ rows) [] e h = absurd (cc)

@@ -41,7 +41,7 @@ pub each-replicate : {X : Type 0} (P : X → Type 0) (n : ℕ) (x : X) → P x �
 each-replicate P zero x h = tt
 each-replicate P (suc n) x h = (h, each-replicate P n x h)
 
--- each byte is past the blank
+-- each byte is greater than the blank
 abbrev pub IsSolid : List ℕ → Type 0
 IsSolid bytes = Each (λ byte. 32 < byte) bytes
 

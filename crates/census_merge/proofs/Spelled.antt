@@ -1,4 +1,4 @@
--- What is told to a vector is written to it.
+-- What is written to an empty vector is what it then holds.
 use Rattle.std.proofs.Common.{◌≡◌, ℕ, false, List, [], Some, MatchBool, subst, append-nil}
 use Rattle.std.specs.Io.KnownBytes.{Appends}
 use Rattle.watched.specs.Watching.{AppendsFront}

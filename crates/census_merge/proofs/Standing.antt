@@ -1,4 +1,4 @@
--- Rows that may each stand where they do.
+-- Rows that may each come where they do.
 use Rattle.std.proofs.Common.{◌≡◌, ℕ, zero, suc, ◌+◌, ◌<◌, ◌≤◌, Bool, true, false, eqb, ltb, Option, Some, None as Nothing, List, [], ◌∷◌, ◌++◌, ap, ◌∙◌, sym, refl, arith, subst, length, take, drop, inl, inr}
 use Rattle.std.specs.Prelude.{◌⊎◌, if◌then◌else◌}
 use Rattle.std.proofs.lemmas.Bool.{lt-ltb, ltb-true}
@@ -12,12 +12,12 @@ use Rattle.std.specs.List.{list_all}
 use Rattle.std.specs.Prelude.{◌&&◌}
 use Rattle.census_merge.specs.Kept.{is_end, whole_count}
 
--- each row may stand where it does, and what is told and read after them is this
+-- each row may come where it does, and what is told and read after them is this
 abbrev pub Stand : Told → Reading → List Row → Told → Reading → Type 0
 Stand t s [] u v = (t ≡ u) × (s ≡ v)
 Stand t s (row ∷ rows) u v = (m : Told) × (k : Reading) × (told_after t row ≡ Some m) × (step s row ≡ Some k) × Stand m k rows u v
 
--- no row is wrong, but for the one that is missing
+-- no row is wrong, except for the one that is missing
 abbrev pub NoneWrong : ℕ → List Row → Option ℕ → Type 0
 NoneWrong n rows o = (m : ℕ) → o ≡ Some m → n + length rows ≤ m
 
@@ -41,7 +41,7 @@ standing t s n (r ∷ rows) h =
     ] in
     first (told_after t r) refl h
 
--- a row that is wrong is one of them, or the one that is missing behind them
+-- a row that is wrong is one of them, or the one that is missing after them
 pub stray-most : (t : Told) (s : Reading) (n : ℕ) (rows : List Row) (m : ℕ) → first_stray t s n rows ≡ Some m → m ≤ n + length rows
 stray-most t s n [] m h =
     let on : (b : Bool) → (if b then Nothing else Some n) ≡ Some m → m ≤ n + 0 =
@@ -70,17 +70,17 @@ passed t u s v n (r ∷ rows) others h =
     let rest = passed h.0 u h.1 v (n + 1) rows others h.4 in
     (rest.0, ap (telling s n r (rows ++ others)) h.2 ∙ ap (stepping h.0 n (rows ++ others)) h.3 ∙ rest.1)
 
--- # Where the last report ends that is whole
+-- # Where the last whole report ends
 
 abbrev pub NoEnds : List Row → Type 0
 NoEnds [] = Unit {0}
 NoEnds (row ∷ rows) = (is_end row ≡ false) × NoEnds rows
 
--- what is read behind a report
+-- what is read after a report
 abbrev pub ended_reading : Reading
 ended_reading = record { places = []; patterns = 0; ended = true }
 
--- the rows up to there, and those behind them
+-- the rows up to there, and those after them
 pub record Halves (t : Told) (s : Reading) (rows : List Row) (u : Told) (v : Reading) (n : ℕ) : Type 0 where
   pub told : Told
   pub reading : Reading
@@ -93,7 +93,7 @@ ended-one : (b : Bool) (s k : Reading) → (if b then Some ended_reading else No
 ended-one true s k h = cc
 ended-one false s k h = absurd (cc)
 
--- after a row that ends a report all begins anew
+-- after a row that ends a report everything begins anew
 after-end : (t m : Told) (s k : Reading) (r : Row) → is_end r ≡ true → told_after t r ≡ Some m → step s r ≡ Some k → (m ≡ nothing_told) × (k ≡ ended_reading)
 after-end t m s k (End a b) h e f = (told-end t m a b e, ended-one (list_all is_behind s.places && (eqb (length s.places) a && eqb s.patterns b)) s k f)
 after-end t m s k (Open c n name) h e f = absurd (cc)
@@ -114,7 +114,7 @@ halves t u s v (r ∷ rows) h =
     let w = whole_count rows in
     let i = halves h.0 u h.1 v rows h.4 in
     let Goal : ℕ → Type 0 = λ n. Halves t s (r ∷ rows) u v n in
-    -- a report ends behind this row
+    -- a report ends after this row
     let later : ltb 0 w ≡ true → Goal (w + 1) = λ e.
     (let more : w + 1 ≡ suc w = omega arith in
     let some : 0 < w = ltb-true 0 w e in
@@ -122,7 +122,7 @@ halves t u s v (r ∷ rows) h =
     elim i.anew as (λ _. (i.told ≡ nothing_told) × (i.reading ≡ ended_reading)) [ inl none ↦ absurd (omega (arith, none.0, some)) | inr both ↦ both ] in
     let whole : Goal (suc w) = record { told = i.told; reading = i.reading; front = (h.0, h.1, h.2, h.3, i.front); back = i.back; none = i.none; anew = inr anew } in
     subst Goal (sym more) whole) in
-    -- none does
+    -- no report ends there
     let front : w ≡ 0 → ((i.told ≡ h.0) × (i.reading ≡ h.1)) ⊎ ((i.told ≡ nothing_told) × (i.reading ≡ ended_reading)) = λ e.
     elim i.anew as (λ _. ((i.told ≡ h.0) × (i.reading ≡ h.1)) ⊎ ((i.told ≡ nothing_told) × (i.reading ≡ ended_reading))) [ inl none ↦ inl (none.1, none.2) | inr both ↦ inr both ] in
     let behind : w ≡ 0 → NoEnds rows = λ e. subst (λ n. NoEnds (drop n rows)) e i.none in

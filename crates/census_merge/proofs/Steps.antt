@@ -21,7 +21,7 @@ use Rattle.census_merge.proofs.Same.{ends-same, line-same}
 
 -- ---- rows that are read
 
--- the next row, and those behind it
+-- the next row, and those after it
 record Next (todo : List Row) (row : Row) (behind : List ℕ) : Type 0 where
   first : Row
   left : List Row
@@ -113,7 +113,7 @@ pub record CountingLeft (before all : Counted) (rows : List Row) (rest : List �
   pub sums : (others : List Row) → sums_in before.sums (rows ++ others) ≡ sums_in all.sums (todo ++ others)
   pub excess : (others : List Row) → first_excess before.report before.sums (rows ++ others) ≡ first_excess all.report all.sums (todo ++ others)
 
--- what is known where the rows before the rest of a text are counted
+-- what is known once the rows before the rest of a text are counted
 pub record Counting (text : List ℕ) (before all : Counted) (rest : List ℕ) : Type 0 where
   pub few : all.sums.collections ≤ count_limit
   pub number : all.report + length rest ≤ before.report + length text
@@ -126,7 +126,7 @@ counting-start text before few = record {
   rows = λ rows lines e. record { todo = rows; lines = lines; left = e; sums = λ others. refl; excess = λ others. refl };
 }
 
--- the sums of the report that the next row ends, and what stands behind its line
+-- the sums of the report that the next row ends, and what comes after its line
 abbrev Skips : List ℕ → Option Sums → List ℕ → Type 0
 Skips rest end behind = (length behind < length rest) × ((q : Row) (b : List ℕ) → IsLine q → rest ≡ line_of q ++ b → (end ≡ sums_of q) × (behind ≡ b))
 
@@ -184,7 +184,7 @@ module _ (text : List ℕ) (before all : Counted) (rest : List ℕ) (c : Countin
         excess = λ others. l.excess others ∙ ap (λ rs. first_excess all.report all.sums (rs ++ others)) none;
       }
 
--- ---- telling
+-- ---- writing
 
 pub record PuttingLeft (sums all : Sums) (rows : List Row) (rest : List ℕ) (a b : Sheet) : Type 0 where
   pub todo : List Row
@@ -196,7 +196,7 @@ pub record PuttingLeft (sums all : Sums) (rows : List Row) (rest : List ℕ) (a 
   pub all-sums : sums_in all todo ≡ sums_in sums rows
   pub told : (c : Sheet) → TellsAfter (text_of (numbered_on all.collections todo)) b c → TellsAfter (text_of (numbered_on sums.collections rows)) a c
 
--- What is known where the rows before the rest of a text are told: that whoever tells the others has told all.
+-- What is known once the rows before the rest of a text are written: whoever writes the others has written all.
 pub record Putting (text : List ℕ) (sums all : Sums) (rest : List ℕ) (a b : Sheet) : Type 0 where
   pub few : all.collections ≤ count_limit
   pub rows : (rows : List Row) (report : ℕ) → AllLines rows → text ≡ text_of rows → AreFew rows → first_excess report sums rows ≡ Nothing → PuttingLeft sums all rows rest a b
@@ -207,7 +207,7 @@ putting-start text sums a few = record {
   rows = λ rows report lines e fewer fits. record { todo = rows; lines = lines; left = e; fewer = fewer; report = report; excess = fits; all-sums = refl; told = λ c h. h };
 }
 
--- a row that was told, and those behind it
+-- a row that was written, and those after it
 put-by : (s all : Sums) (row q : Row) (left : List Row) (n : ℕ) (b c : Sheet) (o : Option Sums) → s.collections ≤ count_limit → SameRow row q → collection_of q ≤ count_limit
     → PutsEnd o s row (Some all) b c → excess_from n s left o ≡ Nothing → (m : ℕ) × (first_excess m all left ≡ Nothing) × (sums_from s left o ≡ sums_in all left)
     × ((last : Sheet) → TellsAfter (text_of (numbered_on all.collections left)) c last → TellsAfter (text_of (numbered_from s q left o)) b last)

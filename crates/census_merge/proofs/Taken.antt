@@ -1,4 +1,4 @@
--- Rows that fit what was told, one after the other.
+-- Rows that fit what was told, one after another.
 use Rattle.std.proofs.Common.{◌≡◌, ◌++◌, true, cond, Option, Some, None as Nothing, List, ℕ, [], ◌∷◌, ap, ◌∙◌}
 use Rattle.std.specs.Prelude.{⊤}
 use Rattle.std.specs.declared.cmp.Ordering.TheVariants.{Less}
@@ -28,12 +28,12 @@ told-then t v (x ∷ xs) ys h =
 
 -- ---- codes that rise
 
--- the code stands behind the last one, where there is one
+-- the code comes after the last one, if there is one
 abbrev pub IsBehind : Option (List ℕ) → List ℕ → Type 0
 IsBehind Nothing code = ⊤
 IsBehind (Some last) code = shorter_cmp last code ≡ Less
 
--- codes that rise, from behind the last one on
+-- codes that rise, from after the last one on
 abbrev pub Rise : Option (List ℕ) → List part.Part → Type 0
 Rise last [] = ⊤
 Rise last (p ∷ parts) = IsBehind last p.code × Rise (Some p.code) parts

@@ -1,4 +1,4 @@
--- What holds of each tale holds of those that are counted, and what is told of growth.
+-- What holds for each tale holds for those that are counted, and for what is reported of growth.
 use Rattle.std.proofs.Common.{ℕ, Bool, Option, Some, None, List, [], ◌∷◌, map, fold}
 use Rattle.std.specs.List.{AllByRecursion as Each}
 use Rattle.std.specs.declared.cmp.Ordering.{Ordering}
@@ -10,14 +10,14 @@ use Rattle.life_answer.specs.Told.{told_of_engines}
 use Rattle.life_answer.specs.declared.part.Part.{Part}
 use Rattle.life_answer.specs.declared.tale.Engines.{Engines}
 use Rattle.life_answer.specs.declared.tale.Tale.{Tale}
-use Rattle.life_growth.specs.Engines.Tracks.{Step}
-use Rattle.life_growth.specs.Fates.Tracks.{emitted_along, track_of}
+use Rattle.life_objects.specs.Growth.Engines.Tracks.{Step}
+use Rattle.life_objects.specs.Growth.Fates.Tracks.{emitted_along, track_of}
 use Rattle.life_model.specs.Generation.{Generation}
 use Rattle.life_model.specs.Rule.{Rule}
 use Rattle.census_merge.proofs.Solid.{each-map}
 
 module _ (P : List Part → Type 0) where
-  -- it holds of what these engines emit
+  -- it holds for what these engines emit
   abbrev pub OfEngines : Engines → Type 0
   OfEngines line = P line.tale.emits
 
@@ -41,7 +41,7 @@ module _ (P : List Part → Type 0) where
   unfolding counted_tales
   counted-holds tales h = folded-holds tales [] h tt
 
-  -- what holds of no part, and of what counts as the parts of objects, holds of what each engine emits
+  -- what holds for no part, and for what counts as the parts of objects, holds for what each engine emits
   module _ (near : Bool) (R : Rule) (b : ℕ) (none : P [])
       (each : (objects : List Generation) → P (counted_parts near R b objects)) where
     along-holds : (E : Generation) (track : Option (List Step)) → P (tale_along near R b E track).emits

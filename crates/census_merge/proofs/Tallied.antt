@@ -1,4 +1,4 @@
--- What the lines of a collection count is what its `code` lines tell.
+-- What the lines of a collection count is what its `code` lines say.
 use Rattle.std.proofs.Common.{◌≡◌, ℕ, suc, ◌+◌, ◌<◌, ◌≤◌, ◌^◌, true, false, cond, Some, None as Nothing, List, [], ◌∷◌, ◌++◌, map, length, count_by, replicate, ap, ◌∙◌, sym, refl, arith, append_assoc, append-nil}
 use Rattle.std.specs.List.{AllByRecursion as Each}
 use Rattle.std.specs.Map.{lookup}
@@ -53,7 +53,7 @@ printed-one k l a b e =
     let one : k ≡ l = λ i. object (rules i) (codes i) in
     ap (λ z. same_object k z) (sym one) ∙ same_itself k
 
--- printed objects are the same where the objects are
+-- printed objects are the same if the objects are
 printed-same : (k l : Object) → IsLifeLikeObject k → IsLifeLikeObject l → told.same_object (printed k) (printed l) ≡ same_object k l
 printed-same k l a b =
     elim (same_object k l) as (λ v. same_object k l ≡ v → told.same_object (printed k) (printed l) ≡ v) [
@@ -67,7 +67,7 @@ printed-same k l a b =
 sum-fits : (m n : ℕ) → m + n < 2 ^ 64 → sum_with (Some m) n ≡ Some (m + n)
 sum-fits m n few = ap (λ b. cond b (Some (m + n)) Nothing) (lt-ltb (m + n) (2 ^ 64) few)
 
--- so many more of an object
+-- n more of an object
 raised : (es : List (Object × ℕ)) (k : Object) (n : ℕ) → IsLifeLikeObject k → Each (λ (e : Object × ℕ). IsLifeLikeObject e.0) es
     → unwrap_or (lookup (same_object k) es) 0 + n < 2 ^ 64
     → with_more (printed k) n (map printed_count es) ≡ map printed_count (insert_entry same_object es k (unwrap_or (lookup (same_object k) es) 0 + n))
@@ -130,7 +130,7 @@ engines-uncounted c i e (line ∷ engines) k rest =
     ap (counted_by k) (append_assoc (map (emits_row c i e) line.tale.emits) more rest)
     ∙ emits-uncounted c i e line.tale.emits k (more ++ rest) ∙ engines-uncounted c i (suc e) engines k rest
 
--- what was counted before, and these objects
+-- what was counted before, and these objects in addition
 record Goes (k : Counts) (rows rest : List Row) (all : List Object) : Type 0 where
   rule : List ℕ
   is : counted_by k rows ≡ counted_by (at rule all) rest
@@ -161,7 +161,7 @@ outcome-counted c i rule population (Grows engines) name last before rest own al
 
 -- ---- answers
 
--- what this is the answer of
+-- the objects that an answer has
 abbrev answer_objects : Answer → List Object
 answer_objects (Found rule finding) = outcome_objects rule finding.outcome
 answer_objects (Refused number) = []
@@ -218,7 +218,7 @@ unfolding code_line
 codes-tell c [] = refl
 codes-tell c (e ∷ es) = ap (λ zs. printed_count e ∷ zs) (codes-tell c es)
 
--- the `code` lines tell what the lines before them count
+-- the `code` lines say what the lines before them count
 pub section-tallied : (question : Question) (c : ℕ) (f : Folder) → length (objects (answers question f.entries)) < 2 ^ 64
     → counts_told (all_rows (code_groups c (counted_in question f))) ≡ (counted_by nothing_counted (all_rows (pattern_lines question c 1 f.entries))).sums
 section-tallied question c f few =

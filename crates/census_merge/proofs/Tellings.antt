@@ -1,8 +1,9 @@
--- What the rows tell of the collections that are kept.
+-- What the rows say of the collections that are kept.
 use Rattle.std.proofs.Common.{◌≡◌, ℕ, ◌-◌, ◌<◌, ◌≤◌, Bool, true, false, ◌&&◌, ◌||◌, not, eqb, ltb, leb, Option, Some, None as Nothing, List, [], ap, ◌∙◌, sym, refl, arith, subst, inl, inr}
 use Rattle.std.specs.Prelude.{◌⊎◌, if◌then◌else◌}
 use Rattle.std.specs.Option.{option_map}
 use Rattle.std.proofs.lemmas.Bool.{eqb-true, eq-eqb, ltb-true, leb-true}
+use Rattle.std.specs.Ordering.{is_lt}
 use Rattle.census_rows.specs.declared.row.Row.{Row}
 use Rattle.census_rows.specs.declared.row.Row.TheVariants.{Open, Line, Part, Engine, Emits, Code, Close, End}
 use Rattle.census_rows.specs.Kinds.{Said, said}
@@ -10,7 +11,7 @@ use Rattle.census_readback.specs.Codes.{is_code}
 use Rattle.census_readback.specs.Engines.{LastEngine, after_emits, after_engine, no_engine}
 use Rattle.census_readback.specs.Lawful.{is_lawful, is_way}
 use Rattle.census_readback.specs.Steps.{collection_of}
-use Rattle.census_readback.specs.Told.{Told, emits_told, engine_told, has_code, has_rows, is_less, is_told, line_told, part_told, to_tell, told_after, told_so_far, with_engine}
+use Rattle.census_readback.specs.Told.{Told, emits_told, engine_told, has_code, has_rows, is_told, line_told, part_told, to_tell, told_after, told_so_far, with_engine}
 use Rattle.census_readback.proofs.Shaped.{and-both, both-and}
 use Rattle.census_merge.specs.Kept.{closed_to, is_close, is_closed, is_end, numbered}
 use Rattle.life_cells.specs.TextOrder.{shorter_cmp}
@@ -47,7 +48,7 @@ nand-mono false q a b f g h = refl
 
 -- # What agrees
 
--- the same is told of the last line, which is of a collection that is kept, under its number
+-- what is told of the last line is the same in both, and that line is of a collection that is kept, under its number
 pub record SameTold (all : List Row) (t u : Told) : Type 0 where
   pub kept : is_closed all t.collection ≡ true
   pub collection : closed_to all t.collection ≡ u.collection
@@ -59,7 +60,7 @@ pub record SameTold (all : List Row) (t u : Told) : Type 0 where
 abbrev pub Stale : List Row → Told → Type 0
 Stale all t = (is_closed all t.collection ≡ false) ⊎ ((t.left ≡ 0) × (t.engine.number ≡ 0))
 
--- what the rows tell, and those of them that are kept
+-- what the rows say, and what those of them that are kept say
 pub record MirrorsTold (all : List Row) (t u : Told) : Type 0 where
   pub recurs : u.recurs ≡ true → t.recurs ≡ true
   pub parted : u.parted ≡ true → t.parted ≡ true
@@ -109,7 +110,7 @@ module _ (all : List Row) (t w u : Told) (m : MirrorsTold all t u) where
         told = inr (told-too all t u m e.0, inl off);
       })
 
-  -- ---- rows behind them
+  -- ---- rows after them
 
   -- a row of a collection that is left out
   stays : (z : Told) → z.recurs ≡ t.recurs → z.parted ≡ t.parted → z.collection ≡ t.collection → is_closed all t.collection ≡ false → MirrorsTold all z u
@@ -125,7 +126,7 @@ module _ (all : List Row) (t w u : Told) (m : MirrorsTold all t u) where
     );
   }
 
-  -- where one is of a collection that is kept, the same is told of the last line
+  -- if it is of a collection that is kept, what is told of the last line is the same
   same-told : is_closed all t.collection ≡ true → (t.left ≡ 0 → t.engine.number ≡ 0 → ⊥) → SameTold all t u
   same-told held more =
       elim m.told as (λ _. SameTold all t u) [
@@ -141,15 +142,15 @@ module _ (all : List Row) (t w u : Told) (m : MirrorsTold all t u) where
   part-goes c code count held some h =
       let now : Told = record t { left = t.left - count; last = code } in
       let next : Told = record u { left = u.left - count; last = code } in
-      let k = if-told (eqb c t.collection && (leb count t.left && is_less (shorter_cmp t.last code))) (Some now) w h in
-      let e = and-both (eqb c t.collection) (leb count t.left && is_less (shorter_cmp t.last code)) k.0 in
-      let f = and-both (leb count t.left) (is_less (shorter_cmp t.last code)) e.1 in
+      let k = if-told (eqb c t.collection && (leb count t.left && is_lt (shorter_cmp t.last code))) (Some now) w h in
+      let e = and-both (eqb c t.collection) (leb count t.left && is_lt (shorter_cmp t.last code)) k.0 in
+      let f = and-both (leb count t.left) (is_lt (shorter_cmp t.last code)) e.1 in
       let own : c ≡ t.collection = eqb-true _ _ e.0 in
       let most : count ≤ t.left = leb-true _ _ f.0 in
       let same = same-told (ap (λ d. is_closed all d) (sym own) ∙ held) (λ none _. omega (arith, none, most, some)) in
       let number : closed_to all c ≡ u.collection = ap (λ d. closed_to all d) own ∙ same.collection in
-      let pass : (eqb (closed_to all c) u.collection && (leb count u.left && is_less (shorter_cmp u.last code))) ≡ true =
-      both-and _ _ (eq-eqb _ _ number) (both-and _ _ (ap (λ n. leb count n) (sym same.left) ∙ f.0) (ap (λ l. is_less (shorter_cmp l code)) (sym same.last) ∙ f.1)) in (
+      let pass : (eqb (closed_to all c) u.collection && (leb count u.left && is_lt (shorter_cmp u.last code))) ≡ true =
+      both-and _ _ (eq-eqb _ _ number) (both-and _ _ (ap (λ n. leb count n) (sym same.left) ∙ f.0) (ap (λ l. is_lt (shorter_cmp l code)) (sym same.last) ∙ f.1)) in (
         next,
         if-pass _ (Some next) next pass refl,
         subst (λ z. MirrorsTold all z next) (some-of now w k.1)
@@ -163,8 +164,8 @@ module _ (all : List Row) (t w u : Told) (m : MirrorsTold all t u) where
   part-stays : (c : ℕ) (code : List ℕ) (count : ℕ) → is_closed all c ≡ false → part_told t c code count ≡ Some w → MirrorsTold all w u
   part-stays c code count off h =
       let now : Told = record t { left = t.left - count; last = code } in
-      let k = if-told (eqb c t.collection && (leb count t.left && is_less (shorter_cmp t.last code))) (Some now) w h in
-      let e = and-both (eqb c t.collection) (leb count t.left && is_less (shorter_cmp t.last code)) k.0 in
+      let k = if-told (eqb c t.collection && (leb count t.left && is_lt (shorter_cmp t.last code))) (Some now) w h in
+      let e = and-both (eqb c t.collection) (leb count t.left && is_lt (shorter_cmp t.last code)) k.0 in
       let own : c ≡ t.collection = eqb-true _ _ e.0 in
       subst (λ z. MirrorsTold all z u) (some-of now w k.1) (stays now refl refl refl (ap (λ d. is_closed all d) (sym own) ∙ off))
 
@@ -205,18 +206,18 @@ module _ (all : List Row) (t w u : Told) (m : MirrorsTold all t u) where
       → (v : Told) × (emits_told u (closed_to all c) engine code count ≡ Some v) × MirrorsTold all w v
   emits-goes c engine code count held some h =
       let after : LastEngine → Option LastEngine = λ g. after_emits g (record { code = code; count = count }) in
-      let k = if-told (eqb c t.collection && (eqb engine t.engine.number && is_less (shorter_cmp t.last code))) (option_map (with_engine t t.left code) (after t.engine)) w h in
-      let e = and-both (eqb c t.collection) (eqb engine t.engine.number && is_less (shorter_cmp t.last code)) k.0 in
-      let f = and-both (eqb engine t.engine.number) (is_less (shorter_cmp t.last code)) e.1 in
+      let k = if-told (eqb c t.collection && (eqb engine t.engine.number && is_lt (shorter_cmp t.last code))) (option_map (with_engine t t.left code) (after t.engine)) w h in
+      let e = and-both (eqb c t.collection) (eqb engine t.engine.number && is_lt (shorter_cmp t.last code)) k.0 in
+      let f = and-both (eqb engine t.engine.number) (is_lt (shorter_cmp t.last code)) e.1 in
       let own : c ≡ t.collection = eqb-true _ _ e.0 in
       let first : engine ≡ t.engine.number = eqb-true _ _ f.0 in
       let same = same-told (ap (λ d. is_closed all d) (sym own) ∙ held) (λ _ none. omega (arith, none, first, some)) in
       let number : closed_to all c ≡ u.collection = ap (λ d. closed_to all d) own ∙ same.collection in
       let to = mapped (with_engine t t.left code) (after t.engine) w k.1 in
       let next : Told = with_engine u u.left code to.0 in
-      let pass : (eqb (closed_to all c) u.collection && (eqb engine u.engine.number && is_less (shorter_cmp u.last code))) ≡ true =
+      let pass : (eqb (closed_to all c) u.collection && (eqb engine u.engine.number && is_lt (shorter_cmp u.last code))) ≡ true =
       both-and _ _ (eq-eqb _ _ number)
-      (both-and _ _ (ap (λ (g : LastEngine). eqb engine g.number) (sym same.engine) ∙ f.0) (ap (λ l. is_less (shorter_cmp l code)) (sym same.last) ∙ f.1)) in
+      (both-and _ _ (ap (λ (g : LastEngine). eqb engine g.number) (sym same.engine) ∙ f.0) (ap (λ l. is_lt (shorter_cmp l code)) (sym same.last) ∙ f.1)) in
       let goes : option_map (with_engine u u.left code) (after u.engine) ≡ Some next =
       ap (λ g. option_map (with_engine u u.left code) (after g)) (sym same.engine) ∙ ap (option_map (with_engine u u.left code)) to.1 in (
         next,
@@ -232,8 +233,8 @@ module _ (all : List Row) (t w u : Told) (m : MirrorsTold all t u) where
   emits-stays : (c engine : ℕ) (code : List ℕ) (count : ℕ) → is_closed all c ≡ false → emits_told t c engine code count ≡ Some w → MirrorsTold all w u
   emits-stays c engine code count off h =
       let after : LastEngine → Option LastEngine = λ g. after_emits g (record { code = code; count = count }) in
-      let k = if-told (eqb c t.collection && (eqb engine t.engine.number && is_less (shorter_cmp t.last code))) (option_map (with_engine t t.left code) (after t.engine)) w h in
-      let e = and-both (eqb c t.collection) (eqb engine t.engine.number && is_less (shorter_cmp t.last code)) k.0 in
+      let k = if-told (eqb c t.collection && (eqb engine t.engine.number && is_lt (shorter_cmp t.last code))) (option_map (with_engine t t.left code) (after t.engine)) w h in
+      let e = and-both (eqb c t.collection) (eqb engine t.engine.number && is_lt (shorter_cmp t.last code)) k.0 in
       let own : c ≡ t.collection = eqb-true _ _ e.0 in
       let to = mapped (with_engine t t.left code) (after t.engine) w k.1 in
       subst (λ z. MirrorsTold all z u) to.2 (stays (with_engine t t.left code to.0) refl refl refl (ap (λ d. is_closed all d) (sym own) ∙ off))
@@ -267,7 +268,7 @@ module _ (all : List Row) (t w u : Told) (m : MirrorsTold all t u) where
 
 -- # A row of a report's collection
 
--- one of a collection that is kept
+-- a row of a collection that is kept
 pub told-goes : (all : List Row) (t w u : Told) (r : Row) → MirrorsTold all t u → is_end r ≡ false → is_closed all (collection_of r) ≡ true → told_after t r ≡ Some w
     → (v : Told) × (told_after u (numbered (closed_to all (collection_of r)) r) ≡ Some v) × MirrorsTold all w v
 told-goes all t w u (Open c n name) m own held h =
@@ -304,7 +305,7 @@ told-goes all t w u (Close c n a b d) m own held h =
     (g.0, g.1, g.2)
 told-goes all t w u (End n k) m own held h = absurd (cc)
 
--- one of a collection that is left out
+-- a row of a collection that is left out
 pub told-stays : (all : List Row) (t w u : Told) (r : Row) → MirrorsTold all t u → is_end r ≡ false → is_closed all (collection_of r) ≡ false → told_after t r ≡ Some w
     → MirrorsTold all w u
 told-stays all t w u (Open c n name) m own off h = so-far-stays all t w u m (if-told (is_lawful (Open c n name)) (told_so_far t) w h).1
@@ -320,7 +321,7 @@ told-stays all t w u (End n k) m own off h = absurd (cc)
 
 -- # Whether all is told
 
--- all is told, or the row is of the last line's collection and does not close it
+-- everything is told, or the row is of the last line's collection and does not close it
 abbrev pub IsReady : Told → Row → Type 0
 IsReady w r = (is_told w ≡ true) ⊎ ((w.collection ≡ collection_of r) × (is_close r ≡ false))
 
@@ -342,8 +343,8 @@ line-own t w c what h =
 part-own : (t w : Told) (c : ℕ) (code : List ℕ) (count : ℕ) → part_told t c code count ≡ Some w → w.collection ≡ c
 part-own t w c code count h =
     let now : Told = record t { left = t.left - count; last = code } in
-    let k = if-told (eqb c t.collection && (leb count t.left && is_less (shorter_cmp t.last code))) (Some now) w h in
-    let e = and-both (eqb c t.collection) (leb count t.left && is_less (shorter_cmp t.last code)) k.0 in
+    let k = if-told (eqb c t.collection && (leb count t.left && is_lt (shorter_cmp t.last code))) (Some now) w h in
+    let e = and-both (eqb c t.collection) (leb count t.left && is_lt (shorter_cmp t.last code)) k.0 in
     ap (λ (z : Told). z.collection) (sym (some-of now w k.1)) ∙ sym (eqb-true _ _ e.0)
 
 engine-own : (t w : Told) (c count : ℕ) (o : Option LastEngine) → engine_told t c count o ≡ Some w → w.collection ≡ c
@@ -356,8 +357,8 @@ engine-own t w c count o h =
 emits-own : (t w : Told) (c engine : ℕ) (code : List ℕ) (count : ℕ) → emits_told t c engine code count ≡ Some w → w.collection ≡ c
 emits-own t w c engine code count h =
     let o = after_emits t.engine (record { code = code; count = count }) in
-    let k = if-told (eqb c t.collection && (eqb engine t.engine.number && is_less (shorter_cmp t.last code))) (option_map (with_engine t t.left code) o) w h in
-    let e = and-both (eqb c t.collection) (eqb engine t.engine.number && is_less (shorter_cmp t.last code)) k.0 in
+    let k = if-told (eqb c t.collection && (eqb engine t.engine.number && is_lt (shorter_cmp t.last code))) (option_map (with_engine t t.left code) o) w h in
+    let e = and-both (eqb c t.collection) (eqb engine t.engine.number && is_lt (shorter_cmp t.last code)) k.0 in
     let to = mapped (with_engine t t.left code) o w k.1 in
     ap (λ (z : Told). z.collection) (sym to.2) ∙ sym (eqb-true _ _ e.0)
 

@@ -1,4 +1,4 @@
--- Rows that tell of a bundle are, line by line, its report.
+-- Rows that say what is found of a bundle are, line by line, its report.
 use Rattle.std.proofs.Common.{◌≡◌, ℕ, List, [], ◌∷◌, ◌++◌, map, ap, ◌∙◌, sym, refl}
 use Rattle.std.specs.Prelude.{codes}
 use Rattle.census_bundle.specs.declared.bundle.Folder.{Folder}

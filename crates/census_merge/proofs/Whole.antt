@@ -13,7 +13,7 @@ use Rattle.census_readback.specs.Steps.{Reading, first_stray, initial_reading, i
 use Rattle.census_readback.specs.Texts.{AllLines, HasNoFeed, IsStuck, SameRows}
 use Rattle.census_readback.specs.Told.{Told, nothing_told}
 use Rattle.census_readback.proofs.Alike.{stray-same}
-use Rattle.census_readback.proofs.Interleaved.{reports-sound}
+use Rattle.census_readback.proofs.Interleaved.{reports-complete, reports-sound}
 use Rattle.census_merge.specs.Feeds.{feeds}
 use Rattle.census_merge.specs.Kept.{closed_to, is_close, is_closed, is_open, kept_of, kept_rows, most, whole_count}
 use Rattle.census_merge.specs.Mended.{IsCutTo}
@@ -44,7 +44,7 @@ small-rows : (rows : List Row) → AreOfCollections count_limit rows → AreSmal
 small-rows [] h = tt
 small-rows (r ∷ rows) h = (h.1, small-rows rows h.2)
 
--- what is known of rows of which none is wrong
+-- what is known of rows if none of them is wrong
 pub record Keeps (rows : List Row) : Type 0 where
   pub can : CanBeKept rows
   pub reports : AreReports (kept_rows rows)
@@ -133,7 +133,7 @@ same-length [] (y ∷ ys) h = absurd h
 same-length (x ∷ xs) [] h = absurd h
 same-length (x ∷ xs) (y ∷ ys) h = (let e = same-length xs ys h.1 in omega (arith, e))
 
--- what is known of a text whose first line that is wrong is the one behind its last whole line
+-- what is known of a text whose first wrong line is the one after its last whole line
 pub record CutText (text : List ℕ) (rows : List Row) (rest : List ℕ) : Type 0 where
   pub unfed : HasNoFeed rest
   pub count : feeds text ≡ length rows
@@ -182,7 +182,7 @@ cut-to text made cut rows rest h fault lines whole e line kept left = record {
   unfed = h.unfed;
   fault = fault;
   count = h.count;
-  kept = record { lines = h.kept-lines; whole = e; shape = h.keeps-rows.reports };
+  kept = record { lines = h.kept-lines; whole = e; shape = reports-complete (kept_rows rows) h.keeps-rows.reports };
   line_is = line;
   kept_is = kept;
   left_is = left;

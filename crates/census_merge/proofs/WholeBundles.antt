@@ -1,9 +1,10 @@
--- The rows that say what is said of a bundle tell what the rows of a report tell together.
+-- The rows that say what is said of a bundle say together what the rows of a report say together.
 use Rattle.std.proofs.Common.{◌≡◌, ℕ, zero, suc, ◌+◌, ◌*◌, ◌-◌, ◌<◌, ◌≤◌, min, Bool, true, false, not, ◌&&◌, ◌||◌, cond, eqb, leb, ltb, Option, Some, None as Nothing, Result, Ok, Err, List, [], ◌∷◌, ◌++◌, map, length, count_by, replicate, slice_get, Less, ap, ◌∙◌, sym, subst, refl, arith}
 use Rattle.std.specs.Prelude.{⊤}
 use Rattle.std.proofs.lemmas.List.Sums.{sum_by-cons}
 use Rattle.std.specs.List.{AllByRecursion as Each}
 use Rattle.std.proofs.lemmas.Bool.{eq-eqb, le-leb, lt-ltb}
+use Rattle.std.specs.Ordering.{is_lt}
 use Rattle.census_bundle.specs.Names.{IsNamedEntry, IsNamedFolder, is_name}
 use Rattle.census_bundle.specs.declared.bundle.Entry.{Entry}
 use Rattle.census_bundle.specs.declared.bundle.Folder.{Folder}
@@ -12,7 +13,7 @@ use Rattle.census_format.specs.Lines.{Group, answer_to_entry, answers, outcome_r
 use Rattle.census_format.specs.Objects.{Object, distinct_elements, object, objects, outcome_objects, part_objects, same_object}
 use Rattle.census_format.specs.ObjectLaws.{same_itself}
 use Rattle.census_format.specs.Reports.{Owned, folder_section, lines_of, section, section_of}
-use Rattle.census_readback.specs.Told.{Told, has_code, has_rows, is_less, is_told, line_told, nothing_told, part_told, told_by, told_next, to_tell}
+use Rattle.census_readback.specs.Told.{Told, has_code, has_rows, is_told, line_told, nothing_told, part_told, told_by, told_next, to_tell}
 use Rattle.census_readback.specs.Engines.{LastEngine, no_engine}
 use Rattle.census_readback.specs.Lawful.{is_lawful}
 use Rattle.census_readback.specs.Codes.{is_code, is_code_after}
@@ -66,7 +67,7 @@ use Rattle.census_merge.proofs.Solid.{each-append, each-map, each-replicate}
 
 -- ---- what is told between groups
 
--- a line is told of the other question
+-- a line that was told is of the other question
 abbrev is_mixed : Question → Told → Bool
 is_mixed (Settles bound cells) t = t.parted
 is_mixed (Objects bound cells near horizon) t = t.recurs
@@ -83,7 +84,7 @@ record Passes (question : Question) (t : Told) (rows : List Row) : Type 0 where
 abbrev IsTold : Question → List Row → Type 0
 IsTold question rows = (t : Told) → IsCalm question t → Passes question t rows
 
--- after a row that tells nothing of a pattern
+-- after a row that says nothing of a pattern
 abbrev past : Told → Told
 past t = record t { engine = no_engine }
 
@@ -98,7 +99,7 @@ past-mixed : (question : Question) (t : Told) → is_mixed question t ≡ false 
 past-mixed (Settles bound cells) t h = h
 past-mixed (Objects bound cells near horizon) t h = h
 
--- a lawful row that tells nothing of a pattern
+-- a lawful row that says nothing of a pattern
 plain : (question : Question) (row : Row) → is_lawful row ≡ true → ((t : Told) → is_told t ≡ true → told_next t row ≡ Some (past t)) → IsTold question (row ∷ [])
 plain question row lawful same t calm = record {
   after = past t;
@@ -111,21 +112,21 @@ plain question row lawful same t calm = record {
 abbrev with_left : Told → ℕ → List ℕ → Told
 with_left t left last = record t { left = left; last = last }
 
--- a part that is told by its row
+-- a part whose row is lawful
 abbrev IsLawfulPart : part.Part → Type 0
 IsLawfulPart p = IsCounted p × (is_code p.code ≡ true)
 
 part-lawful : (c i : ℕ) (p : part.Part) → IsLawfulPart p → is_lawful (part_row c i p) ≡ true
 part-lawful c i p h = ap (λ b. b && ltb 0 p.count) h.1 ∙ lt-ltb 0 p.count h.0
 
--- a part that stands behind its line
+-- a part that comes after its line
 part-fits : (t : Told) (c : ℕ) (code : List ℕ) (count : ℕ) → c ≡ t.collection → count ≤ t.left → shorter_cmp t.last code ≡ Less
     → part_told t c code count ≡ Some (record t { left = t.left - count; last = code })
 part-fits t c code count owner few later =
     let u : Told = record t { left = t.left - count; last = code } in
-    ap (λ b. cond (b && (leb count t.left && is_less (shorter_cmp t.last code))) (Some u) Nothing) (eq-eqb c t.collection owner)
-    ∙ ap (λ b. cond (b && is_less (shorter_cmp t.last code)) (Some u) Nothing) (le-leb count t.left few)
-    ∙ ap (λ o. cond (is_less o) (Some u) Nothing) later
+    ap (λ b. cond (b && (leb count t.left && is_lt (shorter_cmp t.last code))) (Some u) Nothing) (eq-eqb c t.collection owner)
+    ∙ ap (λ b. cond (b && is_lt (shorter_cmp t.last code)) (Some u) Nothing) (le-leb count t.left few)
+    ∙ ap (λ o. cond (is_lt o) (Some u) Nothing) later
 
 still : (question : Question) (t : Told) (left : ℕ) (last : List ℕ) → is_mixed question t ≡ false → is_mixed question (record t { left = left; last = last }) ≡ false
 still (Settles bound cells) t left last h = h
@@ -145,7 +146,7 @@ parts-told question c i (p ∷ parts) t owner left rises mixed rise counted =
 
 -- ---- what is found
 
--- what is found answers the question, and its parts stand in the order of their codes
+-- what is found answers the question, and its parts are in the order of their codes
 abbrev pub IsFair : Question → Outcome → Type 0
 IsFair (Settles bound cells) (Ash onset parts) = ⊥
 IsFair (Settles bound cells) (Grows engines) = ⊥
@@ -155,7 +156,7 @@ IsFair (Objects bound cells near horizon) (Grows engines) = IsFairGrowth engines
 IsFair (Settles bound cells) (Recurs onset period dx dy code) = is_code_after (not (same_cell (dx, dy) origin)) period code ≡ true
 IsFair question _ = ⊤
 
--- it has not fallen apart, and doesn't grow
+-- it has not fallen apart, and it does not grow
 abbrev IsWhole : Outcome → Type 0
 IsWhole (Ash onset parts) = ⊥
 IsWhole (Grows engines) = ⊥
@@ -385,7 +386,7 @@ count-first p x xs = sum_by-cons (λ y. cond (p y) 1 0) x xs
 count-more : (y x : Object) (xs : List Object) → 0 < count_by (same_object y) xs → 0 < count_by (same_object y) (x ∷ xs)
 count-more y x xs h = let first = count-first (same_object y) x xs in omega (arith, first, h)
 
--- each of these is counted once at least
+-- each of these is counted at least once
 counts-some : (xs : List Object) → Each (λ (x : Object). 0 < count_by (same_object x) xs) xs
 counts-some [] = tt
 counts-some (x ∷ xs) =
@@ -402,7 +403,7 @@ tally-some : (f : Object → ℕ) (xs : List Object) → Each (λ (x : Object). 
 tally-some f [] h = tt
 tally-some f (x ∷ xs) h = (h.0, tally-some f xs h.1)
 
--- the object's code is one where it has a byte
+-- the object's code is one if it has a byte
 abbrev IsCodeObject : Object → Type 0
 IsCodeObject o = IsCodeIfSome o.code
 
@@ -499,7 +500,7 @@ calm-first : (question : Question) → IsCalm question nothing_told
 calm-first (Settles bound cells) = (refl, refl)
 calm-first (Objects bound cells near horizon) = (refl, refl)
 
--- the rows of a bundle's report tell what rows of a report tell
+-- the rows of a bundle's report say what rows of a report say
 pub report-tells : (b : List Folder) (question : Question) (groups : List Owned) (n k : ℕ) → IsBundle b → InRange b question
     → ((c : ℕ) → lines_of c groups ≡ section b question c) → told_by nothing_told (rows_in groups ++ End n k ∷ []) ≡ Some nothing_told
 report-tells b question groups n k bundle range are =

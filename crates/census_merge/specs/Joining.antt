@@ -13,13 +13,13 @@ abbrev pub bundles : List (List Folder) → List Folder
 bundles [] = []
 bundles (b ∷ parts) = b ++ bundles parts
 
--- each report tells its bundle
+-- each report says what is found of its bundle
 abbrev pub EachTells : Question → List (List Folder) → List (List Row) → Type 0
 EachTells question [] [] = ⊤
 EachTells question (b ∷ parts) (rows ∷ reports) = TellsBundle b question rows × EachTells question parts reports
 EachTells question _ _ = ⊥
 
--- what a bundle's value has: lawful names, and not more of anything than a bundle may have
+-- what a bundle's value has: lawful names, and no more of anything than a bundle may have
 abbrev pub IsBundle : List Folder → Type 0
 IsBundle b = IsWithinCounts b × HasLawfulNames b
 

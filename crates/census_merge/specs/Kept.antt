@@ -31,7 +31,7 @@ abbrev pub closes : ℕ → Row → Bool
 closes c (Close collection patterns resolved unresolved refused) = collection == c
 closes c _ = false
 
--- one of the rows does
+-- one of the rows closes the collection of this number
 abbrev pub is_closed : List Row → ℕ → Bool
 is_closed [] c = false
 is_closed (row ∷ rows) c = closes c row || is_closed rows c
@@ -45,7 +45,7 @@ abbrev pub closed_to : List Row → ℕ → ℕ
 closed_to rows zero = 0
 closed_to rows (suc c) = closed_to rows c + (if is_closed rows (suc c) then 1 else 0)
 
--- a row under this number of its collection
+-- a row with this number for its collection
 abbrev pub numbered : ℕ → Row → Row
 numbered c (Open collection patterns name) = Open c patterns name
 numbered c (Line collection pattern outcome name) = Line c pattern outcome name
@@ -56,7 +56,7 @@ numbered c (Code collection rule code count) = Code c rule code count
 numbered c (Close collection patterns resolved unresolved refused) = Close c patterns resolved unresolved refused
 numbered c (End collections patterns) = End collections patterns
 
--- Of the second rows those of the collections that the first close, numbered from 1 on in the order of their numbers.
+-- Those of the second rows whose collections the first close, numbered from 1 on in the order of their numbers.
 abbrev pub kept_of : List Row → List Row → List Row
 kept_of all [] = []
 kept_of all (row ∷ rows) =
@@ -66,6 +66,6 @@ kept_of all (row ∷ rows) =
 abbrev pub report_of : List Row → List Row
 report_of rows = kept_of rows rows ++ End (closed_to rows most) (patterns_in (kept_of rows rows)) ∷ []
 
--- whole reports stay, and of the report behind them the collections that are closed
+-- whole reports stay, and so do the closed collections of the report after them
 abbrev pub kept_rows : List Row → List Row
 kept_rows rows = take (whole_count rows) rows ++ report_of (drop (whole_count rows) rows)

@@ -9,9 +9,9 @@ use Rattle.census_merge.specs.Kept.{is_close, is_open, kept_rows}
 use Rattle.census_merge.specs.declared.mending.Cut.{Cut}
 use Rattle.census_merge.specs.declared.mending.Mended.{Mended}
 
--- The text was cut: its rows stand on whole lines, behind these is no LF, and its first line that is wrong is the one behind
--- its last whole line. What it is mended to is a report, or several, of the rows that are kept of its rows. Told are how many
--- whole lines it has, how many of its collections are closed, and how many are not.
+-- The text was cut: its rows are on whole lines, no LF comes after these, and its first wrong line is the one after its last
+-- whole line. It is mended to a report, or several, of those of its rows that are kept. The cut says how many whole lines the
+-- text has, how many of its collections are closed, and how many are not.
 pub record IsCutTo (text : List ℕ) (mended : List ℕ) (cut : Cut) : Type 0 where
   pub rows : List Row
   pub rest : List ℕ
@@ -34,7 +34,7 @@ pub record IsWholeText (text : List ℕ) (mended : List ℕ) : Type 0 where
 abbrev pub IsMended : List ℕ → Mended → Type 0
 IsMended text m = MatchOption m.cut (IsWholeText text m.text.items) (λ cut. IsCutTo text m.text.items cut)
 
--- The text is no report, nor several, and was not cut: this is its first line that is wrong, and it is not the one behind its
--- last whole line.
+-- The text is neither a report nor several, and was not cut: this is its first wrong line, and it is not the one after its last
+-- whole line.
 abbrev pub IsBroken : List ℕ → ℕ → Type 0
 IsBroken text line = IsFault text line × (line ≢ feeds text + 1)

@@ -11,7 +11,7 @@ abbrev pub AreFew : List Row → Type 0
 AreFew [] = ⊤
 AreFew (row ∷ rows) = (collection_of row ≤ count_limit) × AreFew rows
 
--- a row, where so many collections come before those of its report
+-- a row, where `before` collections come before those of its report
 abbrev pub renumbered_row : ℕ → Row → Row
 renumbered_row before (Open collection patterns name) = Open (before + collection) patterns name
 renumbered_row before (Line collection pattern outcome name) = Line (before + collection) pattern outcome name
@@ -22,12 +22,12 @@ renumbered_row before (Code collection rule code count) = Code (before + collect
 renumbered_row before (Close collection patterns resolved unresolved refused) = Close (before + collection) patterns resolved unresolved refused
 renumbered_row before (End collections patterns) = End collections patterns
 
--- the rows of several reports without `end` rows, numbered on, where so many collections come before them
+-- the rows of several reports without `end` rows, numbered on, where `before` collections come before them
 abbrev pub numbered_on : ℕ → List Row → List Row
 numbered_on before [] = []
 numbered_on before (row ∷ rows) =
     elim (sums_of row) [ Nothing ↦ renumbered_row before row ∷ numbered_on before rows | Some more ↦ numbered_on (before + more.collections) rows ]
 
--- the rows of one report of all their collections
+-- the rows of one report that has all their collections
 abbrev pub merged_rows : List Row → List Row
 merged_rows rows = numbered_on 0 rows ++ End (sums_in no_sums rows).collections (sums_in no_sums rows).patterns ∷ []

@@ -1,4 +1,4 @@
--- Numbers that a line can tell.
+-- Numbers that fit a line.
 use Rattle.std.specs.Prelude.{ℕ, FitsSigned, List, ◌<◌, ◌^◌, length}
 use Rattle.std.specs.Int.{w64}
 use Rattle.std.specs.List.{AllByRecursion as Each}
@@ -37,11 +37,11 @@ FitsValue (Text bytes) = 0 < length bytes.now
 abbrev pub FitsEmitted : Part → Type 0
 FitsEmitted part = IsCodedPart part × (part.count < 2 ^ 64)
 
--- what is told of the engines is in range
+-- what is reported of the engines is in range
 abbrev pub FitsEngines : Engines → Type 0
 FitsEngines engines = IsInRange period_limit engines × Each FitsEmitted engines.tale.emits
 
--- the numbers of an outcome fit 64 bits, each object has a code, and what is told of engines is in range
+-- the numbers of an outcome fit 64 bits, each object has a code, and what is reported of engines is in range
 abbrev pub FitsOutcome : Outcome → Type 0
 FitsOutcome outcome =
     Each (λ (field : Field). FitsValue field.value) (said_of (finding_of outcome)).fields
@@ -55,7 +55,7 @@ abbrev pub IsToldAnswer : Answer → Type 0
 IsToldAnswer (Found rule finding) = FitsReport finding
 IsToldAnswer (Refused number) = number < 2 ^ 64
 
--- what is found of the folder's patterns can be told, and there are fewer than 2^64 objects in all
+-- what is found of the folder's patterns can be reported, and there are fewer than 2^64 objects in all
 abbrev pub IsToldFolder : Question → Folder → Type 0
 IsToldFolder question f = Each IsToldAnswer (answers question f.entries) × (length (objects (answers question f.entries)) < 2 ^ 64)
 

@@ -5,11 +5,11 @@ use Rattle.census_rows.specs.declared.row.Row.TheVariants.{End}
 use Rattle.census_readback.specs.Limits.{count_limit}
 use Rattle.census_merge.specs.declared.report_sums.Sums.{Sums}
 
--- those of no report
+-- the sums of no report
 abbrev pub no_sums : Sums
 no_sums = record { collections = 0; patterns = 0 }
 
--- those of the report that a row ends
+-- the sums of the report that a row ends
 abbrev pub sums_of : Row → Option Sums
 sums_of (End collections patterns) = Some (record { collections = collections; patterns = patterns })
 sums_of _ = Nothing
@@ -17,17 +17,17 @@ sums_of _ = Nothing
 abbrev pub sums_plus : Sums → Sums → Sums
 sums_plus s more = record { collections = s.collections + more.collections; patterns = s.patterns + more.patterns }
 
--- with those of one more report: 65,535 collections at most, and as many patterns as 64 bits can count
+-- the sums with those of one more report: at most 65,535 collections, and no more patterns than 64 bits can count
 abbrev pub with_more : Sums → Sums → Option Sums
 with_more s more =
     if nat_le more.collections (count_limit - s.collections) && nat_le more.patterns (2 ^ 64 - 1 - s.patterns) then Some (sums_plus s more) else Nothing
 
--- those of all reports, where these are those before the rows
+-- the sums of all reports, where s are those of the reports before the rows
 abbrev pub sums_in : Sums → List Row → Sums
 sums_in s [] = s
 sums_in s (row ∷ rows) = elim (sums_of row) [ Nothing ↦ sums_in s rows | Some more ↦ sums_in (sums_plus s more) rows ]
 
--- the number, from this one on, of the first report with which there are too many
+-- the number of the first report with which there are too many, where `report` is that of the next
 abbrev pub first_excess : ℕ → Sums → List Row → Option ℕ
 first_excess report s [] = Nothing
 first_excess report s (row ∷ rows) =

@@ -1,4 +1,4 @@
--- What rows tell of a bundle.
+-- What rows say of a bundle.
 use Rattle.std.specs.Prelude.{◌≡◌, ℕ, List, [], ◌∷◌, ◌++◌, map}
 use Rattle.census_bundle.specs.declared.bundle.Folder.{Folder}
 use Rattle.census_format.specs.Lines.{end_line}
@@ -12,8 +12,8 @@ abbrev pub rows_in : List Owned → List Row
 rows_in [] = []
 rows_in (l ∷ ls) = l.group ++ rows_in ls
 
--- The rows are spelled as those of the sections of all collections, interleaved line by line, and then comes the `end` row.
--- The rows of one pattern stay together.
+-- The rows are spelled as those of the sections of all collections, interleaved line by line, followed by the `end` row. The
+-- rows of one pattern stay together.
 pub record TellsBundle (b : List Folder) (question : Question) (rows : List Row) : Type 0 where
   pub groups : List Owned
   pub sections : (c : ℕ) → lines_of c groups ≡ section b question c

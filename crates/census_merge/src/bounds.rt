@@ -22,8 +22,8 @@ pub fn every_lawful_report_is_read()
         → IsReport b question text → Readable text }
 {}
 
-/// Of several texts, each of which is a lawful report of its bundle under one question, all are read back as one, and what is
-/// written of the merged rows is a lawful report of the bundles, one after another.
+/// If each of several texts is a lawful report of its bundle under one question, all of them are read back as one, and the
+/// merged rows as written are a lawful report of the bundles, one after another.
 pub fn lawful_reports_are_made_one()
     ensures { (question : Question) (parts : List (List Folder)) (reports : List (List ℕ)) →
         IsAnswered question

@@ -29,7 +29,7 @@ pub fn count_open(rows: &[Row]) -> usize
     rows.iter().filter(|row| is_open(*row)).count()
 }
 
-// How many rows close one.
+// How many rows close a collection.
 pub fn count_close(rows: &[Row]) -> usize
     ensures { result ≡ count_by is_close rows.now }
 {

@@ -14,8 +14,8 @@ ghost use Rattle.life_answer.specs.declared.question.Question.{Question};
 ghost use Rattle.census_merge.specs.Joining.{IsBundle};
 ghost use Rattle.census_merge.specs.Telling.{TellsBundle};
 
-/// Of a lawful report that was cut before its `end` row was whole, the rows that are kept tell what is found of the patterns of
-/// the collections that are closed.
+/// If a lawful report was cut before its `end` row was whole, the rows that are kept say what is found of the patterns of the
+/// collections that are closed.
 pub fn what_is_kept_tells_the_closed_collections()
     ensures { (b : List Folder) (question : Question) (rows : List Row) (rest : List ℕ) →
         IsBundle b → AllLines rows
@@ -23,8 +23,8 @@ pub fn what_is_kept_tells_the_closed_collections()
         TellsBundle (closed_folders rows 1 b) question (report_of rows) }
 {}
 
-/// Of a lawful report that was cut before its `end` row was whole, the rows that are kept, written line by line, are a lawful
-/// report of the collections that are closed, under the same question.
+/// If a lawful report was cut before its `end` row was whole, the rows that are kept, written line by line, are a lawful report
+/// of the collections that are closed, under the same question.
 pub fn what_is_kept_of_a_cut_report_is_a_report()
     ensures { (b : List Folder) (question : Question) (rows : List Row) (rest : List ℕ) →
         IsBundle b → AllLines rows
@@ -32,8 +32,8 @@ pub fn what_is_kept_of_a_cut_report_is_a_report()
         IsReport (closed_folders rows 1 b) question (text_of (report_of rows)) }
 {}
 
-/// What the front of a lawful report, of which something was cut off, is mended to is a lawful report of the collections that
-/// are closed in its rows, under the same question.
+/// If something was cut off the end of a lawful report, what is left is mended to a lawful report of the collections that are
+/// closed in its rows, under the same question.
 pub fn a_cut_report_is_mended_to_a_report()
     ensures { (b : List Folder) (question : Question) (text more mended : List ℕ) (cut : Cut) →
         IsBundle b → IsReport b question (text ++ more) → 0 < length more

@@ -1,4 +1,4 @@
-//! Where the last report ends that is whole.
+//! Where the last whole report ends.
 ghost use Rattle.std.specs.Prelude.{◌≡◌, ◌≤◌, length};
 ghost use Rattle.census_merge.specs.Kept.{is_end, whole_count};
 

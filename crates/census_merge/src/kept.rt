@@ -12,7 +12,7 @@ use census_readback::{collection_of, patterns_opened};
 use census_rows::Row;
 use std::alloc::{AllocError, Global};
 
-// A row under this number of its collection.
+// A row with this number for its collection.
 fn numbered<'a>(number: u64, mut row: Row<'a>) -> Row<'a>
     ensures { result ≡ numbered number row.entry }
 {
@@ -29,7 +29,7 @@ fn numbered<'a>(number: u64, mut row: Row<'a>) -> Row<'a>
     row
 }
 
-// A row as it is kept, where its collection has a number.
+// A row as it is kept, if its collection has a number.
 fn kept_row<'a>(numbers: &[u64], row: Row<'a>) -> Option<Row<'a>>
     requires low { 0 < collection_of row }
     requires high { collection_of row ≤ length numbers.now }

@@ -1,4 +1,4 @@
-//! Laws of reports: what rows tell of a bundle, that a report's rows tell its bundle, and that reports made one are a report
+//! Laws of reports: what rows say of a bundle, that a report's rows say it of its bundle, and that merged reports are a report
 //! of their bundles, one after another.
 ghost use Rattle.std.specs.Prelude.{◌≡◌, ◌≤◌, ℕ, List, None, length};
 ghost use Rattle.census_format.specs.Reports.{IsReport};
@@ -15,29 +15,29 @@ ghost use Rattle.census_merge.specs.Joining.{AreBundles, EachIsReport, EachTells
 ghost use Rattle.census_merge.specs.Ranges.{InRange, Readable};
 ghost use Rattle.census_merge.specs.Telling.{TellsBundle};
 
-/// Rows that tell what is found of a bundle's patterns are, written line by line, a lawful report of it.
+/// Rows that say what is found of a bundle's patterns, written line by line, are a lawful report of it.
 pub fn rows_that_tell_are_a_report()
     ensures { (b : List Folder) (question : Question) (rows : List Row) →
         TellsBundle b question rows
         → IsReport b question (text_of rows) }
 {}
 
-/// A lawful report of a bundle, read back, gives rows that tell what is found of the bundle's patterns.
+/// A lawful report of a bundle, read back, gives rows that say what is found of the bundle's patterns.
 pub fn a_report_read_back_tells_its_bundle()
     ensures { (b : List Folder) (question : Question) (text : List ℕ) (rows : List Row) → IsBundle b
         → IsReport b question text → ReadsAsReports rows text → TellsBundle b question rows }
 {}
 
-/// Where each of several lists of rows tells its bundle under one question, the merged rows tell the bundles, one after
-/// another.
+/// If each of several lists of rows says what is found of its bundle under one question, the merged rows say it of the bundles,
+/// one after another.
 pub fn merged_rows_tell_the_bundles_joined()
     ensures { (question : Question) (parts : List (List Folder)) (reports : List (List Row))
         → EachTells question parts reports →
         TellsBundle (bundles parts) question (merged_rows (all_rows reports)) }
 {}
 
-/// Where each of several texts is a lawful report of its bundle under one question, and the rows are those of all texts,
-/// read back, the merged rows, written line by line, are a lawful report of the bundles, one after another.
+/// If each of several texts is a lawful report of its bundle under one question, and the rows are those of all texts, read
+/// back, then the merged rows, written line by line, are a lawful report of the bundles, one after another.
 pub fn merged_reports_are_a_report()
     ensures { (question : Question) (parts : List (List Folder)) (reports : List (List ℕ))
         (rows : List Row)
@@ -55,7 +55,7 @@ pub fn reports_that_fit_are_merged()
         → length (bundles parts) ≤ count_limit → first_excess 1 no_sums rows ≡ None }
 {}
 
-/// A lawful report of a bundle is read back, where the numbers that are found of its patterns are in the range of a line.
+/// A lawful report of a bundle is read back if the numbers that are found of its patterns are in the range of a line.
 pub fn a_lawful_report_in_range_is_read()
     ensures { (b : List Folder) (question : Question) (text : List ℕ) → IsBundle b →
         InRange b question

@@ -1,7 +1,8 @@
-//! Several reports made one, what is kept of a text that was cut amid a report, and laws of reports. The one has the collections of
-//! all, numbered on, and one `end` line with the sums. `laws` says what rows tell of a bundle, that a report's rows tell its bundle,
-//! and that reports made one are a report of their bundles, one after another; `runs` says what a report's numbers count, `bounds`
-//! that every lawful report is read back, and `cuts` what is kept of one that was cut.
+//! Several reports merged into one, what is kept of a text that was cut in the middle of a report, and laws of reports. The
+//! merged report has the collections of all, numbered consecutively, and one `end` line with the sums. `laws` says what rows say
+//! of a bundle, that a report's rows say it of its bundle, and that merged reports are a report of their bundles, one after
+//! another; `runs` says what a report's numbers count, `bounds` that every lawful report is read back, and `cuts` what is kept
+//! of one that was cut.
 //!
 //! Tested in `tests_reports`.
 #![tactic(auto)]

@@ -8,14 +8,14 @@ use census_readback::first_row;
 use census_rows::Row;
 use std::alloc::{AllocError, Global};
 
-// Rows, and what stands after their lines.
+// Rows, and what comes after their lines.
 #[derive(Drop)]
 pub struct Front<'a> {
     pub rows: Vec<Row<'a>>,
     pub rest: &'a [u8],
 }
 
-// As many rows as stand at the start of a text.
+// Reads rows from the start of a text until what follows is no row.
 pub fn read_front(alloc: Global, text: &[u8]) -> Result<Front, AllocError>
     ensures sound { IfOk result (λ front. AllLines front.rows.items
         × (text.now ≡ text_of front.rows.items ++ front.rest.now) × IsStuck front.rest.now) }

@@ -24,7 +24,7 @@ pub struct Cut {
     pub left: u64,
 }
 
-/// A text that is a report, or several one after another; and where the text was cut that it was made of, if that was.
+/// A text that is a report, or several one after another; and where the text that it was made of was cut, if it was.
 #[derive(Drop)]
 pub struct Mended {
     pub text: Vec<u8>,
@@ -48,7 +48,7 @@ fn mend_cut(alloc: Global, text: &[u8]) -> Result<(Vec<u8>, Cut), AllocError>
     Ok((text_of(alloc, kept.as_slice())?, cut))
 }
 
-// These bytes once more.
+// A copy of these bytes.
 fn copied(alloc: Global, text: &[u8]) -> Result<Vec<u8>, AllocError>
     ensures { IfOk result (λ copy. copy.items ≡ text.now) }
 {
@@ -57,13 +57,13 @@ fn copied(alloc: Global, text: &[u8]) -> Result<Vec<u8>, AllocError>
     Ok(copy)
 }
 
-/// Mends a text that was cut: whole reports stay as they are, and of the report behind them what stands behind the last
-/// whole line and the collections that are open are left out. Those that are closed are numbered from 1 on in the order of
-/// their numbers, and an `end` line stands behind them. A text that is a report, or several, stays as it is. A text without
-/// a byte was cut before its first line.
+/// Mends a text that was cut. Whole reports stay as they are. Of the report after them, what comes after the last whole line is
+/// left out, and so are the collections that are open. Those that are closed are numbered from 1 on, in the order of their
+/// numbers, and an `end` line is added after them. A text that is a report, or several, stays as it is. A text without a byte
+/// was cut before its first line.
 ///
-/// `Err` has the line of the fault, as `fault_of` tells it, of a text that is none of these: a line that is whole is no row,
-/// or may not stand where it does, or tells what no report tells there.
+/// `Err` has the line of the fault, as `fault_of` returns it, if the text is none of these: a whole line is no row, or may not
+/// be where it is, or says what no report says there.
 pub fn mend(alloc: Global, text: &[u8]) -> Result<Result<Mended, usize>, AllocError>
     ensures sound { IfOk result (λ read. MatchResult read
         (λ mended. IsMended text.now mended)

@@ -1,9 +1,8 @@
 //! Several reports made one.
 //!
-//! The merged report has the collections of all reports: first those of the first report, under
-//! their numbers, then those of the second, numbered on, and so forth. Nothing else of their rows
-//! changes, nor their order; of the `end` rows one is left, which has the sums. Since a `code` row
-//! counts what is in one collection, none of these are added up. The rows are read from their text
+//! The merged report has the collections of all reports: first those of the first report, under their numbers, then those of
+//! the second, numbered on, and so forth. Nothing else of their rows changes, nor their order. One `end` row is left, which has
+//! the sums. A `code` row counts what is in one collection, so none of these are added up. The rows are read from their text
 //! one by one, and none is kept.
 ghost use Rattle.std.specs.Prelude.{◌≡◌, ◌+◌, ◌<◌, ◌≤◌, ◌^◌, ◌++◌, ℕ, List, length, IfOk, IfSome, MatchOption, MatchResult, Some, None};
 ghost use Rattle.watched.specs.Telling.{TellsAfter, sheet};
@@ -24,16 +23,15 @@ use census_rows::{Row, put_row};
 use std::io::Write;
 use watched::{Block, Output, put};
 
-/// How many collections and patterns the reports have that are counted, and the number, from 1, of
-/// the next.
+/// How many collections and patterns the counted reports have, and the number, from 1, of the next report.
 #[derive(Clone, Copy)]
 pub struct Counted {
     pub sums: Sums,
     pub report: usize,
 }
 
-/// The number, from 1, of the first of several reports with which there are too many collections,
-/// which is more than 65,535, or too many patterns, which is more than 64 bits can count.
+/// The number, from 1, of the first of several reports with which there are too many collections (more than 65,535) or too many
+/// patterns (more than 64 bits can count).
 #[derive(Clone, Copy)]
 pub struct TooMany {
     pub report: usize,
@@ -50,8 +48,8 @@ impl Counted {
         }
     }
 
-    // After one row more, which ends a report with these sums, if it ends one; where one report can
-    // have so many.
+    // After one more row, where `end` are the sums of the report that it ends, if it ends one. `None` if these are too many for
+    // one report together with those before.
     fn after(self, end: Option<Sums>) -> Option<Counted>
         requires few { self.sums.collections ≤ count_limit }
         requires fits { self.report + 1 < 2 ^ 64 }
@@ -68,8 +66,8 @@ impl Counted {
     }
 }
 
-// The sums of the report that the first row ends, where it ends one, and what stands behind its
-// line. (Of other rows no field is read.)
+// The sums of the report that the first row ends, if it ends one, and what comes after its line. (No field of any other row is
+// read.)
 fn first_end(text: &[u8]) -> Option<(Option<Sums>, &[u8])>
     ensures shorter { IfSome result (λ end. length end.1.now < length text.now) }
     ensures all { (row : Row) (after : List ℕ) → IsLine row → text.now ≡ line_of row ++ after
@@ -82,8 +80,8 @@ fn first_end(text: &[u8]) -> Option<(Option<Sums>, &[u8])>
     Some((None, behind_line(text)?))
 }
 
-/// Counts the reports that a text has, one after another, where one report can have as many
-/// collections and patterns as they and those that were counted.
+/// Counts the reports of a text, one after another, with those that were counted before. `Err` has the first report with which
+/// there are too many collections or patterns for one report.
 pub fn count(counted: Counted, text: &[u8]) -> Result<Counted, TooMany>
     requires few { counted.sums.collections ≤ count_limit }
     requires fits { counted.report + length text.now < 2 ^ 64 }
@@ -104,7 +102,7 @@ pub fn count(counted: Counted, text: &[u8]) -> Result<Counted, TooMany>
     Ok(all)
 }
 
-// Tells a row's line.
+// Writes a row's line.
 fn put_line<W: Write>(row: &Row, block: &mut Block, writer: &mut Output<W>)
     ensures { TellsAfter (line_of row.now) (sheet block.old writer.old)
         (sheet block.new writer.new) }
@@ -113,7 +111,7 @@ fn put_line<W: Write>(row: &Row, block: &mut Block, writer: &mut Output<W>)
     put(b"\n", block, writer);
 }
 
-// Tells a row, numbered on; of one that ends a report, its sums are added.
+// Writes a row, numbered on; if it ends a report, adds its sums instead.
 fn put_next<W: Write>(
     sums: Sums,
     row: Row,
@@ -131,9 +129,9 @@ fn put_next<W: Write>(
     sums.with(more)
 }
 
-/// Tells the rows of the reports that a text has, one after another, without their `end` rows,
-/// numbered on from those before them, of which these are the sums, and gives those of all; `None`
-/// once the writer has failed. They aren't too many together.
+/// Writes the rows of the reports of a text, one after another, without their `end` rows. They are numbered on from the reports
+/// before them, which have these sums. Returns the sums of all, or `None` once the writer has failed. Together they must not be
+/// too many.
 pub fn put_rows<W: Write>(
     sums: Sums,
     text: &[u8],
@@ -162,7 +160,7 @@ pub fn put_rows<W: Write>(
     Some(all)
 }
 
-/// Tells the `end` row of all reports.
+/// Writes the `end` row of all reports.
 pub fn put_end<W: Write>(sums: Sums, block: &mut Block, writer: &mut Output<W>)
     ensures { TellsAfter (line_of (End sums.collections sums.patterns))
         (sheet block.old writer.old) (sheet block.new writer.new) }

@@ -8,7 +8,7 @@ use census_readback::COUNT_LIMIT;
 use census_rows::Row;
 use std::alloc::{AllocError, Global};
 
-// The collection that a row closes, less 1, where it closes one that a report may have.
+// The collection that a row closes, less 1, if it closes one that a report may have.
 fn closed_index(row: &Row) -> Option<usize>
     ensures value { result ≡ closed_index row.now }
     ensures within { IfSome result (λ index. index < count_limit) }
@@ -21,7 +21,7 @@ fn closed_index(row: &Row) -> Option<usize>
     }
 }
 
-// Tells of the collection that a row closes that it is closed.
+// Marks the collection that a row closes as closed.
 fn mark(flags: &mut Vec<bool>, row: &Row)
     requires { length flags.old.items ≡ count_limit }
     ensures { flags.new.items ≡ marked (closed_index row.now) flags.old.items }
@@ -31,7 +31,7 @@ fn mark(flags: &mut Vec<bool>, row: &Row)
     }
 }
 
-// Of each collection that a report may have, whether these rows close it.
+// For each collection that a report may have, whether these rows close it.
 fn closed_by(alloc: Global, count: usize, rows: &[Row]) -> Result<Vec<bool>, AllocError>
     requires { count ≡ count_limit }
     ensures { IfOk result (λ flags. AreFlags rows.now flags.items) }
@@ -43,7 +43,7 @@ fn closed_by(alloc: Global, count: usize, rows: &[Row]) -> Result<Vec<bool>, All
     Ok(flags)
 }
 
-// Of each collection its number, where it is closed, else 0; and how many are closed.
+// For each collection its number if it is closed, else 0; and how many are closed.
 #[derive(Drop)]
 pub struct Numbers {
     pub each: Vec<u64>,

@@ -6,7 +6,7 @@ ghost use Rattle.census_readback.specs.Limits.{count_limit};
 
 use census_rows::Row;
 
-// A row, where so many collections come before those of its report.
+// A row, where `before` collections come before those of its report.
 pub fn renumbered_row<'a>(before: u64, mut row: Row<'a>) -> Row<'a>
     requires { before ≤ count_limit }
     ensures { collection_of row.entry ≤ count_limit → result ≡ renumbered_row before row.entry }

@@ -13,7 +13,7 @@ pub struct Sums {
 }
 
 impl Sums {
-    /// Those of no report.
+    /// The sums of no report.
     pub fn none() -> Self
         ensures { result ≡ no_sums }
     {
@@ -23,7 +23,7 @@ impl Sums {
         }
     }
 
-    // With those of one more report, where there aren't too many.
+    // The sums with those of one more report, if these aren't too many.
     pub fn with(self, more: Sums) -> Option<Sums>
         requires { self.collections ≤ count_limit }
         ensures { result ≡ with_more self more }
@@ -41,7 +41,7 @@ impl Sums {
     }
 }
 
-// Those of the report that this row ends.
+// The sums of the report that this row ends, if it ends one.
 pub fn sums_at_end(row: &Row) -> Option<Sums>
     ensures { result ≡ sums_of row.now }
 {

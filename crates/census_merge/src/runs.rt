@@ -1,5 +1,5 @@
-//! Laws of reports: what the numbers of a report of objects count, said of cells on the plane, of which patterns it tells that
-//! they grow, and that of one collection there is one report.
+//! Laws of reports: what the numbers in a report of objects count, as cells on the plane; which patterns it says grow; and that
+//! one collection has one report.
 
 ghost use Rattle.std.specs.Prelude.{◌≡◌, ◌↔◌, ◌++◌, [], ◌∷◌, ℕ, Bool, List, Option, Some, codes};
 ghost use Rattle.census_bundle.specs.declared.bundle.Entry.{Entry};
@@ -19,17 +19,17 @@ ghost use Rattle.life_answer.specs.declared.question.Question.{Question};
 ghost use Rattle.life_answer.specs.declared.question.Question.TheVariants.{Objects};
 ghost use Rattle.life_objects.specs.Onset.{IsAshOnset};
 
-/// Where objects are asked for, each `code` line of a collection counts one object. The line has the object's rule and
-/// code, and its number is how many sets are that object of those that count, of all of the collection's patterns that have
-/// fallen apart within the bound under that rule, with no generation up to three times the bound that is too large. And each
-/// set that counts of such a pattern has exactly one line of its rule and code. Where what is near one another is one object,
-/// the objects into which a pattern falls apart count; else their independent parts do.
+/// Where objects are asked for, each `code` line of a collection counts one object. The line has the object's rule and code.
+/// Its number is how many sets are that object, among the sets that count. These are the sets of all of the collection's
+/// patterns that have fallen apart within the bound under that rule, with no generation up to three times the bound that is too
+/// large. Each set that counts of such a pattern has exactly one line with its rule and code. If what is near one another is
+/// one object, the objects into which a pattern falls apart count; otherwise their independent parts do.
 pub fn codes_count_objects_of_ash()
     ensures { CodesCountObjectsOfAsh }
 {}
 
-/// Where objects are asked for, the line of a pattern that falls apart tells the onset of its ash: the first generation that
-/// is ash within the bound.
+/// Where objects are asked for, the line of a pattern that falls apart has the onset of its ash: the first generation that is
+/// ash within the bound.
 pub fn ash_lines_tell_the_onset()
     ensures { (near : Bool) (bound : ℕ) (most : Option ℕ) (horizon : ℕ) (e : Entry) (f : FallsApart bound most e) →
         (onset : ℕ) × IsAshOnset f.rule bound f.cells onset
@@ -37,9 +37,9 @@ pub fn ash_lines_tell_the_onset()
         ≡ Some (Number onset)) }
 {}
 
-/// Where objects are asked for, a line tells that a pattern grows exactly where some generation of it grows within the
-/// horizon, as is seen by a generation up to the bound, no generation up to four times that one being too large. Behind it
-/// stand the `engine` and `emits` rows of the engines by which that generation grows.
+/// Where objects are asked for, a line says that a pattern grows exactly if some generation of it grows within the horizon, as
+/// is seen by a generation up to the bound, and no generation up to four times that one is too large. After it come the
+/// `engine` and `emits` rows of the engines by which that generation grows.
 pub fn growth_is_told_exactly()
     ensures told { (near : Bool) (bound : ℕ) (most : Option ℕ) (horizon c i : ℕ) (e : Entry)
         (g : HasGrown bound most horizon e) → pattern_rows (Objects bound most near horizon) c i e
@@ -49,7 +49,7 @@ pub fn growth_is_told_exactly()
         HasGrown bound most horizon e }
 {}
 
-/// Of one collection there is one report: its lines in their order, and the end line.
+/// One collection has one report: its lines in their order, and the end line.
 pub fn one_collection_has_one_report()
     ensures { (f : Folder) (question : Question) (text : List ℕ) → IsReport (f ∷ []) question text
         ↔ (text ≡ groups_text (folder_section question 1 f) ++ text_of (end_line (f ∷ []))) }

@@ -8,7 +8,7 @@ use std::alloc::{AllocError, Global};
 use std::io::Write;
 use watched::{Block, Output, put, send};
 
-// Tells a row's line.
+// Writes a row's line.
 fn put_line<W: Write>(row: &Row, block: &mut Block, writer: &mut Output<W>)
     ensures { TellsAfter (line_of row.now) (sheet block.old writer.old)
         (sheet block.new writer.new) }
@@ -17,7 +17,7 @@ fn put_line<W: Write>(row: &Row, block: &mut Block, writer: &mut Output<W>)
     put(b"\n", block, writer);
 }
 
-// Tells the line of each row.
+// Writes the line of each row.
 fn put_lines<W: Write>(rows: &[Row], block: &mut Block, writer: &mut Output<W>)
     ensures { TellsAfter (text_of rows.now) (sheet block.old writer.old)
         (sheet block.new writer.new) }

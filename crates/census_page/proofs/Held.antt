@@ -2,7 +2,7 @@
 use Rattle.std.proofs.Common.{◌≡◌, ℕ, suc, ◌+◌, ◌<◌, ◌≤◌, Bool, true, false, if◌then◌else◌, Option, List, [], ◌∷◌, ◌++◌, length, get_or, drop, map, refl, sym, ap, ap₂, ◌∙◌, subst, arith, inl, inr, true≢false, drop-cons, append_assoc}
 use Rattle.std.specs.Prelude.{cond, filter, Some, None as Nothing, is_some, ◌⊎◌}
 use Rattle.std.specs.Cmp.{IsStrictWeakOrder}
-use Rattle.std.specs.List.{All}
+use Rattle.std.specs.List.{All, cons_option}
 use Rattle.std.specs.List.Sorted.{ties, IsPartitionedBy, IsPartitionPoint, IsPermutation, IsSortedBy, IsStableBy}
 use Rattle.std.specs.Option.{unwrap_or}
 use Rattle.std.specs.Ordering.{is_lt}
@@ -16,9 +16,9 @@ use Rattle.census_rows.specs.declared.row.Row.{Row}
 use Rattle.census_rows.specs.declared.row.Row.TheVariants.{Open, Line, Part, Engine, Emits, Code, Close, End}
 use Rattle.census_rows.specs.Kinds.{said_of}
 use Rattle.census_readback.specs.Sections.{same_behind}
-use Rattle.census_kept.specs.Placed.{row_numbered}
+use Rattle.census_rows.specs.Store.Placed.{row_numbered}
 use Rattle.census_page.specs.Held.{held_at, holder_at, holders_at, line_after, naming_at, nobody}
-use Rattle.census_page.specs.Holders.{has_code, having, holder_before, holder_of, holders_from, naming_after}
+use Rattle.census_page.specs.Holders.{has_code, having, holder_of, holders_from, naming_after}
 use Rattle.census_page.specs.Order.{AreInOrder, holder_key, key_cmp}
 use Rattle.census_page.specs.declared.holder.Holder.{Holder}
 use Rattle.census_page.specs.declared.holder.Naming.{Naming}
@@ -73,16 +73,16 @@ none-named rows end at = ap (naming_after Nothing) (get_or_past rows end (End 0 
 -- what the row at an index adds
 pub from-here : (rows : List Row) (line next i : ℕ) → i < length rows → next ≡ line_after rows line i
     → holders_from (naming_at rows line) (drop i rows)
-    ≡ holder_before (holder_at rows (record { line = next; row = i })) (holders_from (naming_at rows next) (drop (i + 1) rows))
+    ≡ cons_option (holder_at rows (record { line = next; row = i })) (holders_from (naming_at rows next) (drop (i + 1) rows))
 from-here rows line next i less after =
     ap (holders_from (naming_at rows line)) (row-here rows i less)
-    ∙ ap (λ n. holder_before (holder_of n (row_numbered rows i)) (holders_from n (drop (i + 1) rows))) (naming-on rows line i ∙ ap (naming_at rows) (sym after))
+    ∙ ap (λ n. cons_option (holder_of n (row_numbered rows i)) (holders_from n (drop (i + 1) rows))) (naming-on rows line i ∙ ap (naming_at rows) (sym after))
 
-before-some : (o : Option Holder) (hs : List Holder) → is_some o ≡ true → holder_before o hs ≡ unwrap_or o nobody ∷ hs
+before-some : (o : Option Holder) (hs : List Holder) → is_some o ≡ true → cons_option o hs ≡ unwrap_or o nobody ∷ hs
 before-some Nothing hs some = absurd (true≢false (sym some))
 before-some (Some holder) hs some = refl
 
-before-none : (o : Option Holder) (hs : List Holder) → is_some o ≡ false → holder_before o hs ≡ hs
+before-none : (o : Option Holder) (hs : List Holder) → is_some o ≡ false → cons_option o hs ≡ hs
 before-none Nothing hs none = refl
 before-none (Some holder) hs none = absurd (true≢false none)
 
@@ -177,7 +177,7 @@ same-held rows old new stable moved rule code =
           ∙ sym (having-none rule code (holders_at rows old) (All-map (λ h. has_code rule code h ≡ false) (held_at rows) old none))
     ]
 
--- # Lists of what stands at places
+-- # Lists of what is at places
 
 pub parted-map : {X Y : Type 0} (f : X → Y) (P Q : Y → Type 0) (xs : List X) (ys : List Y) (i : ℕ) (x : X) → map f xs ≡ ys → i ≤ length xs
     → IsPartitionPoint (λ z. P (f z)) (λ z. Q (f z)) xs i → IsPartitionPoint P Q ys i
@@ -196,7 +196,7 @@ parted-back f p xs ys are parted i j d low small has =
     let other = get_or-map f xs j d (f d) small in
     ap p (sym one) ∙ all i j (f d) low (omega (arith, length-map xs f, small)) (ap p other ∙ has)
 
--- what stands at an index
+-- what is at an index
 pub held-here : (rows : List Row) (places : List Place) (hs : List Holder) (index : ℕ) (d : Place) (holder : Holder) → holders_at rows places ≡ hs → index < length hs
     → holder_at rows (get_or places index d) ≡ Some holder → holder ≡ get_or hs index holder
 unfolding held_at

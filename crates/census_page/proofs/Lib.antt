@@ -7,3 +7,4 @@ pub mod Places
 pub mod Ranks
 pub mod Stable
 pub mod Tables
+pub mod PiecesLemmas

@@ -1,4 +1,4 @@
--- Texts of elements one after another, each told with its number.
+-- Texts of elements one after another, each written with its number.
 use Rattle.std.proofs.Common.{◌≡◌, ℕ, suc, ◌+◌, ◌<◌, ◌≤◌, List, [], ◌∷◌, ◌++◌, length, drop, get_or, ap, ◌∙◌, drop-cons, arith}
 use Rattle.std.proofs.lemmas.List.{drop_all}
 use Rattle.watched.specs.Telling.{Sheet, TellsAfter, TellsFront}

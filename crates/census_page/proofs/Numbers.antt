@@ -11,8 +11,8 @@ use Rattle.std.proofs.lemmas.List.{map-append, take-map}
 use Rattle.std.proofs.lemmas.List.Elements.{All-cons, All-tail}
 use Rattle.std.proofs.lemmas.List.Sorted.{All-permutation, ranks_by}
 use Rattle.census_rows.specs.declared.row.Row.{Row}
-use Rattle.census_kept.specs.Placed.{AreWithin, IsWithin, row_numbered, rows_numbered}
-use Rattle.census_kept.proofs.Placing.{within-take}
+use Rattle.census_rows.specs.Store.Placed.{AreWithin, IsWithin, row_numbered, rows_numbered}
+use Rattle.census_rows.proofs.StoreLemmas.Placing.{within-take}
 use Rattle.census_page.specs.Sorting.{put_by, row_cmp, sorted_by}
 use Rattle.census_page.specs.declared.holder.Holder.{Holder}
 use Rattle.census_page.specs.declared.options.Sort.{Sort}
@@ -28,7 +28,7 @@ within-all : (rows : List Row) (numbers : List ℕ) → All (IsWithin rows) numb
 within-all rows [] are = tt
 within-all rows (number ∷ numbers) are = (are 0 number (omega arith), within-all rows numbers (All-tail (IsWithin rows) number numbers are))
 
--- whatever their order
+-- numbers are within the rows, whatever their order
 pub within-moved : (rows : List Row) (old new : List ℕ) → IsPermutation old new → AreWithin rows old → AreWithin rows new
 within-moved rows old new moved are = within-all rows new (All-permutation (IsWithin rows) old new moved (all-within rows old are))
 
@@ -36,7 +36,7 @@ pub within-one : (rows : List Row) (numbers : List ℕ) (number : ℕ) → AreWi
 within-one rows [] number are less = (less, tt)
 within-one rows (other ∷ numbers) number are less = (are.0, within-one rows numbers number are.1 less)
 
--- # Those that pass a test
+-- # Numbers of rows that pass a test
 
 pub told-more : (p : Row → Bool) (rows : List Row) (numbers : List ℕ) (i : ℕ) (all : List Row) → i < length rows → p (row_numbered rows i) ≡ true
     → rows_numbered rows numbers ++ filter p (drop i rows) ≡ all → rows_numbered rows (numbers ++ i ∷ []) ++ filter p (drop (i + 1) rows) ≡ all

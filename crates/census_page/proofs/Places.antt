@@ -1,4 +1,4 @@
--- The patterns that have a code stand together where all stand in the order of their codes.
+-- The patterns that have a code are next to each other where all are in the order of their codes.
 use Rattle.std.proofs.Common.{◌≡◌, ℕ, zero, suc, ◌+◌, ◌<◌, ◌≤◌, Bool, true, false, not, ◌&&◌, List, [], ◌∷◌, length, take, drop, get_or, refl, sym, ap, ap₂, ◌∙◌, arith, true≢false, length-drop}
 use Rattle.std.specs.Prelude.{cond, nat_eq}
 use Rattle.std.specs.Cmp.Lexicographic.{on_texts, pointwise, slice_cmp, texts_ties}
@@ -22,7 +22,7 @@ use Rattle.census_page.specs.declared.holder.Share.TheVariants.{Parts}
 pub key_total : IsTotalOrder key_cmp
 key_total = then_total (on_texts (λ (k : List ℕ × List ℕ). k.0)) (on_texts (λ (k : List ℕ × List ℕ). k.1))
 
--- a pattern has a code where it stands there in the order
+-- a pattern has a code where it is level with it in the order
 pub has_is : (rule code : List ℕ) (h : Holder) → has_code rule code h ≡ is_eq (key_cmp (holder_key h) (code, rule))
 has_is rule code h =
     both_tied (pointwise nat_eq h.code.now code) (pointwise nat_eq h.rule.now rule) (slice_cmp nat_cmp h.code.now code) (slice_cmp nat_cmp h.rule.now rule)
@@ -33,13 +33,13 @@ not-equal Less h = refl
 not-equal Equal h = absurd (true≢false (sym h))
 not-equal Greater h = refl
 
--- neither before nor there: behind
+-- neither before nor the same: after
 behind : (r : Ordering) → is_lt r ≡ false → is_eq r ≡ false → r ≡ Greater
 behind Less h k = absurd (true≢false h)
 behind Equal h k = absurd (true≢false k)
 behind Greater h k = refl
 
--- what stands behind something that stands behind a place stands behind it
+-- what is no earlier than something after a place is not at it
 further : (k x y : List ℕ × List ℕ) → key_cmp x k ≡ Greater → is_lt (key_cmp y x) ≡ false → is_eq (key_cmp y k) ≡ false
 further k x y over up = go (key_cmp y x) refl up
   where
@@ -66,7 +66,7 @@ having-none rule code [] none = refl
 having-none rule code (h ∷ hs) none =
     having-less rule code h hs (none 0 h (omega arith)) ∙ having-none rule code hs (All-tail (λ h. has_code rule code h ≡ false) h hs none)
 
--- what comes before a place has nothing there
+-- the patterns that come before a code don't have it
 having-drop : (rule code : List ℕ) (at : ℕ) (hs : List Holder) → ((k : ℕ) (d : Holder) → k < at → is_before rule code (get_or hs k d) ≡ true) → at ≤ length hs
     → having rule code hs ≡ having rule code (drop at hs)
 having-drop rule code zero hs before within = refl
@@ -75,7 +75,7 @@ having-drop rule code (suc at) (h ∷ hs) before within =
     having-less rule code h hs (has_is rule code h ∙ not-equal (key_cmp (holder_key h) (code, rule)) (before 0 h (omega arith)))
     ∙ having-drop rule code at hs (λ k d small. before (suc k) d (omega (arith, small))) (omega (arith, within))
 
--- those that have it stand first, and none comes after these
+-- the patterns that have it come first, and none comes after these
 having-take : (rule code : List ℕ) (n : ℕ) (hs : List Holder) → IsPartitionPoint (λ h. has_code rule code h ≡ true) (λ h. has_code rule code h ≡ false) hs n
     → n ≤ length hs → take n hs ≡ having rule code hs
 having-take rule code zero hs parted within = sym (having-none rule code hs (λ k d small. parted.1 k d (omega arith) small))
@@ -86,14 +86,14 @@ having-take rule code (suc n) (h ∷ hs) parted within =
     (omega (arith, within)))
     ∙ sym (having-more rule code h hs (parted.0 0 h (omega arith) (omega arith)))
 
--- from a place on that all before it come before, those that have it stand first
+-- from a place on, if all before it come earlier in the order, the patterns that have the code come first
 pub having-is : (rule code : List ℕ) (at n : ℕ) (hs rest : List Holder) → rest ≡ drop at hs → ((k : ℕ) (d : Holder) → k < at → is_before rule code (get_or hs k d) ≡ true)
     → at ≤ length hs → IsPartitionPoint (λ h. has_code rule code h ≡ true) (λ h. has_code rule code h ≡ false) rest n → n ≤ length rest
     → take n rest ≡ having rule code hs
 having-is rule code at n hs rest is before within parted few =
     having-take rule code n rest parted few ∙ ap (having rule code) is ∙ sym (having-drop rule code at hs before within)
 
--- nothing stands at a code after one that doesn't, where none of these comes before
+-- no pattern has a code after one that doesn't, if none of these comes before the code
 pub having-parted : (rule code : List ℕ) (hs : List Holder) → AreInOrder hs → All (λ h. is_before rule code h ≡ false) hs → IsPartitionedBy (has_code rule code) hs
 having-parted rule code hs order from i j d low small has = go (has_code rule code (get_or hs i d)) refl
   where
@@ -118,7 +118,7 @@ order-drop n hs order k d low small =
     ∙ ap (λ i. is_lt (key_cmp (holder_key i) (holder_key (get_or hs (n + k) d)))) (one ∙ ap (λ i. get_or hs i d) (let e : n + (k + 1) ≡ n + k + 1 = omega arith in e))
     ∙ order (n + k) d (omega arith) within
 
--- what `partition_point` asks
+-- what `partition_point` requires
 pub before-parted : (rule code : List ℕ) (hs : List Holder) → AreInOrder hs → IsPartitionedBy (is_before rule code) hs
 before-parted rule code hs order i j d low small before =
     lower (code, rule) (holder_key (get_or hs i d)) (holder_key (get_or hs j d)) before
@@ -160,7 +160,7 @@ tied rule code h =
     ap (λ r. not (is_lt r) && not (is_lt (key_cmp (holder_key h) (code, rule)))) (key_total.antisymm (code, rule) (holder_key h))
     ∙ level (key_cmp (holder_key h) (code, rule)) ∙ sym (has_is rule code h)
 
--- patterns tie with one that has a code where they have it
+-- patterns tie with one that has a code exactly where they have it
 pub tied-with : (rule code : List ℕ) (one h : Holder) → has_code rule code one ≡ true → ties (λ one two. is_lt (key_cmp (holder_key one) (holder_key two))) one h ≡ has_code rule code h
 tied-with rule code one h has =
     let here = (Equal-is (key_cmp (holder_key one) (code, rule))).0 (sym (has_is rule code one) ∙ has) in

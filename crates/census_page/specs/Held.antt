@@ -3,26 +3,26 @@ use Rattle.std.specs.Prelude.{ℕ, if◌then◌else◌, Option, None as Nothing,
 use Rattle.std.specs.List.{All}
 use Rattle.std.specs.Option.{unwrap_or}
 use Rattle.census_rows.specs.declared.row.Row.{Row}
-use Rattle.census_kept.specs.Placed.{row_numbered}
+use Rattle.census_rows.specs.Store.Placed.{row_numbered}
 use Rattle.census_page.specs.Holders.{holder_of, naming_after}
 use Rattle.census_page.specs.declared.holder.Holder.{Holder}
 use Rattle.census_page.specs.declared.holder.Naming.{Naming}
 use Rattle.census_page.specs.declared.holder.Share.TheVariants.{Parts}
 use Rattle.census_page.specs.declared.place.Place.{Place}
 
--- the rule and the name of the pattern whose row has this number, where it has parts
+-- the rule and the name of the pattern whose row has this number, if it has parts
 abbrev pub naming_at : List Row → ℕ → Option Naming
 naming_at rows number = naming_after Nothing (row_numbered rows number)
 
--- the row of the last pattern that has parts, where the one with this number stands behind the last
+-- the row of the last pattern that has parts, up to the row with this number, where `line` is the one before it
 abbrev pub line_after : List Row → ℕ → ℕ → ℕ
 line_after rows line number = if is_some (naming_at rows number) then number else line
 
--- the pattern at a place, where there is one
+-- the pattern at a place, if there is one
 abbrev pub holder_at : List Row → Place → Option Holder
 holder_at rows place = holder_of (naming_at rows place.line) (row_numbered rows place.row)
 
--- what stands where there is no pattern
+-- what is there where there is no pattern
 abbrev pub nobody : Holder
 nobody = record {
   rule = record { ref_ptr = (0, 0); now = [] };
@@ -35,7 +35,7 @@ nobody = record {
 unfoldable pub held_at : List Row → Place → Holder
 held_at rows place = unwrap_or (holder_at rows place) nobody
 
--- those at these places
+-- the patterns at these places
 abbrev pub holders_at : List Row → List Place → List Holder
 holders_at rows places = map (held_at rows) places
 

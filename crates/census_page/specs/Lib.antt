@@ -7,3 +7,4 @@ pub mod Options
 pub mod Order
 pub mod Pages
 pub mod Sorting
+pub mod Pieces

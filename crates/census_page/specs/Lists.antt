@@ -1,7 +1,8 @@
 -- Lists of the patterns that have a code.
 use Rattle.std.specs.Prelude.{ℕ, List, [], ◌∷◌, ◌++◌, codes, drop, length, take}
-use Rattle.census_page_pieces.specs.Links.{Linking, name_under}
-use Rattle.census_page_pieces.specs.Numbers.{grouped, labelled}
+use Rattle.std.specs.List.{flat_map}
+use Rattle.census_page.specs.Pieces.Links.{Linking, name_under}
+use Rattle.census_page.specs.Pieces.Numbers.{grouped, labelled}
 use Rattle.census_page.specs.declared.holder.Holder.{Holder}
 use Rattle.census_page.specs.declared.holder.Share.{Share}
 use Rattle.census_page.specs.declared.holder.Share.TheVariants.{Parts, Whole}
@@ -14,16 +15,12 @@ share_words (Parts count) = labelled (codes "&times; ") count
 abbrev pub item : Linking → Holder → List ℕ
 item links holder = codes "<li>" ++ name_under links.names holder.name.now ++ codes " <small>" ++ share_words holder.share ++ codes "</small></li>"
 
-abbrev pub items : Linking → List Holder → List ℕ
-items links [] = []
-items links (holder ∷ holders) = item links holder ++ items links holders
-
--- those that are shown when they are asked for
+-- the items that are shown when they are asked for
 abbrev pub more_items : Linking → List Holder → List ℕ
 more_items links [] = []
 more_items links (holder ∷ holders) =
-    (codes "<details><summary>" ++ grouped (length (holder ∷ holders)) ++ codes " more</summary><ul>") ++ (items links (holder ∷ holders) ++ codes "</ul></details>")
+    (codes "<details><summary>" ++ grouped (length (holder ∷ holders)) ++ codes " more</summary><ul>") ++ (flat_map (item links) (holder ∷ holders) ++ codes "</ul></details>")
 
--- the first ten, and the others when they are asked for
+-- the first ten, and the others to be shown when they are asked for
 abbrev pub holder_list : Linking → List Holder → List ℕ
-holder_list links holders = codes "<ul>" ++ (items links (take 10 holders) ++ (codes "</ul>" ++ more_items links (drop 10 holders)))
+holder_list links holders = codes "<ul>" ++ (flat_map (item links) (take 10 holders) ++ (codes "</ul>" ++ more_items links (drop 10 holders)))

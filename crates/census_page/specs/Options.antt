@@ -1,12 +1,14 @@
 -- What a page is asked to have.
 use Rattle.std.specs.Prelude.{ℕ, Bool, true, false, Option, None, List, [], codes}
-use Rattle.census_page_pieces.specs.Links.{lent_bytes}
+use Rattle.std.specs.Borrow.{Bor}
+use Rattle.std.specs.Option.{option_map}
 use Rattle.census_page.specs.declared.options.PageOptions.{PageOptions}
 use Rattle.census_page.specs.declared.options.Sort.{Sort}
 use Rattle.census_page.specs.declared.options.Sort.TheVariants.{Report}
 
--- its title, and a note below it where there is one; in which order rows of codes stand, and how many of them at most; what stands before
--- the addresses of names, where these are links, and whether codes are links; and whether patterns that do not recur have a table
+-- its title, and a note below it if there is one; the order of the rows of codes, and their greatest number; the beginning of
+-- the addresses of names, if these are links, and whether codes are links; and whether patterns that do not recur have a
+-- table
 pub record Options : Type 0 where
   pub title : List ℕ
   pub note : List ℕ
@@ -22,11 +24,11 @@ options_of options = record {
   note = options.note.now;
   sort = options.sort;
   top = options.top;
-  base = lent_bytes options.base;
+  base = option_map (λ (base : Bor (List ℕ)). base.now) options.base;
   links = options.links;
   patterns = options.patterns;
 }
 
--- what a page has that nothing is asked of
+-- the page by default
 abbrev pub default_options : Options
 default_options = record { title = codes "Census"; note = []; sort = Report; top = None; base = None; links = false; patterns = true }

@@ -1,6 +1,7 @@
 -- The text of a page.
 use Rattle.std.specs.Prelude.{ℕ, ◌+◌, Bool, true, false, not, if◌then◌else◌, Option, Some, None as Nothing, is_some, List, [], ◌∷◌, ◌++◌, codes, decimal, filter, length, take}
-use Rattle.std.specs.List.{count_by}
+use Rattle.std.specs.List.{count_by, enumerate_from, flat_map}
+use Rattle.std.specs.Ordering.{is_lt}
 use Rattle.life_model.specs.Generation.{Generation}
 use Rattle.census_rows.specs.declared.row.Row.{Row}
 use Rattle.census_rows.specs.declared.row.Row.TheVariants.{Open, Line, Code, Close}
@@ -9,52 +10,33 @@ use Rattle.census_rows.specs.declared.kinds.Behind.TheVariants as behind
 use Rattle.census_readback.specs.Following.{rows_behind}
 use Rattle.census_readback.specs.Grouped.{collections_of}
 use Rattle.census_readback.specs.Shapes.{any_outcome, is_line}
-use Rattle.census_page_pieces.specs.declared.kind.Kind.{Kind}
-use Rattle.census_page_pieces.specs.declared.kind.Kind.TheVariants.{StillLife, Oscillator, Spaceship, Other}
-use Rattle.census_page_pieces.specs.Escapes.{name_element, told_text}
-use Rattle.census_page_pieces.specs.Fates.{fate_row, recurs}
-use Rattle.census_page_pieces.specs.declared.speed.Way.{Way}
-use Rattle.census_page_pieces.specs.Kinds.{class_of, is_kind, kind_of, object_words}
-use Rattle.census_page_pieces.specs.Links.{Linking}
-use Rattle.census_page_pieces.specs.Markup.{index_begin, index_end, list_begin, page_begin, page_end, page_style, table_begin, table_end}
-use Rattle.census_page_pieces.specs.Numbers.{grouped, labelled}
-use Rattle.census_page_pieces.specs.Objects.{code_element}
-use Rattle.census_page_pieces.specs.Pictures.{cells_told, picture, rle, spelled}
+use Rattle.census_page.specs.declared.pieces.kind.Kind.{Kind}
+use Rattle.census_page.specs.declared.pieces.kind.Kind.TheVariants.{StillLife, Oscillator, Spaceship, Other}
+use Rattle.census_page.specs.Pieces.Escapes.{name_element, told_text}
+use Rattle.census_page.specs.Pieces.Fates.{fate_row, recurs}
+use Rattle.census_page.specs.declared.pieces.speed.Way.{Way}
+use Rattle.census_page.specs.Pieces.Kinds.{class_of, is_kind, kind_of, object_words}
+use Rattle.census_page.specs.Pieces.Links.{Linking}
+use Rattle.census_page.specs.Pieces.Markup.{index_begin, index_end, list_begin, page_begin, page_end, page_style, table_begin, table_end}
+use Rattle.census_page.specs.Pieces.Numbers.{grouped, labelled}
+use Rattle.census_page.specs.Pieces.Objects.{code_element}
+use Rattle.census_page.specs.Pieces.Pictures.{cells_told, picture, rle, spelled}
 use Rattle.census_page.specs.declared.holder.Holder.{Holder}
 use Rattle.census_page.specs.Holders.{having, holders_from, way_of}
 use Rattle.census_page.specs.Linking.{linking_in}
 use Rattle.census_page.specs.Lists.{holder_list}
 use Rattle.census_page.specs.Options.{Options}
-use Rattle.census_page.specs.Sorting.{sorted_rows}
+use Rattle.census_page.specs.Sorting.{row_cmp, sorted_by}
 
 -- # A collection
 
--- the name of a collection
-abbrev pub collection_name : List ℕ → List ℕ
-collection_name name = codes "<h2>" ++ name_element name ++ codes "</h2>\n"
-
--- how many patterns are resolved and how many are not
-pub record PatternCounts : Type 0 where
-  pub patterns : ℕ
-  pub resolved : ℕ
-  pub unresolved : ℕ
-  pub refused : ℕ
-
-abbrev pub counts_text : PatternCounts → List ℕ
-counts_text counts =
-    codes "<p>" ++ labelled (codes "Patterns: ") counts.patterns ++ labelled (codes ". Resolved: ") counts.resolved
-    ++ labelled (codes ", unresolved: ") counts.unresolved ++ labelled (codes ", refused: ") counts.refused ++ codes ".</p>\n"
-
--- what a row says of its collection as a whole
+-- what a row says about its collection as a whole: its name, or how many patterns are resolved and how many are not
 abbrev pub heading : Row → List ℕ
-heading (Open collection patterns name) = collection_name name.now
+heading (Open collection patterns name) = codes "<h2>" ++ name_element name.now ++ codes "</h2>\n"
 heading (Close collection patterns resolved unresolved refused) =
-    counts_text (record { patterns = patterns; resolved = resolved; unresolved = unresolved; refused = refused })
+    codes "<p>" ++ labelled (codes "Patterns: ") patterns ++ labelled (codes ". Resolved: ") resolved
+    ++ labelled (codes ", unresolved: ") unresolved ++ labelled (codes ", refused: ") refused ++ codes ".</p>\n"
 heading _ = []
-
-abbrev pub headings : List Row → List ℕ
-headings [] = []
-headings (row ∷ rows) = heading row ++ headings rows
 
 -- # Its codes
 
@@ -62,34 +44,29 @@ headings (row ∷ rows) = heading row ++ headings rows
 abbrev pub picture_cell : List ℕ → Option Generation → List ℕ
 picture_cell code shape = codes "<tr class=\"" ++ class_of (kind_of code) ++ codes "\"><td>" ++ picture shape ++ codes "</td>"
 
--- a code, and what it is in words
+-- a code and its description in words
 unfoldable pub name_cell : Bool → List ℕ → List ℕ → Option Way → List ℕ
 name_cell linked rule code way = codes "<th scope=\"row\"><p>" ++ object_words code way ++ codes "</p><div>" ++ code_element linked rule code
 
--- its rule, its RLE text and how many cells it has
+-- its rule, its RLE text and its number of cells
 unfoldable pub rule_cells : List ℕ → Option Generation → List ℕ
 rule_cells rule shape =
     codes "<small>" ++ told_text rule ++ codes "</small>" ++ rle rule shape ++ codes "</div></th><td>" ++ cells_told shape ++ codes "</td><td>"
 
-abbrev pub object_cells : Bool → List ℕ → List ℕ → Option Way → Option Generation → List ℕ
-object_cells linked rule code way shape = picture_cell code shape ++ name_cell linked rule code way ++ rule_cells rule shape
-
 -- the row of a code before the patterns that have it: the code, and how often it occurs
 abbrev pub front_cells : Bool → List ℕ → List ℕ → ℕ → Option Way → List ℕ
-front_cells linked rule code count way = object_cells linked rule code way (spelled code) ++ (grouped count ++ codes "</td><td>")
+front_cells linked rule code count way =
+    let shape = spelled code in
+    picture_cell code shape ++ name_cell linked rule code way ++ rule_cells rule shape ++ (grouped count ++ codes "</td><td>")
 
 -- the row of a code that these patterns have
 abbrev pub code_cells : Linking → List ℕ → List ℕ → ℕ → List Holder → List ℕ
 code_cells links rule code count holders = front_cells links.catalogue rule code count (way_of holders) ++ (holder_list links holders ++ codes "</td></tr>\n")
 
--- the row of a table that tells of a code
+-- the row of a table for a row that reports a code
 abbrev pub code_row : Linking → List Holder → Row → List ℕ
 code_row links holders (Code collection rule code count) = code_cells links rule.now code.now count (having rule.now code.now holders)
 code_row links holders _ = []
-
-abbrev pub code_rows : Linking → List Holder → List Row → List ℕ
-code_rows links holders [] = []
-code_rows links holders (row ∷ rows) = code_row links holders row ++ code_rows links holders rows
 
 -- # Which of its codes
 
@@ -97,18 +74,19 @@ abbrev pub is_code : Row → Bool
 is_code (Code collection rule code count) = true
 is_code _ = false
 
--- the first ones, at most so many
+-- the first elements, at most this number if one is given
 abbrev pub at_most : {X : Type 0} → Option ℕ → List X → List X
 at_most Nothing xs = xs
 at_most (Some count) xs = take count xs
 
--- the rows that tell of codes, in the order that is asked for, and no more than are asked for
+-- the rows that report codes, in the order that is asked for, and no more than are asked for
 abbrev pub chosen : Options → List Holder → List Row → List Row
-chosen options holders rows = at_most options.top (sorted_rows options.sort holders (filter is_code rows))
+chosen options holders rows =
+    at_most options.top (sorted_by (λ one other. is_lt (row_cmp options.sort holders one other)) (filter is_code rows))
 
 -- # Its patterns that do not recur
 
--- the row of a table for a row of a report that stands before these
+-- the row of a table for a row of a report that comes before these
 abbrev pub stray_row : Linking → Row → List Row → List ℕ
 stray_row links (Line collection pattern outcome name) rows = fate_row links name.now outcome (rows_behind behind.Engines rows) (rows_behind behind.Parts rows)
 stray_row links _ rows = []
@@ -126,37 +104,29 @@ framed_text before (byte ∷ bytes) after = before ++ ((byte ∷ bytes) ++ after
 
 -- the table of these codes, which these patterns have
 abbrev pub table_of : Linking → List Holder → List Row → List ℕ
-table_of links holders rows = framed_text table_begin (code_rows links holders rows) table_end
+table_of links holders rows = framed_text table_begin (flat_map (code_row links holders) rows) table_end
 
 abbrev pub code_table : Linking → Options → List Row → List ℕ
 code_table links options rows = table_of links (holders_from Nothing rows) (chosen options (holders_from Nothing rows) rows)
 
-abbrev pub stray_list : Linking → List Row → List ℕ
-stray_list links rows = framed_text list_begin (stray_rows links rows) table_end
-
--- where it is asked for
+-- the table of patterns, if it is asked for
 abbrev pub pattern_table : Linking → Bool → List Row → List ℕ
-pattern_table links shown rows = if shown then stray_list links rows else []
+pattern_table links shown rows = if shown then framed_text list_begin (stray_rows links rows) table_end else []
 
 -- both tables
-abbrev pub linked_tables : Linking → Options → List Row → List ℕ
-linked_tables links options rows = code_table links options rows ++ pattern_table links options.patterns rows
-
 abbrev pub tables : Options → List Row → List ℕ
-tables options rows = linked_tables (linking_in options rows) options rows
+tables options rows =
+    let links = linking_in options rows in
+    code_table links options rows ++ pattern_table links options.patterns rows
 
 -- a collection with its number in the page
 abbrev pub section_text : Options → ℕ → List Row → List ℕ
 section_text options number rows =
-    (codes "<section id=\"c" ++ decimal number ++ codes "\">\n") ++ (headings rows ++ (tables options rows ++ codes "</section>\n"))
+    (codes "<section id=\"c" ++ decimal number ++ codes "\">\n") ++ (flat_map heading rows ++ (tables options rows ++ codes "</section>\n"))
 
-abbrev pub sections_text : Options → ℕ → List (List Row) → List ℕ
-sections_text options number [] = []
-sections_text options number (rows ∷ sections) = section_text options number rows ++ sections_text options (number + 1) sections
+-- # What comes before the collections
 
--- # What stands before the collections
-
--- of which kind what a row tells of is, where the page has a row for it
+-- the kind of what a row reports, if the page has a row for it
 abbrev pub kind_shown : Row → Option Kind
 kind_shown (Code collection rule code count) = Some (kind_of code.now)
 kind_shown (Line collection pattern outcome name) = if recurs outcome then Nothing else Some Other
@@ -175,26 +145,18 @@ number_cell number = codes "<td>" ++ grouped number ++ codes "</td>"
 unfoldable pub link_cell : ℕ → List ℕ → List ℕ
 link_cell number name = codes "<th scope=\"row\"><a href=\"#c" ++ decimal number ++ codes "\">" ++ name_element name ++ codes "</a></th>"
 
--- what the table of all collections has of a row: a link to its collection, or the counts
+-- what the table of all collections has for a row: a link to its collection, or the counts
 abbrev pub index_cells : ℕ → Row → List ℕ
 index_cells number (Open collection patterns name) = link_cell number name.now
 index_cells number (Close collection patterns resolved unresolved refused) =
     number_cell patterns ++ number_cell resolved ++ number_cell unresolved ++ number_cell refused
 index_cells number _ = []
 
-abbrev pub all_index_cells : ℕ → List Row → List ℕ
-all_index_cells number [] = []
-all_index_cells number (row ∷ rows) = index_cells number row ++ all_index_cells number rows
-
 -- the row of a collection in that table
 abbrev pub index_row : ℕ → List Row → List ℕ
 index_row number rows =
-    codes "<tr>" ++ all_index_cells number rows ++ number_cell (count_by (is_shown_as StillLife) rows)
+    codes "<tr>" ++ flat_map (index_cells number) rows ++ number_cell (count_by (is_shown_as StillLife) rows)
     ++ number_cell (count_by (is_shown_as Oscillator) rows) ++ number_cell (count_by (is_shown_as Spaceship) rows) ++ codes "</tr>\n"
-
-abbrev pub index_rows : ℕ → List (List Row) → List ℕ
-index_rows number [] = []
-index_rows number (rows ∷ sections) = index_row number rows ++ index_rows (number + 1) sections
 
 -- a number under a word
 unfoldable pub total : List ℕ → ℕ → List ℕ
@@ -207,7 +169,7 @@ totals collections rows =
     ++ total (codes "Resolved") (count_by (is_line is_resolved) rows) ++ total (codes "Unresolved") (count_by (is_line is_unresolved) rows)
     ++ total (codes "Refused") (count_by (is_line is_refused) rows) ++ codes "</dl>\n"
 
--- a note, where there is one
+-- a note, if there is one
 abbrev pub note_text : List ℕ → List ℕ
 note_text [] = []
 note_text (byte ∷ bytes) = codes "<p>" ++ told_text (byte ∷ bytes) ++ codes "</p>\n"
@@ -234,7 +196,8 @@ choices rows =
 
 abbrev pub body_text : Options → List Row → List (List Row) → List ℕ
 body_text options rows sections =
-    index_begin ++ (index_rows 1 sections ++ ((index_end ++ choices rows) ++ (sections_text options 1 sections ++ page_end)))
+    index_begin ++ (flat_map (λ s. index_row s.0 s.1) (enumerate_from 1 sections) ++ ((index_end ++ choices rows)
+    ++ (flat_map (λ s. section_text options s.0 s.1) (enumerate_from 1 sections) ++ page_end)))
 
 -- the page of reports
 abbrev pub page_of : Options → List Row → List ℕ
@@ -245,12 +208,12 @@ abbrev pub codes_in : List Row → ℕ
 codes_in [] = 0
 codes_in (row ∷ rows) = (if is_code row then 1 else 0) + codes_in rows
 
--- those of each collection together
+-- the number of `code` rows of all collections together
 abbrev pub sections_codes : List (List Row) → ℕ
 sections_codes [] = 0
 sections_codes (rows ∷ sections) = codes_in rows + sections_codes sections
 
--- the row tells of a pattern that does not recur
+-- the row reports a pattern that does not recur
 abbrev pub is_stray : Row → Bool
 is_stray (Line collection pattern outcome name) = not (recurs outcome)
 is_stray _ = false

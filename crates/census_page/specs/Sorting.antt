@@ -1,12 +1,12 @@
 -- The order of the rows of a table of codes.
 use Rattle.std.specs.Prelude.{ℕ, Bool, if◌then◌else◌, List, [], ◌∷◌, length}
 use Rattle.std.specs.Cmp.Lexicographic.{slice_cmp}
-use Rattle.std.specs.Ordering.{is_lt, nat_cmp, ordering_then}
+use Rattle.std.specs.Ordering.{nat_cmp, ordering_then}
 use Rattle.std.specs.declared.cmp.Ordering.{Ordering}
 use Rattle.std.specs.declared.cmp.Ordering.TheVariants.{Equal}
 use Rattle.census_rows.specs.declared.row.Row.{Row}
 use Rattle.census_rows.specs.declared.row.Row.TheVariants.{Code}
-use Rattle.census_page_pieces.specs.Kinds.{period_told}
+use Rattle.census_page.specs.Pieces.Kinds.{period_told}
 use Rattle.census_page.specs.Holders.{having}
 use Rattle.census_page.specs.declared.holder.Holder.{Holder}
 use Rattle.census_page.specs.declared.options.Sort.{Sort}
@@ -19,12 +19,12 @@ abbrev pub put_by : {X : Type 0} → (X → X → Bool) → X → List X → Lis
 put_by before x [] = x ∷ []
 put_by before x (y ∷ ys) = if before y x then y ∷ put_by before x ys else x ∷ (y ∷ ys)
 
--- in order; those of which none comes before the other stand as they stood
+-- in order; elements neither of which comes before the other keep their order
 abbrev pub sorted_by : {X : Type 0} → (X → X → Bool) → List X → List X
 sorted_by before [] = []
 sorted_by before (x ∷ xs) = put_by before x (sorted_by before xs)
 
--- # What rows tell of a code
+-- # What rows say about a code
 
 -- how often it occurs
 abbrev pub count_in : Row → ℕ
@@ -44,7 +44,7 @@ abbrev pub first_name : List Holder → List ℕ
 first_name [] = []
 first_name (holder ∷ holders) = holder.name.now
 
--- that of the first of these patterns that has the code
+-- the name of the first of these patterns that has the code
 abbrev pub name_in : List Holder → Row → List ℕ
 name_in holders row = first_name (having (rule_in row) (code_in row) holders)
 
@@ -60,8 +60,3 @@ row_cmp by.Count holders one other = nat_cmp (count_in other) (count_in one)
 row_cmp by.Code holders one other = ordering_then (shorter_cmp (code_in one) (code_in other)) (slice_cmp nat_cmp (rule_in one) (rule_in other))
 row_cmp by.Period holders one other = shorter_cmp (period_told (code_in other)) (period_told (code_in one))
 row_cmp by.Name holders one other = slice_cmp nat_cmp (name_in holders one) (name_in holders other)
-
--- rows in this order, where these patterns have their codes
-abbrev pub sorted_rows : Sort → List Holder → List Row → List Row
-sorted_rows by.Report holders rows = rows
-sorted_rows sort holders rows = sorted_by (λ one other. is_lt (row_cmp sort holders one other)) rows

@@ -1,7 +1,7 @@
-//! Which of a collection's codes its table has.
+//! The codes of a collection that its table has.
 ghost use Rattle.std.specs.Prelude.{◌≡◌, filter, IfOk};
 ghost use Rattle.std.specs.List.{count_by};
-ghost use Rattle.census_kept.specs.Placed.{AreWithin, rows_numbered};
+ghost use Rattle.census_rows.specs.Store.Placed.{AreWithin, rows_numbered};
 ghost use Rattle.census_page.specs.Options.{options_of};
 ghost use Rattle.census_page.specs.Order.{AreInOrder};
 ghost use Rattle.census_page.specs.Pages.{at_most, chosen, is_code};
@@ -9,11 +9,10 @@ ghost use Rattle.census_page.specs.Pages.{at_most, chosen, is_code};
 use crate::holders::Holders;
 use crate::options::PageOptions;
 use crate::sorting::sort_rows;
-use census_kept::Section;
-use census_rows::Row;
+use census_rows::{Row, Section};
 use std::alloc::{AllocError, Global};
 
-/// Whether a row tells of a code.
+/// Whether a row reports a code.
 pub fn is_code(row: &Row) -> bool
     ensures { result ≡ is_code row.now }
 {
@@ -23,7 +22,7 @@ pub fn is_code(row: &Row) -> bool
     }
 }
 
-// How many rows tell of codes.
+// How many rows report codes.
 fn count_codes(rows: &Section) -> usize
     ensures { result ≡ count_by is_code rows.now }
 {
@@ -36,7 +35,7 @@ fn count_codes(rows: &Section) -> usize
     count
 }
 
-// The numbers of the rows that tell of codes.
+// The numbers of the rows that report codes.
 fn told_codes(alloc: Global, rows: &Section) -> Result<Vec<usize>, AllocError>
     ensures within { IfOk result (λ numbers. AreWithin rows.now numbers.items) }
     ensures all { IfOk result (λ numbers. rows_numbered rows.now numbers.items
@@ -51,7 +50,7 @@ fn told_codes(alloc: Global, rows: &Section) -> Result<Vec<usize>, AllocError>
     Ok(numbers)
 }
 
-// Keeps the first numbers, at most so many.
+// Keeps the first `top` numbers, or all if there is no limit.
 fn cut(top: Option<u64>, numbers: &mut Vec<usize>)
     ensures { numbers.new.items ≡ at_most top numbers.old.items }
 {
@@ -61,8 +60,8 @@ fn cut(top: Option<u64>, numbers: &mut Vec<usize>)
     }
 }
 
-/// The numbers of the rows that tell of codes, in the order that is asked for, where these patterns have
-/// the codes, and no more rows than are asked for. The only error is out of memory.
+/// The numbers of the rows that report codes, in the order that is asked for, where these patterns have the codes, and no
+/// more rows than are asked for. The only error is out of memory.
 pub fn chosen(
     alloc: Global,
     options: &PageOptions,

@@ -1,16 +1,17 @@
 //! Rows of a table of codes.
 ghost use Rattle.std.specs.Prelude.{◌≡◌, ◌++◌, codes, IfOk, MatchResult, OnOk};
+ghost use Rattle.std.specs.List.{flat_map};
 ghost use Rattle.watched.specs.Telling.{TellsAfter, TellsFront, sheet};
-ghost use Rattle.census_page_pieces.specs.Links.{linking_of};
-ghost use Rattle.census_page_pieces.specs.Numbers.{grouped};
+ghost use Rattle.census_page.specs.Pieces.Links.{linking_of};
+ghost use Rattle.census_page.specs.Pieces.Numbers.{grouped};
 ghost use Rattle.census_page.specs.Holders.{having};
 ghost use Rattle.census_page.specs.Order.{AreInOrder};
-ghost use Rattle.census_page.specs.Pages.{code_cells, code_row, code_rows, front_cells, name_cell, object_cells, picture_cell, rule_cells};
+ghost use Rattle.census_page.specs.Pages.{code_cells, code_row, front_cells, name_cell, picture_cell, rule_cells};
 
 use crate::holders::{Holders, having, way_of};
 use crate::list::put_list;
 use crate::picked::Picked;
-use census_page_pieces::{
+use crate::pieces::{
     Links, Way, class_of, kind_of, push_cell_count, push_code, push_grouped, push_object_words,
     push_picture, push_rle, push_text, spelled,
 };
@@ -36,7 +37,7 @@ fn push_picture_cell(
     Ok(())
 }
 
-// Adds a code, and what it is in words.
+// Adds a code and its description in words.
 #[tactic(auto, unfolding(crate::specs::Pages::name_cell))]
 fn push_name_cell(
     alloc: Global,
@@ -55,7 +56,7 @@ fn push_name_cell(
     Ok(())
 }
 
-// Adds the rule of a code, its RLE text and how many cells it has.
+// Adds the rule of a code, its RLE text and its number of cells.
 #[tactic(auto, unfolding(crate::specs::Pages::rule_cells))]
 fn push_rule_cells(
     alloc: Global,
@@ -75,7 +76,7 @@ fn push_rule_cells(
     Ok(())
 }
 
-// Adds a code with its picture, what it is in words, its rule, its RLE text and how many cells it has.
+// Adds a code with its picture, its description in words, its rule, its RLE text and its number of cells.
 fn push_object(
     alloc: Global,
     text: &mut Vec<u8>,
@@ -86,7 +87,8 @@ fn push_object(
     shape: &Option<Shape>,
 ) -> Result<(), AllocError>
     ensures { OnOk result (text.new.items
-        ≡ text.old.items ++ object_cells linked rule.now code.now way.now shape.now) }
+        ≡ text.old.items ++ (picture_cell code.now shape.now
+        ++ name_cell linked rule.now code.now way.now ++ rule_cells rule.now shape.now)) }
 {
     push_picture_cell(text, code, shape)?;
     push_name_cell(alloc, text, linked, rule, code, way)?;
@@ -104,7 +106,7 @@ fn push_count(text: &mut Vec<u8>, count: u64) -> Result<(), AllocError>
     Ok(())
 }
 
-// What stands in the row of a code before the patterns that have it.
+// The part of a code's row before the patterns that have it.
 fn front_cells(
     alloc: Global,
     linked: bool,
@@ -122,7 +124,7 @@ fn front_cells(
     Ok(text)
 }
 
-// Tells the row of a code that these patterns have. For a writer that has failed no text is made.
+// Writes the row of a code that these patterns have. No text is made for a writer that has failed.
 fn put_code<W: Write>(
     alloc: Global,
     links: &Links,
@@ -150,7 +152,7 @@ fn put_code<W: Write>(
     Ok(())
 }
 
-// Tells the row of a code that some of these patterns have.
+// Writes the row of a code that some of these patterns have.
 fn put_having<W: Write>(
     alloc: Global,
     links: &Links,
@@ -172,7 +174,7 @@ fn put_having<W: Write>(
     put_code(alloc, links, &here, rule, code, count, block, writer)
 }
 
-// Tells the row of a table that tells of a code, or nothing where the report's row tells of none.
+// Writes the table's row for a report's row that has a code, or nothing if the report's row has none.
 fn put_code_row<W: Write>(
     alloc: Global,
     links: &Links,
@@ -199,9 +201,8 @@ fn put_code_row<W: Write>(
     }
 }
 
-/// Tells a row of a table for each code that these rows of a report tell of: its picture, its rule,
-/// the code, how often it occurs, and which patterns have it. Where memory is refused, a prefix was
-/// told.
+/// Writes a row of a table for each code in these rows of a report: its picture, its rule, the code, how often it occurs, and
+/// which patterns have it. If memory runs out, a prefix has been written.
 pub fn put_code_rows<W: Write>(
     alloc: Global,
     links: &Links,
@@ -212,9 +213,9 @@ pub fn put_code_rows<W: Write>(
 ) -> Result<(), AllocError>
     requires { AreInOrder holders.now }
     ensures { MatchResult result
-        (λ _. TellsAfter (code_rows (linking_of links.now) holders.now rows.now)
+        (λ _. TellsAfter (flat_map (code_row (linking_of links.now) holders.now) rows.now)
         (sheet block.old writer.old) (sheet block.new writer.new))
-        (λ _. TellsFront (code_rows (linking_of links.now) holders.now rows.now)
+        (λ _. TellsFront (flat_map (code_row (linking_of links.now) holders.now) rows.now)
         (sheet block.old writer.old) (sheet block.new writer.new)) }
 {
     for index in 0..rows.len() {

@@ -1,14 +1,14 @@
-//! What stands before the table of all collections, and after it.
+//! The parts of the page before and after the table of all collections.
 ghost use Rattle.std.specs.Prelude.{◌≡◌, ◌++◌, IfOk, OnOk};
 ghost use Rattle.census_page.specs.Options.{options_of};
 ghost use Rattle.census_page.specs.Pages.{choice, choices, front, note_text, total, totals};
 
 use crate::options::PageOptions;
+use crate::pieces::{Kind, page_begin, page_style, push_grouped, push_text};
 use crate::tally::{
     count_patterns, count_refused, count_resolved, count_shown, count_shown_as, count_unresolved,
 };
-use census_kept::Rows;
-use census_page_pieces::{Kind, page_begin, page_style, push_grouped, push_text};
+use census_rows::Rows;
 use std::alloc::{AllocError, Global};
 
 // Adds a number under a word.
@@ -39,7 +39,7 @@ fn push_totals(text: &mut Vec<u8>, collections: u64, rows: &Rows) -> Result<(), 
     Ok(())
 }
 
-// Adds a note, where there is one.
+// Adds a note, if there is one.
 fn push_note(alloc: Global, text: &mut Vec<u8>, note: &[u8]) -> Result<(), AllocError>
     ensures { OnOk result (text.new.items ≡ text.old.items ++ note_text note.now) }
 {

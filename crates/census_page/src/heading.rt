@@ -1,18 +1,19 @@
-//! What is told of a collection as a whole.
+//! What the page says about a collection as a whole.
 ghost use Rattle.std.specs.Prelude.{◌≡◌, ◌++◌, MatchResult, OnOk};
+ghost use Rattle.std.specs.List.{flat_map};
 ghost use Rattle.watched.specs.Telling.{TellsAfter, TellsFront, sheet};
-ghost use Rattle.census_page.specs.Pages.{collection_name, counts_text, heading, headings};
+ghost use Rattle.census_page.specs.Pages.{heading};
+ghost use Rattle.census_rows.specs.declared.row.Row.TheVariants.{Open, Close};
 
-use census_kept::Section;
-use census_page_pieces::{push_labelled, push_told};
-use census_rows::Row;
+use crate::pieces::{push_labelled, push_told};
+use census_rows::{Row, Section};
 use std::alloc::{AllocError, Global};
 use std::io::Write;
 use watched::{Block, Output, put};
 
 // Adds the name of a collection.
 fn push_name(alloc: Global, text: &mut Vec<u8>, name: &[u8]) -> Result<(), AllocError>
-    ensures { OnOk result (text.new.items ≡ text.old.items ++ collection_name name.now) }
+    ensures { OnOk result (text.new.items ≡ text.old.items ++ heading (Open 0 0 name.entry)) }
 {
     text.extend_from_slice(b"<h2>")?;
     push_told(alloc, text, name)?;
@@ -28,12 +29,7 @@ fn push_counts(
     unresolved: u64,
     refused: u64,
 ) -> Result<(), AllocError>
-    ensures { OnOk result (text.new.items ≡ text.old.items ++ counts_text (record {
-      patterns = patterns;
-      resolved = resolved;
-      unresolved = unresolved;
-      refused = refused;
-    })) }
+    ensures { OnOk result (text.new.items ≡ text.old.items ++ heading (Close 0 patterns resolved unresolved refused)) }
 {
     text.extend_from_slice(b"<p>")?;
     push_labelled(text, b"Patterns: ", patterns)?;
@@ -44,7 +40,7 @@ fn push_counts(
     Ok(())
 }
 
-// Adds what a row says of its collection as a whole.
+// Adds what a row says about its collection as a whole.
 fn push_heading(alloc: Global, text: &mut Vec<u8>, row: &Row) -> Result<(), AllocError>
     ensures { OnOk result (text.new.items ≡ text.old.items ++ heading row.now) }
 {
@@ -61,7 +57,7 @@ fn push_heading(alloc: Global, text: &mut Vec<u8>, row: &Row) -> Result<(), Allo
     }
 }
 
-// Tells what a row says of its collection as a whole.
+// Writes what a row says about its collection as a whole.
 fn put_heading<W: Write>(
     alloc: Global,
     row: &Row,
@@ -80,7 +76,7 @@ fn put_heading<W: Write>(
     Ok(())
 }
 
-/// Tells the name of a collection and its counts. Where memory is refused, a prefix was told.
+/// Writes the name of a collection and its counts. If memory runs out, a prefix has been written.
 pub fn put_headings<W: Write>(
     alloc: Global,
     rows: &Section,
@@ -88,9 +84,9 @@ pub fn put_headings<W: Write>(
     writer: &mut Output<W>,
 ) -> Result<(), AllocError>
     ensures { MatchResult result
-        (λ _. TellsAfter (headings rows.now)
+        (λ _. TellsAfter (flat_map heading rows.now)
         (sheet block.old writer.old) (sheet block.new writer.new))
-        (λ _. TellsFront (headings rows.now)
+        (λ _. TellsFront (flat_map heading rows.now)
         (sheet block.old writer.old) (sheet block.new writer.new)) }
 {
     for index in 0..rows.len() {

@@ -1,24 +1,24 @@
-//! What rows tell of the codes of patterns.
-ghost use Rattle.std.specs.Prelude.{◌≡◌};
+//! What rows say about the codes of patterns.
+ghost use Rattle.std.specs.Prelude.{◌≡◌, None};
 ghost use Rattle.census_rows.specs.Kinds.{said};
 ghost use Rattle.census_rows.specs.declared.kinds.Behind.TheVariants as behind;
+ghost use Rattle.census_rows.specs.declared.row.Row.TheVariants.{Line, Part};
 ghost use Rattle.census_readback.specs.Sections.{same_behind};
-ghost use Rattle.census_page.specs.Holders.{holder_by_part, holder_in, holder_of, naming_after, naming_in};
+ghost use Rattle.census_page.specs.Holders.{holder_of, naming_after};
 
-use census_page_pieces::Way;
+use crate::pieces::Way;
 use census_rows::{Behind, Finding, Outcome, Row};
 
 /// What a pattern has to do with a code.
 #[derive(Clone, Copy)]
 pub enum Share {
-    /// It has the code: how many cells it has at first, from which generation on it recurs, and how
-    /// far it moves.
+    /// It has the code: how many cells it has at first, from which generation on it recurs, and how far it moves.
     Whole {
         population: u64,
         onset: u64,
         way: Way,
     },
-    /// So many of its parts have the code.
+    /// This number of its parts has the code.
     Parts {
         count: u64,
     },
@@ -40,7 +40,7 @@ pub struct Naming<'a> {
     pub name: &'a [u8],
 }
 
-// Whether `part` lines stand behind an outcome.
+// Whether `part` lines follow an outcome.
 fn has_parts(outcome: &Outcome) -> bool
     ensures { result ≡ same_behind (said outcome.now).behind behind.Parts }
 {
@@ -50,13 +50,13 @@ fn has_parts(outcome: &Outcome) -> bool
     }
 }
 
-// The rule and the name of the pattern that has parts, where this outcome has, and else of the last.
+// The rule and the name of this pattern, if its outcome has parts, and otherwise those of the last one.
 fn naming_in<'a>(
     naming: &Option<Naming<'a>>,
     outcome: &Outcome<'a>,
     name: &'a [u8],
 ) -> Option<Naming<'a>>
-    ensures { result ≡ naming_in naming.now outcome.now name.entry }
+    ensures { result ≡ naming_after naming.now (Line 0 0 outcome.now name.entry) }
 {
     match outcome {
         Outcome::Found { rule, .. } if has_parts(outcome) => Some(Naming { rule: *rule, name }),
@@ -64,7 +64,7 @@ fn naming_in<'a>(
     }
 }
 
-/// The rule and the name of the pattern that has fallen apart last, after a row.
+/// After a row, the rule and the name of the last pattern that has fallen apart.
 pub fn naming_after<'a>(naming: &Option<Naming<'a>>, row: &Row<'a>) -> Option<Naming<'a>>
     ensures { result ≡ naming_after naming.now row.now }
 {
@@ -74,9 +74,9 @@ pub fn naming_after<'a>(naming: &Option<Naming<'a>>, row: &Row<'a>) -> Option<Na
     }
 }
 
-// A pattern that has this code among those of its parts.
+// A pattern with this code among those of its parts.
 fn holder_by_part<'a>(naming: &Option<Naming<'a>>, code: &'a [u8], count: u64) -> Option<Holder<'a>>
-    ensures { result ≡ holder_by_part naming.now code.entry count }
+    ensures { result ≡ holder_of naming.now (Part 0 0 code.entry count) }
 {
     match naming {
         Some(naming) => Some(Holder {
@@ -89,9 +89,9 @@ fn holder_by_part<'a>(naming: &Option<Naming<'a>>, code: &'a [u8], count: u64) -
     }
 }
 
-// What an outcome says of the code of a pattern with this name.
+// What an outcome says about the code of a pattern with this name.
 fn holder_in<'a>(outcome: &Outcome<'a>, name: &'a [u8]) -> Option<Holder<'a>>
-    ensures { result ≡ holder_in outcome.now name.entry }
+    ensures { result ≡ holder_of None (Line 0 0 outcome.now name.entry) }
 {
     match outcome {
         Outcome::Found {
@@ -122,7 +122,7 @@ fn holder_in<'a>(outcome: &Outcome<'a>, name: &'a [u8]) -> Option<Holder<'a>>
     }
 }
 
-/// What a row says of the code of a pattern.
+/// What a row says about the code of a pattern.
 pub fn holder_of<'a>(naming: &Option<Naming<'a>>, row: &Row<'a>) -> Option<Holder<'a>>
     ensures { result ≡ holder_of naming.now row.now }
 {

@@ -1,4 +1,4 @@
-//! Which patterns have a code.
+//! The patterns that have a code.
 ghost use Rattle.std.specs.Prelude.{◌≡◌, ◌<◌, ◌≤◌, ◌==◌, [], ◌∷◌, drop, length, slice_index_or, take, true, false, MatchOption};
 ghost use Rattle.std.specs.List.{All};
 ghost use Rattle.std.specs.List.Sorted.{IsPartitionPoint};
@@ -7,13 +7,12 @@ ghost use Rattle.census_page.specs.Holders.{has_code, having, way_of};
 ghost use Rattle.census_page.specs.Order.{AreInOrder, is_before};
 
 use crate::holder::{Holder, Share};
+use crate::pieces::Way;
 use crate::place::{Place, compared, has_code, holder_at};
-use census_kept::Section;
-use census_page_pieces::Way;
+use census_rows::Section;
 use std::marker::Model;
 
-/// Patterns of a collection with their codes, in an order of their own: lent, by the places of their
-/// rows.
+/// Patterns of a collection with their codes, in an order of their own: borrowed, by the places of their rows.
 #[derive(Drop)]
 pub struct Holders<'s, 'b, 'a> {
     rows: &'s Section<'b, 'a>,
@@ -42,7 +41,7 @@ impl<'s, 'b, 'a> Holders<'s, 'b, 'a> {
         Holders { rows, places }
     }
 
-    /// How many there are.
+    /// The number of patterns.
     pub fn len(&self) -> usize
         ensures { result ≡ length self.now }
     {
@@ -68,7 +67,7 @@ impl<'s, 'b, 'a> Holders<'s, 'b, 'a> {
         }
     }
 
-    /// The first.
+    /// The first pattern.
     pub fn first(&self) -> Option<Holder<'a>>
         ensures { MatchOption result (self.now ≡ [])
             (λ holder. self.now ≡ holder ∷ drop 1 self.now) }
@@ -79,7 +78,7 @@ impl<'s, 'b, 'a> Holders<'s, 'b, 'a> {
         Some(self.holder(0))
     }
 
-    /// Those from this index on.
+    /// The patterns from this index on.
     pub fn from(&self, index: usize) -> Holders<'s, 'b, 'a>
         requires { index ≤ length self.now }
         ensures { result ≡ drop index self.now }
@@ -91,7 +90,7 @@ impl<'s, 'b, 'a> Holders<'s, 'b, 'a> {
         }
     }
 
-    /// Those before this index.
+    /// The patterns before this index.
     pub fn before(&self, index: usize) -> Holders<'s, 'b, 'a>
         requires { index ≤ length self.now }
         ensures { result ≡ take index self.now }
@@ -104,7 +103,7 @@ impl<'s, 'b, 'a> Holders<'s, 'b, 'a> {
     }
 }
 
-// Where the first pattern stands that doesn't come before this code and rule.
+// The index of the first pattern that doesn't come before this code and rule.
 fn first_place(holders: &Holders, rule: &[u8], code: &[u8]) -> usize
     requires { AreInOrder holders.now }
     ensures bound { result ≤ length holders.now }
@@ -117,7 +116,7 @@ fn first_place(holders: &Holders, rule: &[u8], code: &[u8]) -> usize
         .partition_point(|place| compared(rows, place, rule, code).is_lt())
 }
 
-// How many patterns from the first on have this code under this rule, of which none comes before it.
+// How many patterns from the first on have this code under this rule, where none comes before it.
 fn count_having(holders: &Holders, rule: &[u8], code: &[u8]) -> usize
     requires order { AreInOrder holders.now }
     requires from { All (λ h. is_before rule.now code.now h ≡ false) holders.now }
@@ -144,7 +143,7 @@ pub fn having<'s, 'b, 'a>(
     from.before(count_having(&from, rule, code))
 }
 
-/// How far the first of some patterns moves, where it recurs.
+/// How far the first of these patterns moves, if it recurs.
 pub fn way_of(holders: &Holders) -> Option<Way>
     ensures { result ≡ way_of holders.now }
 {

@@ -1,13 +1,13 @@
 //! The table of all collections.
 ghost use Rattle.std.specs.Prelude.{◌≡◌, ◌++◌, IfOk, MatchResult, OnOk};
+ghost use Rattle.std.specs.List.{enumerate_from, flat_map};
 ghost use Rattle.watched.specs.Telling.{TellsAfter, TellsFront, sheet};
-ghost use Rattle.census_page.specs.Pages.{all_index_cells, index_cells, index_row, index_rows, link_cell, number_cell};
+ghost use Rattle.census_page.specs.Pages.{index_cells, index_row, link_cell, number_cell};
 
+use crate::pieces::{Kind, push_grouped, push_number, push_told};
 use crate::tally::count_lent;
-use census_kept::Section;
-use census_page_pieces::{Kind, push_grouped, push_number, push_told};
 use census_readback::Sections;
-use census_rows::Row;
+use census_rows::{Row, Section};
 use std::alloc::{AllocError, Global};
 use std::io::Write;
 use watched::{Block, Output, put};
@@ -36,7 +36,7 @@ fn push_link(alloc: Global, text: &mut Vec<u8>, number: u64, name: &[u8]) -> Res
     Ok(())
 }
 
-// Adds what the table of all collections has of a row.
+// Adds what the table of all collections has for a row.
 fn push_cells(alloc: Global, text: &mut Vec<u8>, number: u64, row: &Row) -> Result<(), AllocError>
     ensures { OnOk result (text.new.items ≡ text.old.items ++ index_cells number row.now) }
 {
@@ -59,7 +59,7 @@ fn push_cells(alloc: Global, text: &mut Vec<u8>, number: u64, row: &Row) -> Resu
     Ok(())
 }
 
-// Adds what the table of all collections has of each row.
+// Adds what the table of all collections has for each row.
 fn push_all_cells(
     alloc: Global,
     text: &mut Vec<u8>,
@@ -67,7 +67,7 @@ fn push_all_cells(
     rows: &Section,
 ) -> Result<(), AllocError>
     ensures { OnOk result (text.new.items
-        ≡ text.old.items ++ all_index_cells number rows.now) }
+        ≡ text.old.items ++ flat_map (index_cells number) rows.now) }
 {
     for index in 0..rows.len() {
         push_cells(alloc, text, number, &rows.row(index))?;
@@ -89,8 +89,8 @@ fn row_of(alloc: Global, number: u64, rows: &Section) -> Result<Vec<u8>, AllocEr
     Ok(text)
 }
 
-/// Tells a row for each collection, with a link to it, its counts, and how many of its codes are
-/// still lifes, oscillators and spaceships. Where memory is refused, a prefix was told.
+/// Writes a row for each collection, with a link to it, its counts, and how many of its codes are still lifes, oscillators
+/// and spaceships. If memory runs out, a prefix has been written.
 pub fn put_rows<W: Write>(
     alloc: Global,
     sections: &Sections,
@@ -98,9 +98,9 @@ pub fn put_rows<W: Write>(
     writer: &mut Output<W>,
 ) -> Result<(), AllocError>
     ensures { MatchResult result
-        (λ _. TellsAfter (index_rows 1 sections.now)
+        (λ _. TellsAfter (flat_map (λ s. index_row s.0 s.1) (enumerate_from 1 sections.now))
         (sheet block.old writer.old) (sheet block.new writer.new))
-        (λ _. TellsFront (index_rows 1 sections.now)
+        (λ _. TellsFront (flat_map (λ s. index_row s.0 s.1) (enumerate_from 1 sections.now))
         (sheet block.old writer.old) (sheet block.new writer.new)) }
 {
     for index in 0..sections.len() {

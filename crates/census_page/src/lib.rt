@@ -1,6 +1,6 @@
-//! One HTML page of a report, that stands alone.
+//! One self-contained HTML page of a report, and its pieces.
 //!
-//! Its pieces are those of `census_page_pieces`. Tested in `tests_reports`.
+//! `pieces` has what a page is made of. Tested in `tests_reports`.
 #![tactic(auto)]
 
 mod chosen;
@@ -14,6 +14,7 @@ mod linking;
 mod list;
 mod options;
 mod picked;
+mod pieces;
 mod place;
 mod section;
 mod sorting;
@@ -22,4 +23,5 @@ mod tally;
 mod whole_page;
 
 pub use options::{PageOptions, Sort, default_options};
+pub use pieces::an_escaped_text_has_no_markup;
 pub use whole_page::{each_code_has_a_row, put_page};

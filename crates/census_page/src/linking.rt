@@ -1,17 +1,18 @@
-//! Where the names and the codes of a collection lead to.
-ghost use Rattle.std.specs.Prelude.{◌≡◌, IfOk};
-ghost use Rattle.census_page_pieces.specs.Links.{lent_bytes, linking_of};
-ghost use Rattle.census_page.specs.Linking.{address_in, collection_in, held_bytes, name_opened};
+//! Where the names and the codes of a collection link to.
+ghost use Rattle.std.specs.Prelude.{◌≡◌, ℕ, List, [], ◌∷◌, IfOk};
+ghost use Rattle.std.specs.Borrow.{Bor};
+ghost use Rattle.std.specs.Option.{option_map};
+ghost use Rattle.census_page.specs.Pieces.Links.{collection_address, linking_of};
+ghost use Rattle.census_page.specs.Linking.{collection_in, held_bytes};
 
 use crate::options::PageOptions;
-use census_kept::Section;
-use census_page_pieces::{Links, push_collection_address};
-use census_rows::Row;
+use crate::pieces::{Links, push_collection_address};
+use census_rows::{Row, Section};
 use std::alloc::{AllocError, Global};
 
 // The name that a row gives a collection.
 fn name_opened<'a>(row: &Row<'a>) -> &'a [u8]
-    ensures { result.now ≡ name_opened row.now }
+    ensures { result.now ≡ collection_in (row.now ∷ []) }
 {
     match row {
         Row::Open { name, .. } => *name,
@@ -19,7 +20,7 @@ fn name_opened<'a>(row: &Row<'a>) -> &'a [u8]
     }
 }
 
-// The name of the collection of these rows, of which the first gives it.
+// The name of the collection of these rows, the first of which gives it.
 fn collection_in<'a>(rows: &Section<'_, 'a>) -> &'a [u8]
     ensures { result.now ≡ collection_in rows.now }
 {
@@ -29,15 +30,16 @@ fn collection_in<'a>(rows: &Section<'_, 'a>) -> &'a [u8]
     }
 }
 
-/// The address behind which the names of a collection's patterns stand, where names are links. The only
-/// error is out of memory.
+/// The address to which the names of a collection's patterns are appended, if names are links. The only error is out of
+/// memory.
 pub fn address_in(
     alloc: Global,
     base: Option<&[u8]>,
     rows: &Section,
 ) -> Result<Option<Vec<u8>>, AllocError>
     ensures { IfOk result (λ address. held_bytes address
-        ≡ address_in (lent_bytes base.entry) rows.now) }
+        ≡ option_map (λ front. collection_address front (collection_in rows.now))
+        (option_map (λ (bytes : Bor (List ℕ)). bytes.now) base.entry)) }
 {
     let Some(base) = base else {
         return Ok(None);
@@ -47,7 +49,7 @@ pub fn address_in(
     Ok(Some(address))
 }
 
-/// The links of a collection whose names stand behind this address.
+/// The links of a collection whose names are appended to this address.
 pub fn links_in<'a>(options: &PageOptions, address: &'a Option<Vec<u8>>) -> Links<'a>
     ensures { linking_of result
         ≡ record { names = held_bytes address.now; catalogue = options.now.links } }

@@ -1,18 +1,19 @@
 //! Lists of the patterns that have a code.
 ghost use Rattle.std.specs.Prelude.{◌≡◌, ◌++◌, IfOk, MatchResult, OnOk, codes};
+ghost use Rattle.std.specs.List.{flat_map};
 ghost use Rattle.watched.specs.Telling.{TellsAfter, TellsFront, sheet};
-ghost use Rattle.census_page_pieces.specs.Links.{linking_of};
-ghost use Rattle.census_page_pieces.specs.Numbers.{grouped, labelled};
-ghost use Rattle.census_page.specs.Lists.{holder_list, item, items, more_items, share_words};
+ghost use Rattle.census_page.specs.Pieces.Links.{linking_of};
+ghost use Rattle.census_page.specs.Pieces.Numbers.{grouped, labelled};
+ghost use Rattle.census_page.specs.Lists.{holder_list, item, more_items, share_words};
 
 use crate::holder::{Holder, Share};
 use crate::holders::Holders;
-use census_page_pieces::{Links, push_grouped, push_labelled, push_name};
+use crate::pieces::{Links, push_grouped, push_labelled, push_name};
 use std::alloc::{AllocError, Global};
 use std::io::Write;
 use watched::{Block, Output, put};
 
-// So many patterns of a list are shown at first.
+// The number of patterns of a list that are shown at first.
 const SHOWN: usize = 10;
 
 // Adds the cells and the onset of a pattern that recurs.
@@ -52,7 +53,7 @@ fn item(alloc: Global, links: &Links, holder: &Holder) -> Result<Vec<u8>, AllocE
     Ok(text)
 }
 
-// Tells an item for each pattern.
+// Writes an item for each pattern.
 fn put_items<W: Write>(
     alloc: Global,
     links: &Links,
@@ -61,9 +62,9 @@ fn put_items<W: Write>(
     writer: &mut Output<W>,
 ) -> Result<(), AllocError>
     ensures { MatchResult result
-        (λ _. TellsAfter (items (linking_of links.now) holders.now)
+        (λ _. TellsAfter (flat_map (item (linking_of links.now)) holders.now)
         (sheet block.old writer.old) (sheet block.new writer.new))
-        (λ _. TellsFront (items (linking_of links.now) holders.now)
+        (λ _. TellsFront (flat_map (item (linking_of links.now)) holders.now)
         (sheet block.old writer.old) (sheet block.new writer.new)) }
 {
     for index in 0..holders.len() {
@@ -73,7 +74,7 @@ fn put_items<W: Write>(
     Ok(())
 }
 
-// What stands before the items that are shown when they are asked for.
+// The text before the items that are shown when they are asked for.
 fn more_front(alloc: Global, count: usize) -> Result<Vec<u8>, AllocError>
     ensures { IfOk result (λ text. text.items ≡
         codes "<details><summary>" ++ grouped count ++ codes " more</summary><ul>") }
@@ -85,7 +86,7 @@ fn more_front(alloc: Global, count: usize) -> Result<Vec<u8>, AllocError>
     Ok(text)
 }
 
-// Tells the items that are shown when they are asked for.
+// Writes the items that are shown when they are asked for.
 fn put_more<W: Write>(
     alloc: Global,
     links: &Links,
@@ -109,8 +110,8 @@ fn put_more<W: Write>(
     Ok(())
 }
 
-/// Tells a list of patterns: the first ten, and the others when they are asked for. Where memory is
-/// refused, a prefix was told.
+/// Writes a list of patterns: the first ten, and the others to be shown when they are asked for. If memory runs out, a prefix
+/// has been written.
 pub fn put_list<W: Write>(
     alloc: Global,
     links: &Links,

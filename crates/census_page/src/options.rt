@@ -2,19 +2,17 @@
 ghost use Rattle.std.specs.Prelude.{◌≡◌};
 ghost use Rattle.census_page.specs.Options.{default_options, options_of};
 
-/// In which order the rows of a table of codes stand. Rows that an order does not tell apart stand as in
-/// the report.
+/// The order of the rows of a table of codes. Rows that are level in it are as in the report.
 #[derive(Clone, Copy, Debug, PartialEq, Eq)]
 pub enum Sort {
     /// As in the report.
     Report,
     /// By falling count.
     Count,
-    /// By the length of codes, then by their bytes, and then by those of rules: as a table of codes has
-    /// those that occur equally often.
+    /// By the length of codes, then by their bytes, and then by those of rules: as codes that occur equally often are in a
+    /// table of codes.
     Code,
-    /// By falling period, as codes tell it: the number behind `xp` and `xq`, and 1 for `xs`. Codes that
-    /// tell none stand last.
+    /// By falling period, as given by codes: the number after `xp` and `xq`, and 1 for `xs`. Codes that give none come last.
     Period,
     /// By the bytes of the name of the first pattern that has the code.
     Name,
@@ -25,16 +23,15 @@ pub enum Sort {
 pub struct PageOptions<'a> {
     /// Its title and first heading.
     pub title: &'a [u8],
-    /// A note below the heading, where it isn't empty.
+    /// A note below the heading, unless it is empty.
     pub note: &'a [u8],
-    /// In which order the rows of each collection's table of codes stand.
+    /// The order of the rows in each collection's table of codes.
     pub sort: Sort,
-    /// How many rows this table has at most, the first ones in that order. Where it is none all stand
-    /// there.
+    /// The greatest number of rows in this table; they are the first ones in that order. With none, the table has all rows.
     pub top: Option<u64>,
-    /// What stands before the addresses of patterns, where names are links: this, the path of the
-    /// collection, a slash, and the name. It is told as it is; whether it begins with `http://` or
-    /// `https://` is for who asks to see to. Where it is none names are no links.
+    /// The beginning of the addresses of patterns, if names are links. An address is this, the path of the collection, a
+    /// slash, and the name. This is written as it is, and it is up to the caller that it begins with `http://` or
+    /// `https://`. With none, names are no links.
     pub base: Option<&'a [u8]>,
     /// Whether codes are links to their pages at Catagolue.
     pub links: bool,
@@ -42,8 +39,7 @@ pub struct PageOptions<'a> {
     pub patterns: bool,
 }
 
-/// What a page has that nothing is asked of: the title `Census`, no note, all that reports tell in
-/// their order, and no links that leave the page.
+/// The page by default: the title `Census`, no note, everything in reports in its order, and no links that leave the page.
 pub fn default_options() -> PageOptions<'static>
     ensures { options_of result ≡ default_options }
 {

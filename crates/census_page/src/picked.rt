@@ -1,12 +1,11 @@
 //! Some of the rows of a collection.
 ghost use Rattle.std.specs.Prelude.{◌≡◌, ◌<◌, length, slice_index_or};
-ghost use Rattle.census_kept.specs.Placed.{AreWithin, rows_numbered};
+ghost use Rattle.census_rows.specs.Store.Placed.{AreWithin, rows_numbered};
 
-use census_kept::Section;
-use census_rows::Row;
+use census_rows::{Row, Section};
 use std::marker::Model;
 
-/// Some of the rows of a collection, in an order of their own: lent, by their numbers there.
+/// Some of the rows of a collection, in an order of their own: borrowed, by their numbers there.
 #[derive(Drop)]
 pub struct Picked<'s, 'b, 'a> {
     rows: &'s Section<'b, 'a>,
@@ -19,7 +18,7 @@ impl<'s, 'b, 'a> Model for Picked<'s, 'b, 'a> {
 
     ghost Value = { List Row };
 
-    ghost use Rattle.census_kept.specs.Placed.{AreWithin, rows_numbered};
+    ghost use Rattle.census_rows.specs.Store.Placed.{AreWithin, rows_numbered};
 
     ghost view = { λ s. rows_numbered s.rows.now s.numbers.now };
 
@@ -35,7 +34,7 @@ impl<'s, 'b, 'a> Picked<'s, 'b, 'a> {
         Picked { rows, numbers }
     }
 
-    /// How many there are.
+    /// The number of rows.
     pub fn len(&self) -> usize
         ensures { result ≡ length self.now }
     {

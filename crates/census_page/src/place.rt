@@ -1,21 +1,19 @@
 //! Patterns that have codes, by the places of their rows.
 ghost use Rattle.std.specs.Prelude.{◌≡◌, ℕ, List, length, None, IfOk, OnOk};
-ghost use Rattle.census_kept.specs.Placed.{row_numbered};
+ghost use Rattle.census_rows.specs.Store.Placed.{row_numbered};
 ghost use Rattle.census_page.specs.Held.{AreHeld, held_at, holder_at, holders_at, line_after, naming_at};
 ghost use Rattle.census_page.specs.Holders.{has_code, having, holders_from};
 ghost use Rattle.census_page.specs.Order.{AreInOrder, holder_key, key_cmp};
 
 use crate::holder::{Holder, Naming, holder_of, naming_after};
-use census_kept::Section;
-use census_rows::Row;
+use census_rows::{Row, Section};
 use std::alloc::{AllocError, Global};
 use std::cmp::Ordering;
 
-/// Where the rows of a pattern and of its code stand among those of a collection, counted from 0, in 8
-/// bytes.
+/// The places of the rows of a pattern and of its code among those of a collection, counted from 0, in 8 bytes.
 #[derive(Clone, Copy)]
 pub struct Place {
-    /// The row of the last pattern that has parts; past the last row where none has parts yet.
+    /// The row of the last pattern that has parts; after the last row if none has parts yet.
     pub line: u32,
     /// The row that has the code.
     pub row: u32,
@@ -34,7 +32,7 @@ impl Place {
     }
 }
 
-/// The row with this number, or the end of a report where there is none.
+/// The row with this number, or the end of a report if there is none.
 #[tactic(auto, using(crate::proofs::Held::row_there, crate::proofs::Held::row_past))]
 pub fn row_or_end<'a>(rows: &Section<'_, 'a>, number: usize) -> Row<'a>
     ensures { result ≡ row_numbered rows.now number }
@@ -49,14 +47,14 @@ pub fn row_or_end<'a>(rows: &Section<'_, 'a>, number: usize) -> Row<'a>
     }
 }
 
-// The rule and the name of the pattern whose row has this number, where it has parts.
+// The rule and the name of the pattern whose row has this number, if it has parts.
 fn naming_at<'a>(rows: &Section<'_, 'a>, number: usize) -> Option<Naming<'a>>
     ensures { result ≡ naming_at rows.now number }
 {
     naming_after(&None, &row_or_end(rows, number))
 }
 
-// The row of the last pattern that has parts, where the one with this number stands behind the last.
+// The row of the last pattern that has parts, up to the row with this number, where `line` is the one before it.
 fn line_after(rows: &Section, line: usize, number: usize) -> usize
     ensures { result ≡ line_after rows.now line number }
 {
@@ -74,7 +72,7 @@ fn holder_in<'a>(rows: &Section<'_, 'a>, line: usize, row: usize) -> Option<Hold
     holder_of(&naming_at(rows, line), &row_or_end(rows, row))
 }
 
-/// The pattern at a place, where there is one.
+/// The pattern at a place, if there is one.
 pub fn holder_at<'a>(rows: &Section<'_, 'a>, place: &Place) -> Option<Holder<'a>>
     ensures { result ≡ holder_at rows.now place.now }
 {
@@ -96,9 +94,8 @@ fn count_held(rows: &Section) -> usize
     count
 }
 
-/// Where the patterns of a collection's rows with their codes stand, in the order of the rows. A
-/// pattern that has fallen apart comes once for each code of its parts. The only error is out of
-/// memory.
+/// The places of the patterns of a collection's rows with their codes, in the order of the rows. A pattern that has fallen
+/// apart occurs once for each code of its parts. The only error is out of memory.
 pub fn places(alloc: Global, rows: &Section) -> Result<Vec<Place>, AllocError>
     ensures held { IfOk result (λ places. AreHeld rows.now places.items) }
     ensures all { IfOk result (λ places. holders_at rows.now places.items
@@ -115,7 +112,7 @@ pub fn places(alloc: Global, rows: &Section) -> Result<Vec<Place>, AllocError>
     Ok(places)
 }
 
-// The code of the pattern at a place, or nothing where there is none.
+// The code of the pattern at a place, or nothing if there is none.
 #[tactic(auto, unfolding(crate::specs::Held::held_at))]
 fn code_at<'a>(rows: &Section<'_, 'a>, place: &Place) -> &'a [u8]
     ensures { result.now ≡ (held_at rows.now place.now).code.now }
@@ -126,7 +123,7 @@ fn code_at<'a>(rows: &Section<'_, 'a>, place: &Place) -> &'a [u8]
     }
 }
 
-// The rule of the pattern at a place, or nothing where there is none.
+// The rule of the pattern at a place, or nothing if there is none.
 #[tactic(auto, unfolding(crate::specs::Held::held_at))]
 fn rule_at<'a>(rows: &Section<'_, 'a>, place: &Place) -> &'a [u8]
     ensures { result.now ≡ (held_at rows.now place.now).rule.now }
@@ -149,8 +146,8 @@ fn compared_at(rows: &Section, one: &Place, other: &Place) -> Ordering
     }
 }
 
-/// Puts the places of patterns in the order of their codes, and of their rules under one code. Those
-/// of one code and rule keep their order. The only error is out of memory.
+/// Puts the places of patterns in the order of their codes, and of their rules under one code. Patterns with the same code
+/// and rule keep their order. The only error is out of memory.
 pub fn put_in_order(rows: &Section, places: &mut Vec<Place>) -> Result<(), AllocError>
     ensures held { AreHeld rows.now places.old.items → AreHeld rows.now places.new.items }
     ensures same { (rule code : List ℕ) →
@@ -161,8 +158,7 @@ pub fn put_in_order(rows: &Section, places: &mut Vec<Place>) -> Result<(), Alloc
     places.sort_by(|one, other| compared_at(rows, one, other))
 }
 
-/// How the pattern at a place stands to a code and a rule: in the order of codes, and of rules under
-/// one code.
+/// Compares the pattern at a place with a code and a rule: in the order of codes, and of rules under one code.
 pub fn compared(rows: &Section, place: &Place, rule: &[u8], code: &[u8]) -> Ordering
     ensures { result ≡ key_cmp (holder_key (held_at rows.now place.now)) (code.now, rule.now) }
 {

@@ -2,10 +2,11 @@
 ghost use Rattle.std.specs.Prelude.{◌≡◌, ◌++◌, IfOk, MatchResult, codes, decimal};
 ghost use Rattle.std.specs.List.{list_any};
 ghost use Rattle.watched.specs.Telling.{TellsAfter, TellsFront, sheet};
-ghost use Rattle.census_page_pieces.specs.Links.{linking_of};
+ghost use Rattle.census_page.specs.Pieces.Links.{linking_of};
 ghost use Rattle.census_page.specs.Options.{options_of};
 ghost use Rattle.census_page.specs.Order.{AreInOrder};
-ghost use Rattle.census_page.specs.Pages.{chosen, code_table, is_code, is_stray, linked_tables, pattern_table, section_text, stray_list, table_of, tables};
+ghost use Rattle.census_page.specs.Pages.{chosen, code_table, framed_text, is_code, is_stray, pattern_table, section_text, stray_rows, table_of, tables};
+ghost use Rattle.census_page.specs.Pieces.Markup.{list_begin, table_end};
 
 use crate::chosen::{chosen, is_code};
 use crate::code_row::put_code_rows;
@@ -14,16 +15,15 @@ use crate::holders::Holders;
 use crate::linking::{address_in, links_in};
 use crate::options::PageOptions;
 use crate::picked::Picked;
+use crate::pieces::{Links, list_begin, push_number, recurs, table_begin, table_end};
 use crate::place::{places, put_in_order};
 use crate::stray::put_stray_rows;
-use census_kept::Section;
-use census_page_pieces::{Links, list_begin, push_number, recurs, table_begin, table_end};
-use census_rows::Row;
+use census_rows::{Row, Section};
 use std::alloc::{AllocError, Global};
 use std::io::Write;
 use watched::{Block, Output, put};
 
-// Whether a row tells of a pattern that does not recur.
+// Whether a row reports a pattern that does not recur.
 fn is_stray(row: &Row) -> bool
     ensures { result ≡ is_stray row.now }
 {
@@ -33,7 +33,7 @@ fn is_stray(row: &Row) -> bool
     }
 }
 
-// Whether any row tells of a code.
+// Whether any row reports a code.
 fn have_codes(rows: &Picked) -> bool
     ensures { result ≡ list_any is_code rows.now }
 {
@@ -45,7 +45,7 @@ fn have_codes(rows: &Picked) -> bool
     false
 }
 
-// Whether any row tells of a pattern that does not recur.
+// Whether any row reports a pattern that does not recur.
 fn have_strays(rows: &Section) -> bool
     ensures { result ≡ list_any is_stray rows.now }
 {
@@ -57,7 +57,7 @@ fn have_strays(rows: &Section) -> bool
     false
 }
 
-// Tells the table of those of these rows that are asked for, where there are any.
+// Writes the table of the rows among these that are asked for, if there are any.
 fn put_chosen<W: Write>(
     alloc: Global,
     links: &Links,
@@ -85,7 +85,7 @@ fn put_chosen<W: Write>(
     Ok(())
 }
 
-// Tells the table of a collection's codes, where any are asked for.
+// Writes the table of a collection's codes, if any are asked for.
 fn put_code_table<W: Write>(
     alloc: Global,
     links: &Links,
@@ -106,7 +106,7 @@ fn put_code_table<W: Write>(
     put_chosen(alloc, links, options, &holders, rows, block, writer)
 }
 
-// Tells the table of a collection's patterns that do not recur, where there are any.
+// Writes the table of a collection's patterns that do not recur, if there are any.
 fn put_stray_list<W: Write>(
     alloc: Global,
     links: &Links,
@@ -115,9 +115,9 @@ fn put_stray_list<W: Write>(
     writer: &mut Output<W>,
 ) -> Result<(), AllocError>
     ensures { MatchResult result
-        (λ _. TellsAfter (stray_list (linking_of links.now) rows.now)
+        (λ _. TellsAfter (framed_text list_begin (stray_rows (linking_of links.now) rows.now) table_end)
         (sheet block.old writer.old) (sheet block.new writer.new))
-        (λ _. TellsFront (stray_list (linking_of links.now) rows.now)
+        (λ _. TellsFront (framed_text list_begin (stray_rows (linking_of links.now) rows.now) table_end)
         (sheet block.old writer.old) (sheet block.new writer.new)) }
 {
     if !have_strays(rows) {
@@ -129,7 +129,7 @@ fn put_stray_list<W: Write>(
     Ok(())
 }
 
-// Tells this table where it is asked for.
+// Writes this table if it is asked for.
 fn put_pattern_table<W: Write>(
     alloc: Global,
     links: &Links,
@@ -150,7 +150,7 @@ fn put_pattern_table<W: Write>(
     put_stray_list(alloc, links, rows, block, writer)
 }
 
-// Tells both tables with these links.
+// Writes both tables with these links.
 fn put_linked_tables<W: Write>(
     alloc: Global,
     links: &Links,
@@ -160,16 +160,18 @@ fn put_linked_tables<W: Write>(
     writer: &mut Output<W>,
 ) -> Result<(), AllocError>
     ensures { MatchResult result
-        (λ _. TellsAfter (linked_tables (linking_of links.now) (options_of options.now) rows.now)
+        (λ _. TellsAfter (code_table (linking_of links.now) (options_of options.now) rows.now
+        ++ pattern_table (linking_of links.now) options.now.patterns rows.now)
         (sheet block.old writer.old) (sheet block.new writer.new))
-        (λ _. TellsFront (linked_tables (linking_of links.now) (options_of options.now) rows.now)
+        (λ _. TellsFront (code_table (linking_of links.now) (options_of options.now) rows.now
+        ++ pattern_table (linking_of links.now) options.now.patterns rows.now)
         (sheet block.old writer.old) (sheet block.new writer.new)) }
 {
     put_code_table(alloc, links, options, rows, block, writer)?;
     put_pattern_table(alloc, links, options.patterns, rows, block, writer)
 }
 
-// Tells both tables with the links that are asked for.
+// Writes both tables with the links that are asked for.
 fn put_tables<W: Write>(
     alloc: Global,
     options: &PageOptions,
@@ -200,8 +202,8 @@ fn section_begin(alloc: Global, number: u64) -> Result<Vec<u8>, AllocError>
     Ok(text)
 }
 
-/// Tells a collection with its number in the page. For a writer that has failed no text is made.
-/// Where memory is refused, a prefix was told.
+/// Writes a collection with its number in the page. No text is made for a writer that has failed. If memory runs out, a
+/// prefix has been written.
 pub fn put_section<W: Write>(
     alloc: Global,
     options: &PageOptions,

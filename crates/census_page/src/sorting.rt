@@ -1,15 +1,15 @@
 //! The order of the rows of a table of codes.
 ghost use Rattle.std.specs.Prelude.{◌≡◌, OnOk};
-ghost use Rattle.census_kept.specs.Placed.{AreWithin, row_numbered, rows_numbered};
+ghost use Rattle.std.specs.Ordering.{is_lt};
+ghost use Rattle.census_rows.specs.Store.Placed.{AreWithin, row_numbered, rows_numbered};
 ghost use Rattle.census_page.specs.Order.{AreInOrder};
-ghost use Rattle.census_page.specs.Sorting.{code_in, count_in, name_in, row_cmp, rule_in, shorter_cmp, sorted_rows};
+ghost use Rattle.census_page.specs.Sorting.{code_in, count_in, name_in, row_cmp, rule_in, shorter_cmp, sorted_by};
 
 use crate::holders::{Holders, having};
 use crate::options::Sort;
+use crate::pieces::period_told;
 use crate::place::row_or_end;
-use census_kept::Section;
-use census_page_pieces::period_told;
-use census_rows::Row;
+use census_rows::{Row, Section};
 use std::alloc::AllocError;
 use std::cmp::Ordering;
 
@@ -89,8 +89,8 @@ fn compared_at(sort: Sort, holders: &Holders, rows: &Section, one: usize, other:
     )
 }
 
-/// Puts the numbers of rows in an order of the rows, where these patterns have their codes. Rows that
-/// it does not tell apart stand as they stood. The only error is out of memory.
+/// Puts the numbers of rows in an order of the rows, where these patterns have their codes. Rows that are level in it keep
+/// their order. The only error is out of memory.
 pub fn sort_rows(
     sort: Sort,
     holders: &Holders,
@@ -100,7 +100,7 @@ pub fn sort_rows(
     requires { AreInOrder holders.now }
     ensures within { AreWithin rows.now numbers.old.items → AreWithin rows.now numbers.new.items }
     ensures sorted { OnOk result (rows_numbered rows.now numbers.new.items
-        ≡ sorted_rows sort holders.now (rows_numbered rows.now numbers.old.items)) }
+        ≡ sorted_by (λ one other. is_lt (row_cmp sort holders.now one other)) (rows_numbered rows.now numbers.old.items)) }
 {
     match sort {
         Sort::Report => Ok(()),

@@ -1,18 +1,18 @@
 //! Rows of the table of the patterns that do not recur.
 ghost use Rattle.std.specs.Prelude.{MatchResult};
 ghost use Rattle.watched.specs.Telling.{TellsAfter, TellsFront, sheet};
-ghost use Rattle.census_page_pieces.specs.Links.{linking_of};
+ghost use Rattle.census_page.specs.Pieces.Links.{linking_of};
 ghost use Rattle.census_page.specs.Pages.{stray_row, stray_rows};
 
-use census_kept::Section;
-use census_page_pieces::{Links, put_fate_row};
+use crate::pieces::{Links, put_fate_row};
 use census_readback::rows_behind;
-use census_rows::{Behind, Row};
+use census_rows::{Behind, Row, Section};
 use std::alloc::{AllocError, Global};
 use std::io::Write;
 use watched::{Block, Output};
 
-// Tells the table row for a row that tells of a pattern that does not recur, and stands before these.
+// Writes the table row for a report's row, if that reports a pattern that does not recur. The report's row comes before
+// these.
 fn put_stray_row<W: Write>(
     alloc: Global,
     links: &Links,
@@ -37,8 +37,7 @@ fn put_stray_row<W: Write>(
     }
 }
 
-/// Tells a table row for each pattern that does not recur. Where memory is refused, a prefix was
-/// told.
+/// Writes a table row for each pattern that does not recur. If memory runs out, a prefix has been written.
 pub fn put_stray_rows<W: Write>(
     alloc: Global,
     links: &Links,

@@ -6,11 +6,10 @@ ghost use Rattle.census_rows.specs.Kinds.{is_refused, is_resolved, is_unresolved
 ghost use Rattle.census_page.specs.Pages.{is_shown, is_shown_as, kind_shown};
 ghost use Rattle.census_page.specs.Counted.{counts};
 
-use census_kept::{Rows, Section};
-use census_page_pieces::{Kind, is_kind, kind_of, recurs};
-use census_rows::{Class, Row};
+use crate::pieces::{Kind, is_kind, kind_of, recurs};
+use census_rows::{Class, Row, Rows, Section};
 
-// Of which kind what a row tells of is, where the page has a row for it.
+// The kind of what a row reports, if the page has a row for it.
 fn kind_shown(row: &Row) -> Option<Kind>
     ensures { result ≡ kind_shown row.now }
 {
@@ -27,21 +26,21 @@ fn kind_shown(row: &Row) -> Option<Kind>
     }
 }
 
-// Whether the page has a row of this kind for what a row tells of.
+// Whether the page has a row of this kind for what a row reports.
 fn is_shown_as(kind: Kind, row: &Row) -> bool
     ensures { result ≡ is_shown_as kind row.now }
 {
     is_kind(kind, &kind_shown(row))
 }
 
-// Whether the page has a row for what a row tells of.
+// Whether the page has a row for what a row reports.
 fn is_shown(row: &Row) -> bool
     ensures { result ≡ is_shown row.now }
 {
     kind_shown(row).is_some()
 }
 
-// Whether a row tells of a pattern.
+// Whether a row reports a pattern.
 fn is_pattern(row: &Row) -> bool
     ensures { result ≡ is_line any_outcome row.now }
 {
@@ -51,7 +50,7 @@ fn is_pattern(row: &Row) -> bool
     }
 }
 
-// Whether a row tells of a pattern that is resolved.
+// Whether a row reports a pattern that is resolved.
 fn is_resolved(row: &Row) -> bool
     ensures { result ≡ is_line is_resolved row.now }
 {
@@ -64,7 +63,7 @@ fn is_resolved(row: &Row) -> bool
     }
 }
 
-// Whether a row tells of a pattern that is unresolved.
+// Whether a row reports a pattern that is unresolved.
 fn is_unresolved(row: &Row) -> bool
     ensures { result ≡ is_line is_unresolved row.now }
 {
@@ -77,7 +76,7 @@ fn is_unresolved(row: &Row) -> bool
     }
 }
 
-// Whether a row tells of a pattern that is refused.
+// Whether a row reports a pattern that is refused.
 fn is_refused(row: &Row) -> bool
     ensures { result ≡ is_line is_refused row.now }
 {
@@ -93,17 +92,17 @@ fn is_refused(row: &Row) -> bool
 // Which rows are counted.
 #[derive(Clone, Copy)]
 enum Which {
-    // Those for which the page has a row.
+    // The rows for which the page has a row.
     Shown,
-    // Those for which it has a row of this kind.
+    // The rows for which the page has a row of this kind.
     ShownAs(Kind),
-    // Those that tell of patterns.
+    // The rows that report patterns.
     Patterns,
-    // Those that tell of patterns that are resolved.
+    // The rows that report patterns that are resolved.
     Resolved,
-    // Those that tell of patterns that are unresolved.
+    // The rows that report patterns that are unresolved.
     Unresolved,
-    // Those that tell of patterns that are refused.
+    // The rows that report patterns that are refused.
     Refused,
 }
 
@@ -134,7 +133,7 @@ fn count_of(which: Which, rows: &Rows) -> u64
     count
 }
 
-// How many of these there are among rows that are lent.
+// How many of these there are among borrowed rows.
 fn count_among(which: Which, rows: &Section) -> u64
     ensures { result ≡ count_by (counts which) rows.now }
 {
@@ -161,35 +160,35 @@ pub fn count_shown(rows: &Rows) -> u64
     count_of(Which::Shown, rows)
 }
 
-/// How many rows of a kind the page has for these, which are lent.
+/// How many rows of a kind the page has for these, which are borrowed.
 pub fn count_lent(kind: Kind, rows: &Section) -> u64
     ensures { result ≡ count_by (is_shown_as kind) rows.now }
 {
     count_among(Which::ShownAs(kind), rows)
 }
 
-/// How many of the rows tell of patterns.
+/// How many of the rows report patterns.
 pub fn count_patterns(rows: &Rows) -> u64
     ensures { result ≡ count_by (is_line any_outcome) rows.now }
 {
     count_of(Which::Patterns, rows)
 }
 
-/// How many of the rows tell of patterns that are resolved.
+/// How many of the rows report patterns that are resolved.
 pub fn count_resolved(rows: &Rows) -> u64
     ensures { result ≡ count_by (is_line is_resolved) rows.now }
 {
     count_of(Which::Resolved, rows)
 }
 
-/// How many of the rows tell of patterns that are unresolved.
+/// How many of the rows report patterns that are unresolved.
 pub fn count_unresolved(rows: &Rows) -> u64
     ensures { result ≡ count_by (is_line is_unresolved) rows.now }
 {
     count_of(Which::Unresolved, rows)
 }
 
-/// How many of the rows tell of patterns that are refused.
+/// How many of the rows report patterns that are refused.
 pub fn count_refused(rows: &Rows) -> u64
     ensures { result ≡ count_by (is_line is_refused) rows.now }
 {

@@ -1,24 +1,25 @@
 //! The page.
 ghost use Rattle.std.specs.Prelude.{◌≡◌, [], List, MatchResult};
+ghost use Rattle.std.specs.List.{enumerate_from, flat_map};
 ghost use Rattle.watched.specs.Telling.{TellsAfter, TellsFront, sheet};
 ghost use Rattle.census_rows.specs.declared.row.Row.{Row};
 ghost use Rattle.census_readback.specs.Grouped.{collections_of};
 ghost use Rattle.census_readback.specs.Shapes.{AreReports};
 ghost use Rattle.census_page.specs.Options.{options_of};
-ghost use Rattle.census_page.specs.Pages.{body_text, codes_in, page_of, sections_codes, sections_text};
+ghost use Rattle.census_page.specs.Pages.{body_text, codes_in, page_of, section_text, sections_codes};
 
 use crate::front::{choices, front};
 use crate::index::put_rows;
 use crate::options::PageOptions;
+use crate::pieces::{index_begin, index_end, page_end};
 use crate::section::put_section;
-use census_kept::Rows;
-use census_page_pieces::{index_begin, index_end, page_end};
 use census_readback::{Sections, collections};
+use census_rows::Rows;
 use std::alloc::{AllocError, Global};
 use std::io::Write;
 use watched::{Block, Output, put};
 
-// Tells each collection.
+// Writes each collection.
 fn put_sections<W: Write>(
     alloc: Global,
     options: &PageOptions,
@@ -27,9 +28,9 @@ fn put_sections<W: Write>(
     writer: &mut Output<W>,
 ) -> Result<(), AllocError>
     ensures { MatchResult result
-        (λ _. TellsAfter (sections_text (options_of options.now) 1 sections.now)
+        (λ _. TellsAfter (flat_map (λ s. section_text (options_of options.now) s.0 s.1) (enumerate_from 1 sections.now))
         (sheet block.old writer.old) (sheet block.new writer.new))
-        (λ _. TellsFront (sections_text (options_of options.now) 1 sections.now)
+        (λ _. TellsFront (flat_map (λ s. section_text (options_of options.now) s.0 s.1) (enumerate_from 1 sections.now))
         (sheet block.old writer.old) (sheet block.new writer.new)) }
 {
     for index in 0..sections.len() {
@@ -45,7 +46,7 @@ fn put_sections<W: Write>(
     Ok(())
 }
 
-// Tells the page from the table of all collections on.
+// Writes the page from the table of all collections on.
 fn put_body<W: Write>(
     alloc: Global,
     options: &PageOptions,
@@ -70,17 +71,15 @@ fn put_body<W: Write>(
     Ok(())
 }
 
-/// Tells a report, or several after one another, as one HTML page in UTF-8 that stands alone: it has
-/// no script, and asks for nothing. First come its title and note, the counts of all patterns, a
-/// table of the collections with links to them, and a choice of what is shown. Of each collection
-/// it has the name, the counts, a table with a row for each `code` row, or for as many as are asked
-/// for, and a table of the patterns that do not recur, where it is asked for. The counts are those of
-/// all rows. No name, rule, code or option brings markup.
-/// Where links are asked for, names and codes lead to other places, and nothing is asked of these before
-/// a link is followed.
+/// Writes a report, or several in sequence, as one HTML page in UTF-8 that stands alone: it has no script, and requests
+/// nothing. First come its title and note, the counts of all patterns, a table of the collections with links to them, and a
+/// choice of what is shown. For each collection it has the name, the counts, a table with a row for each `code` row, or for
+/// the number of rows asked for, and a table of the patterns that do not recur, if that is asked for. The counts are those of
+/// all rows. No name, rule, code or option brings markup. If links are asked for, names and codes link to other places, and
+/// nothing is requested from these before a link is followed.
 ///
-/// The text of a row stands in memory at a time. Where memory is refused, a prefix of the page was
-/// told. To a writer that has failed nothing is written.
+/// The text of one row is in memory at a time. If memory runs out, a prefix of the page has been written. To a writer that
+/// has failed nothing is written.
 pub fn put_page<W: Write>(
     alloc: Global,
     options: &PageOptions,

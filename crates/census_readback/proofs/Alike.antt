@@ -1,6 +1,7 @@
--- Rows that say the same may stand in the same places.
+-- Rows that say the same may come in the same places.
 use Rattle.std.proofs.Common.{◌≡◌, ℕ, ℤ, Bool, true, false, not, ◌+◌, ◌-◌, ◌&&◌, ◌||◌, ◌==◌, nat_eq, nat_lt, nat_le, Option, Some, None as Nothing, List, [], ◌∷◌, ap, ◌∙◌, refl, subst}
-use Rattle.std.specs.Prelude.{if◌then◌else◌, ⊤}
+use Rattle.std.specs.Prelude.{if◌then◌else◌, is_some, ⊤}
+use Rattle.std.specs.Option.{option_map_or, unwrap_or}
 use Rattle.census_bundle.specs.Names.{is_name}
 use Rattle.census_rows.specs.declared.kinds.Behind as rows
 use Rattle.census_rows.specs.declared.kinds.Behind.TheVariants as behind
@@ -17,15 +18,15 @@ use Rattle.census_rows.specs.Kinds.{Said, label_number, said, value_at}
 use Rattle.census_rows.specs.Lines.{SameFields, SameOutcome, SameRow, SameSaid, SameValue}
 use Rattle.census_readback.specs.Codes.{is_code, is_code_after}
 use Rattle.life_model.specs.Cell.{origin, same_cell}
-use Rattle.census_readback.specs.Lawful.{has_lawful_code, has_lawful_engines, has_lawful_rule, is_lawful, is_moved, is_way, number_in, passes, signed_in, tells_some, text_in}
+use Rattle.census_readback.specs.Lawful.{has_lawful_code, has_lawful_engines, has_lawful_rule, is_lawful, is_moved, is_way, number_in, signed_in, text_in}
 use Rattle.census_readback.specs.Engines.{after_engine, no_engine}
 use Rattle.census_readback.specs.declared.engines.Way.{Way}
 use Rattle.census_readback.specs.Rules.{is_rule}
-use Rattle.census_readback.specs.Told.{Told, emits_told, engine_told, has_code, has_rows, is_some, is_told, line_told, part_told, to_tell, told_after, told_next}
+use Rattle.census_readback.specs.Told.{Told, emits_told, engine_told, has_code, has_rows, is_told, line_told, part_told, to_tell, told_after, told_next}
 use Rattle.census_readback.specs.declared.place.Place.{Place}
 use Rattle.census_readback.specs.declared.place.Place.TheVariants.{Before, Within, Behind}
 use Rattle.census_readback.specs.declared.place.Tally.{Tally}
-use Rattle.census_readback.specs.Counts.{Counts, bytes_of, line_counted, with_code}
+use Rattle.census_readback.specs.Counts.{Counts, line_counted, object, with_more}
 use Rattle.census_readback.specs.Sections.{counted, may_stand, with_line, with_part, with_told, tells_next, next_within, first_place, place_after}
 use Rattle.census_readback.specs.Steps.{Reading, collection_of, patterns_opened, place_at, gone_on, section_step, end_step, step, first_stray}
 use Rattle.census_readback.specs.Texts.{SameRows}
@@ -73,7 +74,10 @@ signed-same (Some (Signed z)) (Some (Signed y)) h = h
 signed-same (Some (Text bytes)) (Some (Text others)) h = refl
 signed-same a b h = absurd h
 
-some-same : (a b : Option Value) → SameValues a b → tells_some a ≡ tells_some b
+abbrev tells-some : Option Value → Bool
+tells-some value = option_map_or (λ value. nat_lt 0 (number_in (Some value))) value true
+
+some-same : (a b : Option Value) → SameValues a b → tells-some a ≡ tells-some b
 some-same Nothing Nothing h = refl
 some-same (Some value) (Some other) h = ap (λ n. nat_lt 0 n) (number-same (Some value) (Some other) h)
 some-same a b h = absurd h
@@ -89,8 +93,10 @@ module _ (fields others : List Field) (h : SameFields fields others) where
 
 counted-same : (k : Counts) (s u : Said) → SameSaid s u → line_counted k s ≡ line_counted k u
 counted-same k s u h =
-    ap (λ rule. with_code (bytes_of rule) (text_in (value_at label.Code s.fields)) k.sums) (texts s.fields u.fields h.3 label.Rule)
-    ∙ ap (λ code. with_code (bytes_of (text_in (value_at label.Rule u.fields))) code k.sums) (texts s.fields u.fields h.3 label.Code)
+    let after : Option (List ℕ) → Option (List ℕ) → Counts = λ rule code.
+    record { rule = unwrap_or rule []; sums = option_map_or (λ code. with_more (object (unwrap_or rule []) code) 1 k.sums) code k.sums } in
+    ap (λ rule. after rule (text_in (value_at label.Code s.fields))) (texts s.fields u.fields h.3 label.Rule)
+    ∙ ap (after (text_in (value_at label.Rule u.fields))) (texts s.fields u.fields h.3 label.Code)
 
 line-same : (t : Tally) (o p : Outcome) → SameOutcome o p → with_line t o ≡ with_line t p
 line-same t o p h =
@@ -175,7 +181,7 @@ step-same s (Close c n a b d) (Close c2 n2 a2 b2 d2) h = section-same s (Close c
 step-same s (End n k) (End n2 k2) h = ap (λ m. end_step s m k) h.0 ∙ ap (λ m. end_step s n2 m) h.1
 step-same s r q h = absurd h
 
--- # What they tell
+-- # What they say
 
 code-same : (fields others : List Field) → SameFields fields others → has_lawful_code fields ≡ has_lawful_code others
 code-same fields others h =
@@ -183,17 +189,17 @@ code-same fields others h =
     λ l. signed-same (value_at l fields) (value_at l others) (at-same l fields others h) in
     let period : ℕ = number_in (value_at label.Period fields) in
     let code : Option (List ℕ) = text_in (value_at label.Code fields) in
-    ap (λ z. passes (is_code_after (not (same_cell (z, signed_in (value_at label.Dy fields)) origin)) period) code) (sign label.Dx)
-    ∙ ap (λ z. passes (is_code_after (not (same_cell (signed_in (value_at label.Dx others), z) origin)) period) code) (sign label.Dy)
-    ∙ ap (λ n. passes (is_code_after (is_moved others) n) code) (numbers fields others h label.Period)
-    ∙ ap (λ text. passes (is_code_after (is_moved others) (number_in (value_at label.Period others))) text) (texts fields others h label.Code)
+    ap (λ z. option_map_or (is_code_after (not (same_cell (z, signed_in (value_at label.Dy fields)) origin)) period) code true) (sign label.Dx)
+    ∙ ap (λ z. option_map_or (is_code_after (not (same_cell (signed_in (value_at label.Dx others), z) origin)) period) code true) (sign label.Dy)
+    ∙ ap (λ n. option_map_or (is_code_after (is_moved others) n) code true) (numbers fields others h label.Period)
+    ∙ ap (λ text. option_map_or (is_code_after (is_moved others) (number_in (value_at label.Period others))) text true) (texts fields others h label.Code)
 
 lawful-same : (r q : Row) → SameRow r q → is_lawful r ≡ is_lawful q
 lawful-same (Open c n name) (Open c2 n2 name2) h = ap is_name h.2
 lawful-same (Line c i o name) (Line c2 i2 o2 name2) h =
     let fs = (said o).fields in
     let gs = (said o2).fields in
-    ap (λ rule. passes is_rule rule && (has_lawful_code fs && (has_lawful_engines fs && is_name name.now))) (texts fs gs h.2.3 label.Rule)
+    ap (λ rule. option_map_or is_rule rule true && (has_lawful_code fs && (has_lawful_engines fs && is_name name.now))) (texts fs gs h.2.3 label.Rule)
     ∙ ap (λ b. has_lawful_rule gs && (b && (has_lawful_engines fs && is_name name.now))) (code-same fs gs h.2.3)
     ∙ ap (λ b. has_lawful_rule gs && (has_lawful_code gs && (b && is_name name.now))) (some-same (value_at label.Engines fs) (value_at label.Engines gs) (at-same label.Engines fs gs h.2.3))
     ∙ ap (λ w. has_lawful_rule gs && (has_lawful_code gs && (has_lawful_engines gs && is_name w))) h.3
@@ -250,7 +256,7 @@ pub after-same : (t : Told) (r q : Row) → SameRow r q → told_after t r ≡ t
 after-same t r q h =
     ap (λ (b : Bool). if b then told_next t r else Nothing) (lawful-same r q h) ∙ ap (λ (o : Option Told). if is_lawful q then o else Nothing) (told-same t r q h)
 
--- # Rows one after the other
+-- # Rows one after another
 
 abbrev pub stepping : Told → ℕ → List Row → Option Reading → Option ℕ
 stepping u n rows o = elim o as (λ _. Option ℕ) [ Nothing ↦ Some n | Some t ↦ first_stray u t (n + 1) rows ]

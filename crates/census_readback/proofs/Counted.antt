@@ -7,7 +7,7 @@ use Rattle.std.specs.Option.{unwrap_or}
 use Rattle.indexmap.specs.IndexMap.{insert_entry}
 use Rattle.census_readback.specs.Counts.{Object, Sum, same_object, sum_with, with_more}
 
--- what a map keeps where the sum that it had is raised
+-- what a map keeps if the sum that it had is raised
 pub counted-more : (es : List (Object × Sum)) (k : Object) (n : ℕ)
     → insert_entry same_object es k (sum_with (unwrap_or (lookup (same_object k) es) (Some 0)) n) ≡ with_more k n es
 counted-more [] k n = refl

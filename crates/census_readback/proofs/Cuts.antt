@@ -15,13 +15,13 @@ pub cut-whole : (text front back : List ℕ) (at : ℕ) → position (λ b. eqb 
 cut-whole text front back at e f b =
     sym (take-append-drop at text) ∙ ap (λ w. take at text ++ w) (some-feed text at e).1 ∙ rw (f, b) refl
 
--- a row's line at the start is what is cut off
+-- if a text begins with a row's line, that is what is cut off
 pub cut-line : (text front back : List ℕ) (at : ℕ) (row : Row) (after : List ℕ) → position (λ b. eqb b 10) text ≡ Some at → front ≡ take at text → back ≡ drop at text
     → IsLine row → text ≡ line_of row ++ after → (front ≡ row_text row) × (drop 1 back ≡ after)
 cut-line text front back at row after e f b is h =
     one-line front (row_text row) (drop 1 back) after (cut-front text front at e f) is.1
     (sym (cut-whole text front back at e f b) ∙ h ∙ append_assoc (row_text row) (10 ∷ []) after)
 
--- no row's line stands in a text without LF
+-- a text without LF has no row's line
 pub uncut : (text : List ℕ) (row : Row) (after : List ℕ) → position (λ b. eqb b 10) text ≡ None → text ≡ line_of row ++ after → ⊥
 uncut text row after e h = no-line (row_text row) after (subst HasNoFeed (h ∙ append_assoc (row_text row) (10 ∷ []) after) (no-feed text e))

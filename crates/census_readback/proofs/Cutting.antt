@@ -8,7 +8,7 @@ use Rattle.census_readback.specs.Steps.{collection_of}
 use Rattle.census_readback.specs.Shapes.{AreOfCollections, AreWhole, AreReports, all_rows, patterns_in}
 use Rattle.census_readback.specs.Grouped.{sections_of, collections_of, end_of}
 
--- each report's rows are of its collections, where these of the first report were passed
+-- each report's rows are of its collections, if these of the first report have been passed
 abbrev pub Ended : List Row → List Row → Type 0
 Ended here [] = Unit {0}
 Ended here (row ∷ rows) = elim (end_of row) [ Nothing ↦ Ended (here ++ row ∷ []) rows | Some count ↦ AreOfCollections count here × Ended [] rows ]
@@ -54,7 +54,7 @@ ended-all (rows ∷ reports) h =
 pub ended-start : (rows : List Row) → AreReports rows → Ended [] rows
 ended-start rows is = subst (λ w. Ended [] w) (sym is.whole) (ended-all is.reports is.each)
 
--- what is known where the rows up to i were looked at, and those before b are of earlier reports
+-- what is known once the rows up to i have been looked at, and those before b are of earlier reports
 pub record Cut (rows : List Row) (b i : ℕ) (lists : List (List Row)) : Type 0 where
   pub begins : b ≤ i
   pub rest : collections_of [] rows ≡ lists ++ collections_of (take (i - b) (drop b rows)) (drop i rows)

@@ -30,7 +30,7 @@ feed-at (b ∷ bs) h =
     ] in
     cases (eqb b 10) refl h
 
--- the first LF, and what stands around it
+-- the first LF, and what is around it
 pub some-feed : (bs : List ℕ) (at : ℕ) → position (λ b. eqb b 10) bs ≡ Some at → HasNoFeed (take at bs) × (drop at bs ≡ 10 ∷ drop 1 (drop at bs))
 some-feed bs at e =
     let n = position_or_len (λ b. eqb b 10) bs in

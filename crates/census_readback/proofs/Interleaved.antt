@@ -1,4 +1,4 @@
--- Rows are taken to the end exactly where they are reports.
+-- Rows are taken to the end exactly if they are reports.
 use Rattle.std.proofs.Common.{◌≡◌, ℕ, zero, suc, ◌+◌, ◌-◌, ◌<◌, ◌≤◌, ◌^◌, Bool, true, false, ◌&&◌, eqb, ltb, leb, Option, Some, None, List, [], ◌∷◌, ◌++◌, ap, ◌∙◌, sym, refl, arith, subst, length, append_assoc}
 use Rattle.std.specs.Prelude.{if◌then◌else◌}
 use Rattle.std.specs.List.{list_all}
@@ -24,7 +24,7 @@ if-some : (b : Bool) (x : Option Reading) (t : Reading) → (if b then x else No
 if-some true x t h = (refl, h)
 if-some false x t h = absurd (cc)
 
--- a row of a collection that was taken
+-- a row of a collection that has been taken
 pub record Taken (s t : Reading) (r : Row) : Type 0 where
   pub place : Place
   pub low : 0 < collection_of r
@@ -58,7 +58,7 @@ taken s t r h =
       is = g.3;
     }
 
--- a row of a collection that may stand is taken
+-- a row of a collection that may come here is taken
 pub taking : (s : Reading) (r : Row) (p : Place) → 0 < collection_of r → collection_of r ≤ count_limit
     → place_after (place_at s.places (collection_of r - 1)) r ≡ Some p → s.patterns + patterns_opened r < 2 ^ 64
     → section_step s r ≡ Some (record { places = with_place s.places (collection_of r - 1) p; patterns = s.patterns + patterns_opened r; ended = false })
@@ -100,7 +100,7 @@ tell-some : (s : Reading) (n : ℕ) (r : Row) (rows : List Row) (o : Option Told
 tell-some s n r rows None h = absurd (cc)
 tell-some s n r rows (Some u) h = (u, refl, h)
 
--- a row that was taken, and the others
+-- a row that has been taken, and the others
 record Stepped (v : Told) (s : Reading) (n : ℕ) (r : Row) (rows : List Row) : Type 0 where
   told : Told
   reading : Reading
@@ -155,7 +155,7 @@ ended-step s t n k h =
     let same : t ≡ u = (let e : Some u ≡ Some t = j.1 in cc) in
     (b1.0, eqb-true _ _ b2.0, eqb-true _ _ b2.1, same)
 
--- one row more of a section
+-- one more row of a section
 going : (s t : Reading) (seen : List Row) (r : Row) → Kept s seen → section_step s r ≡ Some t → Kept t (seen ++ r ∷ []) × (t.ended ≡ false)
 going s t seen r kept h =
     let g = taken s t r h in
@@ -272,7 +272,7 @@ pub all-behind : (xs : List Place) → ((i : ℕ) → i < length xs → is_behin
 all-behind [] h = refl
 all-behind (x ∷ xs) h = both-and (is_behind x) (list_all is_behind xs) (h 0 (omega arith)) (all-behind xs (λ i less. h (suc i) (omega arith)))
 
--- so many places at least, where each of them is the last of a section
+-- at least n places, if the first n are the ends of sections
 enough : (xs : List Place) (n : ℕ) → ((j : ℕ) → j < n → place_at xs j ≡ Behind) → n ≤ length xs
 enough [] zero h = omega arith
 enough [] (suc n) h = absurd (let e : Before ≡ Behind = h 0 (omega arith) in cc)

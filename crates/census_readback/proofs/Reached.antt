@@ -5,7 +5,7 @@ use Rattle.census_rows.specs.declared.row.Row.{Row}
 use Rattle.census_rows.specs.Lines.{SameRow, row_text, line_of, text_of}
 use Rattle.census_readback.specs.Texts.{AllLines, IsLine, IsStuck, SameRows}
 
--- of these rows, which stand before a text, those that were read and those that were not
+-- of these rows, which come before a text, those that have been read and those that have not
 pub record Reached (rows : List Row) (after : List ℕ) (done : List Row) (rest : List ℕ) : Type 0 where
   pub old : List Row
   pub todo : List Row
@@ -57,7 +57,7 @@ pub reached-end : (rows : List Row) (after : List ℕ) (done : List Row) (rest :
     → SameRows done rows × (rest ≡ after)
 reached-end rows after done rest r stuck = ended rows after done rest r.old r.todo r.whole r.same r.lines r.left stuck
 
--- no line stands in no text
+-- an empty text has no line
 no-bytes : (bytes after : List ℕ) → [] ≢ (bytes ++ 10 ∷ []) ++ after
 no-bytes [] after e = cc
 no-bytes (b ∷ bytes) after e = cc

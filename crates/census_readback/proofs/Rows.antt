@@ -1,4 +1,4 @@
--- Lines of rows, one after the other.
+-- Lines of rows, one after another.
 use Rattle.std.proofs.Common.{◌≡◌, ℕ, List, [], ◌∷◌, ◌++◌, append_assoc, ap, ◌∙◌, sym}
 use Rattle.std.proofs.lemmas.List.{append-nil}
 use Rattle.census_rows.specs.declared.row.Row.{Row}
@@ -6,7 +6,7 @@ use Rattle.census_rows.proofs.Texts.{text-append}
 use Rattle.census_readback.specs.Texts.{AllLines, IsLine}
 use Rattle.census_rows.specs.Lines.{line_of, text_of}
 
--- one row more, read from what was left
+-- one more row, read from what was left
 pub text-more : (xs : List Row) (x : Row) (text rest after : List ℕ) → text ≡ text_of xs ++ rest → rest ≡ line_of x ++ after → text ≡ text_of (xs ++ x ∷ []) ++ after
 text-more xs x text rest after e h =
     let one : text_of (x ∷ []) ≡ line_of x = append-nil (line_of x) in

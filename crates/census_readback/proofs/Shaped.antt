@@ -1,4 +1,4 @@
--- A collection is read to its end exactly where its rows have the shape of a section.
+-- A collection is read to its end exactly if its rows have the shape of a section.
 use Rattle.std.proofs.Common.{◌≡◌, ℕ, ◌+◌, ◌<◌, ◌≤◌, Bool, true, false, ◌&&◌, eqb, ltb, leb, Option, Some, None as Nothing, List, [], ◌∷◌, ◌++◌, drop, length, ap, ◌∙◌, sym, refl, arith, subst}
 use Rattle.std.specs.Prelude.{if◌then◌else◌}
 use Rattle.std.proofs.lemmas.Bool.{eqb-true, eq-eqb, ltb-true, lt-ltb, leb-true, le-leb}
@@ -100,7 +100,7 @@ record Rest (t : Tally) (rows : List Row) : Type 0 where
   unresolved-are : unresolved ≡ t.unresolved + lines_that is_unresolved lines
   refused-are : refused ≡ t.refused + lines_that is_refused lines
 
--- a test that was passed, and what follows
+-- a test that has been passed, and what follows
 passed : (b : Bool) (p : Place) (rows : List Row)
     → (elim (if b then Some p else Nothing) as (λ _. Option Place) [ Nothing ↦ Nothing | Some after ↦ run after rows ]) ≡ Some Behind
     → (b ≡ true) × (run p rows ≡ Some Behind)
@@ -111,7 +111,7 @@ nothing-behind : (rows : List Row) → run Behind rows ≡ Some Behind → rows 
 nothing-behind [] h = refl
 nothing-behind (row ∷ rows) h = absurd (cc)
 
--- where no line follows, nor a part of the last, none stands there
+-- if no line follows, nor a part of the last, nothing follows
 no-lines : (last : ℕ) (lines : List Row) → AreLines last behind.Nothing lines → lines_that any_outcome lines ≡ 0 → lines ≡ []
 no-lines last [] are none = refl
 no-lines last (Open c n name ∷ lines) are none = absurd are

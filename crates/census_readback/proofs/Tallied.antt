@@ -1,15 +1,16 @@
--- The objects that were counted, one after the other.
+-- The objects that were counted, one after another.
 use Rattle.std.proofs.Common.{◌≡◌, ℕ, zero, suc, ◌+◌, ◌≤◌, Bool, true, false, ◌&&◌, eqb, Some, None as Nothing, List, [], ◌∷◌, drop, length, slice_get, ap, ◌∙◌, sym, refl, arith}
+use Rattle.std.specs.Option.{option_map_or}
 use Rattle.std.proofs.lemmas.Bool.{eqb-true, eq-eqb}
 use Rattle.std.proofs.Math.Seq.{drop-length}
-use Rattle.census_readback.specs.Counts.{Object, Sum, is_counted, is_sum, same_object}
+use Rattle.census_readback.specs.Counts.{Object, Sum, is_counted, same_object}
 use Rattle.census_readback.specs.ObjectLaws.{one_object, same_itself}
 
 both : (a b : Bool) → (a && b) ≡ true → (a ≡ true) × (b ≡ true)
 both true b h = (refl, h)
 both false b h = absurd (cc)
 
-one-sum : (sum : Sum) (n : ℕ) → is_sum sum n ≡ true → sum ≡ Some n
+one-sum : (sum : Sum) (n : ℕ) → option_map_or (λ m. eqb m n) sum false ≡ true → sum ≡ Some n
 one-sum Nothing n h = absurd (cc)
 one-sum (Some m) n h = ap (λ (k : ℕ). Some k) (eqb-true m n h)
 
@@ -17,13 +18,13 @@ one-sum (Some m) n h = ap (λ (k : ℕ). Some k) (eqb-true m n h)
 pub next-counted : (es : List (Object × Sum)) (i : ℕ) (k : Object) (n : ℕ) → is_counted (slice_get es i) k n ≡ true → drop i es ≡ (k, Some n) ∷ drop (i + 1) es
 next-counted [] i k n h = absurd (cc)
 next-counted (e ∷ es) zero k n h =
-    let parts = both (same_object e.0 k) (is_sum e.1 n) h in
+    let parts = both (same_object e.0 k) (option_map_or (λ m. eqb m n) e.1 false) h in
     let object = one_object e.0 k parts.0 in
     let sum = one-sum e.1 n parts.1 in
     λ i. (object i, sum i) ∷ es
 next-counted (e ∷ es) (suc i) k n h = let more : suc i + 1 ≡ suc (i + 1) = omega arith in next-counted es i k n h ∙ ap (λ m. (k, Some n) ∷ drop m (e ∷ es)) (sym more)
 
--- that it is the next one, that it stands there, and those after it
+-- it is the next one, there is one at this index, and those after it
 pub next-drops : (es : List (Object × Sum)) (i : ℕ) (k : Object) (n : ℕ) (rest : List (Object × Sum)) → drop i es ≡ (k, Some n) ∷ rest
     → (is_counted (slice_get es i) k n ≡ true) × (i + 1 ≤ length es) × (rest ≡ drop (i + 1) es)
 next-drops [] zero k n rest h = absurd (cc)
@@ -31,7 +32,7 @@ next-drops [] (suc i) k n rest h = absurd (cc)
 next-drops (e ∷ es) zero k n rest h =
     let same : e ≡ (k, Some n) = cc in
     let others : es ≡ rest = cc in (
-      ap (λ (x : Object × Sum). same_object x.0 k && is_sum x.1 n) same ∙ ap (λ b. b && eqb n n) (same_itself k) ∙ eq-eqb n n refl,
+      ap (λ (x : Object × Sum). same_object x.0 k && option_map_or (λ m. eqb m n) x.1 false) same ∙ ap (λ b. b && eqb n n) (same_itself k) ∙ eq-eqb n n refl,
       omega arith,
       sym others,
     )
@@ -43,7 +44,7 @@ next-drops (e ∷ es) (suc i) k n rest h =
 pub none-left : (es : List (Object × Sum)) (i : ℕ) → i ≡ length es → drop i es ≡ []
 none-left es i e = ap (λ k. drop k es) e ∙ drop-length es
 
--- where none is left, as many were passed as there are
+-- if none is left, the index is the number of objects
 pub drop-none : (es : List (Object × Sum)) (i : ℕ) → i ≤ length es → drop i es ≡ [] → i ≡ length es
 drop-none [] i most h = omega arith
 drop-none (e ∷ es) zero most h = absurd (cc)

@@ -1,4 +1,4 @@
--- What several rows tell, one after the other.
+-- What several rows say, one after another.
 use Rattle.std.proofs.Common.{◌≡◌, Bool, true, false, Option, Some, None as Nothing, ℕ, List, [], ◌∷◌, ◌++◌, ap, ◌∙◌, refl}
 use Rattle.std.specs.Prelude.{if◌then◌else◌}
 use Rattle.census_rows.specs.declared.row.Row.{Row}
@@ -20,7 +20,7 @@ then-itself (Some u) = refl
 pub told-first : (v w : Told) (r : Row) (rows : List Row) → told_by v (r ∷ rows) ≡ Some w → (u : Told) × (told_after v r ≡ Some u) × (told_by u rows ≡ Some w)
 told-first v w r rows h = then-some (told_after v r) (λ u. told_by u rows) w h
 
--- one row more
+-- one more row
 pub told-more : (t v u : Told) (xs : List Row) (r : Row) → told_by t xs ≡ Some v → told_after v r ≡ Some u → told_by t (xs ++ r ∷ []) ≡ Some u
 told-more t v u [] r h k =
     let same : t ≡ v = cc in
@@ -44,6 +44,6 @@ begun : (b : Bool) (u : Told) → (if b then Some nothing_told else Nothing) ≡
 begun true u h = cc
 begun false u h = absurd (cc)
 
--- behind an `end` row all begins anew
+-- after an `end` row everything begins anew
 pub told-end : (v u : Told) (n k : ℕ) → told_after v (End n k) ≡ Some u → u ≡ nothing_told
 told-end v u n k h = begun (is_told v) u h

@@ -1,4 +1,4 @@
--- What is counted of a report's rows is the sum of what is counted of each collection's.
+-- What is counted of a report's rows is the sum of what is counted of each collection's rows.
 use Rattle.std.proofs.Common.{◌≡◌, ℕ, zero, suc, ◌+◌, ◌<◌, ◌≤◌, true, false, eqb, List, [], ◌∷◌, ◌++◌, ap, ◌∙◌, refl, arith, inl, inr}
 use Rattle.std.proofs.lemmas.Bool.{cases_Bool}
 use Rattle.census_rows.specs.declared.row.Row.{Row}
@@ -21,7 +21,7 @@ count-append count adds (x ∷ xs) ys =
     let left = adds.more x xs in
     let e : count (x ∷ (xs ++ ys)) ≡ count (x ∷ xs) + count ys = omega (arith, inner, both, left) in e
 
--- what is counted in so many collections, from this one on
+-- what is counted in this many collections, from `first` on
 abbrev pub total : (List Row → ℕ) → ℕ → ℕ → List Row → ℕ
 total count first zero rows = 0
 total count first (suc collections) rows = count (rows_of first rows) + total count (suc first) collections rows

@@ -1,4 +1,4 @@
--- How far the rows of a text are looked at.
+-- How far the rows of a text have been looked at.
 use Rattle.std.proofs.Common.{◌≡◌, ◌≢◌, ℕ, ◌+◌, ◌≤◌, Bool, true, false, eqb, inl, inr, Option, Some, None as Nothing, List, [], ◌∷◌, ◌++◌, length, length-append, append_assoc, ap, ◌∙◌, sym, refl, arith, subst}
 use Rattle.std.proofs.lemmas.List.{append-nil}
 use Rattle.std.proofs.lemmas.Bool.{eqb-true}
@@ -12,11 +12,10 @@ use Rattle.census_readback.specs.Shapes.{all_rows}
 use Rattle.census_readback.specs.Told.{Told, nothing_told, told_after}
 use Rattle.census_readback.specs.Reports.{IsFault, ReadsAsReports}
 use Rattle.census_readback.proofs.Alike.{stray-same}
-use Rattle.census_readback.proofs.Interleaved.{reports-complete, reports-sound}
 use Rattle.census_readback.proofs.Reached.{Reached, reached-end, reached-more, reached-start, stuck-at-end}
 use Rattle.census_readback.proofs.Rows.{lines-more, text-more}
 
--- ---- as many rows as there are
+-- ---- all rows that there are
 
 pub record Passed (text rest : List ℕ) : Type 0 where
   pub done : List Row
@@ -65,7 +64,7 @@ same-append [] (y ∷ ys) zs ws h k = absurd h
 same-append (x ∷ xs) [] zs ws h k = absurd h
 same-append (x ∷ xs) (y ∷ ys) zs ws h k = (h.0, same-append xs ys zs ws h.1 k)
 
--- ---- rows that are looked at
+-- ---- rows that have been looked at
 
 pub record Walked (text : List ℕ) (told : Told) (s : Reading) (number : ℕ) (rest : List ℕ) : Type 0 where
   pub passed : Passed text rest
@@ -107,7 +106,7 @@ module _ (text : List ℕ) (told : Told) (s : Reading) (n : ℕ) (rest : List �
   }
 
   module _ (end : List ℕ) (others : Ends behind end) where
-    -- the row may not stand here
+    -- the row may not come here
     pub stray-fault : telling s n row others.rows (told_after told row) ≡ Some n → IsFault text n
     stray-fault stray = record {
       rows = (w.passed.done ++ row ∷ []) ++ others.rows;
@@ -127,11 +126,11 @@ module _ (text : List ℕ) (told : Told) (s : Reading) (n : ℕ) (rest : List �
         let todo = others.all reached.todo [] reached.lines reached.left stuck-at-end in
         let alike : SameRows ((w.passed.done ++ row ∷ []) ++ others.rows) (reached.old ++ reached.todo) = same-append _ _ _ _ reached.same todo.0 in
         let none : first_stray nothing_told initial_reading 1 ((w.passed.done ++ row ∷ []) ++ others.rows) ≡ Nothing =
-        stray-same nothing_told initial_reading 1 _ _ alike ∙ ap (first_stray nothing_told initial_reading 1) (sym reached.whole) ∙ reports-complete rows reads.shape in
+        stray-same nothing_told initial_reading 1 _ _ alike ∙ ap (first_stray nothing_told initial_reading 1) (sym reached.whole) ∙ reads.shape in
         let some : Nothing ≡ Some n = sym none ∙ on others.rows ∙ stray in
         absurd (cc)
 
--- the row tells what no report tells there, or may not stand there
+-- the row says what no report says there, or may not come there
 pub stray : (told : Told) (s : Reading) (n : ℕ) (row : Row) (others : List Row) → (told_after told row ≡ Nothing) ⊎ (step s row ≡ Nothing)
     → telling s n row others (told_after told row) ≡ Some n
 stray told s n row others (inl tells) = ap (telling s n row others) tells
@@ -158,7 +157,7 @@ module _ (text : List ℕ) (told : Told) (s : Reading) (n : ℕ) (rest : List �
   alike rows reads = reached-end rows [] w.passed.done rest (w.passed.all rows [] reads.lines (reads.whole ∙ sym (append-nil (text_of rows))) stuck-at-end) stuck
 
   none : (rows : List Row) → ReadsAsReports rows text → first_stray nothing_told initial_reading 1 w.passed.done ≡ Nothing
-  none rows reads = stray-same nothing_told initial_reading 1 w.passed.done rows (alike rows reads).0 ∙ reports-complete rows reads.shape
+  none rows reads = stray-same nothing_told initial_reading 1 w.passed.done rows (alike rows reads).0 ∙ reads.shape
 
   pub all-read : s.ended ≡ true → rest ≡ [] → (rows : List Row) × ReadsAsReports rows text
   all-read ended empty = (
@@ -166,7 +165,7 @@ module _ (text : List ℕ) (told : Told) (s : Reading) (n : ℕ) (rest : List �
     record {
       lines = w.passed.lines;
       whole = w.passed.whole ∙ ap (λ t. text_of w.passed.done ++ t) empty ∙ append-nil (text_of w.passed.done);
-      shape = reports-sound w.passed.done (last ∙ ap (λ (b : Bool). if b then Nothing else Some n) ended);
+      shape = last ∙ ap (λ (b : Bool). if b then Nothing else Some n) ended;
     },
   )
 

@@ -1,4 +1,4 @@
--- What `engine` and `emits` rows behind a line tell, one after the other.
+-- What the `engine` and `emits` rows after a line say, one after another.
 use Rattle.std.specs.Prelude.{ℕ, pos, ◌+◌, Bool, false, true, ◌&&◌, ◌==◌, if◌then◌else◌, Option, Some, None as Nothing, List, [], ◌∷◌, ◌++◌, drop, map}
 use Rattle.std.specs.Option.{option_map}
 use Rattle.std.specs.Ordering.{int_cmp, nat_cmp, ordering_then}
@@ -8,7 +8,7 @@ use Rattle.census_readback.specs.declared.engines as rust
 use Rattle.census_readback.specs.declared.engines.Way.{Way}
 use Rattle.life_cells.specs.TextOrder.{shorter_cmp}
 
--- what an `emits` row tells: a code, and how often it is emitted
+-- what an `emits` row says: a code, and how often it is emitted
 pub record Emitted : Type 0 where
   pub code : List ℕ
   pub count : ℕ
@@ -20,8 +20,8 @@ emitted_of e = record { code = e.code.now; count = e.count }
 abbrev pub emitted_cmp : Emitted → Emitted → Ordering
 emitted_cmp e f = ordering_then (shorter_cmp e.code f.code) (nat_cmp e.count f.count)
 
--- What the last `engine` row tells, and the `emits` rows behind it; which rows of the engine before it these are yet to be
--- compared with, where that goes the same way; and whether it emits something and comes behind that engine.
+-- What the last `engine` row says, and the `emits` rows after it; which `emits` rows of the engine before it these are yet to
+-- be compared with, if that goes the same way; and whether it emits something and comes after that engine.
 pub record LastEngine : Type 0 where
   pub number : ℕ
   pub way : Way
@@ -46,8 +46,8 @@ no_engine = record { number = 0; way = record { period = 0; dx = pos 0; dy = pos
 abbrev pub way_cmp : Way → Way → Ordering
 way_cmp v w = ordering_then (nat_cmp v.period w.period) (ordering_then (int_cmp v.dx w.dx) (int_cmp v.dy w.dy))
 
--- what an engine is to be compared with by what it emits, where the engine before it emits this and its way stands so to that
--- one's
+-- what an engine is to be compared with by what it emits, where the engine before it emits this, and the order compares that
+-- engine's way with its own
 abbrev pub to_compare : Ordering → List Emitted → Option (List Emitted)
 to_compare Less emits = Some []
 to_compare Equal emits = Some emits
@@ -57,12 +57,12 @@ to_compare Greater emits = Nothing
 abbrev pub begun : ℕ → Way → List Emitted → LastEngine
 begun number way before = record { number = number; way = way; emits = []; before = before; rises = false }
 
--- after an `engine` row: the one before it is told, and its number is the next
+-- after an `engine` row: all of the engine before it is reported, and its number is the next
 abbrev pub after_engine : LastEngine → ℕ → Way → Option LastEngine
 after_engine e number way =
     if e.rises && (number == e.number + 1) then option_map (begun number way) (to_compare (way_cmp e.way way) e.emits) else Nothing
 
--- how it stands to the engine before it, by the next of their `emits` rows
+-- how it compares with the engine before it, by the next of their `emits` rows
 abbrev pub compared_by : Ordering → LastEngine → List Emitted → Option LastEngine
 compared_by Less e before = Some (record e { rises = true })
 compared_by Equal e before = Some (record e { before = before })

@@ -15,4 +15,3 @@ pub mod Told
 pub mod Counts
 pub mod ObjectCode
 pub mod ObjectLaws
-pub mod Held

@@ -5,6 +5,6 @@ use Rattle.std.specs.Prelude.{ℕ}
 abbrev pub count_limit : ℕ
 count_limit = 65535
 
--- the most generations after which an engine comes again
+-- the most generations after which an engine recurs
 abbrev pub period_limit : ℕ
 period_limit = 10000

@@ -1,4 +1,4 @@
--- The rows of a collection, one after the other.
+-- The rows of a collection, one after another.
 use Rattle.std.specs.Prelude.{ℕ, ◌+◌, ◌-◌, ◌^◌, min, Bool, false, true, ◌&&◌, ◌==◌, nat_lt, nat_le, if◌then◌else◌, List, length, slice_get, Option, Some, None as Nothing}
 use Rattle.census_rows.specs.declared.kinds.Behind as rows
 use Rattle.census_rows.specs.declared.kinds.Behind.TheVariants as behind
@@ -34,7 +34,7 @@ same_behind _ _ = false
 abbrev pub with_line : Tally → Outcome → Tally
 with_line t outcome = record (counted t (said outcome).class) { read = t.read + 1; behind = (said outcome).behind; counts = line_counted t.counts (said outcome) }
 
--- with so many objects of the last pattern
+-- with `count` objects of the last pattern
 abbrev pub with_part : Tally → List ℕ → ℕ → Tally
 with_part t code count = record t { counts = part_counted t.counts code count }
 
@@ -42,7 +42,7 @@ with_part t code count = record t { counts = part_counted t.counts code count }
 abbrev pub with_told : Tally → Tally
 with_told t = record t { behind = behind.Nothing; told = t.told + 1 }
 
--- the next of the objects that were counted is this one, and there are so many of it
+-- the next of the objects that were counted is this one, and there are `count` of it
 abbrev pub tells_next : Tally → List ℕ → List ℕ → ℕ → Bool
 tells_next t rule code count = is_counted (slice_get t.counts.sums t.told) (object rule code) count
 
@@ -53,16 +53,17 @@ pub record ClosingNumbers : Type 0 where
   pub unresolved : ℕ
   pub refused : ℕ
 
--- all patterns are read, these are their numbers, and each object that was counted is told
+-- all patterns are read, these are their numbers, and each object that was counted is reported
 abbrev pub closes : Tally → ClosingNumbers → Bool
 closes t n =
     (t.read == t.patterns) && ((n.patterns == t.patterns) && ((n.resolved == t.resolved) && ((n.unresolved == t.unresolved) && ((n.refused == t.refused) && (t.told == length t.counts.sums)))))
 
--- rows of this kind may stand behind the line of the last pattern
+-- rows of this kind may come after the line of the last pattern
 abbrev pub may_stand : Tally → rows.Behind → ℕ → Bool
 may_stand t kind pattern = same_behind t.behind kind && (pattern == t.read)
 
--- between `open` and `close`: the lines of the patterns in order, each with the lines that stand behind it, then the `code` lines of what these count
+-- between `open` and `close`: the lines of the patterns in order, each with the lines that come after it, then the `code` lines
+-- of what these count
 abbrev pub next_within : Tally → Row → Option Place
 next_within t (Line collection pattern outcome name) =
     if nat_lt t.read t.patterns && (pattern == t.read + 1) then Some (Within (with_line t outcome)) else Nothing
@@ -76,13 +77,13 @@ next_within t (Close collection patterns resolved unresolved refused) =
     if closes t (record { patterns = patterns; resolved = resolved; unresolved = unresolved; refused = refused }) then Some Behind else Nothing
 next_within t _ = Nothing
 
--- before all others `open`
+-- the first row is `open`
 abbrev pub first_place : Row → Option Place
 first_place (Open collection patterns name) =
     if nat_le patterns count_limit then Some (Within (record { patterns = patterns; read = 0; resolved = 0; unresolved = 0; refused = 0; behind = behind.Nothing; counts = nothing_counted; told = 0 })) else Nothing
 first_place _ = Nothing
 
--- the place after a row of the collection, where it may stand here; after `close` nothing stands
+-- the place after a row of the collection, if it may come here; nothing comes after `close`
 abbrev pub place_after : Place → Row → Option Place
 place_after Before row = first_place row
 place_after (Within tally) row = next_within tally row

@@ -12,7 +12,7 @@ use Rattle.census_readback.specs.Counts.{counted_by, counts_told, nothing_counte
 use Rattle.census_readback.specs.Limits.{count_limit}
 use Rattle.census_readback.specs.Told.{nothing_told, told_by}
 
--- the row is a `line` line, of which this is so
+-- the row is a `line` line of this kind
 abbrev pub is_line : (Outcome → Bool) → Row → Bool
 is_line kind (Line collection pattern outcome name) = kind outcome
 is_line kind _ = false
@@ -25,8 +25,8 @@ lines_that kind (row ∷ rows) = (if is_line kind row then 1 else 0) + lines_tha
 abbrev pub any_outcome : Outcome → Bool
 any_outcome outcome = true
 
--- The `line` lines of the patterns after this one, in order, each with the lines that stand behind it. Lines of one kind may
--- stand behind this pattern's line too.
+-- The `line` lines of the patterns after this one, in order, each with the lines that come after it. Lines of one kind may come
+-- after this pattern's line too.
 abbrev pub AreLines : ℕ → Behind → List Row → Type 0
 AreLines last kind [] = ⊤
 AreLines last kind (Line collection pattern outcome name ∷ rows) = (pattern ≡ last + 1) × AreLines (last + 1) (said outcome).behind rows
@@ -76,9 +76,9 @@ abbrev pub patterns_in : List Row → ℕ
 patterns_in [] = 0
 patterns_in (row ∷ rows) = patterns_opened row + patterns_in rows
 
--- The rows of a report: those of its collections' sections, interleaved in any way that keeps each section's order, and
--- then `end`. Each is lawful by itself, the rows behind a line tell all its objects or engines, and no report has codes of
--- patterns, and objects or engines.
+-- The rows of a report: those of its collections' sections, interleaved in any way that keeps each section's order, and then
+-- `end`. Each is lawful by itself, the rows after a line report all its objects or engines, and no report has both codes of
+-- patterns and objects or engines.
 pub record IsWholeReport (rows : List Row) : Type 0 where
   pub body : List Row
   pub collections : ℕ
@@ -97,7 +97,7 @@ abbrev pub all_rows : List (List Row) → List Row
 all_rows [] = []
 all_rows (rows ∷ others) = rows ++ all_rows others
 
--- the rows of one report, or of several after one another
+-- the rows of one report, or of several, one after another
 pub record AreReports (rows : List Row) : Type 0 where
   pub reports : List (List Row)
   pub some : 0 < length reports

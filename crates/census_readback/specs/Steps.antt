@@ -1,10 +1,10 @@
--- The rows of reports, one after the other.
+-- The rows of reports, one after another.
 use Rattle.std.specs.Prelude.{◌≡◌, ℕ, ◌+◌, ◌-◌, ◌^◌, Bool, true, false, ◌&&◌, ◌==◌, nat_lt, nat_le, if◌then◌else◌, Option, Some, None as Nothing, List, [], ◌∷◌, ◌++◌, length, replicate, slice_index_or, slice_set}
 use Rattle.std.specs.List.{list_all}
 use Rattle.census_rows.specs.declared.row.Row.{Row}
 use Rattle.census_rows.specs.declared.row.Row.TheVariants.{Open, Line, Part, Engine, Emits, Code, Close, End}
 use Rattle.census_readback.specs.declared.place.Place.{Place}
-use Rattle.census_readback.specs.declared.place.Place.TheVariants.{Before, Within, Behind}
+use Rattle.census_readback.specs.declared.place.Place.TheVariants.{Before, Behind}
 use Rattle.census_readback.specs.declared.progress.Progress.{Progress}
 use Rattle.census_readback.specs.Sections.{place_after}
 use Rattle.census_readback.specs.Limits.{count_limit}
@@ -27,19 +27,18 @@ patterns_opened (Open collection patterns name) = patterns
 patterns_opened _ = 0
 
 abbrev pub is_behind : Place → Bool
-is_behind Before = false
-is_behind (Within tally) = false
 is_behind Behind = true
+is_behind _ = false
 
 -- the place of the collection at an index
 abbrev pub place_at : List Place → ℕ → Place
 place_at places index = slice_index_or places index Before
 
--- as many places at least
+-- at least `count` places
 abbrev pub padded_places : List Place → ℕ → List Place
 padded_places places count = places ++ replicate (count - length places) Before
 
--- with this place of the collection at an index
+-- with this place for the collection at an index
 abbrev pub with_place : List Place → ℕ → Place → List Place
 with_place places index place = slice_set (padded_places places (index + 1)) index place
 
@@ -62,12 +61,12 @@ reading_of progress = record { places = progress.places.items; patterns = progre
 abbrev pub initial_reading : Reading
 initial_reading = record { places = []; patterns = 0; ended = false }
 
--- after an `end` row: each collection is read to its end, and there are so many, with so many patterns
+-- after an `end` row: each collection is read to its end, and the numbers of collections and patterns are those of the row
 abbrev pub end_step : Reading → ℕ → ℕ → Option Reading
 end_step s collections patterns =
     if list_all is_behind s.places && ((length s.places == collections) && (s.patterns == patterns)) then Some (record { places = []; patterns = 0; ended = true }) else Nothing
 
--- with a place of the collection at an index, and so many patterns more, as far as 64 bits go
+-- with a place for the collection at an index, and this many more patterns, if 64 bits hold their number
 abbrev pub gone_on : Reading → ℕ → ℕ → Option Place → Option Reading
 gone_on s index patterns Nothing = Nothing
 gone_on s index patterns (Some place) =
@@ -79,19 +78,13 @@ section_step s row =
     let index = collection_of row - 1 in
     if nat_lt 0 (collection_of row) && nat_le (collection_of row) count_limit then gone_on s index (patterns_opened row) (place_after (place_at s.places index) row) else Nothing
 
--- after a row, where it may stand here
+-- after a row, if it may come here
 abbrev pub step : Reading → Row → Option Reading
-step s (Open collection patterns name) = section_step s (Open collection patterns name)
-step s (Line collection pattern outcome name) = section_step s (Line collection pattern outcome name)
-step s (Part collection pattern code count) = section_step s (Part collection pattern code count)
-step s (Engine collection pattern number period dx dy count) = section_step s (Engine collection pattern number period dx dy count)
-step s (Emits collection pattern engine code count) = section_step s (Emits collection pattern engine code count)
-step s (Code collection rule code count) = section_step s (Code collection rule code count)
-step s (Close collection patterns resolved unresolved refused) = section_step s (Close collection patterns resolved unresolved refused)
 step s (End collections patterns) = end_step s collections patterns
+step s row = section_step s row
 
--- The number, from this one on, of the first row that may not stand where it does, or tells what no report tells there. Where
--- none is so, and the last is no `end` row, it is that of the row that is missing.
+-- The number, from this one on, of the first row that may not come where it does, or says what no report says there. If there
+-- is none, and the last row is no `end` row, it is that of the missing row.
 abbrev pub first_stray : Told → Reading → ℕ → List Row → Option ℕ
 first_stray told s number [] = if s.ended then Nothing else Some number
 first_stray told s number (row ∷ rows) =

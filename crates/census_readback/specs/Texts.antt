@@ -1,22 +1,21 @@
 -- The lines of a text.
 use Rattle.std.specs.Prelude.{ℕ, List, [], ◌∷◌, ◌++◌, ◌≡◌, ◌≢◌, ⊤}
+use Rattle.std.specs.List.{AllByRecursion}
 use Rattle.census_rows.specs.declared.row.Row.{Row}
 use Rattle.census_rows.specs.Lines.{IsRow, SameRow, line_of, row_text, text_of}
 
 -- no byte is LF
 abbrev pub HasNoFeed : List ℕ → Type 0
-HasNoFeed [] = ⊤
-HasNoFeed (byte ∷ bytes) = (byte ≢ 10) × HasNoFeed bytes
+HasNoFeed = AllByRecursion (λ byte. byte ≢ 10)
 
--- the row stands on one line
+-- the row is on one line
 abbrev pub IsLine : Row → Type 0
 IsLine row = IsRow row × HasNoFeed (row_text row)
 
 abbrev pub AllLines : List Row → Type 0
-AllLines [] = ⊤
-AllLines (row ∷ rows) = IsLine row × AllLines rows
+AllLines = AllByRecursion IsLine
 
--- no row's line stands at the start
+-- no row's line is at the start
 abbrev pub IsStuck : List ℕ → Type 0
 IsStuck text = (row : Row) (after : List ℕ) → IsLine row → text ≢ line_of row ++ after
 
@@ -26,7 +25,7 @@ SameRows [] [] = ⊤
 SameRows (row ∷ rows) (other ∷ others) = SameRow row other × SameRows rows others
 SameRows _ _ = ⊥
 
--- as many rows as stand at the start of the text, and what stands behind them
+-- all rows at the start of the text, and what comes after them
 pub record Ends (text rest : List ℕ) : Type 0 where
   pub rows : List Row
   pub lines : AllLines rows

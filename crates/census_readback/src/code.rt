@@ -7,7 +7,7 @@ ghost use Rattle.texts.specs.Bytes.{is_digit};
 
 use itoa::Buffer;
 
-// How a code begins: after `x` a letter, and up to the first `_` a number.
+// How a code begins: a letter after `x`, and a number up to the first `_`.
 #[derive(Clone, Copy)]
 pub struct CodeStart<'a> {
     pub letter: u8,
@@ -60,7 +60,7 @@ impl<'a> CodeStart<'a> {
             && are_digits(self.number)
     }
 
-    // Whether it says that something comes again after so many generations, moved or not.
+    // Whether it says that something recurs after `period` generations, moved or not.
     fn tells(&self, moved: bool, period: u64) -> bool
         ensures { result ≡ tells moved period (start_of self.now) }
     {
@@ -83,8 +83,7 @@ pub fn is_code(code: &[u8]) -> bool
     }
 }
 
-/// Whether a code begins as that of what comes again after so many generations, 1 at least, moved
-/// or not.
+/// Whether a code begins as that of what recurs after `period` generations, at least 1, moved or not.
 pub fn is_code_after(moved: bool, period: u64, code: &[u8]) -> bool
     ensures { result ≡ is_code_after moved period code.now }
 {

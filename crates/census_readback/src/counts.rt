@@ -1,10 +1,10 @@
 //! What the rows of a collection count.
-ghost use Rattle.std.specs.Prelude.{◌≡◌, ◌+◌, ◌<◌, ◌^◌, IfOk, IsTrue, length, slice_get, OnOk};
+ghost use Rattle.std.specs.Prelude.{◌≡◌, ◌+◌, ◌<◌, ◌^◌, [], IfOk, IsTrue, length, slice_get, OnOk};
 ghost use Rattle.census_rows.specs.Kinds.{said, value_at};
 ghost use Rattle.census_rows.specs.declared.kinds.Label.TheVariants as label;
 ghost use Rattle.census_readback.specs.Lawful.{text_in};
-ghost use Rattle.census_readback.specs.Counts.{bytes_of, is_counted, line_counted, nothing_counted, object, part_counted};
-ghost use Rattle.census_readback.specs.Held.{counts_of};
+ghost use Rattle.census_readback.specs.Counts.{is_counted, line_counted, nothing_counted, object, part_counted};
+ghost use Rattle.std.specs.Option.{unwrap_or};
 
 use crate::lawful::text_at;
 use crate::sums::{Object, Sums};
@@ -14,7 +14,7 @@ use std::marker::Model;
 
 // The rule of an outcome, or no byte.
 fn rule_of<'a>(outcome: &Outcome<'a>) -> &'a [u8]
-    ensures { result.now ≡ bytes_of (text_in (value_at label.Rule (said outcome.now).fields)) }
+    ensures { result.now ≡ unwrap_or (text_in (value_at label.Rule (said outcome.now).fields)) [] }
 {
     match text_at(outcome, Label::Rule) {
         Some(rule) => rule,
@@ -22,10 +22,10 @@ fn rule_of<'a>(outcome: &Outcome<'a>) -> &'a [u8]
     }
 }
 
-// What lines have counted.
+// What the lines so far have counted.
 #[derive(Drop)]
 struct Held<'a> {
-    // The rule of the last one.
+    // The rule of the last line.
     rule: &'a [u8],
     sums: Sums<'a>,
 }
@@ -33,18 +33,17 @@ struct Held<'a> {
 // The objects that were counted, each once, in the order of first appearance.
 #[derive(Drop)]
 pub struct Counts<'a> {
-    // Nothing before the first line, which takes no memory.
+    // `None` before the first line, so that it takes no memory.
     held: Option<Box<Held<'a>>>,
 }
 
 impl<'a> Model for Counts<'a> {
     ghost use Rattle.census_readback.specs.Counts as counts;
-    ghost use Rattle.census_readback.specs.Held.{counts_of};
     ghost use Rattle.std.specs.Prelude.{None, Some};
 
     ghost Value = { counts.Counts };
 
-    ghost view = { λ c. elim c.held [ None ↦ counts.nothing_counted | Some h ↦ counts_of h.value ] };
+    ghost view = { λ c. elim c.held [ None ↦ counts.nothing_counted | Some h ↦ record { rule = h.value.rule.now; sums = h.value.sums } ] };
 }
 
 impl<'a> Counts<'a> {
@@ -57,7 +56,7 @@ impl<'a> Counts<'a> {
 
     // Takes out what was counted.
     fn take(&mut self, alloc: Global) -> Result<Box<Held<'a>>, AllocError>
-        ensures { IfOk result (λ held. counts_of held.value ≡ self.old) }
+        ensures { IfOk result (λ held. record { rule = held.value.rule.now; sums = held.value.sums } ≡ self.old) }
     {
         match self.held.take() {
             Some(held) => Ok(held),
@@ -71,7 +70,7 @@ impl<'a> Counts<'a> {
         }
     }
 
-    // Counts what a `line` row tells.
+    // Counts what a `line` row says.
     pub fn line(&mut self, alloc: Global, outcome: &Outcome<'a>) -> Result<(), AllocError>
         ensures { OnOk result (self.new ≡ line_counted self.old (said outcome.now)) }
     {
@@ -85,7 +84,7 @@ impl<'a> Counts<'a> {
         Ok(())
     }
 
-    // Counts what a `part` row tells.
+    // Counts what a `part` row says.
     pub fn part(&mut self, alloc: Global, code: &'a [u8], count: u64) -> Result<(), AllocError>
         ensures { OnOk result (self.new ≡ part_counted self.old code.now count) }
     {
@@ -96,7 +95,7 @@ impl<'a> Counts<'a> {
         Ok(())
     }
 
-    // Whether the object at this index is this one, and there are so many of it.
+    // Whether the object at this index is this one, and there are `count` of it.
     pub fn has(&self, index: usize, rule: &'a [u8], code: &'a [u8], count: u64) -> bool
         ensures value { result ≡ is_counted (slice_get self.now.sums index) (object rule.now code.now) count }
         ensures within { IsTrue result → index + 1 < 2 ^ 64 }

@@ -1,4 +1,4 @@
-//! What `engine` and `emits` rows behind a line tell, one after the other.
+//! What the `engine` and `emits` rows after a line say, one after another.
 ghost use Rattle.std.specs.Prelude.{◌≡◌, ◌==◌, ◌+◌, IfOk, IsFalse, IsTrue, None, Some, map};
 ghost use Rattle.std.specs.Option.{option_map};
 ghost use Rattle.census_readback.specs.Engines.{after_emits, after_engine, compared, emitted_cmp, emitted_of, engine_of, no_engine, to_compare, way_cmp};
@@ -7,14 +7,14 @@ use life_cells::shorter;
 use std::alloc::{AllocError, Global};
 use std::cmp::Ordering;
 
-// What an `emits` row tells.
+// What an `emits` row says.
 #[derive(Clone, Copy)]
 pub struct Emitted<'a> {
     pub code: &'a [u8],
     pub count: u64,
 }
 
-// After how many generations an engine comes again, and how far to the right and down it then stands.
+// After how many generations an engine recurs, and how far to the right and down it is then.
 #[derive(Clone, Copy)]
 pub struct Way {
     pub period: u64,
@@ -22,18 +22,18 @@ pub struct Way {
     pub dy: i64,
 }
 
-// What the last `engine` row tells, and the `emits` rows behind it.
+// What the last `engine` row says, and the `emits` rows after it.
 #[derive(Drop)]
 pub struct LastEngine<'a> {
-    // 0 where there was no such row.
+    // 0 if there was no such row.
     pub number: u64,
     pub way: Way,
     pub emits: Vec<Emitted<'a>>,
-    // The `emits` rows of the engine before it, where that goes the same way.
+    // The `emits` rows of the engine before it, if that goes the same way.
     pub before: Vec<Emitted<'a>>,
-    // With how many of them its own are compared, and are the same.
+    // How many of them its own have been compared with, and are the same.
     pub compared: usize,
-    // Whether it emits something and comes behind the engine before it.
+    // Whether it emits something and comes after the engine before it.
     pub rises: bool,
 }
 
@@ -56,8 +56,7 @@ impl<'a> Emitted<'a> {
     }
 }
 
-// What an engine has to come behind by what it emits, where its way stands so to that of the one
-// before it.
+// What an engine has to come after by what it emits, where `order` compares the way of the engine before it with its own.
 fn to_compare<'a>(
     alloc: Global,
     order: Ordering,
@@ -92,7 +91,7 @@ impl<'a> LastEngine<'a> {
         }
     }
 
-    // After an `engine` row, where it may stand behind these.
+    // After an `engine` row, if it may come after these.
     pub fn after_engine(self, alloc: Global, number: u64, way: Way) -> Option<LastEngine<'a>>
         ensures { option_map engine_of result ≡ after_engine (engine_of self.entry) number way }
     {
@@ -110,8 +109,7 @@ impl<'a> LastEngine<'a> {
         })
     }
 
-    // Compares the next of its `emits` rows with that of the engine before it. `false` where it
-    // can't come behind that any more.
+    // Compares the next of its `emits` rows with that of the engine before it. `false` if it can no longer come after that one.
     fn compare(&mut self, next: &Emitted<'a>) -> bool
         ensures yes { IsTrue result
             → compared (engine_of self.old) (emitted_of next.now) ≡ Some (engine_of self.new) }
@@ -138,7 +136,7 @@ impl<'a> LastEngine<'a> {
         }
     }
 
-    // After an `emits` row, where it may stand behind these.
+    // After an `emits` row, if it may come after these.
     pub fn after_emits(mut self, next: Emitted<'a>) -> Result<Option<LastEngine<'a>>, AllocError>
         ensures { IfOk result (λ after. option_map engine_of after ≡
             after_emits (engine_of self.entry) (emitted_of next.entry)) }

@@ -1,13 +1,12 @@
-//! The rows behind a `line` row.
+//! The rows after a `line` row.
 ghost use Rattle.std.specs.Prelude.{◌≡◌, ◌≤◌, length};
 ghost use Rattle.std.specs.List.{prefix_len, take_while};
 ghost use Rattle.census_readback.specs.Following.{is_emits, rows_behind, stands_behind};
 
 use crate::place::same_behind;
-use census_kept::Section;
-use census_rows::{Behind, Row};
+use census_rows::{Behind, Row, Section};
 
-// Whether a row stands behind a line behind which there are rows of this kind.
+// Whether a row belongs after a line that is followed by rows of this kind.
 fn stands_behind(kind: Behind, row: &Row) -> bool
     ensures { result ≡ stands_behind kind row.now }
 {
@@ -19,7 +18,7 @@ fn stands_behind(kind: Behind, row: &Row) -> bool
     }
 }
 
-// How many rows from the first on stand behind such a line.
+// How many rows, from the first on, belong after such a line.
 fn count_behind(kind: Behind, rows: &Section) -> usize
     ensures value { result ≡ prefix_len (stands_behind kind) rows.now }
     ensures within { result ≤ length rows.now }
@@ -32,14 +31,14 @@ fn count_behind(kind: Behind, rows: &Section) -> usize
     rows.len()
 }
 
-/// The rows from the first on that stand behind a line behind which there are rows of this kind.
+/// The rows, from the first on, that belong after a line that is followed by rows of this kind.
 pub fn rows_behind<'b, 'a>(kind: Behind, rows: &Section<'b, 'a>) -> Section<'b, 'a>
     ensures { result ≡ rows_behind kind rows.now }
 {
     rows.before(count_behind(kind, rows))
 }
 
-// Whether a row tells what an engine emits.
+// Whether a row says what an engine emits.
 fn is_emits(row: &Row) -> bool
     ensures { result ≡ is_emits row.now }
 {
@@ -49,7 +48,7 @@ fn is_emits(row: &Row) -> bool
     }
 }
 
-// How many rows from the first on tell what an engine emits.
+// How many rows, from the first on, say what an engine emits.
 fn count_emits(rows: &Section) -> usize
     ensures value { result ≡ prefix_len is_emits rows.now }
     ensures within { result ≤ length rows.now }
@@ -62,7 +61,7 @@ fn count_emits(rows: &Section) -> usize
     rows.len()
 }
 
-/// The rows from the first on that tell what an engine emits.
+/// The rows, from the first on, that say what an engine emits.
 pub fn emits_first<'b, 'a>(rows: &Section<'b, 'a>) -> Section<'b, 'a>
     ensures { result ≡ take_while is_emits rows.now }
 {

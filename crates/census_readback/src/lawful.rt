@@ -10,7 +10,7 @@ use crate::rules::is_rule;
 use census_bundle::is_lawful_name;
 use census_rows::{Label, Outcome, Row, Value};
 
-// The text with a label, where there is one.
+// The text with a label, if there is one.
 pub fn text_at<'a>(outcome: &Outcome<'a>, label: Label) -> Option<&'a [u8]>
     ensures { option_copied result ≡ text_in (value_at label (said outcome.now).fields) }
 {
@@ -20,7 +20,7 @@ pub fn text_at<'a>(outcome: &Outcome<'a>, label: Label) -> Option<&'a [u8]>
     }
 }
 
-// The number with a label; 0 where there is none.
+// The number with a label; 0 if there is none.
 pub fn number_at(outcome: &Outcome, label: Label) -> u64
     ensures { result ≡ number_in (value_at label (said outcome.now).fields) }
 {
@@ -30,7 +30,7 @@ pub fn number_at(outcome: &Outcome, label: Label) -> u64
     }
 }
 
-// Whether the rule, where there is one, is a rule as it is printed.
+// Whether the rule, if there is one, is a rule as it is printed.
 fn has_lawful_rule(outcome: &Outcome) -> bool
     ensures { result ≡ has_lawful_rule (said outcome.now).fields }
 {
@@ -40,7 +40,7 @@ fn has_lawful_rule(outcome: &Outcome) -> bool
     }
 }
 
-// The signed number with a label; 0 where there is none.
+// The signed number with a label; 0 if there is none.
 fn signed_at(outcome: &Outcome, label: Label) -> i64
     ensures { result ≡ signed_in (value_at label (said outcome.now).fields) }
 {
@@ -50,14 +50,14 @@ fn signed_at(outcome: &Outcome, label: Label) -> i64
     }
 }
 
-// Whether it is told to have moved.
+// Whether it is said to have moved.
 fn is_moved(outcome: &Outcome) -> bool
     ensures { result ≡ is_moved (said outcome.now).fields }
 {
     (signed_at(outcome, Label::Dx), signed_at(outcome, Label::Dy)) != (0, 0)
 }
 
-// Whether the code, where there is one, is that of what comes again so.
+// Whether the code, if there is one, begins as that of what recurs with this period, moved or not.
 fn has_lawful_code(outcome: &Outcome) -> bool
     ensures { result ≡ has_lawful_code (said outcome.now).fields }
 {
@@ -67,7 +67,7 @@ fn has_lawful_code(outcome: &Outcome) -> bool
     }
 }
 
-// Whether the number of engines, where there is one, is 1 at least.
+// Whether the number of engines, if there is one, is at least 1.
 fn has_lawful_engines(outcome: &Outcome) -> bool
     ensures { result ≡ has_lawful_engines (said outcome.now).fields }
 {
@@ -78,8 +78,7 @@ fn has_lawful_engines(outcome: &Outcome) -> bool
     }
 }
 
-// Whether an engine may come again after so many generations, and have moved so far: by a cell in
-// each at most.
+// Whether an engine may recur after `period` generations, moved by `dx` and `dy`: each is at most a cell a generation.
 fn is_way(period: u64, dx: i64, dy: i64) -> bool
     ensures { result ≡ is_way period dx dy }
 {
@@ -89,9 +88,8 @@ fn is_way(period: u64, dx: i64, dy: i64) -> bool
         && dy.unsigned_abs() <= period
 }
 
-/// Whether a row's name is lawful, its rule is one as it is printed, its code begins as one, and it
-/// counts something where it counts objects or engines. An engine moves by a cell in a generation at
-/// most.
+/// Whether a row's name is lawful, its rule is one as it is printed, its code begins as one, and it counts something if it
+/// counts objects or engines. An engine moves by at most a cell in a generation.
 pub fn is_lawful(row: &Row) -> bool
     ensures { result ≡ is_lawful row.now }
 {

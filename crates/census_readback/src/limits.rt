@@ -3,5 +3,5 @@
 /// The most collections of a report, and the most patterns of a collection.
 pub const COUNT_LIMIT: u64 = 65_535;
 
-/// The most generations after which an engine comes again.
+/// The most generations after which an engine recurs.
 pub const PERIOD_LIMIT: u64 = 10_000;

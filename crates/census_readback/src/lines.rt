@@ -4,11 +4,10 @@ ghost use Rattle.census_rows.specs.declared.row.Row.{Row};
 ghost use Rattle.census_rows.specs.Lines.{SameRow, line_of, text_of};
 ghost use Rattle.census_readback.specs.Texts.{AllLines, Ends, IsLine, IsStuck, SameRows};
 
-use census_kept::Rows;
-use census_rows::{Row, read_row};
+use census_rows::{Row, Rows, read_row};
 use std::alloc::AllocError;
 
-/// A row, and what stands after its line.
+/// A row, and what comes after its line.
 #[derive(Clone, Copy)]
 pub struct First<'a> {
     pub row: Row<'a>,
@@ -22,7 +21,7 @@ fn first_feed(text: &[u8]) -> Option<usize>
     text.iter().position(|byte| *byte == b'\n')
 }
 
-/// The row of the first line. `None` where no row is written so.
+/// The row of the first line. `None` if no row is written so.
 pub fn first_row(text: &[u8]) -> Option<First>
     ensures sound { IfSome result
         (λ first. IsLine first.row × (text.now ≡ line_of first.row ++ first.rest.now)) }
@@ -37,7 +36,7 @@ pub fn first_row(text: &[u8]) -> Option<First>
     })
 }
 
-/// What stands behind the first line. `None` where there is no LF.
+/// What comes after the first line. `None` if there is no LF.
 pub fn behind_line(text: &[u8]) -> Option<&[u8]>
     ensures shorter { IfSome result (λ rest. length rest.now < length text.now) }
     ensures all { (row : Row) (after : List ℕ) → IsLine row → text.now ≡ line_of row ++ after
@@ -47,8 +46,8 @@ pub fn behind_line(text: &[u8]) -> Option<&[u8]>
     Some(&behind[1..])
 }
 
-// Appends as many rows as stand at the start of a text, and returns what stands behind them. Where
-// memory is refused, some rows may have been appended.
+// Appends all rows at the start of a text, and returns what comes after them. If memory is refused, some rows may have been
+// appended.
 pub fn read_rows<'a>(text: &'a [u8], rows: &mut Rows<'a>) -> Result<&'a [u8], AllocError>
     ensures { IfOk result (λ rest. (ends : Ends text.now rest.now)
         × (rows.new ≡ rows.old ++ ends.rows)) }
@@ -61,7 +60,7 @@ pub fn read_rows<'a>(text: &'a [u8], rows: &mut Rows<'a>) -> Result<&'a [u8], Al
     Ok(rest)
 }
 
-// What stands behind as many rows as stand at the start of a text.
+// What comes after all rows at the start of a text.
 pub fn behind_rows(text: &[u8]) -> &[u8]
     ensures { Ends text.now result.now }
 {

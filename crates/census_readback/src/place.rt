@@ -7,7 +7,8 @@ use crate::limits::COUNT_LIMIT;
 use census_rows::{Behind, Class, Outcome, Row};
 use std::alloc::{AllocError, Global};
 
-// What was read between the `open` and the `close` line. Tens of thousands of collections may be open at once, so it is small.
+// What was read between the `open` and the `close` line. It is small, since tens of thousands of collections may be open at
+// once.
 #[derive(Drop)]
 pub struct Tally<'a> {
     // How many patterns the collection has.
@@ -17,11 +18,11 @@ pub struct Tally<'a> {
     pub resolved: u16,
     pub unresolved: u16,
     pub refused: u16,
-    // Which lines may stand behind that of the last pattern.
+    // Which lines may come after that of the last pattern.
     pub behind: Behind,
     // The objects that the lines count.
     pub counts: Counts<'a>,
-    // How many of them `code` lines have told.
+    // How many of them `code` lines have reported.
     pub told: usize,
 }
 
@@ -70,14 +71,14 @@ pub fn same_behind(one: Behind, other: Behind) -> bool
     }
 }
 
-// Whether lines of this kind may stand behind the line of the last pattern.
+// Whether lines of this kind may come after the line of the last pattern.
 fn may_stand(tally: &Tally, kind: Behind, pattern: u64) -> bool
     ensures { result ≡ may_stand tally.now kind pattern }
 {
     same_behind(tally.behind, kind) && pattern == u64::from(tally.read)
 }
 
-// With so many objects of the last pattern.
+// With `count` objects of the last pattern.
 fn with_part<'a>(
     alloc: Global,
     mut tally: Tally<'a>,
@@ -90,7 +91,7 @@ fn with_part<'a>(
     Ok(tally)
 }
 
-// Whether the next of the objects that were counted is this one, and there are so many of it.
+// Whether the next of the objects that were counted is this one, and there are `count` of it.
 fn tells_next<'a>(tally: &Tally<'a>, rule: &'a [u8], code: &'a [u8], count: u64) -> bool
     ensures value { result ≡ tells_next tally.now rule.now code.now count }
     ensures within { IsTrue result → tally.now.told + 1 < 2 ^ 64 }
@@ -110,7 +111,7 @@ fn with_told<'a>(tally: Tally<'a>) -> Tally<'a>
     }
 }
 
-// Whether all patterns are read, these are their numbers, and each object that was counted is told.
+// Whether all patterns are read, these are their numbers, and each object that was counted is reported.
 fn closes(tally: &Tally, patterns: u64, resolved: u64, unresolved: u64, refused: u64) -> bool
     ensures { result ≡ closes tally.now (record {
       patterns = patterns;
@@ -127,7 +128,7 @@ fn closes(tally: &Tally, patterns: u64, resolved: u64, unresolved: u64, refused:
         && tally.told == tally.counts.len()
 }
 
-// The place after a row that stands between `open` and `close`.
+// The place after a row between `open` and `close`, if it may come here.
 fn next_within<'a>(
     alloc: Global,
     tally: Tally<'a>,
@@ -174,7 +175,7 @@ fn next_within<'a>(
     }
 }
 
-// The place before all rows but `open`.
+// The place after the first row of a collection, which must be `open`.
 fn first_place<'a>(row: &Row<'a>) -> Option<Place<'a>>
     ensures { result ≡ first_place row.now }
 {
@@ -193,7 +194,7 @@ fn first_place<'a>(row: &Row<'a>) -> Option<Place<'a>>
     }
 }
 
-// The place after this row of the collection, where it may stand here.
+// The place after this row of the collection, if it may come here.
 pub fn next<'a>(
     alloc: Global,
     place: Place<'a>,

@@ -20,7 +20,7 @@ pub struct Progress<'a> {
     pub ended: bool,
 }
 
-/// The number of the collection that a row belongs to; 0 of an `end` row, which belongs to none.
+/// The number of the collection that a row belongs to; 0 for an `end` row, which belongs to none.
 pub fn collection_of(row: &Row) -> u64
     ensures { result ≡ collection_of row.now }
 {
@@ -63,7 +63,7 @@ fn all_behind(places: &[Place]) -> bool
     places.iter().all(|place| is_behind(place))
 }
 
-// As many places at least.
+// Adds places until there are at least `count`.
 fn pad<'a>(places: &mut Vec<Place<'a>>, count: usize) -> Result<(), AllocError>
     ensures { OnOk result (places.new.items ≡ padded_places places.old.items count) }
 {
@@ -73,7 +73,7 @@ fn pad<'a>(places: &mut Vec<Place<'a>>, count: usize) -> Result<(), AllocError>
     Ok(())
 }
 
-// Takes a row at the place of the collection at this index, where it may stand there.
+// Takes a row at the place of the collection at this index, if it may come there.
 fn go<'a>(
     alloc: Global,
     places: &mut Vec<Place<'a>>,
@@ -106,7 +106,7 @@ impl<'a> Progress<'a> {
         }
     }
 
-    // Takes the row that ends a report, where it may stand here.
+    // Takes the row that ends a report, if it may come here.
     fn end(&mut self, collections: u64, patterns: u64) -> bool
         ensures yes { IsTrue result
             → end_step (reading_of self.old) collections patterns ≡ Some (reading_of self.new) }
@@ -124,7 +124,7 @@ impl<'a> Progress<'a> {
         whole
     }
 
-    // Takes a row of a collection, where it may stand here.
+    // Takes a row of a collection, if it may come here.
     fn go_on(&mut self, alloc: Global, row: &Row<'a>) -> Result<bool, AllocError>
         ensures yes { IfOk result (λ taken. IsTrue taken
             → section_step (reading_of self.old) row.now ≡ Some (reading_of self.new)) }
@@ -147,7 +147,7 @@ impl<'a> Progress<'a> {
         Ok(true)
     }
 
-    // Takes a row, where it may stand here.
+    // Takes a row, if it may come here.
     pub fn take(&mut self, alloc: Global, row: &Row<'a>) -> Result<bool, AllocError>
         ensures yes { IfOk result (λ taken. IsTrue taken
             → step (reading_of self.old) row.now ≡ Some (reading_of self.new)) }

@@ -1,23 +1,21 @@
 //! Reports read back.
 //!
-//! A report is the sections of its collections, which have the numbers from 1 on, interleaved line
-//! by line in any way that keeps each section's order, and then its `end` line. Several reports may
-//! stand one after the other. A section is its `open` line, the lines of its patterns in order, the
-//! `part` lines of an `ash` line and the `engine` lines of a `grows` line right behind it, the
-//! `emits` lines of an `engine` line right behind that, its `code` lines, and its `close` line.
-//! Numbers of collections and patterns are at most 65,535. Names are lawful, rules are as they are
-//! printed, codes begin as codes, that of an `ok` line as its period and displacement say, the `part`
-//! lines tell all objects of their line in the order of codes, and no report has `ok` lines and `ash`
-//! or `grows` lines.
+//! A report is the sections of its collections, which have the numbers from 1 on, and then its `end` line. The sections are
+//! interleaved line by line in any way that keeps each section's order. Several reports may come one after another. A section
+//! is its `open` line, the lines of its patterns in order, its `code` lines, and its `close` line. An `ash` line is directly
+//! followed by its `part` lines, a `grows` line by its `engine` lines, and each `engine` line by its `emits` lines. Numbers of
+//! collections and patterns are at most 65,535. Names are lawful, rules are as they are printed, and codes begin as codes. The
+//! code of an `ok` line begins as its period and displacement say. The `part` lines have all objects of their line, in the
+//! order of codes. No report has both `ok` lines and `ash` or `grows` lines.
 //!
-//! The `engine` lines tell all engines of their line, one at least, and count from 1. Their periods
-//! are 1 to 10,000, and they move by a cell in a generation at most. Each has `emits` lines, in the
-//! order of codes, with numbers from 1 on. They are in the order of periods, of how far they move to
-//! the right and down, and of what they emit, entry by entry; no two tell the same.
+//! The `engine` lines have all engines of their line, at least one, and count from 1. Their periods are 1 to 10,000, and they
+//! move by at most a cell in a generation. Each has `emits` lines, in the order of codes, with numbers from 1 on. The `engine`
+//! lines are in the order of periods, of how far they move to the right and down, and of what they emit, entry by entry; no two
+//! say the same.
 //!
-//! The `code` lines of a collection are what its lines count: for each rule and code that `ok` and `part`
-//! lines have, in the order of first appearance, one line with the number of these `ok` lines and the
-//! sum of the counts of these `part` lines. What follows the `_` of a code is not looked at.
+//! The `code` lines of a collection are what its lines count. For each rule and code that `ok` and `part` lines have, in the
+//! order of first appearance, there is one line. Its number is that of these `ok` lines plus the sum of the counts of these
+//! `part` lines. What follows the `_` of a code is not looked at.
 ghost use Rattle.std.specs.Prelude.{◌≡◌, ◌⊎◌, ◌++◌, ℕ, List, None, Some, IfOk, IsFalse, IsTrue, MatchOption, MatchResult};
 ghost use Rattle.census_readback.specs.Steps.{reading_of, step};
 ghost use Rattle.census_readback.specs.Told.{told_after, told_of};
@@ -28,12 +26,11 @@ ghost use Rattle.census_readback.specs.Texts.{Ends, SameRows};
 use crate::lines::{behind_rows, first_row, read_rows};
 use crate::progress::Progress;
 use crate::told::Told;
-use census_kept::Rows;
-use census_rows::Row;
+use census_rows::{Row, Rows};
 use std::alloc::{AllocError, Global};
 use std::mem::replace;
 
-// Takes a row, where it may stand here and tells what a report tells here.
+// Takes a row, if it may come here and says what a report says here.
 fn take<'a>(
     alloc: Global,
     progress: &mut Progress<'a>,
@@ -59,7 +56,7 @@ fn take<'a>(
     Ok(true)
 }
 
-// The number of a line that is wrong, before the rest of the text.
+// The number of a wrong line, before the rest of the text.
 fn first_fault(number: usize, rest: &[u8]) -> usize
     ensures value { result ≡ number }
     ensures ends { (end : List ℕ) × Ends rest.now end }
@@ -68,9 +65,9 @@ fn first_fault(number: usize, rest: &[u8]) -> usize
     number
 }
 
-/// The number of the first line, from 1, at which a text is no report, nor several after one
-/// another: a line that is no row, a row that may not stand where it does or tells what no report
-/// tells there, or the line that is missing after the last. `None` where it is. No row is kept.
+/// The number, from 1, of the first wrong line of a text: a line that is no row, a row that may not come where it does or says
+/// what no report says there, or the line that is missing after the last. `None` if the text is a report, or several, one after
+/// another. No row is kept.
 pub fn fault_of(alloc: Global, text: &[u8]) -> Result<Option<usize>, AllocError>
     ensures sound { IfOk result (λ fault. MatchOption fault
         ((rows : List Row) × ReadsAsReports rows text.now) (λ line. IsFault text.now line)) }
@@ -95,9 +92,8 @@ pub fn fault_of(alloc: Global, text: &[u8]) -> Result<Option<usize>, AllocError>
     }
 }
 
-/// Appends the rows of a report, or of several after one another. `Err` has the line of the fault,
-/// as `fault_of` tells it: the rows are as they were then. Where memory is refused, some rows may
-/// have been appended.
+/// Appends the rows of a report, or of several, one after another. `Err` has the line of the fault, as `fault_of` returns it;
+/// the rows are then unchanged. If memory is refused, some rows may have been appended.
 pub fn read_report<'a>(
     alloc: Global,
     text: &'a [u8],

@@ -5,7 +5,7 @@ ghost use Rattle.census_readback.specs.Rules.{after_births, after_rising, is_rul
 
 use life_cells::after_byte;
 
-// What follows the digits up to `8` that rise, from one on.
+// What follows the digits that rise, from `first` up to `8`.
 fn after_rising(first: u8, text: &[u8]) -> &[u8]
     ensures { result.now ≡ after_rising first text.now }
 {

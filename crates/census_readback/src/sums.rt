@@ -8,8 +8,8 @@ use std::alloc::{AllocError, Global};
 use std::hash::{Hash, Hasher};
 use std::marker::Model;
 
-// So many objects are looked through one by one. Only those after them are kept in a map, which takes far more memory: tens of
-// thousands of collections may be open at once.
+// The first `FEW` objects are looked through one by one. Only those after them are kept in a map, which takes far more memory:
+// tens of thousands of collections may be open at once.
 const FEW: usize = 8;
 
 // A rule, and the code of an object under it, as they are printed.
@@ -73,14 +73,14 @@ impl<'a> Object<'a> {
     }
 }
 
-// With so many more, where 64 bits hold the number.
+// With `count` more, if 64 bits hold the number.
 fn sum_with(sum: Option<u64>, count: u64) -> Option<u64>
     ensures { result ≡ sum_with sum count }
 {
     sum?.checked_add(count)
 }
 
-// Counts an object so many times more.
+// Counts an object `count` more times.
 fn count_object<'a>(
     sums: &mut IndexMap<Object<'a>, Option<u64>>,
     object: Object<'a>,
@@ -93,14 +93,14 @@ fn count_object<'a>(
     Ok(())
 }
 
-// Whether this is the object, and there are so many of it.
+// Whether this is the object, and there are `count` of it.
 fn is_counted<'a>(counted: &Object<'a>, sum: &Option<u64>, object: &Object<'a>, count: u64) -> bool
     ensures { result ≡ is_counted (Some (counted.now, sum.now)) object.now count }
 {
     *counted == *object && *sum == Some(count)
 }
 
-// Whether the object of a map at this index is this one, and there are so many of it.
+// Whether the object of a map at this index is this one, and there are `count` of it.
 fn has<'a>(
     sums: &IndexMap<Object<'a>, Option<u64>>,
     index: usize,
@@ -119,7 +119,7 @@ fn has<'a>(
     }
 }
 
-// Counts an object so many times more where it is one of these, and tells whether it is.
+// Counts an object `count` more times if it is one of these, and returns whether it is.
 fn count_among<'a>(
     counted: &mut [(Object<'a>, Option<u64>)],
     object: &Object<'a>,
@@ -140,12 +140,12 @@ fn count_among<'a>(
     false
 }
 
-// The objects that were counted, each once, in the order of first appearance, and how many there are of each where 64 bits hold
+// The objects that were counted, each once, in the order of first appearance, and how many there are of each, if 64 bits hold
 // the number.
 #[derive(Drop)]
 pub struct Sums<'a> {
     first: Vec<(Object<'a>, Option<u64>)>,
-    // Those after the first, where there are more than a few.
+    // Those after the first, if there are more than `FEW`.
     rest: Option<Box<IndexMap<Object<'a>, Option<u64>>>>,
 }
 
@@ -159,7 +159,7 @@ impl<'a> Model for Sums<'a> {
 }
 
 impl<'a> Sums<'a> {
-    // None.
+    // No objects.
     pub fn nothing(alloc: Global) -> Self
         ensures { result ≡ [] }
     {
@@ -169,7 +169,7 @@ impl<'a> Sums<'a> {
         }
     }
 
-    // Counts an object so many times more.
+    // Counts an object `count` more times.
     pub fn count(&mut self, alloc: Global, object: Object<'a>, count: u64) -> Result<(), AllocError>
         ensures { OnOk result (self.new ≡ with_more object.entry count self.old) }
     {
@@ -192,7 +192,7 @@ impl<'a> Sums<'a> {
         }
     }
 
-    // Whether the object at this index is this one, and there are so many of it.
+    // Whether the object at this index is this one, and there are `count` of it.
     pub fn has(&self, index: usize, object: Object<'a>, count: u64) -> bool
         ensures value { result ≡ is_counted (slice_get self.now index) object.entry count }
         ensures within { IsTrue result → index + 1 < 2 ^ 64 }

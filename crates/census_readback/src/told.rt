@@ -1,10 +1,11 @@
-//! What the rows of a report tell together.
+//! What the rows of a report say together.
 ghost use Rattle.std.specs.Prelude.{◌≡◌, IfOk, IsTrue};
 ghost use Rattle.std.specs.Option.{option_map};
+ghost use Rattle.std.specs.Ordering.{is_lt};
 ghost use Rattle.census_rows.specs.Kinds.{said};
 ghost use Rattle.census_rows.specs.Lines.{describes_growth};
 ghost use Rattle.census_readback.specs.Engines.{after_engine};
-ghost use Rattle.census_readback.specs.Told.{emits_told, engine_told, has_code, has_rows, is_less, is_told, line_told, nothing_told, part_told, to_tell, told_after, told_next, told_of, told_so_far};
+ghost use Rattle.census_readback.specs.Told.{emits_told, engine_told, has_code, has_rows, is_told, line_told, nothing_told, part_told, to_tell, told_after, told_next, told_of, told_so_far};
 
 use crate::engines::{Emitted, LastEngine, Way};
 use crate::lawful::{is_lawful, number_at, text_at};
@@ -13,16 +14,16 @@ use life_cells::shorter;
 use std::alloc::{AllocError, Global};
 use std::cmp::Ordering;
 
-// What was told.
+// What the rows so far have said.
 #[derive(Drop)]
 pub struct Told<'a> {
-    // Whether a line has told a code.
+    // Whether a line had a code.
     pub recurs: bool,
-    // Whether a line has told how many objects or engines there are.
+    // Whether a line said how many objects or engines there are.
     pub parted: bool,
     // The collection of the last line.
     pub collection: u64,
-    // How many of its objects or engines no row behind it has told.
+    // How many of its objects or engines are yet to be reported by rows after it.
     pub left: u64,
     // The last code that such a row has, or no byte.
     pub last: &'a [u8],
@@ -49,7 +50,7 @@ fn has_rows(behind: Behind) -> bool
     }
 }
 
-// How many objects or engines the rows behind a line are to tell.
+// How many objects or engines the rows after a line have to report.
 fn to_tell(outcome: &Outcome) -> u64
     ensures { result ≡ to_tell (said outcome.now).behind (said outcome.now) }
 {
@@ -61,7 +62,7 @@ fn to_tell(outcome: &Outcome) -> u64
 }
 
 fn is_less(order: Ordering) -> bool
-    ensures { result ≡ is_less order }
+    ensures { result ≡ is_lt order }
 {
     match order {
         Ordering::Less => true,
@@ -85,7 +86,7 @@ impl<'a> Told<'a> {
         }
     }
 
-    // Whether all objects or engines of the last line are told.
+    // Whether all objects or engines of the last line are reported.
     fn is_told(&self) -> bool
         ensures { result ≡ is_told (told_of self.now) }
     {
@@ -195,7 +196,7 @@ impl<'a> Told<'a> {
         }
     }
 
-    // After a row that tells of growth.
+    // After a row that reports growth.
     fn growth(self, alloc: Global, row: &Row<'a>) -> Result<Option<Told<'a>>, AllocError>
         requires { IsTrue (describes_growth row.now) }
         ensures { IfOk result (λ after. option_map told_of after ≡
@@ -266,7 +267,7 @@ impl<'a> Told<'a> {
         }
     }
 
-    // After this row, where it is lawful and fits what was told.
+    // After this row, if it is lawful and fits what was told.
     pub fn after(self, alloc: Global, row: &Row<'a>) -> Result<Option<Told<'a>>, AllocError>
         ensures { IfOk result (λ after. option_map told_of after ≡
             told_after (told_of self.entry) row.now) }

@@ -16,6 +16,7 @@ use Rattle.census_reports.specs.Written.{FailsRows, FailsTexts, WritesRows, Writ
 use Rattle.census_reports.specs.declared.error.ReportsError.{ReportsError}
 use Rattle.census_reports.specs.declared.error.ReportsError.TheVariants.{Claims, Names, Fault, TooMany, TooLong, Memory, Read, Write}
 use Rattle.census_reports.specs.declared.form.Form.{Form}
+use Rattle.census_reports.specs.declared.form.Form.TheVariants.{Merged, Table, Page, Same, Verdict}
 use Rattle.census_reports.specs.declared.reading.Reading.{Reading}
 use Rattle.census_reports.specs.declared.reading.Written.{Written}
 use Rattle.census_reports.proofs.Mended.{none-broken}
@@ -30,11 +31,34 @@ lacking Memory form texts s why = inl refl
 lacking Read form texts s why = absurd why
 lacking Write form texts s why = absurd why
 
+-- why nothing is written of rows is why nothing is written of their texts
+of-rows : (error : ReportsError) (form : Form) (rows : List Row) (texts : List (List ℕ)) → AreRowsOf rows texts → RefusesRows error form rows → RefusesTexts error form texts
+of-rows (Claims line) (Verdict claims) rows texts are why = why
+of-rows (Claims line) Merged rows texts are why = absurd why
+of-rows (Claims line) (Table subject format given) rows texts are why = absurd why
+of-rows (Claims line) (Page options) rows texts are why = absurd why
+of-rows (Claims line) (Same json) rows texts are why = absurd why
+of-rows (Names line) (Table subject format given) rows texts are why = why
+of-rows (Names line) Merged rows texts are why = absurd why
+of-rows (Names line) (Page options) rows texts are why = absurd why
+of-rows (Names line) (Same json) rows texts are why = absurd why
+of-rows (Names line) (Verdict claims) rows texts are why = absurd why
+of-rows (TooMany report) Merged rows texts are why = (rows, are, why)
+of-rows (TooMany report) (Table subject format given) rows texts are why = absurd why
+of-rows (TooMany report) (Page options) rows texts are why = absurd why
+of-rows (TooMany report) (Same json) rows texts are why = absurd why
+of-rows (TooMany report) (Verdict claims) rows texts are why = absurd why
+of-rows (Fault number line) form rows texts are why = absurd why
+of-rows TooLong form rows texts are why = absurd why
+of-rows Memory form rows texts are why = tt
+of-rows Read form rows texts are why = absurd why
+of-rows Write form rows texts are why = absurd why
+
 pub refused : (error : ReportsError) (form : Form) (rows : List Row) (texts : List (List ℕ)) (s : Sink) → AreRowsOf rows texts → RefusesRows error form rows → FailsTexts error form texts s s
-refused (Claims line) form rows texts s are why = (why, refl)
-refused (Names line) form rows texts s are why = (why, refl)
+refused (Claims line) form rows texts s are why = (of-rows (Claims line) form rows texts are why, refl)
+refused (Names line) form rows texts s are why = (of-rows (Names line) form rows texts are why, refl)
 refused (Fault number line) form rows texts s are why = absurd why
-refused (TooMany report) form rows texts s are why = (record { rows = rows; reports = are; excess = why }, refl)
+refused (TooMany report) form rows texts s are why = (of-rows (TooMany report) form rows texts are why, refl)
 refused TooLong form rows texts s are why = absurd why
 refused Memory form rows texts s are why = inl refl
 refused Read form rows texts s are why = absurd why
@@ -42,10 +66,10 @@ refused Write form rows texts s are why = absurd why
 
 pub failing : (error : ReportsError) (form : Form) (rows : List Row) (texts : List (List ℕ)) (a b : Sink) → AreRowsOf rows texts
     → FailsRows error form rows a b → FailsTexts error form texts a b
-failing (Claims line) form rows texts a b are why = why
-failing (Names line) form rows texts a b are why = why
+failing (Claims line) form rows texts a b are why = (of-rows (Claims line) form rows texts are why.0, why.1)
+failing (Names line) form rows texts a b are why = (of-rows (Names line) form rows texts are why.0, why.1)
 failing (Fault number line) form rows texts a b are why = absurd why.0
-failing (TooMany report) form rows texts a b are why = (record { rows = rows; reports = are; excess = why.0 }, why.1)
+failing (TooMany report) form rows texts a b are why = (of-rows (TooMany report) form rows texts are why.0, why.1)
 failing TooLong form rows texts a b are why = absurd why.0
 failing Memory form rows texts a b are (inl same) = inl same
 failing Memory form rows texts a b are (inr halts) =
@@ -116,7 +140,7 @@ module _ (form : Form) (reading : Reading) (held : List ℕ → Told) (words : L
   stopping (Fault number line) stops same = absurd stops.why
   stopping (TooMany report) stops same = absurd stops.why
   stopping TooLong stops same = (stops, same)
-  stopping Memory stops same = (stops.why.sound, inl same)
+  stopping Memory stops same = (stops.why.1, inl same)
   stopping Read stops same = (stops, same)
   stopping Write stops same = absurd stops.why
 

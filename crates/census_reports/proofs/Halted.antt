@@ -1,4 +1,4 @@
--- What is told by way of a block is written, as far as memory lasts.
+-- What is put by way of a block is written, as far as memory lasts.
 use Rattle.std.proofs.Common.{◌≡◌, ◌≢◌, ◌↔◌, ◌∙◌, ℕ, ◌≤◌, Bool, IsTrue, true, false, true≢false, List, [], ◌∷◌, ◌++◌, length, take, Option, Result, Ok, Err, MatchBool, MatchResult, refl, sym, ap, subst, arith, append-nil, length-append}
 use Rattle.std.proofs.lemmas.List.{take-append-le, take_all}
 use Rattle.std.specs.Io.KnownBytes.{Appends}
@@ -6,13 +6,13 @@ use Rattle.watched.specs.Watching.{AppendsFront}
 use Rattle.watched.specs.Telling.{Sheet, TellsAfter, TellsFront}
 use Rattle.watched.proofs.Telling.{all_told, tells_more}
 use Rattle.census_rows.specs.declared.row.Row.{Row}
-use Rattle.census_same.specs.Same.{has_bytes}
+use Rattle.census_compare.specs.Same.{has_bytes}
 use Rattle.census_reports.specs.Forms.{IsInPieces, IsMade, is_found}
 use Rattle.census_reports.specs.Written.{HaltsRows, WritesRows, WritesRowsInPart}
 use Rattle.census_reports.specs.declared.form.Form.{Form}
 use Rattle.census_reports.proofs.Told.{sink_of}
 
--- whether there is anything is whether there is a byte
+-- something is found exactly where there is a byte
 pub found_bytes : (any : Bool) (text : List ℕ) → (IsTrue any ↔ (text ≢ [])) → any ≡ has_bytes text
 found_bytes true [] h = absurd (h.0 refl refl)
 found_bytes true (byte ∷ bytes) h = refl

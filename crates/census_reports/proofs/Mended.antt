@@ -1,7 +1,8 @@
 -- Texts that were mended.
 use Rattle.std.proofs.Common.{◌≡◌, ℕ, zero, suc, ◌+◌, ◌<◌, ◌≤◌, List, [], ◌∷◌, ◌++◌, length, map, take, drop, get_or, refl, sym, ap, subst, ◌∙◌, append_assoc, append-nil, drop-cons, Option, Some, None, Result, Ok, Err, MatchResult, arith}
+use Rattle.std.specs.Option.{option_to_list}
 use Rattle.std.specs.Prelude.{MatchOption}
-use Rattle.std.specs.List.{AllZip}
+use Rattle.std.specs.List.{AllZip, flat_map}
 use Rattle.std.proofs.lemmas.List.{length-take-le, map-append, take-append-drop, take_more}
 use Rattle.census_rows.specs.declared.row.Row.{Row}
 use Rattle.census_readback.specs.Reports.{ReadsAsReports}
@@ -9,7 +10,7 @@ use Rattle.census_merge.specs.Kept.{kept_rows}
 use Rattle.census_merge.specs.Mended.{IsBroken, IsCutTo, IsMended, IsWholeText}
 use Rattle.census_merge.specs.declared.mending.Cut.{Cut}
 use Rattle.census_merge.specs.declared.mending.Mended.{Mended}
-use Rattle.census_reports.specs.Mending.{AreMended, HasBrokenText, as_list, cuts_of}
+use Rattle.census_reports.specs.Mending.{AreMended, HasBrokenText}
 use Rattle.census_reports.specs.Rows.{HasReportFault}
 
 abbrev text_of : Mended → List ℕ
@@ -38,7 +39,7 @@ none-broken texts looked cuts are number line h =
     let read = read-at texts are.mended h.done h.text h.left are.each (sym are.made_are ∙ h.texts_are) in
     h.none read.0 read.1
 
--- # One text more
+-- # One more text
 
 zip-more : (texts : List (List ℕ)) (ms : List Mended) (text : List ℕ) (m : Mended) → AllZip IsMended texts ms → IsMended text m → AllZip IsMended (texts ++ text ∷ []) (ms ++ m ∷ [])
 zip-more [] [] text m each is = (is, tt)
@@ -46,21 +47,21 @@ zip-more [] (n ∷ ms) text m each is = absurd each
 zip-more (t ∷ texts) [] text m each is = absurd each
 zip-more (t ∷ texts) (n ∷ ms) text m each is = (each.0, zip-more texts ms text m each.1 is)
 
-cuts-more : (ms : List Mended) (m : Mended) → cuts_of (ms ++ m ∷ []) ≡ cuts_of ms ++ as_list m.cut
-cuts-more [] m = append-nil (as_list m.cut)
-cuts-more (n ∷ ms) m = ap (λ cs. as_list n.cut ++ cs) (cuts-more ms m) ∙ sym (append_assoc (as_list n.cut) (cuts_of ms) (as_list m.cut))
+cuts-more : (ms : List Mended) (m : Mended) → flat_map (λ n. option_to_list n.cut) (ms ++ m ∷ []) ≡ flat_map (λ n. option_to_list n.cut) ms ++ option_to_list m.cut
+cuts-more [] m = append-nil (option_to_list m.cut)
+cuts-more (n ∷ ms) m = ap (λ cs. option_to_list n.cut ++ cs) (cuts-more ms m) ∙ sym (append_assoc (option_to_list n.cut) (flat_map (λ n. option_to_list n.cut) ms) (option_to_list m.cut))
 
 pub mended-none : AreMended [] [] []
 mended-none = record { mended = []; each = tt; made_are = refl; cuts_are = refl }
 
 module _ (texts : List (List ℕ)) (i : ℕ) (d : List ℕ) (within : i < length texts) (made : List (List ℕ)) (cuts : List Cut) (before : AreMended (take i texts) made cuts) where
-  pub mended-more : (m : Mended) (all : List (List ℕ)) (all_cuts : List Cut) → IsMended (get_or texts i d) m → all ≡ made ++ m.text.items ∷ [] → all_cuts ≡ cuts ++ as_list m.cut
+  pub mended-more : (m : Mended) (all : List (List ℕ)) (all_cuts : List Cut) → IsMended (get_or texts i d) m → all ≡ made ++ m.text.items ∷ [] → all_cuts ≡ cuts ++ option_to_list m.cut
       → AreMended (take (i + 1) texts) all all_cuts
   mended-more m all all_cuts is e f = record {
     mended = before.mended ++ m ∷ [];
     each = subst (λ ts. AllZip IsMended ts (before.mended ++ m ∷ [])) (sym (take_more texts i d within)) (zip-more (take i texts) before.mended (get_or texts i d) m before.each is);
     made_are = e ∙ ap (λ ts. ts ++ text_of m ∷ []) before.made_are ∙ sym (map-append text_of before.mended (m ∷ []));
-    cuts_are = f ∙ ap (λ cs. cs ++ as_list m.cut) before.cuts_are ∙ sym (cuts-more before.mended m);
+    cuts_are = f ∙ ap (λ cs. cs ++ option_to_list m.cut) before.cuts_are ∙ sym (cuts-more before.mended m);
   }
 
   pub broken-at : (line : ℕ) → IsBroken (get_or texts i d) line → HasBrokenText (i + 1) line texts
@@ -83,7 +84,7 @@ module _ (texts : List (List ℕ)) (i : ℕ) (d : List ℕ) (within : i < length
       broken-at texts i d within made cuts before line
       (subst (λ t. IsBroken t line) e (subst (λ r. MatchResult r (λ m. IsMended bytes m) (λ line. IsBroken bytes line)) is sound))
 
-  pub mended-read : (m : Mended) (all : List (List ℕ)) (all_cuts : List Cut) → read ≡ Ok m → all ≡ made ++ m.text.items ∷ [] → all_cuts ≡ cuts ++ as_list m.cut
+  pub mended-read : (m : Mended) (all : List (List ℕ)) (all_cuts : List Cut) → read ≡ Ok m → all ≡ made ++ m.text.items ∷ [] → all_cuts ≡ cuts ++ option_to_list m.cut
       → AreMended (take (i + 1) texts) all all_cuts
   mended-read m all all_cuts is f g =
       mended-more texts i d within made cuts before m all all_cuts

@@ -9,6 +9,7 @@ use Rattle.census_rows.specs.declared.row.Row.{Row}
 use Rattle.census_rows.specs.declared.row.Row.TheVariants.{End}
 use Rattle.census_rows.specs.Lines.{line_of, text_of}
 use Rattle.census_rows.proofs.Texts.{text-append}
+use Rattle.census_readback.proofs.Interleaved.{reports-sound}
 use Rattle.census_readback.specs.Limits.{count_limit}
 use Rattle.census_readback.specs.Reports.{ReadsAsReports}
 use Rattle.census_readback.specs.Shapes.{all_rows}
@@ -28,7 +29,7 @@ few_rows : (parts : List (List Row)) (texts : List (List ℕ)) → AllZip ReadsA
 few_rows [] [] each = tt
 few_rows [] (t ∷ texts) each = absurd each
 few_rows (p ∷ parts) [] each = absurd each
-few_rows (p ∷ parts) (t ∷ texts) each = few-append p (all_rows parts) (few-reports p each.0.shape) (few_rows parts texts each.1)
+few_rows (p ∷ parts) (t ∷ texts) each = few-append p (all_rows parts) (few-reports p (reports-sound p each.0.shape)) (few_rows parts texts each.1)
 
 pub few_of : (rows : List Row) (texts : List (List ℕ)) → AreRowsOf rows texts → AreFew rows
 few_of rows texts are = subst AreFew (sym are.whole) (few_rows are.parts texts are.each)
@@ -138,7 +139,7 @@ pub record CountedRows (texts : List (List ℕ)) (i : ℕ) (c : Counted) (rows :
   pub are : AreRowsOf todo (drop i texts)
   pub excess : first_excess 1 no_sums rows ≡ first_excess c.report c.sums todo
 
--- what is known where the texts before one are counted
+-- what is known once the texts before one are counted
 pub record CountedTexts (texts : List (List ℕ)) (i : ℕ) (c : Counted) : Type 0 where
   pub few : c.sums.collections ≤ count_limit
   pub rows : (rows : List Row) → AreRowsOf rows texts → CountedRows texts i c rows
@@ -176,7 +177,7 @@ module _ (texts : List (List ℕ)) (i : ℕ) (c : Counted) (so : CountedTexts te
       let l = so.rows rows are in
       l.excess ∙ ap (first_excess c.report c.sums) (none_at texts i l.todo over l.are)
 
--- ---- telling
+-- ---- putting
 
 pub record PutTodo (texts : List (List ℕ)) (i : ℕ) (s : Sums) (rows : List Row) (a b : Sheet) : Type 0 where
   pub todo : List Row
@@ -187,7 +188,7 @@ pub record PutTodo (texts : List (List ℕ)) (i : ℕ) (s : Sums) (rows : List R
   pub sums : sums_in s todo ≡ sums_in no_sums rows
   pub told : (c : Sheet) → TellsAfter (text_of (numbered_on s.collections todo)) b c → TellsAfter (text_of (numbered_on 0 rows)) a c
 
--- what is known where the texts before one are told
+-- what is known once the texts before one are put
 pub record PutTexts (texts : List (List ℕ)) (i : ℕ) (s : Sums) (a b : Sheet) : Type 0 where
   pub few : s.collections ≤ count_limit
   pub rows : (rows : List Row) → AreRowsOf rows texts → AreFew rows → first_excess 1 no_sums rows ≡ Nothing → PutTodo texts i s rows a b
@@ -209,7 +210,7 @@ whole_told rows a b c body last =
 module _ (texts : List (List ℕ)) (i : ℕ) (s : Sums) (a b : Sheet) (p : PutTexts texts i s a b) where
   module _ (d text : List ℕ) (less : i < length texts) (e : text ≡ get_or texts i d) (after : Option Sums) (c : Sheet)
       (puts : (rows : List Row) (report : ℕ) → AllLines rows → text ≡ text_of rows → AreFew rows → first_excess report s rows ≡ Nothing → PutsRows s rows after b c) where
-    -- the rows of the text are told, and whoever tells the others has told all
+    -- the rows of the text are put, and whoever puts the others has put all
     own_put : (rows : List Row) (l : PutTodo texts i s rows a b) (f : First l.todo text (drop (i + 1) texts)) (last : Sheet)
         → TellsAfter (text_of (numbered_on s.collections f.own)) b c → TellsAfter (text_of (numbered_on (sums_in s f.own).collections f.others)) c last → TellsAfter (text_of (numbered_on 0 rows)) a last
     own_put rows l f last own h =

@@ -1,5 +1,6 @@
--- One text more of words.
+-- One more text of words.
 use Rattle.std.proofs.Common.{◌≡◌, ℕ, suc, ◌+◌, ◌-◌, ◌<◌, ◌≤◌, Bool, true, false, leb, Option, Some, None, inl, inr, List, [], ◌∷◌, ◌++◌, Bor, map, length, take, drop, get_or, refl, sym, ap, subst, ◌∙◌, drop-cons, arith}
+use Rattle.std.specs.List.{sum_by}
 use Rattle.std.proofs.lemmas.List.{map-append, map_more, take-append-drop}
 use Rattle.std.specs.Prelude.{if◌then◌else◌}
 use Rattle.std.proofs.lemmas.Bool.{leb-true, le-leb}
@@ -10,7 +11,7 @@ use Rattle.census_identify.specs.Hearing.{Hears}
 use Rattle.census_identify.specs.Identifies.{words_or_input}
 use Rattle.watched.specs.Streams.{Reader}
 use Rattle.census_identify.specs.declared.heard.Heard.TheVariants.{Text}
-use Rattle.census_reports.specs.Texts.{FitTogether, ReadsEach, RefusesNext, RefusesWord, StopsReadingTexts, bytes_in, left_behind}
+use Rattle.census_reports.specs.Texts.{FitTogether, ReadsEach, RefusesNext, RefusesWord, StopsReadingTexts, left_behind}
 use Rattle.census_reports.specs.declared.error.ReportsError.{ReportsError}
 use Rattle.census_reports.specs.declared.error.ReportsError.TheVariants.{Claims, Names, Fault, TooMany, TooLong, Memory, Read, Write}
 
@@ -24,7 +25,7 @@ reads_more held [] (t ∷ texts) word text a b c read p = absurd read
 reads_more held (w ∷ words) [] word text a b c read p = absurd read
 reads_more held (w ∷ words) (t ∷ texts) word text a b c read p = (read.0, read.1, reads_more held words texts word text read.0 b c read.2 p)
 
--- there are as many texts as words, which is one at least
+-- there are as many texts as words, and at least one
 pub some_text : (held : List ℕ → Told) (words texts : List (List ℕ)) (a b : Reader) → ReadsEach held (words_or_input words) texts a b → 0 < length texts
 some_text held [] [] a b read = absurd read
 some_text held [] (t ∷ texts) a b read = omega arith
@@ -45,7 +46,7 @@ next_refused Write limit texts held word a b why = why
 
 -- # Limits
 
-bytes-more : (texts : List (List ℕ)) (text : List ℕ) → bytes_in (texts ++ text ∷ []) ≡ bytes_in texts + length text
+bytes-more : (texts : List (List ℕ)) (text : List ℕ) → sum_by length (texts ++ text ∷ []) ≡ sum_by length texts + length text
 bytes-more texts text = sum_by_push length texts text
 
 if-left : (b : Bool) (x y : Option ℕ) → (if b then Some x else None) ≡ Some y → (b ≡ true) × (x ≡ y)
@@ -55,7 +56,7 @@ if-left false x y h = absurd (cc)
 -- what is left of the limit
 pub record Left (limit : Option ℕ) (texts : List (List ℕ)) (left : Option ℕ) : Type 0 where
   pub fits : FitTogether limit texts
-  pub is : left ≡ limit_after limit (bytes_in texts)
+  pub is : left ≡ limit_after limit (sum_by length texts)
 
 pub left_start : (limit left : Option ℕ) → left ≡ limit → Left limit [] left
 left_start None left e = record { fits = tt; is = e }
@@ -67,12 +68,12 @@ left_more None left rest texts text h e =
     let f : Some None ≡ Some rest = sym (ap (λ l. left_behind l (length text)) h.is) ∙ e in
     record { fits = tt; is = cc }
 left_more (Some most) left rest texts text h e =
-    let f : left_behind (Some (most - bytes_in texts)) (length text) ≡ Some rest = sym (ap (λ l. left_behind l (length text)) h.is) ∙ e in
-    let k = if-left (leb (length text) (most - bytes_in texts)) (Some ((most - bytes_in texts) - length text)) rest f in
-    let within : length text ≤ most - bytes_in texts = leb-true _ _ k.0 in
+    let f : left_behind (Some (most - (sum_by length) texts)) (length text) ≡ Some rest = sym (ap (λ l. left_behind l (length text)) h.is) ∙ e in
+    let k = if-left (leb (length text) (most - (sum_by length) texts)) (Some ((most - (sum_by length) texts) - length text)) rest f in
+    let within : length text ≤ most - (sum_by length) texts = leb-true _ _ k.0 in
     let more = bytes-more texts text in
     let fits = h.fits in
-    let less : (most - bytes_in texts) - length text ≡ most - bytes_in (texts ++ text ∷ []) = omega (arith, more) in
+    let less : (most - (sum_by length) texts) - length text ≡ most - (sum_by length) (texts ++ text ∷ []) = omega (arith, more) in
     record { fits = omega (arith, more, within, fits); is = sym k.1 ∙ ap (λ n. Some n) less }
 
 pub left_none : (limit left : Option ℕ) (texts : List (List ℕ)) (text : List ℕ) → Left limit texts left → left_behind left (length text) ≡ None
@@ -80,16 +81,16 @@ pub left_none : (limit left : Option ℕ) (texts : List (List ℕ)) (text : List
 left_none None left texts text h e fits = (let f : Some None ≡ None = sym (ap (λ l. left_behind l (length text)) h.is) ∙ e in absurd (cc))
 left_none (Some most) left texts text h e fits =
     let more = bytes-more texts text in
-    let pass : leb (length text) (most - bytes_in texts) ≡ true = le-leb _ _ (omega (arith, more, fits)) in
-    let f : left_behind (Some (most - bytes_in texts)) (length text) ≡ None = sym (ap (λ l. left_behind l (length text)) h.is) ∙ e in
-    let g : Some (Some ((most - bytes_in texts) - length text)) ≡ None = sym (ap (λ b. if b then Some (Some ((most - bytes_in texts) - length text)) else None) pass) ∙ f in
+    let pass : leb (length text) (most - (sum_by length) texts) ≡ true = le-leb _ _ (omega (arith, more, fits)) in
+    let f : left_behind (Some (most - (sum_by length) texts)) (length text) ≡ None = sym (ap (λ l. left_behind l (length text)) h.is) ∙ e in
+    let g : Some (Some ((most - (sum_by length) texts) - length text)) ≡ None = sym (ap (λ b. if b then Some (Some ((most - (sum_by length) texts) - length text)) else None) pass) ∙ f in
     absurd (cc)
 
 pub passes_limit : (limit left : Option ℕ) (texts : List (List ℕ)) (text : List ℕ) (held : List ℕ → Told) (word : List ℕ) (a b : Reader) → Left limit texts left
     → Hears held word (Text text) a b → b.failed ≡ false → left_behind left (length text) ≡ None → RefusesNext TooLong limit texts held word a b
 passes_limit limit left texts text held word a b h hears sound e = inr (record { text = text; hears = hears; passes = left_none limit left texts text h e; sound = sound })
 
--- # One text more
+-- # One more text
 
 module _ (held : List ℕ → Told) (words : List (Bor (List ℕ))) (i : ℕ) (d : Bor (List ℕ)) (texts : List (List ℕ)) (a b : Reader) (within : i < length words)
     (read : ReadsEach held (words_of (take i words)) texts a b) where
@@ -120,7 +121,7 @@ module _ (held : List ℕ → Told) (words : List (Bor (List ℕ))) (i : ℕ) (d
       → StopsReadingTexts error limit held (words_of words) a c
   stops_word error limit c fits why = stops_reading error limit c fits (next_refused error limit texts held (get_or words i d).now b c why)
 
-  -- with the next text they pass the limit
+  -- with the next text they exceed the limit
   pub stops_passing : (limit left : Option ℕ) (text : List ℕ) (c : Reader) → Left limit texts left → Hears held (get_or words i d).now (Text text) b c → c.failed ≡ false
       → left_behind left (length text) ≡ None → StopsReadingTexts TooLong limit held (words_of words) a c
   stops_passing limit left text c h hears sound e =

@@ -1,6 +1,6 @@
--- What rows tell of engines and parts doesn't depend on the number of their collection.
+-- What rows say of engines and parts doesn't depend on the number of their collection.
 use Rattle.std.proofs.Common.{◌≡◌, ℕ, Bool, true, false, Option, Some, List, [], ◌∷◌, map, ap, ap₂, ◌∙◌, refl, sym}
-use Rattle.std.specs.List.{take_while}
+use Rattle.std.specs.List.{cons_option, filter_map, take_while}
 use Rattle.std.proofs.Math.Bool.{cond}
 use Rattle.std.proofs.lemmas.List.Sums.{take_while-cons}
 use Rattle.census_rows.specs.declared.kinds.Behind.{Behind}
@@ -11,12 +11,12 @@ use Rattle.census_rows.specs.Kinds.{said}
 use Rattle.census_merge.specs.Merged.{renumbered_row}
 use Rattle.census_readback.specs.Following.{is_emits, rows_behind, stands_behind}
 use Rattle.census_table.specs.Contents.{Content, engines, parts}
-use Rattle.census_table.specs.Lists.{Engines, all_engines, engines_of, portion_of, portions, told_before}
+use Rattle.census_table.specs.Lists.{Engines, all_engines, engines_of, portion_of}
 use Rattle.census_table.specs.Patterns.{Pattern, engines_behind, parts_behind, pattern_before}
 use Rattle.census_table.specs.declared.entry.Entry.{Entry}
 use Rattle.census_table.specs.declared.lists.Portion.{Portion}
 
--- # The rows from the first on of which this is so
+-- # The rows, from the first on, for which this holds
 
 cond-map : (f : Row → Row) (is : Bool) (row : Row) (rows : List Row) → cond is (f row ∷ map f rows) [] ≡ map f (cond is (row ∷ rows) [])
 cond-map f true row rows = refl
@@ -51,7 +51,7 @@ emits-same b (Code c rule code n) = refl
 emits-same b (Close c n x y z) = refl
 emits-same b (End c n) = refl
 
--- # What they tell
+-- # What they say
 
 portion-same : (b : ℕ) (r : Row) → portion_of (renumbered_row b r) ≡ portion_of r
 portion-same b (Open c n t) = refl
@@ -63,9 +63,9 @@ portion-same b (Code c rule code n) = refl
 portion-same b (Close c n x y z) = refl
 portion-same b (End c n) = refl
 
-portions-same : (b : ℕ) (rows : List Row) → portions (map (renumbered_row b) rows) ≡ portions rows
+portions-same : (b : ℕ) (rows : List Row) → filter_map portion_of (map (renumbered_row b) rows) ≡ filter_map portion_of rows
 portions-same b [] = refl
-portions-same b (r ∷ rows) = ap₂ (λ (o : Option Portion) (others : List Portion). told_before o others) (portion-same b r) (portions-same b rows)
+portions-same b (r ∷ rows) = ap₂ (λ (o : Option Portion) (others : List Portion). cons_option o others) (portion-same b r) (portions-same b rows)
 
 engine-same : (b : ℕ) (r : Row) (rows : List Row) → engines_of (renumbered_row b r) (map (renumbered_row b) rows) ≡ engines_of r rows
 engine-same b (Open c n t) rows = refl
@@ -81,11 +81,11 @@ engine-same b (End c n) rows = refl
 engines-same : (b : ℕ) (rows : List Row) → all_engines (map (renumbered_row b) rows) ≡ all_engines rows
 engines-same b [] = refl
 engines-same b (r ∷ rows) =
-    ap₂ (λ (o : Option Engines) (others : List Engines). told_before o others)
+    ap₂ (λ (o : Option Engines) (others : List Engines). cons_option o others)
     (ap (engines_of (renumbered_row b r)) (while-same is_emits b (emits-same b) rows) ∙ engine-same b r (take_while is_emits rows))
     (engines-same b rows)
 
--- # Behind a line
+-- # After a line
 
 engines-behind-same : (kind : Behind) (b : ℕ) (rows : List Row) → engines_behind kind (map (renumbered_row b) rows) ≡ engines_behind kind rows
 engines-behind-same behind.Nothing b rows = refl
@@ -98,7 +98,7 @@ parts-behind-same : (kind : Behind) (b : ℕ) (rows : List Row) → parts_behind
 parts-behind-same behind.Nothing b rows = refl
 parts-behind-same behind.Engines b rows = refl
 parts-behind-same behind.Parts b rows =
-    ap (λ rows. parts (portions rows)) (while-same (stands_behind behind.Parts) b (stands-same behind.Parts b) rows)
+    ap (λ rows. parts (filter_map portion_of rows)) (while-same (stands_behind behind.Parts) b (stands-same behind.Parts b) rows)
     ∙ ap parts (portions-same b (rows_behind behind.Parts rows))
 
 pub before-same : (entry : Entry) (b : ℕ) (rows : List Row) → pattern_before entry (map (renumbered_row b) rows) ≡ pattern_before entry rows

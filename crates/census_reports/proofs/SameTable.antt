@@ -1,5 +1,6 @@
--- The table of reports is that of the report that they are merged to.
+-- The table of reports is that of the report that they are merged into.
 use Rattle.std.proofs.Common.{◌≡◌, ℕ, zero, suc, ◌+◌, ◌<◌, ◌≤◌, true, false, eqb, Option, Some, None as Nothing, List, [], ◌∷◌, ◌++◌, map, length, ap, ap₂, ◌∙◌, sym, refl, subst, arith, append_assoc, append-nil, inl, inr}
+use Rattle.std.specs.List.{cons_option}
 use Rattle.std.specs.Option.{option_map}
 use Rattle.std.proofs.lemmas.Bool.{cases_Bool}
 use Rattle.census_rows.specs.declared.row.Row.{Row}
@@ -14,7 +15,6 @@ use Rattle.census_readback.proofs.Cutting.{collections-body}
 use Rattle.census_readback.proofs.Kept.{of-append, rows-append, rows-one}
 use Rattle.census_readback.proofs.Sorted.{sections-size}
 use Rattle.census_table.specs.Entries.{entries_of, entry_of_row}
-use Rattle.census_table.specs.Lists.{told_before}
 use Rattle.census_table.specs.Patterns.{Pattern, all_patterns, pattern_before, pattern_of_row, patterns_of, patterns_under, section_patterns}
 use Rattle.census_table.specs.declared.entry.Entry.{Entry}
 use Rattle.census_table.proofs.Patterned.{entries_in, patterns-append, patterns-entries}
@@ -50,7 +50,7 @@ pattern-same k b h r rows =
 under-same : (k b : ℕ) (h : Row) (rows : List Row) → patterns_under k (renumbered_row b h) (map (renumbered_row b) rows) ≡ patterns_under k h rows
 under-same k b h [] = refl
 under-same k b h (r ∷ rows) =
-    ap₂ (λ (o : Option Pattern) (others : List Pattern). told_before o others) (pattern-same k b h r rows) (under-same k b h rows)
+    ap₂ (λ (o : Option Pattern) (others : List Pattern). cons_option o others) (pattern-same k b h r rows) (under-same k b h rows)
 
 section-same : (k b : ℕ) (rows : List Row) → section_patterns k (map (renumbered_row b) rows) ≡ section_patterns k rows
 section-same k b [] = refl
@@ -194,7 +194,7 @@ first-same k b first (suc n) all body each =
     (ap (λ m. all_patterns (k + 1) (sections_of m n all)) (let e : suc (b + first) ≡ b + suc first = omega arith in e)
     ∙ first-same (k + 1) b (suc first) n all body (λ c low high. each c (omega arith) (omega arith)))
 
--- one report, and those behind it, where the rows of the reports before it stand in front
+-- one report, and those after it, where the rows of the reports before it come first
 module _ (k b : ℕ) (front : List Row) (rows : List Row) (is : IsWholeReport rows) (reports : List (List Row)) (h : AreWhole reports)
     (none_above : (c : ℕ) → b < c → rows_of c front ≡ []) where
   abbrev n : ℕ

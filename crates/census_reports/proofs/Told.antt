@@ -1,4 +1,4 @@
--- What is told by way of a block is written.
+-- What is put by way of a block is written.
 use Rattle.std.proofs.Common.{◌≡◌, ℕ, true, false, List, [], Result, Ok, Err, MatchBool, MatchResult, subst, append-nil}
 use Rattle.std.specs.Io.KnownBytes.{Appends}
 use Rattle.watched.specs.Watching.{AppendsFront}

@@ -1,11 +1,11 @@
--- The error that the fault of a reading is, and the exit status of each.
+-- The error for the fault of a reading, and the exit status of each error.
 use Rattle.std.specs.Prelude.{ℕ}
 use Rattle.watched.specs.declared.reading.ReadFault.{ReadFault}
 use Rattle.watched.specs.declared.reading.ReadFault.TheVariants as reads
 use Rattle.census_folders.specs.declared.unread.ShelfFault.{ShelfFault}
 use Rattle.census_folders.specs.declared.unread.ShelfFault.TheVariants as shelf
 use Rattle.census_reports.specs.declared.error.ReportsError.{ReportsError}
-use Rattle.census_reports.specs.declared.error.ReportsError.TheVariants.{Claims, Names, Fault, TooMany, TooLong, Memory, Read, Write}
+use Rattle.census_reports.specs.declared.error.ReportsError.TheVariants.{TooLong, Memory, Read, Write}
 
 abbrev pub error_of_read : ReadFault → ReportsError
 error_of_read reads.Read = Read
@@ -18,11 +18,7 @@ error_of_shelf shelf.TooLong = TooLong
 error_of_shelf shelf.Memory = Memory
 
 abbrev pub status_of : ReportsError → ℕ
-status_of (Claims line) = 1
-status_of (Names line) = 1
-status_of (Fault text line) = 1
-status_of (TooMany report) = 1
-status_of TooLong = 1
 status_of Memory = 3
 status_of Read = 4
 status_of Write = 4
+status_of _ = 1

@@ -10,11 +10,11 @@ use Rattle.census_reports.specs.declared.error.ReportsError.TheVariants.{Fault, 
 use Rattle.census_reports.specs.declared.form.Form.{Form}
 use Rattle.census_reports.specs.declared.reading.Written.{Written}
 
--- these are the texts that are looked at, and of them this is so
+-- this holds for the texts that are looked at
 abbrev pub OfLookedAt : Bool → List (List ℕ) → (List (List ℕ) → Type 0) → Type 0
 OfLookedAt cut texts is = (looked : List (List ℕ)) × (cuts : List Cut) × AreLookedAt cut texts looked cuts × is looked
 
--- why nothing is written of texts, or only a prefix of what is told piece by piece: where they are mended, a text that can't be
+-- why nothing is written of texts, or only a prefix of what is written piece by piece: where texts are mended, one can't be
 abbrev pub RefusesRead : ReportsError → Bool → Form → List (List ℕ) → Type 0
 RefusesRead (Fault number line) true form texts = HasBrokenText number line texts
 RefusesRead error cut form texts = OfLookedAt cut texts (λ looked. RefusesTexts error form looked)

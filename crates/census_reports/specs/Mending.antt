@@ -1,36 +1,26 @@
 -- Texts as they are looked at: as they were read, or mended.
 use Rattle.std.specs.Prelude.{◌≡◌, ℕ, ◌+◌, Bool, true, false, Option, Some, None, List, [], ◌∷◌, ◌++◌, length, map}
-use Rattle.std.specs.List.{AllZip}
+use Rattle.std.specs.Option.{option_to_list}
+use Rattle.std.specs.List.{AllZip, flat_map}
 use Rattle.census_merge.specs.Mended.{IsBroken, IsMended}
 use Rattle.census_merge.specs.declared.mending.Cut.{Cut}
 use Rattle.census_merge.specs.declared.mending.Mended.{Mended}
 use Rattle.census_reports.specs.declared.error.ReportsError.{ReportsError}
 use Rattle.census_reports.specs.declared.error.ReportsError.TheVariants.{Fault, Memory}
 
--- where a text was cut, if it was
-abbrev pub as_list : Option Cut → List Cut
-as_list None = []
-as_list (Some cut) = cut ∷ []
-
--- where those of the texts were cut that were, in their order
-abbrev pub cuts_of : List Mended → List Cut
-cuts_of [] = []
-cuts_of (m ∷ ms) = as_list m.cut ++ cuts_of ms
-
--- each text was mended to one of these, and those that were cut were cut so
+-- each text was mended to one of these, and these are the cuts of those that were cut, in their order
 pub record AreMended (texts made : List (List ℕ)) (cuts : List Cut) : Type 0 where
   pub mended : List Mended
   pub each : AllZip IsMended texts mended
   pub made_are : made ≡ map (λ m. m.text.items) mended
-  pub cuts_are : cuts ≡ cuts_of mended
+  pub cuts_are : cuts ≡ flat_map (λ m. option_to_list m.cut) mended
 
 -- the texts that are looked at, where they are mended and where they are not
 abbrev pub AreLookedAt : Bool → List (List ℕ) → List (List ℕ) → List Cut → Type 0
 AreLookedAt true texts made cuts = AreMended texts made cuts
 AreLookedAt false texts made cuts = (made ≡ texts) × (cuts ≡ [])
 
--- Each text before the one of this number, from 1, can be mended. That one can't, and this is the first of its lines that is
--- wrong, from 1.
+-- Each text before the one of this number, from 1, can be mended. That one can't, and its first wrong line is this one, from 1.
 pub record HasBrokenText (number line : ℕ) (texts : List (List ℕ)) : Type 0 where
   pub done : List (List ℕ)
   pub text : List ℕ

@@ -11,12 +11,12 @@ use Rattle.watched.specs.Streams.{Streams}
 use Rattle.census_reports.specs.Texts.{FitTogether, ReadsEach, StopsReadingTexts}
 use Rattle.census_reports.specs.Written.{WritesSome}
 use Rattle.census_reports.specs.declared.error.ReportsError.{ReportsError}
-use Rattle.census_reports.specs.declared.error.ReportsError.TheVariants.{Claims, Names, Fault, TooMany, TooLong, Memory, Read, Write}
+use Rattle.census_reports.specs.declared.error.ReportsError.TheVariants.{TooLong, Memory, Read, Write}
 use Rattle.census_reports.specs.declared.form.Form.{Form}
 use Rattle.census_reports.specs.declared.reading.Reading.{Reading}
 use Rattle.census_reports.specs.declared.reading.Written.{Written}
 
--- the words have these texts, without a word standard input has one, all together are within the limit, and standard input has
+-- the words have these texts (without a word standard input has one), all together are within the limit, and standard input has
 -- not failed
 pub record ReadsTexts (limit : Option ℕ) (held : List ℕ → Told) (words texts : List (List ℕ)) (before after : Streams) : Type 0 where
   pub read : ReadsEach held (words_or_input words) texts before.input after.input
@@ -42,14 +42,14 @@ pub record WritesReports (form : Form) (reading : Reading) (result : Written) (h
   pub found_is : result.found ≡ is_found form made
   pub written : Writes made before.output after.output
 
--- as far as the writer took it
+-- as `WritesReports`, but only a prefix was written: as much as the writer took
 pub record WritesReportsInPart (form : Form) (reading : Reading) (held : List ℕ → Told) (words : List (List ℕ)) (before after : Streams) : Type 0 where
   pub made : List ℕ
   pub cuts : List Cut
   pub makes : Makes form reading held words made cuts before after
   pub front : PutsPrefix made before.output after.output
 
--- a prefix of what is told piece by piece was written, and the writer has not failed
+-- a prefix of what is written piece by piece was written, and the writer has not failed
 pub record HaltsReports (form : Form) (reading : Reading) (held : List ℕ → Told) (words : List (List ℕ)) (before after : Streams) : Type 0 where
   pub pieces : IsInPieces form
   pub made : List ℕ
@@ -67,16 +67,12 @@ pub record RefusesReports (error : ReportsError) (form : Form) (reading : Readin
 abbrev pub StopsReading : ReportsError → Reading → (List ℕ → Told) → List (List ℕ) → Streams → Streams → Type 0
 StopsReading error reading held words before after = StopsReadingTexts error reading.limit held (words_or_input words) before.input after.input
 
--- Why not all was written. Where the writer didn't fail, nothing was, or out of memory a prefix of what is told piece by piece.
+-- Why not all was written. Where the writer didn't fail, nothing was, or out of memory a prefix of what is written piece by
+-- piece.
 abbrev pub ReportsFail : ReportsError → Form → Reading → (List ℕ → Told) → List (List ℕ) → Streams → Streams → Type 0
-ReportsFail (Claims line) form reading held words before after = RefusesReports (Claims line) form reading held words before after × WritesNothing before after
-ReportsFail (Names line) form reading held words before after = RefusesReports (Names line) form reading held words before after × WritesNothing before after
-ReportsFail (Fault number line) form reading held words before after =
-    RefusesReports (Fault number line) form reading held words before after × WritesNothing before after
-ReportsFail (TooMany report) form reading held words before after =
-    RefusesReports (TooMany report) form reading held words before after × WritesNothing before after
-ReportsFail TooLong form reading held words before after = StopsReading TooLong reading held words before after × WritesNothing before after
+ReportsFail Write form reading held words before after = WritesReportsInPart form reading held words before after
 ReportsFail Memory form reading held words before after =
     (after.input.failed ≡ false) × (WritesNothing before after ⊎ HaltsReports form reading held words before after)
+ReportsFail TooLong form reading held words before after = StopsReading TooLong reading held words before after × WritesNothing before after
 ReportsFail Read form reading held words before after = StopsReading Read reading held words before after × WritesNothing before after
-ReportsFail Write form reading held words before after = WritesReportsInPart form reading held words before after
+ReportsFail error form reading held words before after = RefusesReports error form reading held words before after × WritesNothing before after

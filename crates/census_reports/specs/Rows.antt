@@ -13,8 +13,8 @@ pub record AreRowsOf (rows : List Row) (texts : List (List ℕ)) : Type 0 where
   pub whole : rows ≡ all_rows parts
   pub each : AllZip ReadsAsReports parts texts
 
--- Each text before the one of this number, from 1, is a report, or several. That one is not, and this is the first of its
--- lines that is wrong, from 1.
+-- Each text before the one of this number, from 1, is a report, or several. That one is not. Its first wrong line is this one,
+-- from 1.
 pub record HasReportFault (number line : ℕ) (texts : List (List ℕ)) : Type 0 where
   pub done : List (List ℕ)
   pub text : List ℕ

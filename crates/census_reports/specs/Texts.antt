@@ -14,44 +14,35 @@ use Rattle.census_reports.specs.declared.error.ReportsError.TheVariants.{TooLong
 -- Each word has its text, which was read after that of the word before it.
 abbrev pub ReadsEach : (List ℕ → Told) → List (List ℕ) → List (List ℕ) → Reader → Reader → Type 0
 ReadsEach held [] [] before after = after ≡ before
-ReadsEach held [] (text ∷ texts) before after = ⊥
-ReadsEach held (word ∷ words) [] before after = ⊥
 ReadsEach held (word ∷ words) (text ∷ texts) before after =
     (next : Reader) × Hears held word (heard.Text text) before next × ReadsEach held words texts next after
+ReadsEach held _ _ before after = ⊥
 
--- standard input may have lost what one text has and a byte more, and has not failed
-pub record LosesAtMost (before after : Reader) : Type 0 where
-  pub taken : ConsumesAtMost (input_limit + 1) before.unread after.unread
-  pub sound : after.failed ≡ false
-
--- why the text of a word was not read
+-- Why the text of a word was not read. Out of memory, standard input may have lost at most one byte more than one text may have,
+-- and has not failed.
 abbrev pub RefusesWord : ReportsError → (List ℕ → Told) → List ℕ → Reader → Reader → Type 0
 RefusesWord Read held word before after = Hears held word (heard.Unread None) before after
 RefusesWord TooLong held word before after = Hears held word heard.TooLong before after × (after.failed ≡ false)
-RefusesWord Memory held word before after = LosesAtMost before after
+RefusesWord Memory held word before after = ConsumesAtMost (input_limit + 1) before.unread after.unread × (after.failed ≡ false)
 RefusesWord error held word before after = ⊥
 
--- how many bytes texts have
-abbrev pub bytes_in : List (List ℕ) → ℕ
-bytes_in texts = sum_by length texts
-
--- all together have so many bytes at most, where that is limited
+-- all together have at most `limit` bytes, where that is limited
 abbrev pub FitTogether : Option ℕ → List (List ℕ) → Type 0
-FitTogether limit texts = Fits limit (bytes_in texts)
+FitTogether limit texts = Fits limit (sum_by length texts)
 
--- what is left of a limit behind so many bytes, where they are within it
+-- what is left of a limit after `count` bytes, where they are within it
 abbrev pub left_behind : Option ℕ → ℕ → Option (Option ℕ)
 left_behind None count = Some None
 left_behind (Some left) count = if nat_le count left then Some (Some (left - count)) else None
 
--- a word has a text, with which the texts before it have more bytes than all may have
+-- a word has a text that, with the texts before it, has more bytes than the limit
 pub record PassesLimit (limit : Option ℕ) (texts : List (List ℕ)) (held : List ℕ → Told) (word : List ℕ) (before after : Reader) : Type 0 where
   pub text : List ℕ
   pub hears : Hears held word (heard.Text text) before after
   pub passes : FitTogether limit (texts ++ text ∷ []) → ⊥
   pub sound : after.failed ≡ false
 
--- why the text of a word was not taken behind these texts
+-- why the text of a word was not taken after these texts
 abbrev pub RefusesNext : ReportsError → Option ℕ → List (List ℕ) → (List ℕ → Told) → List ℕ → Reader → Reader → Type 0
 RefusesNext TooLong limit texts held word before after = RefusesWord TooLong held word before after ⊎ PassesLimit limit texts held word before after
 RefusesNext error limit texts held word before after = RefusesWord error held word before after

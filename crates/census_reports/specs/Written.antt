@@ -20,20 +20,21 @@ pub record WritesRows (form : Form) (found : Bool) (rows : List Row) (before aft
   pub found_is : found ≡ is_found form made
   pub written : Writes made before after
 
--- as far as the writer took it
+-- as `WritesRows`, but only a prefix was written: as much as the writer took
 pub record WritesRowsInPart (form : Form) (rows : List Row) (before after : Sink) : Type 0 where
   pub made : List ℕ
   pub is : IsMade form rows made
   pub front : PutsPrefix made before after
 
--- a prefix of what is told piece by piece was written
+-- a prefix of what is written piece by piece was written
 pub record HaltsRows (form : Form) (rows : List Row) (before after : Sink) : Type 0 where
   pub pieces : IsInPieces form
   pub made : List ℕ
   pub is : IsMade form rows made
   pub front : WritesSome made before after
 
--- Why not all was written. Where the writer didn't fail, nothing was, or out of memory a prefix of what is told piece by piece.
+-- Why not all was written. Where the writer didn't fail, nothing was, or out of memory a prefix of what is written piece by
+-- piece.
 abbrev pub FailsRows : ReportsError → Form → List Row → Sink → Sink → Type 0
 FailsRows Write form rows before after = WritesRowsInPart form rows before after
 FailsRows Memory form rows before after = (after ≡ before) ⊎ HaltsRows form rows before after
@@ -46,20 +47,21 @@ pub record WritesTexts (form : Form) (found : Bool) (texts : List (List ℕ)) (b
   pub found_is : found ≡ is_found form made
   pub written : Writes made before after
 
--- as far as the writer took it
+-- as `WritesTexts`, but only a prefix was written: as much as the writer took
 pub record WritesTextsInPart (form : Form) (texts : List (List ℕ)) (before after : Sink) : Type 0 where
   pub made : List ℕ
   pub is : IsMadeOf form texts made
   pub front : PutsPrefix made before after
 
--- a prefix of what is told piece by piece was written
+-- a prefix of what is written piece by piece was written
 pub record HaltsTexts (form : Form) (texts : List (List ℕ)) (before after : Sink) : Type 0 where
   pub pieces : IsInPieces form
   pub made : List ℕ
   pub is : IsMadeOf form texts made
   pub front : WritesSome made before after
 
--- Why not all was written. Where the writer didn't fail, nothing was, or out of memory a prefix of what is told piece by piece.
+-- Why not all was written. Where the writer didn't fail, nothing was, or out of memory a prefix of what is written piece by
+-- piece.
 abbrev pub FailsTexts : ReportsError → Form → List (List ℕ) → Sink → Sink → Type 0
 FailsTexts Write form texts before after = WritesTextsInPart form texts before after
 FailsTexts Memory form texts before after = (after ≡ before) ⊎ HaltsTexts form texts before after

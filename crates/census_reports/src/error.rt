@@ -10,22 +10,22 @@ use watched::{Failed, ReadFault};
 /// Why what was asked for of reports was not written whole.
 #[derive(Clone, Copy, Debug, PartialEq, Eq, Drop, Error)]
 pub enum ReportsError {
-    /// The text of the claims is no table of claims.
+    /// The text of the claims is not a table of claims.
     #[error("claim fault at line {line}")]
     Claims {
-        /// The line on which the first row begins that is wrong, from 1.
+        /// The line on which the first row that is wrong begins, from 1.
         line: usize,
     },
-    /// The text of the names is none of names.
+    /// The text of the names is not one of names.
     #[error("names fault at line {line}")]
     Names {
         /// The first line that is wrong, from 1.
         line: usize,
     },
-    /// A text is no report, nor several one after another.
+    /// A text is neither a report nor several, one after another.
     #[error("report fault at line {line}")]
     Fault {
-        /// Which text, in the order in which they were read, from 1.
+        /// The number of the text, in the order in which they were read, from 1.
         text: usize,
         /// The first of its lines that is wrong, from 1, or the line that is missing after its last.
         line: usize,
@@ -107,7 +107,7 @@ impl From<Failed> for ReportsError {
 
     ghost from_gives = { λ _ error. error ≡ Write };
 
-    /// Only the writer is answered by it: the reader's failure comes as a `ReadFault`.
+    /// It stands for a failure of the writer alone: the reader's failure comes as a `ReadFault`.
     fn from(_: Failed) -> ReportsError {
         ReportsError::Write
     }

@@ -6,17 +6,16 @@ ghost use Rattle.census_readback.specs.Shapes.{AreReports};
 ghost use Rattle.census_merge.specs.Merged.{merged_rows};
 ghost use Rattle.census_table.specs.Entries.{entries_of};
 ghost use Rattle.census_table.specs.Patterns.{patterns_of};
-ghost use Rattle.census_verify.specs.Claims.{claims_in, claims_read};
+ghost use Rattle.census_compare.specs.Claims.{claims_in, claims_read};
 ghost use Rattle.census_reports.specs.Forms.{names_given};
 ghost use Rattle.census_reports.specs.Written.{FailsRows, WritesRows};
 
 use crate::error::ReportsError;
+use census_compare::{Claims, put_same, put_verdict, read_claims};
 use census_facts::{Names, read_names};
-use census_kept::Rows;
 use census_page::{PageOptions, put_page};
-use census_same::put_same;
+use census_rows::Rows;
 use census_table::{Format, Subject, put_listing, table_of};
-use census_verify::{Claims, put_verdict, read_claims};
 use std::alloc::Global;
 use std::io::Write;
 use watched::{Block, Output, send};
@@ -26,28 +25,29 @@ use watched::{Block, Output, send};
 pub enum Form<'a> {
     /// One report of all their collections, as `merge` makes it.
     Merged,
-    /// A table, as `table_of` makes it and `put_listing` tells it, with the names of a text, where there is one.
+    /// A table, as `table_of` makes it and `put_listing` writes it, with the names of a text, where there is one.
     Table {
         subject: Subject,
         format: Format,
         names: Option<&'a [u8]>,
     },
-    /// Their codes, with pictures, as one HTML page, as `put_page` tells it with these options.
+    /// Their codes, with pictures, as one HTML page, as `put_page` writes it with these options.
     Page {
         options: PageOptions<'a>,
     },
-    /// Their patterns that are one object, as `put_same` tells them, which is what is looked for.
+    /// Their patterns that are one object, as `put_same` writes them, which is what is looked for.
     Same {
         json: bool,
     },
-    /// What does not agree between the claims of a text and their patterns, as `put_verdict` tells it, which is what is
-    /// looked for.
+    /// What does not agree between the claims of a text and their patterns, as `put_verdict` writes it, which is what is looked
+    /// for.
     Verdict {
         claims: &'a [u8],
     },
 }
 
-// Writes a table with these names, which are those of a text, where there is one. Where memory is refused, what was told of it is written yet.
+// Writes a table with these names, which are those of a text, where there is one. Where memory is refused, what was put in the
+// block before is still written.
 fn write_named<O: Write>(
     alloc: Global,
     subject: Subject,
@@ -102,7 +102,7 @@ pub fn write_table<O: Write>(
     }
 }
 
-// Writes a page. Where memory is refused, what was told of it is written yet.
+// Writes a page. Where memory is refused, what was put in the block before is still written.
 pub fn write_page<O: Write>(
     alloc: Global,
     options: PageOptions,
@@ -127,7 +127,7 @@ pub fn write_page<O: Write>(
     }
 }
 
-// Writes the patterns that are one object. Where memory is refused, what was told of them is written yet.
+// Writes the patterns that are one object. Where memory is refused, what was put in the block before is still written.
 pub fn write_same<O: Write>(
     alloc: Global,
     json: bool,
@@ -148,8 +148,8 @@ pub fn write_same<O: Write>(
     }
 }
 
-// Writes what does not agree between claims, which are those of a text, and the rows. Where memory is refused, what was told
-// of it is written yet.
+// Writes what does not agree between claims, which are those of a text, and the rows. Where memory is refused, what was put in
+// the block before is still written.
 fn write_disagreement<O: Write>(
     alloc: Global,
     text: &[u8],
@@ -193,7 +193,8 @@ pub fn write_verdict<O: Write>(
     }
 }
 
-/// A table of the patterns of reports is that of the one report that they are merged to: each collection has the same number in both.
+/// A table of the patterns of reports is that of the one report that they are merged into: each collection has the same number in
+/// both.
 pub fn merging_changes_no_table()
     ensures patterns { (rows : List Row) → AreReports rows →
         patterns_of (merged_rows rows) ≡ patterns_of rows }

@@ -2,7 +2,7 @@
 ghost use Rattle.std.specs.Prelude.{◌≡◌};
 ghost use Rattle.census_reports.specs.Texts.{left_behind};
 
-// What is left of a limit behind so many bytes, where they are within it.
+// What is left of a limit after `count` bytes, where they are within it.
 pub fn left_behind(left: Option<u64>, count: usize) -> Option<Option<u64>>
     ensures { result ≡ left_behind left count }
 {

@@ -8,7 +8,7 @@ use census_identify::Bytes;
 use census_merge::{Cut, Mended, mend};
 use std::alloc::{AllocError, Global};
 
-// Texts that were mended, and where those of them were cut that were.
+// Texts that were mended, and the cuts of those that were cut.
 #[derive(Drop)]
 pub struct Looked {
     pub texts: Vec<Bytes>,
@@ -17,14 +17,14 @@ pub struct Looked {
 
 impl Looked {
     ghost use Rattle.std.specs.Prelude.{◌≡◌, ◌++◌, ◌∷◌, [], OnOk};
-    ghost use Rattle.census_reports.specs.Mending.{as_list};
+    ghost use Rattle.std.specs.Option.{option_to_list};
 
     // Adds a text that was mended.
     fn add(&mut self, mended: Mended) -> Result<(), AllocError>
         ensures texts { OnOk result (self.new.texts.items ≡
             self.old.texts.items ++ mended.text.items ∷ []) }
         ensures cuts { OnOk result (self.new.cuts.items ≡
-            self.old.cuts.items ++ as_list mended.cut) }
+            self.old.cuts.items ++ option_to_list mended.cut) }
     {
         if let Some(cut) = mended.cut {
             self.cuts.push(cut)?;

@@ -19,7 +19,7 @@ use std::alloc::Global;
 use std::io::Write;
 use watched::{Block, Failed, Output, send};
 
-// Looks whether each of these texts is a report, or several.
+// Checks whether each of these texts is a report, or several.
 fn look_at(alloc: Global, texts: &[Bytes]) -> Result<(), ReportsError>
     ensures { MatchResult result (λ _. (rows : List Row) × AreRowsOf rows texts.now)
         (λ error. LackRows error texts.now) }
@@ -35,8 +35,8 @@ fn look_at(alloc: Global, texts: &[Bytes]) -> Result<(), ReportsError>
     Ok(())
 }
 
-// Looks whether one report can have all their collections and patterns. (More texts than memory
-// holds are refused as what memory does not hold.)
+// Checks whether one report can have all their collections and patterns. (Texts that memory could not hold are refused as out of
+// memory.)
 fn count_all(texts: &[Bytes]) -> Result<(), ReportsError>
     ensures { (rows : List Row) → AreRowsOf rows texts.now → MatchResult result
         (λ _. first_excess 1 no_sums rows ≡ None)
@@ -60,7 +60,7 @@ fn count_all(texts: &[Bytes]) -> Result<(), ReportsError>
     Ok(())
 }
 
-// Tells one report of them, which aren't too many.
+// Puts one report of these texts, which aren't too many.
 fn put_all<O: Write>(texts: &[Bytes], block: &mut Block, output: &mut Output<O>)
     ensures { (rows : List Row) → AreRowsOf rows texts.now → AreFew rows
         → first_excess 1 no_sums rows ≡ None
@@ -77,7 +77,7 @@ fn put_all<O: Write>(texts: &[Bytes], block: &mut Block, output: &mut Output<O>)
     put_end(sums, block, output);
 }
 
-// Writes it.
+// Writes one report of these texts, which aren't too many.
 fn write_report<O: Write>(
     alloc: Global,
     texts: &[Bytes],

@@ -1,4 +1,4 @@
-//! How texts are read, and what is told of what was written.
+//! How texts are read, and what is reported of what was written.
 use census_merge::Cut;
 
 /// How texts are read.
@@ -6,15 +6,15 @@ use census_merge::Cut;
 pub struct Reading {
     /// Whether a text that was cut is mended before it is looked at.
     pub cut: bool,
-    /// How many bytes all texts together may have.
+    /// The most bytes of all texts together, where there is a limit.
     pub limit: Option<u64>,
 }
 
-/// What is told of what was written.
+/// What is reported of what was written.
 #[derive(Drop)]
 pub struct Written {
     /// Whether what was looked for was found.
     pub found: bool,
-    /// Where those of the texts were cut that were, in their order.
+    /// The cuts of the texts that were cut, in their order.
     pub cuts: Vec<Cut>,
 }

@@ -82,28 +82,26 @@ fn write_read<O: Write>(
     })
 }
 
-/// Reads the texts of words, in their order, and writes what is made of the reports in them: of `-` the text that standard
-/// input has left, of any other word that of the file of this path, and without a word that of standard input. Each text
-/// must be a report by itself, or several one after another; a text without a byte is none. A file that is no regular
-/// file is not opened, and can't be read. Where the reading has `cut`, each text is mended first, as `mend` does, and it may
-/// be a report that was cut, or several of which the last was; the lines of faults are those of the text as it was read, and
-/// the result tells where texts were cut. Where it has a limit, all texts together may have so many bytes. Returns whether what was looked for was found: with `Same`, patterns that are one
-/// object, with `Verdict`, what does not agree with the claims, and else nothing is looked for. Nothing is told on standard
-/// error.
+/// Reads the texts of words, in their order, and writes what is made of the reports in them. The text of `-` is what standard
+/// input has left, and that of any other word is the file of this path; without a word standard input is read. Each text must be
+/// a report by itself, or several one after another; a text without a byte is not a report. A file that is not a regular file is
+/// not opened, and can't be read. Where the reading has `cut`, each text is mended first, as `mend` does, and it may be a report
+/// that was cut, or several of which the last was; the lines of faults are those of the text as it was read, and the result says
+/// where texts were cut. Where the reading has a limit, it is the most bytes of all texts together. Also returns whether what was
+/// looked for was found: with `Same`, patterns that are one object, with `Verdict`, what does not agree with the claims;
+/// otherwise nothing is looked for. Nothing is written to standard error.
 ///
-/// All texts are read before the first is looked at, and all reports before the first byte is written. From then on no
-/// memory is asked for but the block that is written, for a table the text of some rows at a time and its
-/// names, for a page the codes
-/// of one collection and the text of one picture or name at a time, for `Same` a list of the patterns that are objects,
-/// and for `Verdict` the claims, the patterns and a map of both.
-/// So nothing is written on any error but `Write`, on which a prefix of what is made of them is, and `Memory`, on which
-/// one may be of all but `Merged`:
+/// All texts are read before the first is looked at, and all reports before the first byte is written. From then on no memory is
+/// asked for but the block that is written; for a table the text of some rows at a time and its names; for a page the codes of
+/// one collection and the text of one picture or name at a time; for `Same` a list of the patterns that are objects; and for
+/// `Verdict` the claims, the patterns and a map of both. So nothing is written on any error but these two: on `Write` a prefix of
+/// what is made of them is, and on `Memory` one may be of all but `Merged`:
 ///
-/// - `Read`, `TooLong`: the text of a word can't be read, or has more than 67,108,864 bytes, or those of the words before it
-///   and this have more than the limit. Those of the words before it were read, and none of a word after it.
-/// - `Fault`: a text is no report, nor one that was cut where the reading has `cut`, and those of the words before it are.
-/// - `Claims`: the claims are none, and each text is a report.
-/// - `Names`: the names of a table are none, and each text is a report.
+/// - `Read`, `TooLong`: the text of a word can't be read, or has more than 67,108,864 bytes, or has more bytes than the limit
+///   together with those of the words before it. Those of the words before it were read, and none of a word after it.
+/// - `Fault`: a text is not a report, nor one that was cut where the reading has `cut`, and those of the words before it are.
+/// - `Claims`: the text of the claims is not one of claims, and each text is a report.
+/// - `Names`: the text of the names of a table is not one of names, and each text is a report.
 /// - `TooMany`: the reports have more than 65,535 collections, and `Merged` is asked for.
 /// - `Memory`: memory was refused. Of `Merged` nothing was written.
 pub fn write_reports<S: Shelf, I: Read, O: Write, E: Write>(

@@ -5,8 +5,8 @@ ghost use Rattle.census_reports.specs.Rows.{AreRowsOf, LackRows};
 
 use crate::error::ReportsError;
 use census_identify::Bytes;
-use census_kept::Rows;
 use census_readback::read_report;
+use census_rows::Rows;
 use std::alloc::Global;
 
 // The rows of these texts, each of which is a report, or several.

@@ -15,14 +15,14 @@ use std::alloc::Global;
 use std::io::Read;
 use watched::{Input, read_all};
 
-// Standard input alone, where there is no word.
+// These words, or standard input alone where there is no word.
 pub fn words_or_input<'a, 'b>(words: &'a [&'b str]) -> &'a [&'b str]
     ensures { map (λ s. s.now) result.now ≡ words_or_input (map (λ s. s.now) words.now) }
 {
     if words.is_empty() { &["-"] } else { words }
 }
 
-/// The text of a word: of `-` what standard input has left, of any other word that of the file of this path. The errors are
+/// The text of a word: for `-` what standard input has left, for any other word that of the file of this path. The errors are
 /// `Read`, `TooLong`, where the text has more than 67,108,864 bytes, and `Memory`.
 pub fn read_text<S: Shelf, I: Read>(
     shelf: &S,
@@ -48,7 +48,7 @@ pub fn read_text<S: Shelf, I: Read>(
     }
 }
 
-// The texts of words, in their order, which are within the limit together. (The text that passes it is read whole.)
+// The texts of words, in their order, which are within the limit together. (The text that exceeds it is read whole.)
 pub fn read_texts<S: Shelf, I: Read>(
     shelf: &S,
     alloc: Global,

@@ -1,5 +1,7 @@
 pub mod FieldTexts
 pub mod Blanks
-pub mod FirstWords
+pub mod EachKind
 pub mod Told
 pub mod Texts
+pub mod Signs
+pub mod StoreLemmas

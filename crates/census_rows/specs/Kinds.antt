@@ -1,5 +1,5 @@
 -- What each kind of outcome says.
-use Rattle.std.specs.Prelude.{ℕ, ℤ, Bool, true, false, Option, Some, None as Nothing, if◌then◌else◌, List, [], ◌∷◌, codes, decimal}
+use Rattle.std.specs.Prelude.{ℕ, ℤ, ◌==◌, Bool, true, false, Option, Some, None as Nothing, if◌then◌else◌, List, [], ◌∷◌, codes, decimal}
 use Rattle.std.specs.Borrow.{Bor}
 use Rattle.std.specs.Fmt.{signed_decimal}
 use Rattle.std.specs.Bool.{nat_eq}
@@ -16,6 +16,7 @@ use Rattle.census_rows.specs.declared.row.Finding.{Finding}
 use Rattle.census_rows.specs.declared.row.Finding.TheVariants as finding
 use Rattle.census_rows.specs.declared.row.Outcome.{Outcome}
 use Rattle.census_rows.specs.declared.row.Outcome.TheVariants.{Found, Bad}
+use Rattle.census_rows.specs.Values.{unfolded}
 
 -- what a `line` line says of a pattern: a word, the fields after it, how it counts, and which lines stand behind it
 pub record Said : Type 0 where
@@ -53,6 +54,26 @@ said_of (finding.Large generation) =
     record { word = codes "large"; fields = number label.Generation generation ∷ []; class = Unresolved; behind = behind.Nothing }
 said_of (finding.Grows engines) =
     record { word = codes "grows"; fields = number label.Engines engines ∷ []; class = Resolved; behind = behind.Engines }
+
+-- how many kinds there are
+abbrev pub kinds : ℕ
+kinds = 5
+
+-- the number of each kind, from 1 on
+abbrev pub kind_of : Finding → ℕ
+kind_of (finding.Ok onset period dx dy code) = 1
+kind_of (finding.Ash onset objects) = 2
+kind_of finding.Unresolved = 3
+kind_of (finding.Large generation) = 4
+kind_of (finding.Grows engines) = 5
+
+-- the finding of the kind with a number, by the numbers and the word of its fields
+abbrev pub finding_of_kind : ℕ → (ℕ → ℕ) → Bor (List ℕ) → Finding
+finding_of_kind kind number word =
+    if kind == 1 then finding.Ok (number 0) (number 1) (unfolded (number 2)) (unfolded (number 3)) word
+    else (if kind == 2 then finding.Ash (number 0) (number 1)
+    else (if kind == 4 then finding.Large (number 0)
+    else (if kind == 5 then finding.Grows (number 0) else finding.Unresolved)))
 
 -- what an outcome says
 abbrev pub said : Outcome → Said

@@ -1,8 +1,11 @@
 //! What each kind of outcome says.
-ghost use Rattle.std.specs.Prelude.{◌≡◌, ◌∷◌, [], Some};
-ghost use Rattle.census_rows.specs.Kinds.{number, signed, text, said_of, said, value_at, present, label_number};
+ghost use Rattle.std.specs.Prelude.{◌≡◌, ◌≤◌, ◌∷◌, [], Some, take};
+ghost use Rattle.census_rows.specs.Kinds.{number, signed, text, said_of, said, value_at, present, label_number, finding_of_kind, kind_of};
+ghost use Rattle.census_rows.specs.Values.{list_of, numbers_of, words_of};
 
+use crate::folding::unfolded;
 use crate::row::{Finding, Outcome};
+use crate::values::{ValueReader, Values};
 
 /// How a pattern counts in the line that closes its collection.
 #[derive(Clone, Copy, Debug, PartialEq, Eq)]
@@ -71,10 +74,25 @@ pub struct Field<'a> {
     pub value: Value<'a>,
 }
 
-/// What a kind says: its word, its fields after rule and population, how it counts, and which lines
+// The numbers of the kinds of findings.
+const OK: u8 = 1;
+
+const ASH: u8 = 2;
+
+const UNRESOLVED: u8 = 3;
+
+const LARGE: u8 = 4;
+
+const GROWS: u8 = 5;
+
+/// How many kinds of findings there are: they have the numbers from 1 to this.
+pub const KINDS: u8 = 5;
+
+/// What a kind says: its number, its word, its fields after rule and population, how it counts, and which lines
 /// stand behind it.
 #[derive(Clone, Copy)]
 pub struct Said<'a> {
+    pub kind: u8,
     pub word: &'static [u8],
     pub fields: [Option<Field<'a>>; 5],
     pub class: Class,
@@ -115,6 +133,7 @@ impl<'a> Finding<'a> {
     // What it says. (It is inlined, so that where one part is asked for the others aren't made.)
     #[inline(always)]
     pub(crate) fn said(&self) -> Said<'a>
+        ensures kind { result.kind ≡ kind_of self.now }
         ensures word { result.word.now ≡ (said_of self.now).word }
         ensures fields { present result.fields ≡ (said_of self.now).fields }
         ensures class { result.class ≡ (said_of self.now).class }
@@ -128,6 +147,7 @@ impl<'a> Finding<'a> {
                 dy,
                 code,
             } => Said {
+                kind: OK,
                 word: b"ok",
                 fields: [
                     number(Label::Onset, *onset),
@@ -140,6 +160,7 @@ impl<'a> Finding<'a> {
                 behind: Behind::Nothing,
             },
             Finding::Ash { onset, objects } => Said {
+                kind: ASH,
                 word: b"ash",
                 fields: [
                     number(Label::Onset, *onset),
@@ -152,12 +173,14 @@ impl<'a> Finding<'a> {
                 behind: Behind::Parts,
             },
             Finding::Unresolved => Said {
+                kind: UNRESOLVED,
                 word: b"none",
                 fields: [None, None, None, None, None],
                 class: Class::Unresolved,
                 behind: Behind::Nothing,
             },
             Finding::Large { generation } => Said {
+                kind: LARGE,
                 word: b"large",
                 fields: [
                     number(Label::Generation, *generation),
@@ -170,6 +193,7 @@ impl<'a> Finding<'a> {
                 behind: Behind::Nothing,
             },
             Finding::Grows { engines } => Said {
+                kind: GROWS,
                 word: b"grows",
                 fields: [number(Label::Engines, *engines), None, None, None, None],
                 class: Class::Resolved,
@@ -194,6 +218,56 @@ impl<'a> Finding<'a> {
         ensures { result ≡ (said_of self.now).class }
     {
         self.said().class
+    }
+
+    /// The number of its kind.
+    #[inline(always)]
+    pub fn kind(&self) -> u8
+        ensures { result ≡ kind_of self.now }
+    {
+        self.said().kind
+    }
+
+    /// The values of its fields.
+    #[inline(always)]
+    pub fn values(&self) -> Values<'a>
+        ensures count { result.count ≤ 4 }
+        ensures numbers { take result.count result.numbers
+            ≡ numbers_of (said_of self.now).fields }
+        ensures word { list_of result.word ≡ words_of (said_of self.now).fields }
+    {
+        Values::of(&self.said().fields)
+    }
+
+    /// The finding of the kind with this number, whose numbers and whose word are read.
+    #[inline(always)]
+    pub fn of_kind<R: ValueReader<'a>>(kind: u8, values: &mut R) -> Finding<'a>
+        ensures { result ≡ finding_of_kind kind (R.number_at values.old) (R.first_word values.old) }
+    {
+        if kind == OK {
+            Finding::Ok {
+                onset: values.next_number(),
+                period: values.next_number(),
+                dx: unfolded(values.next_number()),
+                dy: unfolded(values.next_number()),
+                code: values.next_word(),
+            }
+        } else if kind == ASH {
+            Finding::Ash {
+                onset: values.next_number(),
+                objects: values.next_number(),
+            }
+        } else if kind == LARGE {
+            Finding::Large {
+                generation: values.next_number(),
+            }
+        } else if kind == GROWS {
+            Finding::Grows {
+                engines: values.next_number(),
+            }
+        } else {
+            Finding::Unresolved
+        }
     }
 }
 

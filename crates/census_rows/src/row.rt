@@ -23,7 +23,7 @@ pub enum Finding<'a> {
     Large {
         generation: u64,
     },
-    /// It grows for ever, by so many engines.
+    /// It grows for ever, by this number of engines.
     Grows {
         engines: u64,
     },

@@ -1,14 +1,15 @@
 -- No value of a table is a float.
 use Rattle.std.proofs.Common.{◌≡◌, ℕ, false, List, [], ◌∷◌, Option, Some, None, refl, map}
-use Rattle.serde_json.specs.Data.{Members, no_members, object, put}
+use Rattle.std.specs.Option.{option_map_or}
+use Rattle.serde_json.specs.Data.{Members, no_members, null, object, put, string}
 use Rattle.serde_json.specs.Written.{has_float, members_have_float}
 use Rattle.census_facts.proofs.JsonLemmas.Floatless.{counted-floatless, engines-floatless, integer-floatless, items-floatless, put-floatless}
-use Rattle.census_table.specs.Contents.{Content, Member, content_data, count, data_or_null, engines, hex, hex_of, kind_data, nothing, parts, portion_data, shift, text}
+use Rattle.census_table.specs.Contents.{Content, Member, content_data, count, engines, hex, hex_of, kind_data, nothing, parts, portion_data, shift, text}
 use Rattle.census_table.specs.Lists.{Engines}
 use Rattle.census_table.specs.declared.lists.Portion.{Portion}
 use Rattle.census_table.specs.Tables.{with_row}
 
-option-floatless : (o : Option (List ℕ)) → has_float (data_or_null o) ≡ false
+option-floatless : (o : Option (List ℕ)) → has_float (option_map_or string o null) ≡ false
 option-floatless None = refl
 option-floatless (Some bytes) = refl
 

@@ -1,14 +1,14 @@
--- The code and the rule of what is told at a place are those of its rows.
+-- The code and the rule of what is reported at a place are those of its rows.
 use Rattle.std.proofs.Common.{◌≡◌, ℕ, ◌+◌, Option, Some, None, List, [], get_or, refl, sym, ap₂, ◌∙◌, subst}
 use Rattle.std.specs.Borrow.{Bor}
-use Rattle.std.specs.Option.{unwrap_or}
+use Rattle.std.specs.Option.{option_map, unwrap_or}
 use Rattle.census_rows.specs.declared.kinds.Label.TheVariants as label
 use Rattle.census_rows.specs.declared.row.Row.{Row}
 use Rattle.census_rows.specs.declared.row.Row.TheVariants.{Open, Line, Part, Engine, Emits, Code, Close, End}
 use Rattle.census_rows.specs.Kinds.{said, value_at}
 use Rattle.census_table.specs.Entries.{entry_of_row}
 use Rattle.census_table.specs.Kinds.{kind_cmp}
-use Rattle.census_table.specs.Objects.{object_of_row, object_under, object_with, text_in}
+use Rattle.census_table.specs.Objects.{object_of_row, object_with, text_in}
 use Rattle.census_table.specs.Places.{code_in, key_at, object_at, row_in, rule_in, with_key}
 use Rattle.census_table.specs.declared.entry.Entry.{Entry}
 use Rattle.census_table.specs.declared.object.Object.{Object}
@@ -27,9 +27,9 @@ of-entry : (entry : Entry) (count : ℕ) (rule code : Option (Bor (List ℕ))) (
     → IsKeyed (unwrap_or (object_with (Some entry) count code) (with_key d rule code)) (with_key d rule code)
 of-entry entry count rule None d same = itself (with_key d rule None)
 of-entry entry count rule (Some code) d same =
-    subst (λ own. IsKeyed (unwrap_or (object_under entry code count own) (with_key d rule (Some code))) (with_key d rule (Some code))) (sym same) (under rule)
+    subst (λ own. IsKeyed (unwrap_or (option_map (λ (r : Bor (List ℕ)). record { first = entry; rule = r; code = code; count = count; patterns = 1 }) own) (with_key d rule (Some code))) (with_key d rule (Some code))) (sym same) (under rule)
   where
-    under : (rule : Option (Bor (List ℕ))) → IsKeyed (unwrap_or (object_under entry code count rule) (with_key d rule (Some code))) (with_key d rule (Some code))
+    under : (rule : Option (Bor (List ℕ))) → IsKeyed (unwrap_or (option_map (λ (r : Bor (List ℕ)). record { first = entry; rule = r; code = code; count = count; patterns = 1 }) rule) (with_key d rule (Some code))) (with_key d rule (Some code))
     under None = itself (with_key d None (Some code))
     under (Some r) = record { rule = refl; code = refl }
 

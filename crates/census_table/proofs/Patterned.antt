@@ -1,12 +1,12 @@
 -- A table of patterns has as many rows as a report has `line` rows, and its patterns are those of the report.
 use Rattle.std.proofs.Common.{◌≡◌, ℕ, ◌+◌, Option, Some, None, List, [], ◌∷◌, ◌++◌, map, length, suc, refl, ap, ap₂, ◌∙◌, sym, arith, append_assoc}
+use Rattle.std.specs.List.{cons_option, filter_map}
 use Rattle.std.specs.Option.{option_map}
 use Rattle.std.proofs.lemmas.List.{length-map, map-append}
 use Rattle.census_rows.specs.declared.row.Row.{Row}
 use Rattle.census_readback.specs.Shapes.{AreReports, any_outcome, lines_that}
 use Rattle.census_readback.specs.Grouped.{collections_of}
-use Rattle.census_table.specs.Entries.{all_entries, entries_of, entry_before, entry_of_row, lines_under, section_entries}
-use Rattle.census_table.specs.Lists.{told_before}
+use Rattle.census_table.specs.Entries.{all_entries, entries_of, entry_of_row, section_entries}
 use Rattle.census_table.specs.Patterns.{Pattern, all_patterns, pattern_before, patterns_of, patterns_under, section_patterns}
 use Rattle.census_table.specs.declared.entry.Entry.{Entry}
 use Rattle.census_table.proofs.Counts.{entries-size}
@@ -15,14 +15,14 @@ abbrev pub entries_in : List Pattern → List Entry
 entries_in patterns = map (λ p. p.entry) patterns
 
 entry-in : (entry : Option Entry) (rows : List Row) (patterns : List Pattern) (entries : List Entry) → entries_in patterns ≡ entries
-    → entries_in (told_before (option_map (λ e. pattern_before e rows) entry) patterns) ≡ entry_before entry entries
+    → entries_in (cons_option (option_map (λ e. pattern_before e rows) entry) patterns) ≡ cons_option entry entries
 entry-in None rows patterns entries same = same
 entry-in (Some entry) rows patterns entries same = ap (λ es. entry ∷ es) same
 
-under-in : (number : ℕ) (heading : Row) (rows : List Row) → entries_in (patterns_under number heading rows) ≡ lines_under number heading rows
+under-in : (number : ℕ) (heading : Row) (rows : List Row) → entries_in (patterns_under number heading rows) ≡ filter_map (entry_of_row number heading) rows
 under-in number heading [] = refl
 under-in number heading (row ∷ rows) =
-    entry-in (entry_of_row number heading row) rows (patterns_under number heading rows) (lines_under number heading rows) (under-in number heading rows)
+    entry-in (entry_of_row number heading row) rows (patterns_under number heading rows) (filter_map (entry_of_row number heading) rows) (under-in number heading rows)
 
 section-in : (number : ℕ) (rows : List Row) → entries_in (section_patterns number rows) ≡ section_entries number rows
 section-in number [] = refl

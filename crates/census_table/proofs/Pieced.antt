@@ -1,7 +1,7 @@
 -- The line of a pattern in JSON, by pieces.
 use Rattle.std.proofs.Common.{◌≡◌, ℕ, ℤ, suc, ◌+◌, ◌<◌, ◌≤◌, Bool, true, false, List, [], ◌∷◌, ◌++◌, Option, Some, None, length, map, drop, get_or, refl, sym, ap, ◌∙◌, arith, append_assoc, append-nil, drop-cons}
 use Rattle.std.proofs.lemmas.List.{drop_all}
-use Rattle.std.specs.List.{take_while}
+use Rattle.std.specs.List.{cons_option, filter_map, take_while}
 use Rattle.std.specs.Prelude.{codes}
 use Rattle.serde_json.specs.Data.{Data, Members, member, no_members, object, string}
 use Rattle.serde_json.specs.Written.{comma_if, compact_text}
@@ -17,7 +17,7 @@ use Rattle.census_rows.specs.declared.row.Row.TheVariants.{Open, Line, Part, Eng
 use Rattle.census_table.specs.Called.{Names}
 use Rattle.census_table.specs.Columns.{entry_row, pattern_row}
 use Rattle.census_table.specs.Contents.{content_data, engines, kind_data, nothing, parts, portion_data}
-use Rattle.census_table.specs.Lists.{Engines, all_engines, engines_of, portion_of, portions, told_before}
+use Rattle.census_table.specs.Lists.{Engines, all_engines, engines_of, portion_of}
 use Rattle.census_table.specs.Patterns.{Pattern, engines_behind, parts_behind}
 use Rattle.census_table.specs.Pieces.{columns_text, content_text, end_of, first_columns, head_of, is_later, item_text, items_text, kind_head, kind_text, last_columns, middle_columns, middle_of}
 use Rattle.census_table.specs.Tables.{json_line, with_row}
@@ -25,7 +25,7 @@ use Rattle.census_table.specs.declared.entry.Entry.{Entry}
 use Rattle.census_table.specs.declared.lists.Portion.{Portion}
 use Rattle.census_table.specs.declared.table.Format.TheVariants.{Json}
 
--- no other row tells of engines
+-- no other row reports engines
 pub no-engines : (row : Row) (emits : List Row)
     → ((collection pattern number period : ℕ) (dx dy : ℤ) (count : ℕ) → row ≡ Engine collection pattern number period dx dy count → ⊥) → engines_of row emits ≡ None
 no-engines (Open collection patterns name) emits other = refl
@@ -59,9 +59,9 @@ no-part-list behind.Nothing rows other = refl
 no-part-list behind.Parts rows other = absurd (other refl)
 no-part-list behind.Engines rows other = refl
 
--- the item of the first thing, and those behind it
+-- the item of the first thing, and the items after it
 item-cut : {A : Type 0} (data_of : A → Data) (later : Bool) (o : Option A) (xs : List A)
-    → items_text data_of later (told_before o xs) ≡ item_text data_of later o ++ items_text data_of (is_later later o) xs
+    → items_text data_of later (cons_option o xs) ≡ item_text data_of later o ++ items_text data_of (is_later later o) xs
 item-cut data_of later None xs = refl
 item-cut data_of later (Some x) xs = item-escaped later (data_of x) (map data_of xs)
 
@@ -72,10 +72,10 @@ module _ (rows : List Row) (i : ℕ) (d : Row) (row : Row) (less : i < length ro
       ∙ ap (λ r. r ∷ drop (i + 1) rows) (sym is)
 
   pub portions-cut : (later : Bool)
-      → items_text portion_data later (portions (drop i rows))
-      ≡ item_text portion_data later (portion_of row) ++ items_text portion_data (is_later later (portion_of row)) (portions (drop (i + 1) rows))
+      → items_text portion_data later (filter_map portion_of (drop i rows))
+      ≡ item_text portion_data later (portion_of row) ++ items_text portion_data (is_later later (portion_of row)) (filter_map portion_of (drop (i + 1) rows))
   portions-cut later =
-      ap (λ rs. items_text portion_data later (portions rs)) row-first ∙ item-cut portion_data later (portion_of row) (portions (drop (i + 1) rows))
+      ap (λ rs. items_text portion_data later (filter_map portion_of rs)) row-first ∙ item-cut portion_data later (portion_of row) (filter_map portion_of (drop (i + 1) rows))
 
   pub engines-cut : (later : Bool) (emits : List Row) → emits ≡ take_while is_emits (drop (i + 1) rows)
       → items_text kind_data later (all_engines (drop i rows))
@@ -87,18 +87,18 @@ module _ (rows : List Row) (i : ℕ) (d : Row) (row : Row) (less : i < length ro
       ∙ ap (λ es. item_text kind_data later (engines_of row es) ++ items_text kind_data (is_later later (engines_of row es)) behind) (sym are)
 
 -- no row is left
-pub portions-end : (rows : List Row) (i : ℕ) (later : Bool) → length rows ≤ i → items_text portion_data later (portions (drop i rows)) ≡ []
-portions-end rows i later over = ap (λ rs. items_text portion_data later (portions rs)) (drop_all i rows over) ∙ escaped-none
+pub portions-end : (rows : List Row) (i : ℕ) (later : Bool) → length rows ≤ i → items_text portion_data later (filter_map portion_of (drop i rows)) ≡ []
+portions-end rows i later over = ap (λ rs. items_text portion_data later (filter_map portion_of rs)) (drop_all i rows over) ∙ escaped-none
 
 pub engines-end : (rows : List Row) (i : ℕ) (later : Bool) → length rows ≤ i → items_text kind_data later (all_engines (drop i rows)) ≡ []
 engines-end rows i later over = ap (λ rs. items_text kind_data later (all_engines rs)) (drop_all i rows over) ∙ escaped-none
 
 -- the item of engines
 pub kind-pieces : (period : ℕ) (dx dy : ℤ) (count : ℕ) (emits : List Row) (later : Bool)
-    → kind_text period dx dy count emits later ≡ kind_head later dx dy count ++ (items_text portion_data false (portions emits) ++ engines_end period)
+    → kind_text period dx dy count emits later ≡ kind_head later dx dy count ++ (items_text portion_data false (filter_map portion_of emits) ++ engines_end period)
 kind-pieces period dx dy count emits later =
-    let inner = items_text portion_data false (portions emits) ++ engines_end period in
-    ap (λ t. comma_if later ++ t) (engines-escaped period dx dy count (map portion_data (portions emits)))
+    let inner = items_text portion_data false (filter_map portion_of emits) ++ engines_end period in
+    ap (λ t. comma_if later ++ t) (engines-escaped period dx dy count (map portion_data (filter_map portion_of emits)))
     ∙ sym (append_assoc (comma_if later) (engines_head dx dy count) inner)
 
 -- # The members of a pattern
@@ -155,7 +155,7 @@ parts-name : 44 ∷ (compact_text (string (codes "parts")) ++ 58 ∷ []) ≡ cod
 unfolding serde_json_on_literals
 parts-name = refl
 
--- the line of a pattern: what stands before the engines, these, what stands between, the parts, and what stands behind them
+-- the line of a pattern: the text before the engines, the engines, the text between, the parts, and the text after them
 pub line-pieces : (names : Names) (p : Pattern)
     → json_line (pattern_row names Json p)
     ≡ head_of names p.entry ++ (content_text p.engines ++ (middle_of names p.entry ++ (content_text p.parts ++ end_of names p.entry)))

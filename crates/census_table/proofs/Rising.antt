@@ -31,11 +31,11 @@ further collection row later other places less before = (
 pub none-before : (collection row : ℕ) → AreBefore collection row []
 none-before collection row = (tt, tt)
 
--- what is before a row is before each later one
+-- what is before a row is before each later row
 pub before-later : (collection row later : ℕ) (places : List Place) → row < later → AreBefore collection row places → AreBefore collection later places
 before-later collection row later places less = further collection row collection later places (row-behind collection row later less)
 
--- and before the first row of each later collection
+-- what is before a row is before the first row of each later collection
 pub before-next : (collection row : ℕ) (places : List Place) → AreBefore collection row places → AreBefore (collection + 1) 0 places
 before-next collection row places = further collection row (collection + 1) 0 places (collection-behind collection (collection + 1) row 0 (omega arith))
 

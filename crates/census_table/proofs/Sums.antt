@@ -1,9 +1,9 @@
--- Objects that stand in the order of their kinds, counted kind by kind.
+-- Objects in the order of their kinds, counted kind by kind.
 use Rattle.std.proofs.Common.{◌≡◌, ℕ, ◌+◌, ◌<◌, zero, suc, Bool, true, false, not, ◌&&◌, ◌||◌, eqb, if◌then◌else◌, List, [], ◌∷◌, length, refl, sym, ap, ap₂, ◌∙◌, subst, arith, true≢false, map}
 use Rattle.std.specs.Prelude.{filter, count_by, nat_eq, cond, reverse, slice_index_or}
 use Rattle.std.specs.Cmp.Lexicographic.{as_long, pointwise, slice_cmp, texts_ties}
 use Rattle.std.specs.Cmp.{both_tied, unsigned_tied, IsTotalOrder, IsEquivalence, IsStrictWeakOrder, Equal-is}
-use Rattle.std.specs.List.{All, AllByRecursion, list_any, sum_by}
+use Rattle.std.specs.List.{All, AllByRecursion, dedup_from, list_any, sum_by}
 use Rattle.std.specs.List.Sorted.{ties, IsPermutation, IsSorted, IsSortedBy}
 use Rattle.std.specs.Ordering.{eq_by_cmp, is_eq, is_gt, is_lt, nat_cmp, ordering_reverse, ordering_then}
 use Rattle.std.specs.declared.cmp.Ordering.{Ordering}
@@ -13,10 +13,11 @@ use Rattle.std.proofs.lemmas.List.Elements.{All-cons, All-from_recursion, All-ni
 use Rattle.std.proofs.lemmas.List.Sorted.{All-permutation, IsPermutation-reverse, IsPermutation-sym, IsPermutation-trans, ranks_by, sum_by-IsPermutation}
 use Rattle.std.proofs.lemmas.List.Sums.{sum_by-cons}
 use Rattle.std.proofs.lemmas.List.{get_or-map, length-map}
-use Rattle.census_table.specs.Kinds.{capped, count_cmp, counted, kind_cmp, patterns_told, same_kind, same_pattern, AreKinds, IsCounted}
+use Rattle.census_table.specs.Kinds.{capped, count_cmp, counted, kind_cmp, same_kind, same_pattern, AreKinds, IsCounted}
 use Rattle.census_table.specs.KindLaws.{kind_total}
 use Rattle.census_table.specs.Grouping.{alone, grouped, joined, with_told, AreInKinds}
 use Rattle.census_table.specs.Places.{Rises}
+use Rattle.census_table.specs.declared.entry.Entry.{Entry}
 use Rattle.census_table.specs.declared.object.Object.{Object}
 use Rattle.census_table.specs.declared.place.Place.{Place}
 use Rattle.census_table.proofs.Ties.{filter-of}
@@ -142,7 +143,7 @@ none-any p (x ∷ xs) h = ap₂ (λ a b. a || b) (h 0 x (omega arith)) (none-any
 nothing-more : (n : ℕ) → 0 + n ≡ n
 nothing-more n = omega arith
 
--- with one more object before
+-- with one more object before them
 count-more : (x o p : Object) (ps : List Object) → AreInKinds (o ∷ (p ∷ ps)) → count_by (same_kind x) (grouped (p ∷ ps)) ≡ one-if (list_any (same_kind x) (p ∷ ps))
     → count_by (same_kind x) (grouped (o ∷ (p ∷ ps))) ≡ one-if (list_any (same_kind x) (o ∷ (p ∷ ps)))
 count-more x o p ps h rest = subst (λ kinds. count_by (same_kind x) (with_told o kinds) ≡ one-if (list_any (same_kind x) (o ∷ (p ∷ ps)))) (sym head.are) (go (same_kind o head.kind) refl)
@@ -181,7 +182,7 @@ count-more x o p ps h rest = subst (λ kinds. count_by (same_kind x) (with_told 
         count-cons (same_kind x) (alone o) (head.kind ∷ head.others)
         ∙ ap (λ n. one-if (same_kind x o) + n) inner ∙ last (same_kind x o) refl (sym same ∙ e)
 
--- each kind that an object has stands there once, and no other
+-- each kind that an object has occurs there once, and no other kind occurs
 count-grouped : (x : Object) (os : List Object) → AreInKinds os → count_by (same_kind x) (grouped os) ≡ one-if (list_any (same_kind x) os)
 count-grouped x [] h = refl
 count-grouped x (o ∷ []) h = count-cons (same_kind x) (alone o) [] ∙ go (same_kind x o)
@@ -221,14 +222,48 @@ capped-sum a b = grind arith
 counts-one : (o : Object) → alone o ≡ counted o []
 counts-one o = ap₂ (λ (c : ℕ) (n : ℕ). record o { count = c; patterns = n }) (ap capped (sym (sum_by-cons (λ (p : Object). p.count) o []))) refl
 
+-- as many runs, whichever of two entries of one pattern comes first
+runs-alike : (e f : Entry) (es : List Entry) → ((x : Entry) → same_pattern x e ≡ same_pattern x f)
+    → length (dedup_from same_pattern e es) ≡ length (dedup_from same_pattern f es)
+runs-alike e f [] alike = refl
+runs-alike e f (x ∷ es) alike =
+    ap (λ (b : Bool). length (cond b (dedup_from same_pattern e es) (e ∷ dedup_from same_pattern x es))) (alike x)
+    ∙ either (runs-alike e f es alike) (same_pattern x f)
+  where
+    either : length (dedup_from same_pattern e es) ≡ length (dedup_from same_pattern f es) → (b : Bool)
+        → length (cond b (dedup_from same_pattern e es) (e ∷ dedup_from same_pattern x es))
+        ≡ length (cond b (dedup_from same_pattern f es) (f ∷ dedup_from same_pattern x es))
+    either same true = same
+    either same false = refl
+
+-- one more entry adds a run where it isn't of the pattern of the next
+runs-more : (e f : Entry) (es : List Entry)
+    → (if same_pattern e f then 0 else 1) + length (dedup_from same_pattern f es) ≡ length (dedup_from same_pattern e (f ∷ es))
+runs-more e f es = ap (λ (b : Bool). (if b then 0 else 1) + length (dedup_from same_pattern f es)) symmetric ∙ either (same_pattern f e) refl
+  where
+    symmetric : same_pattern e f ≡ same_pattern f e
+    symmetric = grind arith
+
+    alike : same_pattern f e ≡ true → (x : Entry) → same_pattern x f ≡ same_pattern x e
+    alike h x = grind arith
+
+    either : (b : Bool) → same_pattern f e ≡ b
+        → (if b then 0 else 1) + length (dedup_from same_pattern f es)
+        ≡ length (cond b (dedup_from same_pattern e es) (e ∷ dedup_from same_pattern f es))
+    either true h =
+        let none : 0 + length (dedup_from same_pattern f es) ≡ length (dedup_from same_pattern f es) = omega arith in
+        none ∙ runs-alike f e es (alike h)
+    either false h = let e : 1 + length (dedup_from same_pattern f es) ≡ suc (length (dedup_from same_pattern f es)) = omega arith in e
+
 counts-more : (o f : Object) (fs : List Object) (kind : Object) → kind ≡ counted f fs → joined o kind ≡ counted o (f ∷ fs)
 counts-more o f fs kind e =
     ap (joined o) e
     ∙ ap₂ (λ (c : ℕ) (n : ℕ). record o { count = c; patterns = n })
     (capped-sum o.count (sum_by (λ p. p.count) (f ∷ fs)) ∙ ap capped (sym (sum_by-cons (λ (p : Object). p.count) o (f ∷ fs))))
-    (capped-sum (if same_pattern o.first f.first then 0 else 1) (patterns_told (f ∷ fs)))
+    (capped-sum (if same_pattern o.first f.first then 0 else 1) (length (dedup_from same_pattern f.first (map (λ p. p.first) fs)))
+    ∙ ap capped (runs-more o.first f.first (map (λ p. p.first) fs)))
 
--- one that is counted stays so with an object of another kind before
+-- a kind that is counted stays so with an object of another kind before it
 counted-behind : (o : Object) (os : List Object) (kind : Object) → same_kind kind o ≡ false → IsCounted os kind → IsCounted (o ∷ os) kind
 counted-behind o os kind other is = record {
   first = is.first;
@@ -340,7 +375,7 @@ turned = record {
 count_total : IsTotalOrder count_cmp
 count_total = then_total (on_total (λ (o : Object). o.count) turned) kind_total
 
--- what a sort by how many there are gives, where each kind is held so
+-- what a sort by count gives, where kinds are held like this
 module _ {P : Type 0} (told : P → Object) where
   abbrev pub count-less : P → P → Bool
   count-less one other = is_lt (count_cmp (told one) (told other))
@@ -355,7 +390,7 @@ module _ {P : Type 0} (told : P → Object) where
       let more : k + 1 < length all = omega (arith, small, length-map all told) in
       ap₂ (λ a b. is_lt (count_cmp a b)) (get_or-map told all (k + 1) p d more) (get_or-map told all k p d (omega (arith, more))) ∙ up k p low more
 
--- what two sorts and what is between them give
+-- what two sorts and the step between them give
 pub are-kinds : (objects sorted stack kinds : List Object) → IsPermutation objects sorted
     → ((kind : Object) → filter (same_kind kind) sorted ≡ filter (same_kind kind) objects) → AreInKinds sorted → reverse stack ≡ grouped sorted
     → IsPermutation stack kinds → IsSorted count_cmp kinds → AreKinds objects kinds

@@ -1,4 +1,4 @@
--- Lists in an order of two parts: what is level in the first part stands in the order of the second.
+-- Lists in an order of two parts: what is level in the first part is in the order of the second.
 use Rattle.std.proofs.Common.{◌≡◌, ◌⊎◌, inl, inr, ℕ, ◌+◌, zero, suc, ◌<◌, ◌≤◌, take, drop, Bool, true, false, not, cond, List, [], ◌∷◌, ◌++◌, filter, map, length, get_or, set, swap, refl, sym, ap, ap₂, ◌∙◌, subst, arith, append_assoc, true≢false}
 use Rattle.std.specs.Cmp.{IsStrictWeakOrder, IsTotalOrder}
 use Rattle.std.specs.List.{prefix_len, AllByRecursion}
@@ -51,7 +51,7 @@ module _ {X : Type 0} where
   all-both P Q R f [] h k = tt
   all-both P Q R f (x ∷ xs) h k = (f x h.0 k.0, all-both P Q R f xs h.1 k.1)
 
-  -- where all pass a test, of two that pass it another relation holds
+  -- where all pass a test, another relation holds of each two that pass it
   rises-where : (P : X → Type 0) (R S : X → X → Type 0) → ((a b : X) → P a → P b → R a b → S a b) → (xs : List X) → AllByRecursion P xs → Rises R xs → Rises S xs
   rises-where P R S f [] h up = tt
   rises-where P R S f (x ∷ xs) h up = (all-both P (R x) (S x) (λ y p r. f x y h.0 p r) xs h.1 up.0, rises-where P R S f xs h.1 up.1)
@@ -66,7 +66,7 @@ module _ {X : Type 0} where
 
 -- ---- a filter and another order
 
--- what passes a test, of what a function gives
+-- the values of a function that pass a test
 pub filter-of : {A B : Type 0} (test : B → Bool) (f : A → B) (xs : List A) → filter test (map f xs) ≡ map f (filter (λ x. test (f x)) xs)
 filter-of test f [] = refl
 filter-of {A} test f (x ∷ xs) = go (test (f x)) (filter-of test f xs)
@@ -76,7 +76,8 @@ filter-of {A} test f (x ∷ xs) = go (test (f x)) (filter-of test f xs)
     go true e = ap (λ ys. f x ∷ ys) e
     go false e = e
 
--- A relation holds along each permutation if it is reflexive and transitive, and goes under a head and over an exchange of two heads.
+-- A relation holds along each permutation if it is reflexive and transitive, and holds under a common head and for an
+-- exchange of two heads.
 module _ {X : Type 0} (R : List X → List X → Type 0) (same : (xs : List X) → R xs xs)
     (skip : (x : X) (xs ys : List X) → R xs ys → R (x ∷ xs) (x ∷ ys))
     (turn : (x y : X) (xs : List X) → R (x ∷ y ∷ xs) (y ∷ x ∷ xs))
@@ -146,7 +147,7 @@ module _ {X : Type 0} (cmp : X → X → Ordering) (total : IsTotalOrder cmp) wh
       go Equal b p q s t = absurd (true≢false (sym s))
       go Greater b p q s t = absurd (true≢false (sym s))
 
-  -- a list that does not fall is what is not above x, and then what is
+  -- a list that does not fall is the elements not above x, and then those above it
   split : (x : X) (ys : List X) → Rises AtMost ys → ys ≡ filter (λ z. not (is-above x z)) ys ++ filter (is-above x) ys
   split x [] up = refl
   split x (y ∷ ys) up = go (is-above x y) refl (split x ys up.1)
@@ -163,7 +164,7 @@ module _ {X : Type 0} (cmp : X → X → Ordering) (total : IsTotalOrder cmp) wh
   alone x (y ∷ []) moved = ap (λ z. z ∷ []) (recursion_from_All (λ z. z ≡ x) (y ∷ []) (All-permutation (λ z. z ≡ x) (x ∷ []) (y ∷ []) moved (All-from_recursion (λ z. z ≡ x) (x ∷ []) (refl, tt)))).0
   alone x (y ∷ z ∷ ys) moved = absurd (omega (arith, length_permutation _ _ moved))
 
-  -- Of the orders of a list without ties one does not fall: its head is all that is not above the head.
+  -- Of the orders of a list without ties, one does not fall: its head is all that is not above the head.
   pub one-order : (xs ys : List X) → Rises (λ a b. cmp a b ≡ Less) xs → IsPermutation xs ys → Rises AtMost ys → ys ≡ xs
   one-order [] [] strict moved up = refl
   one-order [] (y ∷ ys) strict moved up = absurd (omega (arith, length_permutation _ _ moved))
@@ -227,7 +228,8 @@ module _ {X : Type 0} (cmp : X → X → Ordering) (total : IsTotalOrder cmp) wh
       go (inl m) = total.trans x y z l m
       go (inr e) = sym (alike_right total y z x e) ∙ l
 
-  -- of what does not fall, and of which nothing is before x, those level with x stand first, and x is less than all behind them
+  -- of elements that do not fall and none of which is before x, those level with x come first, and x is less than all after
+  -- them
   pub record IsRun (x : X) (xs : List X) (n : ℕ) : Type 0 where
     pub level : AllByRecursion (λ y. cmp x y ≡ Equal) (take n xs)
     pub beyond : AllByRecursion (λ y. cmp x y ≡ Less) (drop n xs)
@@ -303,7 +305,7 @@ module _ {X : Type 0} (first second : X → X → Ordering) (first-total : IsTot
     first-rises xs up.1,
   )
 
-  -- What is level in the first part, among what stood in the order of the second, keeps its order.
+  -- What is level in the first part, among elements in the order of the second, keeps its order.
   pub level-kept : (test : X → Bool) → ((a b : X) → test a ≡ true → test b ≡ true → first a b ≡ Equal) → (xs ys : List X)
       → Rises (λ a b. second a b ≡ Less) xs → IsPermutation xs ys → BothRise ys → filter test ys ≡ filter test xs
   level-kept test level xs ys strict moved up =
@@ -314,7 +316,7 @@ module _ {X : Type 0} (first second : X → X → Ordering) (first-total : IsTot
       (λ a b p q. second-part (first a b) (second a b) (level a b p q)) (filter test ys) (passed test ys)
       (rises-filter (λ a b. is_gt (ordering_then (first a b) (second a b)) ≡ false) test ys up))
 
-  -- One run more: what was done stands in both orders and is less than what is left, and the run is put in the second order.
+  -- One more run: what was done is in both orders and less than what is left, and the run is put in the second order.
   module _ (done left run : List X) (n : ℕ) (x : X)
       (up : BothRise done) (below : AreAllBelow first done left) (is : IsRun first first-total x left n)
       (moved : IsPermutation (take n left) run) (sorted : Rises (λ a b. is_gt (second a b) ≡ false) run) where
@@ -371,7 +373,7 @@ module _ {X : Type 0} where
       (IsPermutation-append_left (drop n xs) (take n xs) (take n ys) moved))
 
 module _ {X : Type 0} (first second : X → X → Ordering) (first-total : IsTotalOrder first) (second-total : IsTotalOrder second) where
-  -- as many at the start stand in both orders, before all others
+  -- the first `at` elements are in both orders, before all others
   pub record AreRun (start xs : List X) (at : ℕ) : Type 0 where
     pub within : at ≤ length xs
     pub moved : IsPermutation start xs

@@ -1,5 +1,6 @@
 -- The columns of a table of patterns.
 use Rattle.std.specs.Prelude.{ℕ, Bool, true, false, filter, Option, Some, None, List, [], ◌∷◌, ◌++◌, codes, map}
+use Rattle.std.specs.Option.{option_map_or}
 use Rattle.census_rows.specs.declared.kinds.Label.{Label}
 use Rattle.census_rows.specs.declared.kinds.Label.TheVariants as label
 use Rattle.census_rows.specs.declared.kinds.Value.{Value}
@@ -20,97 +21,65 @@ use Rattle.census_table.specs.Patterns.{Pattern}
 abbrev pub columns : List Column
 columns = column.Collection ∷ column.CollectionName ∷ column.Pattern ∷ column.Name ∷ column.Status ∷ column.Rule ∷ column.Population ∷ column.Onset ∷ column.Period ∷ column.Dx ∷ column.Dy ∷ column.Code ∷ column.CommonName ∷ column.Fault ∷ column.CollectionNameHex ∷ column.NameHex ∷ column.Objects ∷ column.Generation ∷ column.Engines ∷ column.FaultText ∷ []
 
--- all but the engines, of which JSON has a list
-abbrev pub single_columns : List Column
-single_columns = column.Collection ∷ column.CollectionName ∷ column.Pattern ∷ column.Name ∷ column.Status ∷ column.Rule ∷ column.Population ∷ column.Onset ∷ column.Period ∷ column.Dx ∷ column.Dy ∷ column.Code ∷ column.CommonName ∷ column.Fault ∷ column.CollectionNameHex ∷ column.NameHex ∷ column.Objects ∷ column.Generation ∷ column.FaultText ∷ []
-
--- what a column is called
-abbrev pub name_of : Column → List ℕ
-name_of column.Collection = codes "collection"
-name_of column.CollectionName = codes "collection_name"
-name_of column.Pattern = codes "pattern"
-name_of column.Name = codes "name"
-name_of column.Status = codes "status"
-name_of column.Rule = codes "rule"
-name_of column.Population = codes "population"
-name_of column.Onset = codes "onset"
-name_of column.Period = codes "period"
-name_of column.Dx = codes "dx"
-name_of column.Dy = codes "dy"
-name_of column.Code = codes "code"
-name_of column.CommonName = codes "common_name"
-name_of column.Fault = codes "fault"
-name_of column.CollectionNameHex = codes "collection_name_hex"
-name_of column.NameHex = codes "name_hex"
-name_of column.Objects = codes "objects"
-name_of column.Generation = codes "generation"
-name_of column.Engines = codes "engines"
-name_of column.FaultText = codes "fault_text"
-
 abbrev pub value_content : Value → Content
 value_content (Number n) = count n
 value_content (Signed z) = shift z
 value_content (Text bytes) = text bytes.now
 
-abbrev pub content_or_nothing : Option Value → Content
-content_or_nothing None = nothing
-content_or_nothing (Some value) = value_content value
-
 -- what the field with a label has
 abbrev pub field_content : Outcome → Label → Content
-field_content outcome label = content_or_nothing (value_at label (said outcome).fields)
+field_content outcome label = option_map_or value_content (value_at label (said outcome).fields) nothing
 
 abbrev pub fault_content : Option Value → Content
 fault_content (Some (Number n)) = text (fault_words n)
 fault_content _ = nothing
 
--- what a row has of the name of a code, where there is one
+-- what a row has for the name of a code, where there is one
 abbrev pub called_content : Names → Option Value → Content
 called_content names (Some (Text code)) = called names code.now
 called_content names _ = nothing
 
--- what the row of a pattern has in a column
-abbrev pub content_in_column : Names → Column → Entry → Content
-content_in_column names column.Collection entry = count entry.collection
-content_in_column names column.CollectionName entry = text entry.collection_name.now
-content_in_column names column.Pattern entry = count entry.pattern
-content_in_column names column.Name entry = text entry.name.now
-content_in_column names column.Status entry = text (said entry.outcome).word
-content_in_column names column.Rule entry = field_content entry.outcome label.Rule
-content_in_column names column.Population entry = field_content entry.outcome label.Population
-content_in_column names column.Onset entry = field_content entry.outcome label.Onset
-content_in_column names column.Period entry = field_content entry.outcome label.Period
-content_in_column names column.Dx entry = field_content entry.outcome label.Dx
-content_in_column names column.Dy entry = field_content entry.outcome label.Dy
-content_in_column names column.Code entry = field_content entry.outcome label.Code
-content_in_column names column.CommonName entry = called_content names (value_at label.Code (said entry.outcome).fields)
-content_in_column names column.Fault entry = field_content entry.outcome label.Fault
-content_in_column names column.CollectionNameHex entry = hex entry.collection_name.now
-content_in_column names column.NameHex entry = hex entry.name.now
-content_in_column names column.Objects entry = field_content entry.outcome label.Objects
-content_in_column names column.Generation entry = field_content entry.outcome label.Generation
-content_in_column names column.Engines entry = field_content entry.outcome label.Engines
-content_in_column names column.FaultText entry = fault_content (value_at label.Fault (said entry.outcome).fields)
+-- what a column is called, and what the row of a pattern has in it
+abbrev pub column_means : Column → List ℕ × (Names → Entry → Content)
+column_means column.Collection = (codes "collection", λ names entry. count entry.collection)
+column_means column.CollectionName = (codes "collection_name", λ names entry. text entry.collection_name.now)
+column_means column.Pattern = (codes "pattern", λ names entry. count entry.pattern)
+column_means column.Name = (codes "name", λ names entry. text entry.name.now)
+column_means column.Status = (codes "status", λ names entry. text (said entry.outcome).word)
+column_means column.Rule = (codes "rule", λ names entry. field_content entry.outcome label.Rule)
+column_means column.Population = (codes "population", λ names entry. field_content entry.outcome label.Population)
+column_means column.Onset = (codes "onset", λ names entry. field_content entry.outcome label.Onset)
+column_means column.Period = (codes "period", λ names entry. field_content entry.outcome label.Period)
+column_means column.Dx = (codes "dx", λ names entry. field_content entry.outcome label.Dx)
+column_means column.Dy = (codes "dy", λ names entry. field_content entry.outcome label.Dy)
+column_means column.Code = (codes "code", λ names entry. field_content entry.outcome label.Code)
+column_means column.CommonName = (codes "common_name", λ names entry. called_content names (value_at label.Code (said entry.outcome).fields))
+column_means column.Fault = (codes "fault", λ names entry. field_content entry.outcome label.Fault)
+column_means column.CollectionNameHex = (codes "collection_name_hex", λ names entry. hex entry.collection_name.now)
+column_means column.NameHex = (codes "name_hex", λ names entry. hex entry.name.now)
+column_means column.Objects = (codes "objects", λ names entry. field_content entry.outcome label.Objects)
+column_means column.Generation = (codes "generation", λ names entry. field_content entry.outcome label.Generation)
+column_means column.Engines = (codes "engines", λ names entry. field_content entry.outcome label.Engines)
+column_means column.FaultText = (codes "fault_text", λ names entry. fault_content (value_at label.Fault (said entry.outcome).fields))
 
--- a table without names has no column of them
+abbrev pub name_of : Column → List ℕ
+name_of column = (column_means column).0
+
+abbrev pub content_in_column : Names → Column → Entry → Content
+content_in_column names column entry = (column_means column).1 names entry
+
+-- a table without names has no column for them
 abbrev pub is_shown : Names → Column → Bool
 is_shown None column.CommonName = false
 is_shown names column = true
 
--- those of these columns that a table has
-abbrev pub shown : Names → List Column → List Column
-shown names columns = filter (is_shown names) columns
-
 -- what the row of a pattern has in these columns
 abbrev pub entry_row : Names → List Column → Entry → List Member
-entry_row names columns entry = map (λ column. record { name = name_of column; content = content_in_column names column entry }) (shown names columns)
+entry_row names columns entry = map (λ column. record { name = name_of column; content = content_in_column names column entry }) (filter (is_shown names) columns)
 
--- the lists that it has in JSON
-abbrev pub list_members : Pattern → List Member
-list_members pattern =
-    record { name = codes "engines"; content = pattern.engines } ∷ record { name = codes "parts"; content = pattern.parts } ∷ []
-
--- the row of a pattern
+-- the row of a pattern; in JSON its engines and its parts are lists, and the list of engines takes the place of their number
 abbrev pub pattern_row : Names → Format → Pattern → List Member
 pattern_row names (Csv safe) pattern = entry_row names columns pattern.entry
-pattern_row names Json pattern = entry_row names single_columns pattern.entry ++ list_members pattern
+pattern_row names Json pattern =
+    entry_row names columns pattern.entry
+    ++ record { name = codes "engines"; content = pattern.engines } ∷ record { name = codes "parts"; content = pattern.parts } ∷ []

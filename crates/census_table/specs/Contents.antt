@@ -1,7 +1,8 @@
--- What a row of a table has in one column.
+-- The content of a row in one column.
 use Rattle.std.specs.Prelude.{◌≡◌, ℕ, ℤ, Bool, true, false, ◌&&◌, ◌==◌, List, [], ◌∷◌, Option, Some, None, codes, unwrap_or, if◌then◌else◌, decimal, map}
 use Rattle.std.specs.Fmt.{signed_decimal}
 use Rattle.std.specs.List.{list_any}
+use Rattle.std.specs.Option.{option_map_or}
 use Rattle.std.specs.Str.{is_utf8}
 use Rattle.std.specs.Str.Lossy.{utf8_lossy}
 use Rattle.hex.specs.Hex.{encode_lower}
@@ -49,41 +50,32 @@ row_of fields = map member_of fields
 abbrev pub hex_of : List ℕ → Option (List ℕ)
 hex_of bytes = if is_utf8 bytes then None else Some (encode_lower bytes)
 
--- a spreadsheet may take a text that begins so for a formula
+-- a spreadsheet may take a text that begins like this for a formula
 abbrev pub begins_formula : List ℕ → Bool
 begins_formula [] = false
 begins_formula (byte ∷ bytes) = list_any (λ sign. sign == byte) (codes "=+-@\t\r")
 
--- a text; where it is to be safe, one that a spreadsheet may take for a formula has an apostrophe before it
+-- a text; if it is to be safe and a spreadsheet may take it for a formula, it has an apostrophe before it
 abbrev pub text_bytes : Bool → List ℕ → List ℕ
 text_bytes safe bytes = if safe && begins_formula bytes then 39 ∷ bytes else bytes
 
--- the text of a field, where texts are to be safe or not; lists stand in JSON alone
+-- the text of a field, where texts are to be safe or not; lists occur only in JSON
 abbrev pub content_bytes : Bool → Content → List ℕ
-content_bytes safe nothing = []
 content_bytes safe (count n) = decimal n
 content_bytes safe (shift z) = signed_decimal z
 content_bytes safe (text bytes) = text_bytes safe (utf8_lossy bytes)
 content_bytes safe (hex bytes) = unwrap_or (hex_of bytes) []
-content_bytes safe (engines list) = []
-content_bytes safe (parts list) = []
+content_bytes safe _ = []
 
--- no text of a field that is to be safe begins as a formula does
+-- no text of a safe field begins as a formula does
 abbrev pub TextsAreSafe : Type 0
 TextsAreSafe = (bytes : List ℕ) → begins_formula (content_bytes true (text bytes)) ≡ false
 
-abbrev pub data_or_null : Option (List ℕ) → Data
-data_or_null None = null
-data_or_null (Some bytes) = string bytes
-
--- so many objects with a code
+-- a number of objects with a code
 abbrev pub portion_data : Portion → Data
 portion_data portion = counted_data portion.code.now portion.count None
 
-abbrev pub portions_data : List Portion → Data
-portions_data portions = array (items_of (map portion_data portions))
-
--- engines of which the same is told
+-- equal engines
 abbrev pub kind_data : Engines → Data
 kind_data told = engines_data told.period told.dx told.dy told.count (map portion_data told.emits)
 
@@ -93,6 +85,6 @@ content_data nothing = null
 content_data (count n) = number (unsigned n)
 content_data (shift z) = number (of_integer z)
 content_data (text bytes) = string (utf8_lossy bytes)
-content_data (hex bytes) = data_or_null (hex_of bytes)
+content_data (hex bytes) = option_map_or string (hex_of bytes) null
 content_data (engines list) = array (items_of (map kind_data list))
-content_data (parts list) = portions_data list
+content_data (parts list) = array (items_of (map portion_data list))

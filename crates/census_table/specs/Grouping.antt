@@ -1,20 +1,20 @@
--- Objects that stand in the order of their kinds, counted kind by kind.
+-- Objects in the order of their kinds, counted kind by kind.
 use Rattle.std.specs.Prelude.{◌≡◌, ℕ, ◌+◌, false, if◌then◌else◌, List, [], ◌∷◌, ⊤}
 use Rattle.std.specs.List.{All}
 use Rattle.std.specs.Ordering.{is_gt}
 use Rattle.census_table.specs.Kinds.{capped, kind_cmp, same_kind, same_pattern}
 use Rattle.census_table.specs.declared.object.Object.{Object}
 
--- no object stands behind one of a later kind
+-- no object follows one of a later kind
 abbrev pub AreInKinds : List Object → Type 0
 AreInKinds [] = ⊤
 AreInKinds (o ∷ objects) = All (λ p. is_gt (kind_cmp o p) ≡ false) objects × AreInKinds objects
 
--- how many patterns one more tells of, which stands before those that were counted
+-- how many patterns an object adds that comes before those already counted
 abbrev pub step_of : Object → Object → ℕ
 step_of o kind = if same_pattern o.first kind.first then 0 else 1
 
--- one that stands before so many others of its kind, and with them is told of so many patterns
+-- an object before `count` others of its kind; together they occur in `patterns` patterns
 abbrev pub before : Object → ℕ → ℕ → Object
 before o count patterns = record o { count = capped (o.count + count); patterns = patterns }
 
@@ -24,7 +24,7 @@ alone o = before o 0 1
 abbrev pub joined : Object → Object → Object
 joined o kind = before o kind.count (capped (step_of o kind + kind.patterns))
 
--- the kinds with one more object, which stands before those that were counted
+-- the kinds with one more object, which comes before those already counted
 abbrev pub with_told : Object → List Object → List Object
 with_told o [] = alone o ∷ []
 with_told o (kind ∷ kinds) = if same_kind o kind then joined o kind ∷ kinds else alone o ∷ (kind ∷ kinds)

@@ -10,6 +10,6 @@ kind_total =
     then_total (on_total (λ (o : Object). length o.code.now) nat_cmp_total)
     (then_total (on_texts (λ (o : Object). o.code.now)) (on_texts (λ (o : Object). o.rule.now)))
 
--- and so is that of the kinds of objects that stand somewhere
+-- the order of the kinds of objects at places is total too
 pub kinds_at_total : {P : Type 0} (told : P → Object) → IsTotalOrder (λ p q. kind_cmp (told p) (told q))
 kinds_at_total told = on_total told kind_total

@@ -1,5 +1,7 @@
 -- The line of a pattern in JSON, by pieces.
 use Rattle.std.specs.Prelude.{ℕ, ℤ, Bool, true, false, Option, Some, None, List, [], ◌∷◌, ◌++◌, codes, map}
+use Rattle.std.specs.List.{filter_map}
+use Rattle.census_table.specs.Lists.{portion_of}
 use Rattle.serde_json.specs.Data.{Data, no_members}
 use Rattle.serde_json.specs.Written.{comma_if, compact_text}
 use Rattle.census_facts.specs.Json.Lines.{with_line_ends_escaped}
@@ -9,7 +11,6 @@ use Rattle.census_rows.specs.declared.row.Row.{Row}
 use Rattle.census_table.specs.Called.{Names}
 use Rattle.census_table.specs.Columns.{entry_row}
 use Rattle.census_table.specs.Contents.{Content, content_data, portion_data}
-use Rattle.census_table.specs.Lists.{portions}
 use Rattle.census_table.specs.Tables.{with_row}
 use Rattle.census_table.specs.declared.column.Column.{Column}
 use Rattle.census_table.specs.declared.column.Column.TheVariants as column
@@ -22,7 +23,7 @@ abbrev pub item_text : {A : Type 0} → (A → Data) → Bool → Option A → L
 item_text data_of later None = []
 item_text data_of later (Some x) = comma_if later ++ with_line_ends_escaped (compact_text (data_of x))
 
--- what comes behind it is later than others
+-- whether there is an item before what follows
 abbrev pub is_later : {A : Type 0} → Bool → Option A → Bool
 is_later later None = later
 is_later later (Some x) = true
@@ -31,17 +32,17 @@ is_later later (Some x) = true
 abbrev pub items_text : {A : Type 0} → (A → Data) → Bool → List A → List ℕ
 items_text data_of later xs = with_line_ends_escaped (items_within later (map data_of xs))
 
--- the item of engines: what stands before that which each emits, and all of it
+-- the item of engines: the part before what each emits, and all of it
 abbrev pub kind_head : Bool → ℤ → ℤ → ℕ → List ℕ
 kind_head later dx dy count = comma_if later ++ engines_head dx dy count
 
 abbrev pub kind_text : ℕ → ℤ → ℤ → ℕ → List Row → Bool → List ℕ
 kind_text period dx dy count emits later =
-    comma_if later ++ with_line_ends_escaped (compact_text (engines_data period dx dy count (map portion_data (portions emits))))
+    comma_if later ++ with_line_ends_escaped (compact_text (engines_data period dx dy count (map portion_data (filter_map portion_of emits))))
 
 -- # The members of a pattern
 
--- those columns whose names come before that of the engines, those between engines and parts, and those behind the parts
+-- the columns whose names come before `engines`, those between `engines` and `parts`, and those after `parts`
 abbrev pub first_columns : List Column
 first_columns = column.Code ∷ column.Collection ∷ column.CollectionName ∷ column.CollectionNameHex ∷ column.CommonName ∷ column.Dx ∷ column.Dy ∷ []
 
@@ -59,7 +60,7 @@ columns_text names columns entry = with_line_ends_escaped (members_within false 
 abbrev pub content_text : Content → List ℕ
 content_text content = with_line_ends_escaped (compact_text (content_data content))
 
--- what stands before the engines, between them and the parts, and behind these
+-- the text before the engines, between them and the parts, and after the parts
 abbrev pub head_of : Names → Entry → List ℕ
 head_of names entry = 123 ∷ (columns_text names first_columns entry ++ codes ",\"engines\":")
 

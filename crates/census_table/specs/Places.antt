@@ -1,4 +1,4 @@
--- Objects by where they are told.
+-- Objects by their places in reports.
 use Rattle.std.specs.Prelude.{◌≡◌, ℕ, ◌+◌, Option, Some, None, List, [], ◌∷◌, ⊤, slice_index_or}
 use Rattle.std.specs.Borrow.{Bor}
 use Rattle.std.specs.List.{AllByRecursion}
@@ -17,7 +17,7 @@ use Rattle.census_table.specs.declared.entry.Entry.{Entry}
 use Rattle.census_table.specs.declared.object.Object.{Object}
 use Rattle.census_table.specs.declared.place.Place.{Place}
 
--- the row at an index; behind the last one there are `end` rows
+-- the row at an index; after the last one there are `end` rows
 abbrev pub row_in : List Row → ℕ → Row
 row_in rows index = slice_index_or rows index (End 0 0)
 
@@ -25,15 +25,15 @@ row_in rows index = slice_index_or rows index (End 0 0)
 abbrev pub entry_at : ℕ → List Row → ℕ → Option Entry
 entry_at number rows index = entry_of_row number (row_in rows 0) (row_in rows index)
 
--- the object of that pattern that the row at another index tells of
+-- the object of that pattern that the row at another index reports
 abbrev pub told_in : ℕ → List Row → ℕ → ℕ → Option Object
 told_in number rows line row = object_of_row (entry_at number rows line) (row_in rows row)
 
--- the object that is told at a place of collections that are numbered from 1
+-- the object that is reported at a place of collections that are numbered from 1
 abbrev pub told_at : List (List Row) → Place → Option Object
 told_at sections place = told_in (place.collection + 1) (slice_index_or sections place.collection []) place.under place.row
 
--- the code that a row tells
+-- the code in a row
 abbrev pub code_in : Row → Option (Bor (List ℕ))
 code_in (Line collection pattern outcome name) = text_in (value_at label.Code (said outcome).fields)
 code_in (Part collection pattern code count) = Some code
@@ -44,29 +44,29 @@ abbrev pub rule_in : Row → Option (Bor (List ℕ))
 rule_in (Line collection pattern outcome name) = text_in (value_at label.Rule (said outcome).fields)
 rule_in _ = None
 
--- with this code under this rule, where there is one
+-- an object with this code under this rule, as far as there is one
 abbrev pub with_key : Object → Option (Bor (List ℕ)) → Option (Bor (List ℕ)) → Object
 with_key o rule code = record o { rule = unwrap_or rule o.rule; code = unwrap_or code o.code }
 
--- the code that a row tells, and the rule of the line under which it stands
+-- the code that a row reports, and the rule of its line
 abbrev pub key_at : Object → List (List Row) → Place → Object
 key_at nothing sections place =
     let rows = slice_index_or sections place.collection [] in
     with_key nothing (rule_in (row_in rows place.under)) (code_in (row_in rows place.row))
 
--- that object; where there is none, one that has as much of it as is there
+-- the object that is reported at a place; if there is none, `nothing` with the code and the rule that are there
 abbrev pub object_at : Object → List (List Row) → Place → Object
 object_at nothing sections place = unwrap_or (told_at sections place) (key_at nothing sections place)
 
--- an object, counted so
+-- an object with these counts
 abbrev pub with_counts : Object → ℕ → ℕ → Object
 with_counts o count patterns = record o { count = count; patterns = patterns }
 
--- the first object of a kind, counted
+-- the first object of a kind, with the kind's counts
 abbrev pub kind_at : Object → List Object → Kind → Object
 kind_at nothing objects kind = with_counts (slice_index_or objects kind.first nothing) kind.count kind.patterns
 
--- each stands so to all behind it
+-- each is so related to all after it
 abbrev pub Rises : {X : Type 0} → (X → X → Type 0) → List X → Type 0
 Rises R [] = ⊤
 Rises R (x ∷ xs) = AllByRecursion (R x) xs × Rises R xs
@@ -75,7 +75,7 @@ Rises R (x ∷ xs) = AllByRecursion (R x) xs × Rises R xs
 abbrev pub place_cmp : Place → Place → Ordering
 place_cmp p q = ordering_then (nat_cmp p.collection q.collection) (nat_cmp p.row q.row)
 
--- each place stands before all behind it
+-- each place is before all after it
 abbrev pub AreRising : List Place → Type 0
 AreRising places = Rises (λ p q. place_cmp p q ≡ Less) places
 

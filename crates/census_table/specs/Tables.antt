@@ -1,5 +1,6 @@
 -- The texts of tables.
 use Rattle.std.specs.Prelude.{◌≡◌, ℕ, ◌+◌, Bool, None, List, [], ◌∷◌, ◌++◌, filter, map}
+use Rattle.std.specs.List.{flat_map}
 use Rattle.csv.specs.Writing.{default_writer, row_text}
 use Rattle.serde_json.specs.Data.{Members, no_members, object, put}
 use Rattle.census_facts.specs.Json.Lines.{data_line}
@@ -8,10 +9,10 @@ use Rattle.census_rows.specs.declared.kinds.Behind.TheVariants as behind
 use Rattle.census_rows.specs.declared.row.Row.{Row}
 use Rattle.census_readback.specs.Sections.{same_behind}
 use Rattle.census_table.specs.Called.{Names}
-use Rattle.census_table.specs.Columns.{columns, name_of, pattern_row, shown}
+use Rattle.census_table.specs.Columns.{columns, is_shown, name_of, pattern_row}
 use Rattle.census_table.specs.Contents.{Member, content_bytes, content_data}
 use Rattle.census_table.specs.Kinds.{AreKinds}
-use Rattle.census_table.specs.ObjectColumns.{code_columns, object_row, part_columns, there, title_of}
+use Rattle.census_table.specs.ObjectColumns.{code_columns, is_there, object_row, part_columns, title_of}
 use Rattle.census_table.specs.Objects.{all_objects, objects_of, section_objects}
 use Rattle.census_table.specs.Patterns.{Pattern, all_patterns, patterns_of, section_patterns}
 use Rattle.census_table.specs.declared.object.Object.{Object}
@@ -25,7 +26,7 @@ use Rattle.census_table.specs.declared.table.Format.TheVariants.{Csv, Json}
 use Rattle.census_table.specs.declared.table.Item.{Item}
 use Rattle.census_table.specs.declared.table.Item.TheVariants as item
 
--- # What stands in a table
+-- # What is in a table
 
 -- these patterns, or these columns of objects
 pub data Listing : Type 0 where
@@ -49,16 +50,11 @@ IsListingOf Codes rows listing = (kinds : List Object) × AreKinds (objects_of r
 
 -- # How it is written
 
--- the fields of a row, where texts are to be safe or not
-abbrev pub row_fields : Bool → List Member → List (List ℕ)
-row_fields safe row = map (λ member. content_bytes safe member.content) row
+-- the record of a row, as the crate `csv` writes it by default, where texts are to be safe or not
+abbrev pub csv_record : Bool → List Member → List ℕ
+csv_record safe row = row_text default_writer (map (λ member. content_bytes safe member.content) row)
 
--- a record for each row, as the crate `csv` writes it by default
-abbrev pub csv_records : Bool → List (List Member) → List ℕ
-csv_records safe [] = []
-csv_records safe (row ∷ rows) = row_text default_writer (row_fields safe row) ++ csv_records safe rows
-
--- the members, with those of a row
+-- the members, and those of a row
 abbrev pub with_row : List Member → Members → Members
 with_row [] members = members
 with_row (member ∷ row) members = with_row row (put member.name (content_data member.content) members)
@@ -67,25 +63,20 @@ with_row (member ∷ row) members = with_row row (put member.name (content_data 
 abbrev pub json_line : List Member → List ℕ
 json_line row = data_line (object (with_row row no_members))
 
--- one for each row
-abbrev pub json_rows : List (List Member) → List ℕ
-json_rows [] = []
-json_rows (row ∷ rows) = json_line row ++ json_rows rows
-
 -- what a table has before its rows: as CSV a record of the columns' names
 abbrev pub head_text : Format → List (List ℕ) → List ℕ
 head_text (Csv safe) names = row_text default_writer names
 head_text Json names = []
 
--- its rows
+-- the text of its rows: a record or a line for each
 abbrev pub rows_text : Format → List (List Member) → List ℕ
-rows_text (Csv safe) rows = csv_records safe rows
-rows_text Json rows = json_rows rows
+rows_text (Csv safe) rows = flat_map (csv_record safe) rows
+rows_text Json rows = flat_map json_line rows
 
 -- what its columns are called
 abbrev pub names_in : Names → Listing → List (List ℕ)
-names_in names (patterns list) = map name_of (shown names columns)
-names_in names (objects columns list) = map title_of (there names columns)
+names_in names (patterns list) = map name_of (filter (is_shown names) columns)
+names_in names (objects columns list) = map title_of (filter (is_there names) columns)
 
 -- a row for each pattern or object
 abbrev pub members_in : Format → Names → Listing → List (List Member)
@@ -97,13 +88,13 @@ abbrev pub section_members : Item → Format → Names → ℕ → List Row → 
 section_members item.Pattern format names number rows = map (pattern_row names format) (section_patterns number rows)
 section_members item.Part format names number rows = map (object_row names part_columns) (filter is_part (section_objects number rows))
 
--- those of each collection, numbered from this number on
+-- the rows of each collection, numbered from this number on
 abbrev pub all_members : Item → Format → Names → ℕ → List (List Row) → List (List Member)
 all_members item format names number [] = []
 all_members item format names number (rows ∷ sections) =
     section_members item format names number rows ++ all_members item format names (number + 1) sections
 
--- the whole table; without names no column is of these
+-- the whole table; without names it has no column for them
 abbrev pub listing_text : Format → Names → Listing → List ℕ
 listing_text format names listing = head_text format (names_in names listing) ++ rows_text format (members_in format names listing)
 

@@ -7,7 +7,7 @@ ghost use Rattle.census_table.specs.Contents.{content_of};
 use crate::cell::Cell;
 use census_facts::Names;
 
-// What a row has of the name of a code.
+// What a row has for the name of a code.
 pub fn called<'a>(names: Option<&'a Names>, code: &[u8]) -> Cell<'a>
     ensures { content_of result ≡ called (option_copied names.entry) code.now }
 {

@@ -10,7 +10,7 @@ use itoa::Buffer;
 use serde_json::Value;
 use std::alloc::{AllocError, Global};
 
-/// What a row has in one column.
+/// The content of a row in one column.
 #[derive(Clone, Copy)]
 pub enum Cell<'a> {
     /// Nothing.
@@ -19,15 +19,15 @@ pub enum Cell<'a> {
     Count(u64),
     /// A number that may be negative.
     Shift(i64),
-    /// A text. What is not UTF-8 of it is told as U+FFFD.
+    /// A text. Bytes of it that are not UTF-8 are written as U+FFFD.
     Text(&'a [u8]),
-    /// The bytes of a text in hex, where it is not UTF-8, and else nothing.
+    /// The bytes of a text in hex, if it is not UTF-8, and otherwise nothing.
     Hex(&'a [u8]),
-    /// What a report means that names a fault by this number.
+    /// The meaning of the fault that a report gives by this number.
     Fault(u64),
 }
 
-/// What a row has in the column of a name.
+/// The content of a row in a named column.
 #[derive(Clone, Copy)]
 pub struct Field<'a> {
     /// What the column is called.
@@ -55,7 +55,7 @@ fn begins_formula(text: &[u8]) -> bool
     }
 }
 
-// A text. Where it is to be safe, one that a spreadsheet may take for a formula has an apostrophe before it.
+// A text. If it is to be safe and a spreadsheet may take it for a formula, it has an apostrophe before it.
 fn text_of(alloc: Global, safe: bool, text: String) -> Result<String, AllocError>
     ensures { IfOk result (λ told. string_bytes told ≡ text_bytes safe (string_bytes text)) }
 {
@@ -67,7 +67,7 @@ fn text_of(alloc: Global, safe: bool, text: String) -> Result<String, AllocError
     Ok(told)
 }
 
-// What a report means that names a fault by a number.
+// The meaning of the fault that a report gives by this number.
 fn fault_text(alloc: Global, number: u64) -> Result<String, AllocError>
     ensures { IfOk result (λ text. string_bytes text ≡ utf8_lossy (fault_words number)) }
 {
@@ -75,14 +75,14 @@ fn fault_text(alloc: Global, number: u64) -> Result<String, AllocError>
     String::from_utf8_lossy(alloc, words.as_slice())
 }
 
-/// No text of a field that is to be safe begins as a formula does.
+/// No text of a safe field begins as a formula does.
 pub fn safe_texts_are_no_formulas()
     ensures { TextsAreSafe }
 {}
 
 impl Cell<'_> {
-    /// The text of a field. Where texts are to be `safe`, one that a spreadsheet may take for a formula, since it begins with
-    /// `=`, `+`, `-`, `@`, a tab or a carriage return, has a `'` before it.
+    /// The text of a field. If texts are to be `safe`, a text that a spreadsheet may take for a formula has a `'` before it:
+    /// one that begins with `=`, `+`, `-`, `@`, a tab or a carriage return.
     pub fn to_text(&self, alloc: Global, safe: bool) -> Result<String, AllocError>
         ensures { IfOk result
             (λ text. string_bytes text ≡ content_bytes safe (content_of self.now)) }

@@ -13,7 +13,7 @@ use census_facts::Names;
 use census_rows::{Label, Outcome, Value};
 use std::alloc::{AllocError, Global};
 
-/// A column of a table of patterns. A row has nothing in it but what stands here.
+/// A column of a table of patterns. A row has nothing in a column that does not apply to its pattern.
 #[derive(Clone, Copy)]
 pub enum Column {
     /// The collection's number in its report.
@@ -40,7 +40,7 @@ pub enum Column {
     Dy,
     /// Its code, where it is `ok`.
     Code,
-    /// What its code is called, where the names that are given have it.
+    /// What its code is called, if the given names have it.
     CommonName,
     /// The number of its fault, where it is `bad`.
     Fault,
@@ -48,7 +48,7 @@ pub enum Column {
     CollectionNameHex,
     /// The bytes of the pattern's name in hex, where it is not UTF-8.
     NameHex,
-    /// How many objects it has left, where it is `ash`.
+    /// How many objects it has fallen apart into, where it is `ash`.
     Objects,
     /// The first generation with too many cells, where it is `large`.
     Generation,
@@ -58,7 +58,7 @@ pub enum Column {
     FaultText,
 }
 
-// What a row has of a field.
+// What a row has for a field.
 fn cell_of(value: Value) -> Cell
     ensures { content_of result ≡ value_content value.entry }
 {
@@ -69,7 +69,7 @@ fn cell_of(value: Value) -> Cell
     }
 }
 
-// What a row has of the field with a label.
+// What a row has for the field with this label.
 fn field_cell<'a>(outcome: &Outcome<'a>, label: Label) -> Cell<'a>
     ensures { content_of result ≡ field_content outcome.now label }
 {
@@ -79,7 +79,7 @@ fn field_cell<'a>(outcome: &Outcome<'a>, label: Label) -> Cell<'a>
     }
 }
 
-// What a row has of the words of a fault.
+// What a row has for the words of a fault.
 fn fault_cell<'a>(outcome: &Outcome<'a>) -> Cell<'a>
     ensures { content_of result ≡ fault_content (value_at label.Fault (said outcome.now).fields) }
 {
@@ -89,7 +89,7 @@ fn fault_cell<'a>(outcome: &Outcome<'a>) -> Cell<'a>
     }
 }
 
-// What a row has of the name of a code.
+// What a row has for the name of a code.
 fn called_cell<'a>(names: Option<&'a Names>, outcome: &Outcome<'a>) -> Cell<'a>
     ensures { content_of result
         ≡ called_content (option_copied names.entry) (value_at label.Code (said outcome.now).fields) }
@@ -125,7 +125,7 @@ impl Column {
         Column::FaultText,
     ];
 
-    /// Those whose names come before that of the engines, of which JSON has a list, in the order of their names.
+    /// The columns whose names come before `engines`, which is a list in JSON, in the order of their names.
     pub const FIRST: [Column; 7] = [
         Column::Code,
         Column::Collection,
@@ -136,7 +136,7 @@ impl Column {
         Column::Dy,
     ];
 
-    /// Those between the engines and the parts, of which JSON has a list too.
+    /// The columns between `engines` and `parts`, which is a list in JSON too, in the order of their names.
     pub const MIDDLE: [Column; 7] = [
         Column::Fault,
         Column::FaultText,
@@ -147,7 +147,7 @@ impl Column {
         Column::Onset,
     ];
 
-    /// Those behind the parts.
+    /// The columns after `parts`, in the order of their names.
     pub const LAST: [Column; 5] = [
         Column::Pattern,
         Column::Period,
@@ -184,7 +184,7 @@ impl Column {
         }
     }
 
-    /// Whether a table has the column: one without names has none of them.
+    /// Whether a table has the column: a table without names has no column for them.
     pub fn is_shown(self, names: Option<&Names>) -> bool
         ensures { result ≡ is_shown (option_copied names.entry) self }
     {
@@ -223,7 +223,7 @@ impl Column {
     }
 }
 
-/// What the row of a pattern has in those of these columns that a table has. The only error is out of memory.
+/// What the row of a pattern has in each of these columns that a table has. The only error is out of memory.
 pub fn entry_row<'a>(
     alloc: Global,
     names: Option<&'a Names>,

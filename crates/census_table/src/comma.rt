@@ -1,9 +1,10 @@
 //! Tables as comma-separated values.
 ghost use Rattle.std.specs.Prelude.{◌≡◌, ◌++◌, map, IfOk, OnOk};
+ghost use Rattle.std.specs.List.{flat_map};
 ghost use Rattle.csv.specs.Records.{fields_of};
 ghost use Rattle.csv.specs.Writing.{default_writer, row_text};
-ghost use Rattle.census_table.specs.Contents.{row_of};
-ghost use Rattle.census_table.specs.Tables.{csv_records, row_fields};
+ghost use Rattle.census_table.specs.Contents.{content_bytes, row_of};
+ghost use Rattle.census_table.specs.Tables.{csv_record};
 ghost use Rattle.census_table.specs.Told.{rows_in};
 ghost use Rattle.census_table.specs.Written.{IsBetweenRecords, text_written};
 
@@ -22,9 +23,10 @@ fn names(alloc: Global, columns: &[&str]) -> Result<ByteRecord, AllocError>
     Ok(names)
 }
 
-// The fields of a row, where texts are to be safe or not.
+// The fields of a row. `safe` says whether texts are made safe.
 fn fields(alloc: Global, safe: bool, row: &[Field]) -> Result<ByteRecord, AllocError>
-    ensures { IfOk result (λ fields. fields_of fields ≡ row_fields safe (row_of row.now)) }
+    ensures { IfOk result (λ fields. fields_of fields
+        ≡ map (λ member. content_bytes safe member.content) (row_of row.now)) }
 {
     let mut fields = ByteRecord::new(alloc);
     for field in row {
@@ -57,7 +59,7 @@ fn push_row(
     requires { IsBetweenRecords writer.old }
     ensures between { OnOk result (IsBetweenRecords writer.new) }
     ensures text { OnOk result (text_written writer.new
-        ≡ text_written writer.old ++ row_text default_writer (row_fields safe (row_of row.now))) }
+        ≡ text_written writer.old ++ csv_record safe (row_of row.now)) }
 {
     let fields = fields(alloc, safe, row)?;
     write(writer, &fields)
@@ -73,7 +75,7 @@ fn push_rows(
     requires { IsBetweenRecords writer.old }
     ensures { OnOk result
         (text_written writer.new
-        ≡ text_written writer.old ++ csv_records safe (rows_in rows.now)) }
+        ≡ text_written writer.old ++ flat_map (csv_record safe) (rows_in rows.now)) }
 {
     for row in rows {
         push_row(alloc, safe, writer, row.as_slice())?;
@@ -102,9 +104,9 @@ pub fn header(alloc: Global, columns: &[&str]) -> Result<Vec<u8>, AllocError>
     finish(writer)
 }
 
-// A record for each row, where texts are to be safe or not.
+// A record for each row. `safe` says whether texts are made safe.
 pub fn records(alloc: Global, safe: bool, rows: &[Vec<Field>]) -> Result<Vec<u8>, AllocError>
-    ensures { IfOk result (λ text. text.items ≡ csv_records safe (rows_in rows.now)) }
+    ensures { IfOk result (λ text. text.items ≡ flat_map (csv_record safe) (rows_in rows.now)) }
 {
     let mut writer = Writer::from_writer(Vec::new(alloc));
     push_rows(alloc, safe, &mut writer, rows)?;

@@ -21,16 +21,16 @@ pub struct Kind {
     pub first: usize,
     /// How many there are, at most 2^64 - 1.
     pub count: u64,
-    /// Of how many patterns it is told, at most 2^64 - 1.
+    /// The number of patterns that it occurs in, at most 2^64 - 1.
     pub patterns: u64,
 }
 
-/// Kinds of objects, in an order of their own, each seen as the first of its objects, counted.
+/// Kinds of objects, in an order of their own. Each is seen as the first of its objects, with its counts.
 #[derive(Drop)]
 pub struct Kinds<'b, 'a> {
     objects: Objects<'b, 'a>,
     kinds: Vec<Kind>,
-    // What stands where there is no object; no kind has it.
+    // What is there where there is no object. No kind has it.
     nothing: Object<'a>,
 }
 
@@ -59,7 +59,7 @@ fn same_pattern(entry: &Entry, other: &Entry) -> bool
     entry.collection == other.collection && entry.pattern == other.pattern
 }
 
-// One that stands before so many others of its kind, and with them is told of so many patterns.
+// An object before `count` others of its kind. Together they occur in `patterns` patterns.
 fn before<'a>(object: &Object<'a>, count: u64, patterns: u64) -> Object<'a>
     ensures { result ≡ before object.now count patterns }
 {
@@ -70,14 +70,14 @@ fn before<'a>(object: &Object<'a>, count: u64, patterns: u64) -> Object<'a>
     }
 }
 
-// One that is the first of its kind so far, from the last on.
+// An object that is the only one of its kind so far, counting from the last object.
 fn alone<'a>(object: &Object<'a>) -> Object<'a>
     ensures { result ≡ alone object.now }
 {
     before(object, 0, 1)
 }
 
-// The number of patterns that one more adds, which stands before those of its kind.
+// The number of patterns that an object adds to its kind. It comes before the objects already counted.
 fn step_of(object: &Object, kind: &Object) -> u64
     ensures { result ≡ step_of object.now kind.now }
 {
@@ -88,7 +88,7 @@ fn step_of(object: &Object, kind: &Object) -> u64
     }
 }
 
-// A kind with one more object, which stands before those that were counted.
+// A kind with one more object, which comes before the objects already counted.
 fn joined<'a>(object: &Object<'a>, kind: &Object<'a>) -> Object<'a>
     ensures { result ≡ joined object.now kind.now }
 {
@@ -96,7 +96,7 @@ fn joined<'a>(object: &Object<'a>, kind: &Object<'a>) -> Object<'a>
     before(object, kind.count, patterns)
 }
 
-// A kind of which this is the first object, at this index, counted.
+// The kind whose first object, with its counts, is this one at this index.
 fn kind_of(index: usize, object: &Object) -> Kind
     ensures first { result.first ≡ index }
     ensures count { result.count ≡ object.now.count }
@@ -109,7 +109,7 @@ fn kind_of(index: usize, object: &Object) -> Kind
     }
 }
 
-// The first object of a kind, counted.
+// The first object of a kind, with the kind's counts.
 fn kind_at<'a>(nothing: &Object<'a>, objects: &Objects<'_, 'a>, kind: Kind) -> Object<'a>
     ensures { result ≡ kind_at nothing.now objects.now kind }
 {
@@ -121,7 +121,8 @@ fn kind_at<'a>(nothing: &Object<'a>, objects: &Objects<'_, 'a>, kind: Kind) -> O
     }
 }
 
-// Counts the object at an index, which stands before those that were counted, from the last kind on.
+// Counts the object at an index. It comes before the objects already counted; counting goes from the last object to the
+// first.
 fn take_in(
     nothing: &Object,
     objects: &Objects,
@@ -145,7 +146,7 @@ fn take_in(
     Ok(())
 }
 
-// The kinds of objects that stand in their order, from the last on.
+// The kinds of objects that are in the order of kinds, the last kind first.
 fn grouped(alloc: Global, nothing: &Object, objects: &Objects) -> Result<Vec<Kind>, AllocError>
     ensures { IfOk result (λ kinds.
         reverse (map (kind_at nothing.now objects.now) kinds.items) ≡ grouped objects.now) }
@@ -160,7 +161,7 @@ fn grouped(alloc: Global, nothing: &Object, objects: &Objects) -> Result<Vec<Kin
     Ok(kinds)
 }
 
-// Which of two kinds stands first: the one that has more objects, and then the first in the order of kinds.
+// Which of two kinds comes first: the one with more objects, and then the first in the order of kinds.
 fn count_order(nothing: &Object, objects: &Objects, one: &Kind, other: &Kind) -> Ordering
     ensures { result ≡ count_cmp (kind_at nothing.now objects.now one.now)
         (kind_at nothing.now objects.now other.now) }
@@ -191,7 +192,7 @@ impl<'b, 'a> Kinds<'b, 'a> {
         self.kinds.len()
     }
 
-    // The first object of the kind at this index, counted.
+    // The first object of the kind at this index, with the kind's counts.
     fn kind(&self, index: usize) -> Object<'a>
         requires { index < length self.now }
         ensures { result ≡ slice_index_or self.now index result }
@@ -199,7 +200,7 @@ impl<'b, 'a> Kinds<'b, 'a> {
         kind_at(&self.nothing, &self.objects, self.kinds[index])
     }
 
-    /// So many of them, from this index on. The only error is out of memory.
+    /// The `count` kinds from index `start` on. The only error is out of memory.
     pub fn some(
         &self,
         alloc: Global,
@@ -217,8 +218,8 @@ impl<'b, 'a> Kinds<'b, 'a> {
     }
 }
 
-/// The kinds of the objects of collections that are numbered from 1, each with how many there are and of how many patterns
-/// it is told, by falling count and then in the order of kinds. The only error is out of memory.
+/// The kinds of the objects of collections that are numbered from 1, each with the number of its objects and the number of
+/// patterns that it occurs in, by falling count and then in the order of kinds. The only error is out of memory.
 pub fn kinds_of<'b, 'a>(
     alloc: Global,
     sections: Sections<'b, 'a>,

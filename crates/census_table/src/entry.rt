@@ -1,12 +1,12 @@
 //! The patterns of a report.
 ghost use Rattle.std.specs.Prelude.{◌≡◌, IfOk};
-ghost use Rattle.census_table.specs.Entries.{entry_of_row, lines_under};
+ghost use Rattle.std.specs.List.{filter_map};
+ghost use Rattle.census_table.specs.Entries.{entry_of_row};
 
-use census_kept::Section;
-use census_rows::{Outcome, Row};
+use census_rows::{Outcome, Row, Section};
 use std::alloc::{AllocError, Global};
 
-/// What a table has of a pattern. Numbers count from 1.
+/// What a table has for a pattern. Numbers count from 1.
 #[derive(Clone, Copy)]
 pub struct Entry<'a> {
     pub collection: u64,
@@ -16,7 +16,7 @@ pub struct Entry<'a> {
     pub outcome: Outcome<'a>,
 }
 
-// What a row says of a pattern, in the collection that another row opens and that has this number.
+// What a row says about a pattern, in the collection that another row opens and that has this number.
 pub fn entry_of_row<'a>(number: u64, heading: &Row<'a>, row: &Row<'a>) -> Option<Entry<'a>>
     ensures { result ≡ entry_of_row number heading.now row.now }
 {
@@ -52,7 +52,7 @@ pub fn entries_under<'a>(
     rows: &Section<'_, 'a>,
 ) -> Result<Vec<Entry<'a>>, AllocError>
     ensures { IfOk result
-        (λ entries. entries.items ≡ lines_under number heading.now rows.now) }
+        (λ entries. entries.items ≡ filter_map (entry_of_row number heading.now) rows.now) }
 {
     let mut entries = Vec::new(alloc);
     for index in 0..rows.len() {

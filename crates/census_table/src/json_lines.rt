@@ -1,9 +1,10 @@
 //! Tables as one JSON object a line.
 ghost use Rattle.std.specs.Prelude.{◌≡◌, ◌++◌, IfOk, OnOk};
+ghost use Rattle.std.specs.List.{flat_map};
 ghost use Rattle.serde_json.specs.Data.{no_members, object};
 ghost use Rattle.serde_json.specs.View.{members_view, view};
 ghost use Rattle.census_table.specs.Contents.{row_of};
-ghost use Rattle.census_table.specs.Tables.{json_line, json_rows, with_row};
+ghost use Rattle.census_table.specs.Tables.{json_line, with_row};
 ghost use Rattle.census_table.specs.Told.{rows_in};
 
 use crate::cell::Field;
@@ -48,7 +49,7 @@ pub fn push_object(alloc: Global, text: &mut Vec<u8>, row: &[Field]) -> Result<(
 
 // A line for each row.
 pub fn lines(alloc: Global, rows: &[Vec<Field>]) -> Result<Vec<u8>, AllocError>
-    ensures { IfOk result (λ text. text.items ≡ json_rows (rows_in rows.now)) }
+    ensures { IfOk result (λ text. text.items ≡ flat_map json_line (rows_in rows.now)) }
 {
     let mut text = Vec::new(alloc);
     for row in rows {

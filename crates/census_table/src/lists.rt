@@ -1,30 +1,29 @@
-//! What the rows behind a `line` row tell, as lists in JSON, of which one item is held at a time.
+//! What the rows after a `line` row say, as lists in JSON. One item is held at a time.
 ghost use Rattle.std.specs.Prelude.{◌≡◌, false, Some, IfOk, MatchResult};
-ghost use Rattle.std.specs.List.{take_while};
+ghost use Rattle.std.specs.List.{filter_map, take_while};
 ghost use Rattle.watched.specs.Telling.{TellsAfter, TellsFront, sheet};
 ghost use Rattle.census_facts.specs.Json.Pieces.{engines_end};
 ghost use Rattle.census_readback.specs.Following.{is_emits};
 ghost use Rattle.census_table.specs.Contents.{kind_data, portion_data};
-ghost use Rattle.census_table.specs.Lists.{all_engines, engines_of, portion_of, portions};
+ghost use Rattle.census_table.specs.Lists.{all_engines, engines_of, portion_of};
 ghost use Rattle.census_table.specs.Patterns.{engines_behind, parts_behind};
 ghost use Rattle.census_table.specs.Pieces.{content_text, is_later, item_text, items_text, kind_head, kind_text};
 
 use census_facts::{counted_value, push_engines_end, push_engines_head, push_item};
-use census_kept::Section;
 use census_readback::{emits_first, rows_behind};
-use census_rows::{Behind, Row};
+use census_rows::{Behind, Row, Section};
 use std::alloc::{AllocError, Global};
 use std::io::Write;
 use watched::{Block, Output, put};
 
-/// So many objects with a code.
+/// A number of objects with the same code.
 #[derive(Clone, Copy)]
 pub struct Portion<'a> {
     pub code: &'a [u8],
     pub count: u64,
 }
 
-// How many objects with a code a row tells of.
+// The code of a row and its number of objects.
 fn portion_of<'a>(row: &Row<'a>) -> Option<Portion<'a>>
     ensures { result ≡ portion_of row.now }
 {
@@ -41,7 +40,7 @@ fn portion_of<'a>(row: &Row<'a>) -> Option<Portion<'a>>
     }
 }
 
-// The item for how many objects have a code.
+// The item for a number of objects with one code.
 fn portion_text(alloc: Global, later: bool, portion: &Portion) -> Result<Vec<u8>, AllocError>
     ensures { IfOk result (λ text. text.items ≡ item_text portion_data later (Some portion.now)) }
 {
@@ -51,8 +50,8 @@ fn portion_text(alloc: Global, later: bool, portion: &Portion) -> Result<Vec<u8>
     Ok(text)
 }
 
-// Tells the item of a row that tells how many objects have a code, and returns whether what comes behind is later than an
-// item.
+// Writes the item of a row, if it gives a number of objects with a code. Returns whether there is an item before what
+// follows.
 fn put_portion<W: Write>(
     alloc: Global,
     row: &Row,
@@ -75,7 +74,7 @@ fn put_portion<W: Write>(
     }
 }
 
-// Tells an item for each row that tells how many objects have a code.
+// Writes an item for each row that gives a number of objects with a code.
 fn put_portions<W: Write>(
     alloc: Global,
     rows: &Section,
@@ -83,8 +82,8 @@ fn put_portions<W: Write>(
     writer: &mut Output<W>,
 ) -> Result<(), AllocError>
     ensures { MatchResult result
-        (λ _. TellsAfter (items_text portion_data false (portions rows.now)) (sheet block.old writer.old) (sheet block.new writer.new))
-        (λ _. TellsFront (items_text portion_data false (portions rows.now)) (sheet block.old writer.old) (sheet block.new writer.new)) }
+        (λ _. TellsAfter (items_text portion_data false (filter_map portion_of rows.now)) (sheet block.old writer.old) (sheet block.new writer.new))
+        (λ _. TellsFront (items_text portion_data false (filter_map portion_of rows.now)) (sheet block.old writer.old) (sheet block.new writer.new)) }
 {
     let mut later = false;
     for index in 0..rows.len() {
@@ -93,7 +92,7 @@ fn put_portions<W: Write>(
     Ok(())
 }
 
-// What stands before that which engines emit, in an item.
+// The part of an item before what the engines emit.
 fn head_text(
     alloc: Global,
     later: bool,
@@ -110,7 +109,7 @@ fn head_text(
     Ok(text)
 }
 
-// What stands behind it.
+// The part of an item after what the engines emit.
 fn end_text(alloc: Global, period: u64) -> Result<Vec<u8>, AllocError>
     ensures { IfOk result (λ text. text.items ≡ engines_end period) }
 {
@@ -119,7 +118,7 @@ fn end_text(alloc: Global, period: u64) -> Result<Vec<u8>, AllocError>
     Ok(text)
 }
 
-// Tells the item of engines, where these rows tell what each emits.
+// Writes the item of engines. These rows say what each emits.
 fn put_kind<W: Write>(
     alloc: Global,
     period: u64,
@@ -142,8 +141,8 @@ fn put_kind<W: Write>(
     Ok(())
 }
 
-// Tells the item of the engines that a row tells of, where the first of the rows behind it tell what each emits, and returns
-// whether what comes behind is later than an item.
+// Writes the item of a row's engines, where the first of the rows after it say what each emits. Returns whether there is an
+// item before what follows.
 fn put_engine<W: Write>(
     alloc: Global,
     row: &Row,
@@ -183,7 +182,7 @@ fn put_engine<W: Write>(
     }
 }
 
-// Tells an item for each row that tells of engines.
+// Writes an item for each row that reports engines.
 fn put_engines<W: Write>(
     alloc: Global,
     rows: &Section,
@@ -202,8 +201,8 @@ fn put_engines<W: Write>(
     Ok(())
 }
 
-/// Tells the engines that the first of these rows tell of, as a list, where such rows stand behind a line, and else `null`.
-/// The only error is out of memory; then the first bytes of it are told.
+/// Writes the engines that the first of these rows report, as a list, if such rows come after a line, and otherwise `null`.
+/// The only error is out of memory; then a prefix of it has been written.
 pub fn put_engine_list<W: Write>(
     alloc: Global,
     kind: Behind,
@@ -226,8 +225,8 @@ pub fn put_engine_list<W: Write>(
     Ok(())
 }
 
-/// Tells the parts that the first of these rows tell of, as a list, where such rows stand behind a line, and else `null`.
-/// The only error is out of memory; then the first bytes of it are told.
+/// Writes the parts that the first of these rows report, as a list, if such rows come after a line, and otherwise `null`. The
+/// only error is out of memory; then a prefix of it has been written.
 pub fn put_part_list<W: Write>(
     alloc: Global,
     kind: Behind,

@@ -1,22 +1,22 @@
-//! The objects that reports tell of.
+//! The objects in reports.
 ghost use Rattle.std.specs.Prelude.{◌≡◌};
 ghost use Rattle.census_rows.specs.declared.row.Row.{Row};
-ghost use Rattle.census_table.specs.Objects.{object_of_row, object_under, object_with, text_in};
+ghost use Rattle.census_table.specs.Objects.{object_of_row, object_with, text_in};
 ghost use Rattle.census_table.specs.Places.{code_in, rule_in};
 
 use crate::entry::Entry;
 use census_rows::{Label, Row, Value};
 
-/// What is told of an object, which is a code under a rule: of one pattern, or of several together.
+/// What reports say about an object, which is a code under a rule: for one pattern, or for several together.
 #[derive(Clone, Copy)]
 pub struct Object<'a> {
-    /// The first pattern of which it is told.
+    /// The first pattern for which it is reported.
     pub first: Entry<'a>,
     pub rule: &'a [u8],
     pub code: &'a [u8],
     /// How many there are, at most 2^64 - 1.
     pub count: u64,
-    /// Of how many patterns it is told, at most 2^64 - 1.
+    /// The number of patterns for which it is reported, at most 2^64 - 1.
     pub patterns: u64,
 }
 
@@ -30,7 +30,7 @@ fn text_in(value: Option<Value>) -> Option<&[u8]>
     }
 }
 
-// The code that a row tells.
+// The code in a row.
 pub fn code_in<'a>(row: &Row<'a>) -> Option<&'a [u8]>
     ensures { result ≡ code_in row.now }
 {
@@ -51,7 +51,7 @@ pub fn rule_in<'a>(row: &Row<'a>) -> Option<&'a [u8]>
     }
 }
 
-// So many objects with a code, told of a pattern, under the pattern's rule.
+// `count` objects with a code, reported for a pattern, under the pattern's rule.
 fn object_with<'a>(
     entry: &Option<Entry<'a>>,
     count: u64,
@@ -72,7 +72,7 @@ fn object_with<'a>(
     })
 }
 
-// What a row tells of the pattern of the last line.
+// The objects that a row reports for the pattern of the last line.
 pub fn object_of_row<'a>(entry: &Option<Entry<'a>>, row: &Row<'a>) -> Option<Object<'a>>
     ensures { result ≡ object_of_row entry.now row.now }
 {

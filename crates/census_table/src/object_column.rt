@@ -25,7 +25,7 @@ pub enum ObjectColumn {
     Rule,
     /// The object's code.
     Code,
-    /// What its code is called, where the names that are given have it.
+    /// What its code is called, if the given names have it.
     CommonName,
     /// How many there are, at most 2^64 - 1.
     Count,
@@ -38,7 +38,7 @@ pub enum ObjectColumn {
 }
 
 impl ObjectColumn {
-    /// Those of a table of parts, in their order.
+    /// The columns of a table of parts, in their order.
     pub const OF_PARTS: [ObjectColumn; 8] = [
         ObjectColumn::Collection,
         ObjectColumn::CollectionName,
@@ -50,7 +50,7 @@ impl ObjectColumn {
         ObjectColumn::Count,
     ];
 
-    /// Those of a table of codes, in their order.
+    /// The columns of a table of codes, in their order.
     pub const OF_CODES: [ObjectColumn; 7] = [
         ObjectColumn::Rule,
         ObjectColumn::Code,
@@ -80,7 +80,7 @@ impl ObjectColumn {
         }
     }
 
-    /// Whether a table has the column: one without names has none of them.
+    /// Whether a table has the column: a table without names has no column for them.
     pub fn is_there(self, names: Option<&Names>) -> bool
         ensures { result ≡ is_there (option_copied names.entry) self }
     {
@@ -110,7 +110,7 @@ impl ObjectColumn {
     }
 }
 
-/// The row of an object in those of these columns that a table has. The only error is out of memory.
+/// The row of an object in each of these columns that a table has. The only error is out of memory.
 pub fn object_row<'a>(
     alloc: Global,
     names: Option<&'a Names>,

@@ -1,30 +1,31 @@
-//! The objects that reports tell of, held by where they are told.
+//! The objects in reports, held by their places.
 ghost use Rattle.std.specs.Prelude.{◌≡◌, ◌<◌, ◌≤◌, ◌+◌, ◌^◌, ◌++◌, [], filter, length, map, slice_index_or, IfOk, OnOk};
+ghost use Rattle.std.specs.Option.{option_or};
+ghost use Rattle.std.specs.List.{cons_option};
 ghost use Rattle.std.specs.List.Sorted.{IsPermutation};
 ghost use Rattle.std.specs.Cmp.Lexicographic.{slice_cmp};
 ghost use Rattle.std.specs.Ordering.{nat_cmp, ordering_then};
 ghost use Rattle.census_table.specs.Grouping.{AreInKinds};
 ghost use Rattle.census_table.specs.Kinds.{capped, kind_cmp, same_kind};
-ghost use Rattle.census_table.specs.Objects.{all_objects, entry_or, object_before, section_objects};
+ghost use Rattle.census_table.specs.Objects.{all_objects, section_objects};
 ghost use Rattle.census_table.specs.Places.{entry_at, key_at, object_at, place_cmp, row_in, told_at, told_in, AreBefore, AreRising};
 ghost use Rattle.census_table.specs.declared.object.Object.{Object};
 
 use crate::entry::{Entry, entry_of_row};
 use crate::object::{Object, code_in, object_of_row, rule_in};
 use crate::place::{OrderAtPlaces, Place, put_in_order};
-use census_kept::Section;
 use census_readback::Sections;
-use census_rows::{Outcome, Row};
+use census_rows::{Outcome, Row, Section};
 use std::alloc::{AllocError, Global};
 use std::cmp::Ordering;
 use std::marker::Model;
 
-/// The objects that reports tell of, in an order of their own. Of each its place is held, in 12 bytes.
+/// The objects in reports, in an order of their own. For each object its place is held, in 12 bytes.
 #[derive(Drop)]
 pub struct Objects<'b, 'a> {
     sections: Sections<'b, 'a>,
     places: Vec<Place>,
-    // What stands where nothing is told; that is at none of the places.
+    // What is there where no object is reported. No place has it.
     nothing: Object<'a>,
 }
 
@@ -39,7 +40,7 @@ impl<'b, 'a> Model for Objects<'b, 'a> {
     ghost view = { λ s. map (object_at s.nothing s.sections) s.places.items };
 }
 
-// The row at this index. Behind the last one there are `end` rows.
+// The row at this index. After the last one there are `end` rows.
 fn row_in<'a>(rows: &Section<'_, 'a>, index: usize) -> Row<'a>
     ensures { result ≡ row_in rows.now index }
 {
@@ -53,7 +54,7 @@ fn row_in<'a>(rows: &Section<'_, 'a>, index: usize) -> Row<'a>
     }
 }
 
-// The row at this index of a collection. Where there is no such collection there are `end` rows.
+// The row at this index of a collection. If there is no such collection, it is an `end` row.
 fn row_at<'a>(sections: &Sections<'_, 'a>, collection: usize, index: usize) -> Row<'a>
     ensures { result ≡ row_in (slice_index_or sections.now collection []) index }
 {
@@ -74,7 +75,7 @@ fn entry_at<'a>(number: u64, rows: &Section<'_, 'a>, index: usize) -> Option<Ent
     entry_of_row(number, &row_in(rows, 0), &row_in(rows, index))
 }
 
-// The object that the row at an index of a collection tells of, under another row of it. Collections are numbered from 1.
+// The object that the row at an index of a collection reports, under another row of it. Collections are numbered from 1.
 fn told_in<'a>(
     sections: &Sections<'_, 'a>,
     collection: usize,
@@ -92,7 +93,7 @@ fn told_in<'a>(
     object_of_row(&entry, &row_in(&rows, row))
 }
 
-// The object that is told at a place.
+// The object that is reported at a place.
 fn told_at<'a>(sections: &Sections<'_, 'a>, place: Place) -> Option<Object<'a>>
     ensures { result ≡ told_at sections.now place }
 {
@@ -104,7 +105,7 @@ fn told_at<'a>(sections: &Sections<'_, 'a>, place: Place) -> Option<Object<'a>>
     )
 }
 
-// The code that is told at a place, or that of this object where none is.
+// The code that is reported at a place, or the code of this object if there is none.
 fn code_at<'a>(nothing: &Object<'a>, sections: &Sections<'_, 'a>, place: &Place) -> &'a [u8]
     ensures { result ≡ (key_at nothing.now sections.now place.now).code }
 {
@@ -112,7 +113,7 @@ fn code_at<'a>(nothing: &Object<'a>, sections: &Sections<'_, 'a>, place: &Place)
     code_in(&row).unwrap_or(nothing.code)
 }
 
-// The rule of the line under which something is told at a place, or that of this object where there is none.
+// The rule of the line to which a place belongs, or the rule of this object if there is none.
 fn rule_at<'a>(nothing: &Object<'a>, sections: &Sections<'_, 'a>, place: &Place) -> &'a [u8]
     ensures { result ≡ (key_at nothing.now sections.now place.now).rule }
 {
@@ -120,7 +121,7 @@ fn rule_at<'a>(nothing: &Object<'a>, sections: &Sections<'_, 'a>, place: &Place)
     rule_in(&line).unwrap_or(nothing.rule)
 }
 
-// The code that is told at a place, under its rule.
+// The code that is reported at a place, under its rule.
 fn key_at<'a>(nothing: &Object<'a>, sections: &Sections<'_, 'a>, place: Place) -> Object<'a>
     ensures { result ≡ key_at nothing.now sections.now place }
 {
@@ -131,7 +132,7 @@ fn key_at<'a>(nothing: &Object<'a>, sections: &Sections<'_, 'a>, place: Place) -
     }
 }
 
-// That object. Where there is none it is one that has as much of it as is there.
+// The object that is reported at a place. If there is none, it is `nothing` with the code and the rule that are there.
 fn object_at<'a>(nothing: &Object<'a>, sections: &Sections<'_, 'a>, place: Place) -> Object<'a>
     ensures { result ≡ object_at nothing.now sections.now place }
 {
@@ -141,7 +142,7 @@ fn object_at<'a>(nothing: &Object<'a>, sections: &Sections<'_, 'a>, place: Place
     }
 }
 
-/// Which of the kinds of two objects stands first.
+/// Which of the kinds of two objects comes first.
 pub fn kind_order(object: &Object, other: &Object) -> Ordering
     ensures { result ≡ kind_cmp object.now other.now }
 {
@@ -151,7 +152,7 @@ pub fn kind_order(object: &Object, other: &Object) -> Ordering
     lengths.then(codes.then(rules))
 }
 
-// Which of the codes that are told at two places stands first: the shorter, and of equally long ones by their bytes.
+// Which of the codes at two places comes first: the shorter one, and codes of equal length are ordered by their bytes.
 fn code_order(code: &[u8], other: &[u8]) -> Ordering
     ensures { result ≡ ordering_then (nat_cmp (length code.now) (length other.now))
         (slice_cmp nat_cmp code.now other.now) }
@@ -162,7 +163,7 @@ fn code_order(code: &[u8], other: &[u8]) -> Ordering
     }
 }
 
-// Which of the kinds that are told at two places stands first. Rules are unpacked only where the codes are the same.
+// Which of the kinds at two places comes first. Rules are unpacked only if the codes are the same.
 fn key_order(nothing: &Object, sections: &Sections, one: &Place, other: &Place) -> Ordering
     ensures { result ≡ kind_cmp (key_at nothing.now sections.now one.now)
         (key_at nothing.now sections.now other.now) }
@@ -177,7 +178,7 @@ fn key_order(nothing: &Object, sections: &Sections, one: &Place, other: &Place) 
     }
 }
 
-// Which of the kinds of the objects at two places stands first.
+// Which of the kinds of the objects at two places comes first.
 fn told_order(nothing: &Object, sections: &Sections, one: &Place, other: &Place) -> Ordering
     ensures { result ≡ kind_cmp (object_at nothing.now sections.now one.now)
         (object_at nothing.now sections.now other.now) }
@@ -207,7 +208,7 @@ impl<'s, 'b, 'a> OrderAtPlaces for ByKind<'s, 'b, 'a> {
     }
 }
 
-// Puts places that rise in the order of the kinds of their objects. Those of one kind keep their order.
+// Puts rising places in the order of the kinds of their objects. Places of one kind keep their order.
 fn sort_places(nothing: &Object, sections: &Sections, places: &mut [Place])
     requires { AreRising places.old }
     ensures permutation { IsPermutation (map (object_at nothing.now sections.now) places.old)
@@ -221,7 +222,7 @@ fn sort_places(nothing: &Object, sections: &Sections, places: &mut [Place])
 }
 
 impl<'b, 'a> Objects<'b, 'a> {
-    /// How many there are.
+    /// The number of objects.
     pub fn len(&self) -> usize
         ensures { result ≡ length self.now }
     {
@@ -248,10 +249,10 @@ impl<'b, 'a> Objects<'b, 'a> {
     }
 }
 
-// The index of the line of the pattern of which the row at an index tells, where this is that of the row before it.
+// The index of the line of the pattern to which the row at an index belongs, where `line` is that of the row before it.
 fn line_at(number: u64, rows: &Section, row: usize, line: usize) -> usize
     ensures { entry_at number rows.now result
-        ≡ entry_or (entry_at number rows.now row) (entry_at number rows.now line) }
+        ≡ option_or (entry_at number rows.now row) (entry_at number rows.now line) }
 {
     match entry_at(number, rows, row) {
         Some(_) => row,
@@ -259,9 +260,9 @@ fn line_at(number: u64, rows: &Section, row: usize, line: usize) -> usize
     }
 }
 
-// How many objects the row at an index of a collection tells of, under another row of it.
+// The number of objects that the row at an index of a collection reports, under another row of it: 0 or 1.
 fn count_at(sections: &Sections, collection: usize, under: usize, row: usize) -> usize
-    ensures count { result ≡ length (object_before
+    ensures count { result ≡ length (cons_option
         (told_in (collection + 1) (slice_index_or sections.now collection []) under row) []) }
     ensures few { result ≤ 1 }
 {
@@ -271,7 +272,7 @@ fn count_at(sections: &Sections, collection: usize, under: usize, row: usize) ->
     }
 }
 
-// How many objects the collection at this index has.
+// The number of objects in the collection at this index.
 fn count_section(sections: &Sections, collection: usize) -> usize
     requires within { collection < length sections.now }
     requires few { collection + 1 < 2 ^ 64 }
@@ -290,7 +291,7 @@ fn count_section(sections: &Sections, collection: usize) -> usize
     count
 }
 
-// How many objects collections have, at most 2^64 - 1.
+// The number of objects in all collections, at most 2^64 - 1.
 fn count_objects(sections: &Sections) -> usize
     ensures { result ≡ capped (length (all_objects 1 sections.now)) }
 {
@@ -301,7 +302,7 @@ fn count_objects(sections: &Sections) -> usize
     count
 }
 
-// Adds a place if there is an object.
+// Adds a place if an object is reported there.
 fn push_place(
     nothing: &Object,
     sections: &Sections,
@@ -310,7 +311,7 @@ fn push_place(
 ) -> Result<(), AllocError>
     ensures told { OnOk result (map (object_at nothing.now sections.now) places.new.items
         ≡ map (object_at nothing.now sections.now) places.old.items
-        ++ object_before (told_at sections.now place) []) }
+        ++ cons_option (told_at sections.now place) []) }
     ensures placed { OnOk result (AreBefore place.collection place.row places.old.items
         → AreBefore place.collection (place.row + 1) places.new.items) }
 {
@@ -377,8 +378,8 @@ fn places_in(alloc: Global, nothing: &Object, sections: &Sections) -> Result<Vec
     Ok(places)
 }
 
-/// The objects of collections that are numbered from 1, in the order of their kinds. Those of one kind stand pattern by
-/// pattern. The only error is out of memory.
+/// The objects of collections that are numbered from 1, in the order of their kinds. Objects of one kind are ordered pattern
+/// by pattern. The only error is out of memory.
 pub fn objects_in_kinds<'b, 'a>(
     alloc: Global,
     sections: Sections<'b, 'a>,

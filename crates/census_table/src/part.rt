@@ -5,8 +5,7 @@ ghost use Rattle.census_table.specs.Tables.{is_part};
 
 use crate::entry::{Entry, entry_of_row};
 use crate::object::{Object, object_of_row};
-use census_kept::Section;
-use census_rows::{Behind, Row};
+use census_rows::{Behind, Row, Section};
 use std::alloc::{AllocError, Global};
 
 // Whether an object is one of several that a pattern has fallen apart into.
@@ -19,8 +18,8 @@ fn is_part(object: &Object) -> bool
     }
 }
 
-// The parts of these rows, in the collection that a row opens and that has this number. `last` is the last pattern before
-// these rows, and then it is their last one.
+// The parts in these rows, in the collection that a row opens and that has this number. `last` is the last pattern before
+// these rows, and afterwards their last one.
 pub fn parts_under<'a>(
     alloc: Global,
     number: u64,

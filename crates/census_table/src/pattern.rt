@@ -1,12 +1,12 @@
-//! Patterns in JSON, with what the rows behind their lines tell.
+//! Patterns in JSON, with what the rows after their lines say.
 ghost use Rattle.std.specs.Prelude.{◌≡◌, ◌≤◌, ◌++◌, [], false, length, map, IfOk, MatchResult, OnOk};
+ghost use Rattle.std.specs.List.{cons_option, flat_map};
 ghost use Rattle.std.specs.Option.{option_copied};
 ghost use Rattle.watched.specs.Telling.{TellsAfter, TellsFront, sheet};
 ghost use Rattle.census_table.specs.Columns.{pattern_row};
-ghost use Rattle.census_table.specs.Lists.{told_before};
 ghost use Rattle.census_table.specs.Patterns.{first_patterns, pattern_before, pattern_of_row};
 ghost use Rattle.census_table.specs.Pieces.{columns_text, end_of, head_of, middle_of};
-ghost use Rattle.census_table.specs.Tables.{json_line, json_rows};
+ghost use Rattle.census_table.specs.Tables.{json_line};
 ghost use Rattle.census_table.specs.declared.table.Format.TheVariants.{Json};
 
 use crate::column::{Column, entry_row};
@@ -14,8 +14,7 @@ use crate::entry::{Entry, entry_of_row};
 use crate::json_lines::put_row;
 use crate::lists::{put_engine_list, put_part_list};
 use census_facts::{Names, push_members};
-use census_kept::Section;
-use census_rows::Row;
+use census_rows::{Row, Section};
 use serde_json::Map;
 use std::alloc::{AllocError, Global};
 use std::io::Write;
@@ -38,7 +37,7 @@ fn push_columns(
     push_members(alloc, text, members)
 }
 
-// What stands before the engines.
+// The text before the engines.
 fn head_of(alloc: Global, names: Option<&Names>, entry: &Entry) -> Result<Vec<u8>, AllocError>
     ensures { IfOk result (λ text. text.items ≡ head_of (option_copied names.entry) entry.now) }
 {
@@ -49,7 +48,7 @@ fn head_of(alloc: Global, names: Option<&Names>, entry: &Entry) -> Result<Vec<u8
     Ok(text)
 }
 
-// What stands between the engines and the parts.
+// The text between the engines and the parts.
 fn middle_of(alloc: Global, names: Option<&Names>, entry: &Entry) -> Result<Vec<u8>, AllocError>
     ensures { IfOk result (λ text. text.items ≡ middle_of (option_copied names.entry) entry.now) }
 {
@@ -60,7 +59,7 @@ fn middle_of(alloc: Global, names: Option<&Names>, entry: &Entry) -> Result<Vec<
     Ok(text)
 }
 
-// What stands behind the parts.
+// The text after the parts.
 fn end_of(alloc: Global, names: Option<&Names>, entry: &Entry) -> Result<Vec<u8>, AllocError>
     ensures { IfOk result (λ text. text.items ≡ end_of (option_copied names.entry) entry.now) }
 {
@@ -71,7 +70,7 @@ fn end_of(alloc: Global, names: Option<&Names>, entry: &Entry) -> Result<Vec<u8>
     Ok(text)
 }
 
-// Tells the line of a pattern whose line stands before these rows.
+// Writes the JSON line of a pattern whose `line` row comes before these rows.
 fn put_pattern<W: Write>(
     alloc: Global,
     names: Option<&Names>,
@@ -98,8 +97,8 @@ fn put_pattern<W: Write>(
     Ok(())
 }
 
-// Tells the line of the pattern of which a row says something, in the collection that another row opens and that has this
-// number. It stands before these rows.
+// Writes the JSON line of the pattern that a row is about, in the collection that another row opens and that has this number.
+// The row comes before these rows.
 fn put_line<'a, W: Write>(
     alloc: Global,
     names: Option<&'a Names>,
@@ -111,9 +110,9 @@ fn put_line<'a, W: Write>(
     writer: &mut Output<W>,
 ) -> Result<(), AllocError>
     ensures { MatchResult result
-        (λ _. TellsAfter (json_rows (map (pattern_row (option_copied names.entry) Json) (told_before (pattern_of_row number heading.now row.now rows.now) [])))
+        (λ _. TellsAfter (flat_map json_line (map (pattern_row (option_copied names.entry) Json) (cons_option (pattern_of_row number heading.now row.now rows.now) [])))
         (sheet block.old writer.old) (sheet block.new writer.new))
-        (λ _. TellsFront (json_rows (map (pattern_row (option_copied names.entry) Json) (told_before (pattern_of_row number heading.now row.now rows.now) [])))
+        (λ _. TellsFront (flat_map json_line (map (pattern_row (option_copied names.entry) Json) (cons_option (pattern_of_row number heading.now row.now rows.now) [])))
         (sheet block.old writer.old) (sheet block.new writer.new)) }
 {
     match entry_of_row(number, heading, row) {
@@ -122,8 +121,8 @@ fn put_line<'a, W: Write>(
     }
 }
 
-/// Tells a line for each pattern of the first so many rows, in the collection that a row opens and that has this number. The
-/// only error is out of memory; then the first bytes of it are told.
+/// Writes a line for each pattern of the first `count` rows, in the collection that a row opens and that has this number. The
+/// only error is out of memory; then a prefix of it has been written.
 pub fn put_first_lines<'a, W: Write>(
     alloc: Global,
     names: Option<&'a Names>,
@@ -136,9 +135,9 @@ pub fn put_first_lines<'a, W: Write>(
 ) -> Result<(), AllocError>
     requires { count ≤ length rows.now }
     ensures { MatchResult result
-        (λ _. TellsAfter (json_rows (map (pattern_row (option_copied names.entry) Json) (first_patterns count number heading.now rows.now)))
+        (λ _. TellsAfter (flat_map json_line (map (pattern_row (option_copied names.entry) Json) (first_patterns count number heading.now rows.now)))
         (sheet block.old writer.old) (sheet block.new writer.new))
-        (λ _. TellsFront (json_rows (map (pattern_row (option_copied names.entry) Json) (first_patterns count number heading.now rows.now)))
+        (λ _. TellsFront (flat_map json_line (map (pattern_row (option_copied names.entry) Json) (first_patterns count number heading.now rows.now)))
         (sheet block.old writer.old) (sheet block.new writer.new)) }
 {
     for index in 0..count {

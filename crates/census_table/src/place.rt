@@ -10,14 +10,15 @@ ghost use Rattle.census_table.specs.declared.place.Place.{Place as ModelPlace};
 use std::alloc::AllocError;
 use std::cmp::Ordering;
 
-/// Where something is told, in 12 bytes. Each index counts from 0.
+/// Where something is reported, in 12 bytes. Each index counts from 0.
 #[derive(Clone, Copy)]
 pub struct Place {
     /// The index of the collection.
     pub collection: u32,
-    /// In the collection, that of the row under which this is told: the line of its pattern, or the row that opens it.
+    /// The index in the collection of the row to which this belongs: the line of its pattern, or the row that opens the
+    /// collection.
     pub under: u32,
-    /// That of the row that tells it, which may be the same.
+    /// The index in the collection of the row that reports it, which may be the same.
     pub row: u32,
 }
 
@@ -44,19 +45,19 @@ pub fn place_order(one: &Place, other: &Place) -> Ordering
     one.collection.cmp(&other.collection).then(rows)
 }
 
-/// An order of what is told at places.
+/// An order of what is reported at places.
 pub trait OrderAtPlaces {
     ghost use Rattle.std.specs.Cmp.{IsTotalOrder};
     ghost use Rattle.std.specs.declared.cmp.Ordering.{Ordering};
     ghost use Rattle.census_table.specs.declared.place.Place.{Place};
 
-    /// The order. Places at which the same is told are level in it.
+    /// The order. Places that report the same are level in it.
     ghost cmp: { Self → Place → Place → Ordering };
 
-    /// It is total.
+    /// The order is total.
     ghost total: { (order : Self) → IsTotalOrder (cmp order) };
 
-    /// Which of two places stands first in it.
+    /// Which of two places comes first in it.
     fn order(&self, one: &Place, other: &Place) -> Ordering
         ensures { result ≡ cmp self.now one.now other.now };
 }
@@ -89,7 +90,7 @@ fn put_run_in_order<O: OrderAtPlaces>(order: &O, places: &mut [Place]) -> usize
     count
 }
 
-// Puts places that do not fall in an order by collections and rows where they are level in it.
+// Takes places that do not fall in an order. Puts those that are level in it by collections and rows.
 fn put_runs_in_order<O: OrderAtPlaces>(order: &O, places: &mut [Place])
     requires { Rises (λ p q. is_gt (O.cmp order.now p q) ≡ false) places.old }
     ensures permutation { IsPermutation places.old places.new }
@@ -103,8 +104,8 @@ fn put_runs_in_order<O: OrderAtPlaces>(order: &O, places: &mut [Place])
     }
 }
 
-/// Puts places that rise in an order. Those that are level in it keep their order. No second list is needed: what is level is
-/// put in the order of places once the rest is.
+/// Puts rising places in an order. Places that are level in it keep their order. No second list is needed: level places are
+/// put in the order of places after the rest is done.
 pub fn put_in_order<O: OrderAtPlaces>(order: &O, places: &mut [Place])
     requires { AreRising places.old }
     ensures permutation { IsPermutation places.old places.new }

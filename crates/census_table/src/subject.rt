@@ -1,17 +1,17 @@
 //! What a table has a row for each of.
-ghost use Rattle.std.specs.Prelude.{◌≡◌, map, IfOk};
+ghost use Rattle.std.specs.Prelude.{◌≡◌, filter, map, IfOk};
 ghost use Rattle.std.specs.Option.{option_copied};
 ghost use Rattle.census_readback.specs.Shapes.{AreReports};
-ghost use Rattle.census_table.specs.Columns.{name_of, shown};
-ghost use Rattle.census_table.specs.ObjectColumns.{there, title_of};
+ghost use Rattle.census_table.specs.Columns.{is_shown, name_of};
+ghost use Rattle.census_table.specs.ObjectColumns.{is_there, title_of};
 ghost use Rattle.census_table.specs.Tables.{IsListingOf, listing_of, names_in};
 
 use crate::column::Column;
 use crate::counting::{Kinds, kinds_of};
 use crate::object_column::ObjectColumn;
 use census_facts::Names;
-use census_kept::Rows;
 use census_readback::{Sections, collections};
+use census_rows::Rows;
 use std::alloc::{AllocError, Global};
 
 /// What a table has a row for each of.
@@ -19,14 +19,14 @@ use std::alloc::{AllocError, Global};
 pub enum Subject {
     /// A pattern.
     Patterns,
-    /// A `part` row: that several parts of a pattern are one object.
+    /// A `part` row, which says how many parts of a pattern have one code.
     Parts,
-    /// A code under a rule, by falling count, and then in the order of codes: the shorter first, and equally long ones by
-    /// their bytes, and then by those of the rule.
+    /// A code under a rule, by falling count and then in the order of codes: the shorter first, codes of equal length by
+    /// their bytes, and then by the bytes of the rule.
     Codes,
 }
 
-/// What stands in a table.
+/// The content of a table.
 #[derive(Drop)]
 pub enum Table<'b, 'a> {
     /// The patterns of collections that are numbered from 1.
@@ -37,7 +37,7 @@ pub enum Table<'b, 'a> {
     Codes(Kinds<'b, 'a>),
 }
 
-/// What stands in the table of reports that stand one after another. The only error is out of memory.
+/// The content of the table of a sequence of reports. The only error is out of memory.
 pub fn table_of<'b, 'a>(
     alloc: Global,
     subject: Subject,
@@ -54,14 +54,14 @@ pub fn table_of<'b, 'a>(
     }
 }
 
-// What those of these columns are called that a table has.
+// What each of these columns that a table has is called.
 fn names_of(
     alloc: Global,
     names: Option<&Names>,
     columns: &[ObjectColumn],
 ) -> Result<Vec<&'static str>, AllocError>
     ensures { IfOk result (λ titles. map (λ s. s.now) titles.items
-        ≡ map title_of (there (option_copied names.entry) columns.now)) }
+        ≡ map title_of (filter (is_there (option_copied names.entry)) columns.now)) }
 {
     let mut titles = Vec::new(alloc);
     for column in columns {
@@ -72,14 +72,14 @@ fn names_of(
     Ok(titles)
 }
 
-// What those of these columns are called that are shown.
+// What each of these columns that is shown is called.
 fn pattern_names(
     alloc: Global,
     names: Option<&Names>,
     columns: &[Column],
 ) -> Result<Vec<&'static str>, AllocError>
     ensures { IfOk result (λ titles. map (λ s. s.now) titles.items
-        ≡ map name_of (shown (option_copied names.entry) columns.now)) }
+        ≡ map name_of (filter (is_shown (option_copied names.entry)) columns.now)) }
 {
     let mut titles = Vec::new(alloc);
     for column in columns {
@@ -91,8 +91,8 @@ fn pattern_names(
 }
 
 impl Table<'_, '_> {
-    /// What the columns are called. Where there are names, the column behind the codes is of what these are called. The
-    /// only error is out of memory.
+    /// What the columns are called. If there are names, the column after the codes has what these are called. The only error
+    /// is out of memory.
     pub fn names(
         &self,
         alloc: Global,

@@ -1,4 +1,4 @@
-//! Tables, told some rows at a time.
+//! Tables, written some rows at a time.
 ghost use Rattle.std.specs.Prelude.{◌≡◌, ◌≤◌, List, None, filter, length, map, IfOk, MatchResult};
 ghost use Rattle.std.specs.Option.{option_copied};
 ghost use Rattle.watched.specs.Telling.{TellsAfter, TellsFront, sheet};
@@ -24,9 +24,8 @@ use crate::part::parts_under;
 use crate::pattern::put_first_lines;
 use crate::subject::{Subject, Table, table_of};
 use census_facts::Names;
-use census_kept::{Rows, Section};
 use census_readback::Sections;
-use census_rows::Row;
+use census_rows::{Row, Rows, Section};
 use std::alloc::{AllocError, Global};
 use std::io::Write;
 use watched::{Block, Output, put};
@@ -40,20 +39,19 @@ pub enum Format {
         /// Whether a `'` stands before each text that a spreadsheet may take for a formula.
         safe: bool,
     },
-    /// As JSON: for each row one object on a line of its own, with a member for each column, in
-    /// the order of their names. Each line ends with LF. Of a pattern `engines` is a list, and so is a
-    /// member `parts`.
+    /// As JSON: for each row one object on a line of its own, with a member for each column, in the order of their names.
+    /// Each line ends with LF. For a pattern the member `engines` is a list, and so is a member `parts`.
     Json,
 }
 
-/// What of a collection has a row in a table.
+/// The items of a collection that have a row in a table.
 #[derive(Clone, Copy, Debug, PartialEq, Eq)]
 pub enum Item {
     Pattern,
     Part,
 }
 
-// As many rows as are told at a time.
+// How many rows are written at a time.
 const SOME: usize = 256;
 
 // The text of these rows.
@@ -81,7 +79,7 @@ fn entry_rows<'a>(
     Ok(rows)
 }
 
-// A record for each pattern of the first so many rows, in the collection that a row opens and that has this number.
+// A record for each pattern of the first `count` rows, in the collection that a row opens and that has this number.
 fn first_records<'a>(
     alloc: Global,
     safe: bool,
@@ -116,7 +114,7 @@ fn object_rows<'a>(
     Ok(rows)
 }
 
-// Tells what a table has before its rows.
+// Writes what a table has before its rows.
 fn put_head<W: Write>(
     alloc: Global,
     format: Format,
@@ -137,7 +135,7 @@ fn put_head<W: Write>(
     Ok(())
 }
 
-// Tells these rows.
+// Writes these rows.
 fn put_rows<W: Write>(
     alloc: Global,
     format: Format,
@@ -156,7 +154,7 @@ fn put_rows<W: Write>(
     Ok(())
 }
 
-// Tells a record for each pattern of the first so many rows.
+// Writes a record for each pattern of the first `count` rows.
 fn put_first_records<'a, W: Write>(
     alloc: Global,
     safe: bool,
@@ -180,7 +178,7 @@ fn put_first_records<'a, W: Write>(
     Ok(())
 }
 
-// Tells the rows of the patterns of the first so many rows. For a writer that has failed no text is made.
+// Writes the rows of the patterns of the first `count` rows. No text is made for a writer that has failed.
 fn put_patterns<'a, W: Write>(
     alloc: Global,
     format: Format,
@@ -210,7 +208,7 @@ fn put_patterns<'a, W: Write>(
     }
 }
 
-// Tells the rows of some of these objects. For a writer that has failed no text is made.
+// Writes the rows of some of these objects. No text is made for a writer that has failed.
 fn put_some<W: Write>(
     alloc: Global,
     format: Format,
@@ -233,7 +231,7 @@ fn put_some<W: Write>(
     put_rows(alloc, format, rows.as_slice(), block, writer)
 }
 
-// Tells the rows of kinds of objects, some at a time.
+// Writes the rows of kinds of objects, some at a time.
 fn put_kinds<W: Write>(
     alloc: Global,
     format: Format,
@@ -267,7 +265,7 @@ fn put_kinds<W: Write>(
     Ok(())
 }
 
-// Tells the rows of the collection that a row opens and that has this number.
+// Writes the rows of the collection that a row opens and that has this number.
 fn put_lines<'a, W: Write>(
     alloc: Global,
     format: Format,
@@ -296,7 +294,7 @@ fn put_lines<'a, W: Write>(
     Ok(())
 }
 
-// Tells the parts of the collection that a row opens and that has this number.
+// Writes the parts of the collection that a row opens and that has this number.
 fn put_parts<'a, W: Write>(
     alloc: Global,
     format: Format,
@@ -334,7 +332,7 @@ fn put_parts<'a, W: Write>(
     Ok(())
 }
 
-// Tells the rows of a collection that has this number.
+// Writes the rows of the collection that has this number.
 fn put_section<'a, W: Write>(
     alloc: Global,
     format: Format,
@@ -364,7 +362,7 @@ fn put_section<'a, W: Write>(
     }
 }
 
-// Tells the rows of collections that are numbered from 1.
+// Writes the rows of collections that are numbered from 1.
 fn put_sections<W: Write>(
     alloc: Global,
     format: Format,
@@ -396,7 +394,7 @@ fn put_sections<W: Write>(
     Ok(())
 }
 
-// Tells the rows of a table.
+// Writes the rows of a table.
 fn put_body<W: Write>(
     alloc: Global,
     format: Format,
@@ -434,14 +432,14 @@ fn put_body<W: Write>(
     }
 }
 
-/// Tells a table, which is UTF-8: of patterns those of the first report's collection 1 first, each collection's in the
-/// order of their numbers. The collections of a report are numbered on after those of the report before it.
+/// Writes a table, which is UTF-8. Patterns are in the order of their numbers, collection by collection, from collection 1 of
+/// the first report. The collections of a report are numbered on after those of the report before it.
 ///
-/// Where there are names, a column `common_name` behind `code` has what the code is called, and nothing where it has no name.
+/// If there are names, a column `common_name` after `code` has what the code is called, and nothing if it has no name.
 /// Without names there is no such column.
 ///
-/// The text of some rows stands in memory at a time. Where memory is refused, a prefix of the table
-/// was told. To a writer that has failed nothing is written, and no more text is made for it.
+/// The text of some rows is in memory at a time. If memory runs out, a prefix of the table was written. To a writer that has
+/// failed nothing is written, and no more text is made for it.
 pub fn put_listing<W: Write>(
     alloc: Global,
     format: Format,
@@ -461,8 +459,8 @@ pub fn put_listing<W: Write>(
     put_body(alloc, format, names, table, block, writer)
 }
 
-/// Tells the patterns of a report, or of several after one another, as a table, as `table_of` makes it and `put_listing`
-/// tells it without names.
+/// Writes the patterns of a report, or of several in sequence, as a table: the one that `table_of` makes and `put_listing`
+/// writes without names.
 pub fn put_table<W: Write>(
     alloc: Global,
     format: Format,

@@ -4,7 +4,7 @@ use Rattle.life_model.specs.Rule.{Rule}
 use Rattle.life_model.specs.Generation.{Generation}
 use Rattle.life_model.specs.Evolution.{generation, next}
 use Rattle.life_model.proofs.Recurrences.{generation-add, generation-next, generation-zero}
-use Rattle.life_leaps.specs.Planes.{Seen, rule_of}
+use Rattle.life_advance.specs.Leaps.Planes.{Seen, rule_of}
 use Rattle.life_advance.specs.Later.{IsLater, Trails}
 
 pub later_now : (R : Rule) (a : Generation × ℕ) → IsLater R a a
@@ -41,7 +41,7 @@ pub later_kept : (R : Rule) (a b c : (Generation × ℕ) × Rule) → b ≡ a �
 later_kept R a b c same cells age =
     later_same R a.0 a.0 c.0 (later_now R a.0) (cells ∙ ap (λ (p : (Generation × ℕ) × Rule). p.0.0) same) (age ∙ ap (λ (p : (Generation × ℕ) × Rule). p.0.1) same)
 
--- of two sets that have come from one, the one of the greater age comes from the other
+-- of two sets that have come from the same one, the older comes from the younger
 pub later_between : (R : Rule) (a b c : Generation × ℕ) → IsLater R a b → IsLater R a c → b.1 ≤ c.1 → IsLater R b c
 later_between R a b c l m older =
     let first : b.1 ≡ a.1 + l.steps = l.age in

@@ -1,2 +1,3 @@
 pub mod Laters
 pub mod WidthLemmas
+pub mod LeapsLemmas

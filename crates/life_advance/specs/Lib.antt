@@ -1,2 +1,3 @@
 pub mod Later
 pub mod Width
+pub mod Leaps

@@ -1,4 +1,4 @@
-//! A generation of a pattern.
+//! A later generation of a pattern.
 ghost use Rattle.std.specs.Prelude.{◌≡◌, ◌<◌, ◌≤◌, All, IfNone, IfOk, IfSome};
 ghost use Rattle.life_model.specs.Evolution.{generation};
 ghost use Rattle.life_model.specs.Generation as sets;
@@ -7,14 +7,15 @@ ghost use Rattle.life_advance.specs.Later.{IsLater, Trails};
 
 use crate::effort::Effort;
 use crate::leaping::leapt;
+use crate::leaps::LeapPlane;
 use crate::walking::walk;
 use life_board::Board;
 use life_cells::{CellList, Rule};
-use life_leaps::LeapPlane;
 use life_plane::{AGE_LIMIT, Plane};
 use std::alloc::{AllocError, Global};
 
-/// Makes some steps, and then leaps where these get further: the cells at an age, where it comes to it.
+/// Makes some steps, and then leaps if these get further. It returns the cells at the age `until` if it has reached
+/// that.
 fn turn(
     alloc: Global,
     kept: &mut Option<LeapPlane>,
@@ -47,8 +48,8 @@ fn turn(
     Ok(None)
 }
 
-/// What the cells of a list become after so many generations. Steps in tiles are made until leaps may pay, and then both by
-/// turns; leaps that memory is refused for are left out.
+/// What the cells of a list become after `generations` generations. Steps in tiles are made until leaps may pay, and
+/// then both by turns. Leaps for which there is no memory are left out.
 pub fn generation_of(
     alloc: Global,
     rule: &Rule,

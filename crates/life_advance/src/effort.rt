@@ -1,39 +1,40 @@
-//! How much work is given to steps and to leaps. It chooses what is tried next, and nothing rests on it.
+//! How work is divided between steps and leaps. This chooses what is tried next, and nothing rests on it.
 //!
-//! Work is counted in half bands of eight rows of 32 cells, some 12 ns. Steps go on while leaps have not paid: before each trial
-//! of leaps the work of all steps, done and to come, is guessed. Trials may take a quarter of it in all, and no more than twice
-//! what steps have worked. So where steps are better little is lost, and where leaps are better by far a trial soon has enough:
-//! one that is given up is gone on with, from where it came to, while its next leap lands beyond the steps.
+//! Work is counted in half bands of eight rows of 32 cells, some 12 ns each. Steps go on until leaps have paid off:
+//! before each trial of leaps the work of all steps, done and to come, is estimated. Trials may take a quarter of it in
+//! all, and no more than twice the work done by steps. So if steps are better, little is lost, and if leaps are much
+//! better, a trial soon has enough. A trial that is given up is resumed from where it came to, while its next leap
+//! lands beyond the steps.
 ghost use Rattle.std.specs.Prelude.{◌≤◌};
 
-/// So much work of steps before leaps are tried.
+/// The work of steps before leaps are first tried.
 const FIRST_TRIAL: u64 = 80_000;
 
-/// A band of eight rows of a tile.
+/// The work of a band of eight rows of a tile.
 const BAND_WORK: u64 = 3;
 
-/// What a step takes beside its bands.
+/// The work of a step apart from its bands.
 const STEP_WORK: u64 = 2;
 
-/// What it takes to put a cell into squares, and as much again to put it back into tiles.
+/// The work of putting a cell into squares. Putting it back into tiles takes as much again.
 const CELL_WORK: u64 = 6;
 
-/// The active bands are counted once in so many steps.
+/// The active bands are counted once in `SAMPLE` steps.
 pub const SAMPLE: u32 = 16;
 
-/// The greatest leap before which steps wait for an age that it divides the rest by.
+/// The greatest power of two that is to divide the rest before leaps are tried.
 const LONGEST_WAIT: u32 = 4_096;
 
-/// What steps and leaps have worked.
+/// The work done by steps and leaps.
 #[derive(Clone, Copy)]
 pub struct Effort {
     /// The work of steps.
     steps: u64,
     /// The work of trials that were given up.
     lost: u64,
-    /// With how much work of steps leaps are tried next.
+    /// The work of steps at which leaps are tried next.
     next_trial: u64,
-    /// The work of a step when it was last counted.
+    /// The work of a step when it was last measured.
     rate: u64,
 }
 
@@ -41,7 +42,7 @@ pub struct Effort {
 #[derive(Clone, Copy)]
 pub struct Trial {
     age: u32,
-    /// How much it may work, in bands of leaves.
+    /// The work that it may do, in bands of leaves.
     pub work: u64,
     /// The work of a step.
     rate: u64,
@@ -51,13 +52,14 @@ pub struct Trial {
 }
 
 impl Trial {
-    /// How much it may still work when it has worked so much and come to an age. It may work what the steps until there would.
+    /// The work that a trial may still do after it has worked `worked` and come to an age. It may also use what the
+    /// steps until then would have taken.
     pub fn left(&self, worked: u64, age: u32) -> u64 {
         let saved = self.saved(age) / 2;
         self.work.saturating_add(saved).saturating_sub(worked)
     }
 
-    /// Whether it may work at least half as much as it costs to change over.
+    /// Whether it may do at least half as much work as changing over costs.
     pub fn is_worthwhile(&self) -> bool {
         self.work > self.over.saturating_add(self.back) / 4
     }
@@ -70,7 +72,7 @@ impl Trial {
 }
 
 impl Effort {
-    /// Nothing was worked.
+    /// No work is done yet.
     pub fn new() -> Effort {
         Effort {
             steps: 0,
@@ -80,19 +82,20 @@ impl Effort {
         }
     }
 
-    /// Counts the steps until the next sample, which work out so many bands each.
+    /// Counts the steps until the next sample, each of which works out `bands` bands.
     pub fn add_steps(&mut self, bands: u64) {
         self.rate = bands.saturating_mul(BAND_WORK).saturating_add(STEP_WORK);
         let work = self.rate.saturating_mul(u64::from(SAMPLE));
         self.steps = self.steps.saturating_add(work);
     }
 
-    /// Whether leaps are to be tried at an age, with so many generations to come.
+    /// Whether leaps are to be tried at an age, with `left` generations to come.
     pub fn is_trial_due(&self, age: u32, left: u32) -> bool {
         self.next_trial <= self.steps && left % wait_of(age) == 0
     }
 
-    /// A trial at an age, with so many generations to come and so many cells, of squares that are there or are to be made.
+    /// A trial at an age, with `left` generations to come and `cells` cells. Its squares are there already if it
+    /// `is_begun`.
     pub fn trial(&self, age: u32, left: u32, cells: u64, is_begun: bool) -> Trial {
         let to_come = self.rate.saturating_mul(u64::from(left));
         let part = self.steps.saturating_add(to_come) / 4;
@@ -108,12 +111,12 @@ impl Effort {
         }
     }
 
-    /// Says when the next trial is due after one.
+    /// Sets when the next trial is due after one.
     pub fn put_off(&mut self) {
         self.next_trial = self.steps.saturating_add(self.steps / 2).max(FIRST_TRIAL);
     }
 
-    /// Counts a trial that has worked so many bands of leaves and come to an age.
+    /// Counts a trial that has worked `bands` bands of leaves and come to an age.
     pub fn add_trial(&mut self, trial: &Trial, bands: u64, age: u32) {
         let back = if age > trial.age { trial.back } else { 0 };
         let spent = bands

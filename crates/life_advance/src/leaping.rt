@@ -3,19 +3,19 @@ ghost use Rattle.std.specs.Prelude.{◌≡◌, ◌+◌, ◌<◌, ◌≤◌, ◌^
 ghost use Rattle.life_model.specs.Generation as sets;
 ghost use Rattle.life_cells.specs.Limits.{IsWithin};
 ghost use Rattle.life_advance.specs.Later.{IsLater, Trails};
-ghost use Rattle.life_leaps.specs.Planes.{rule_of, steps_made};
+ghost use Rattle.life_advance.specs.Leaps.Planes.{rule_of, steps_made};
 
 use crate::effort::{Effort, Trial};
+use crate::leaps::{LeapPlane, NoLeap};
 use life_board::Board;
 use life_cells::{CellList, Rule};
-use life_leaps::{LeapPlane, NoLeap};
 use life_plane::{AGE_LIMIT, Plane};
 use std::alloc::Global;
 
-/// More tries of leaps than there are generations to make, since some are refused memory.
+/// How many more leaps are tried than there are generations to make, since some run out of memory.
 const MORE_TRIES: u32 = 32;
 
-/// The greatest exponent, of those up to one, whose power of two divides a number.
+/// The greatest exponent, up to `greatest`, whose power of two divides a number.
 fn exponent_of(number: u32, greatest: u32) -> u32
     requires { 1 ≤ number }
     ensures { 2 ^ result ≤ number }
@@ -35,7 +35,7 @@ fn next_leap(number: u32) -> u32 {
     number & number.wrapping_neg()
 }
 
-/// Gives back the squares that the cells do not need, where squares take much memory.
+/// Frees the squares that the cells do not need, if squares take much memory.
 fn make_room(plane: &mut LeapPlane)
     ensures { plane.new ≡ plane.old }
 {
@@ -44,8 +44,8 @@ fn make_room(plane: &mut LeapPlane)
     }
 }
 
-/// Makes a leap towards an age, for so much work at most, and none longer than 2^greatest generations. Where memory is refused
-/// for it, the next is to be shorter. Whether to go on.
+/// Makes a leap towards an age, of at most 2^`greatest` generations and with at most `work` work. If it runs out of
+/// memory, the next leap has to be shorter. Returns whether to go on.
 fn leap_once(plane: &mut LeapPlane, until: u32, work: u64, greatest: &mut u32) -> bool
     requires until { until ≤ AGE_LIMIT }
     requires young { steps_made plane.old < until }
@@ -68,7 +68,7 @@ fn leap_once(plane: &mut LeapPlane, until: u32, work: u64, greatest: &mut u32) -
     }
 }
 
-/// Leaps until an age, as far as the work of a trial goes and memory is there.
+/// Leaps until an age, as far as the work of a trial and the memory allow.
 fn leap_on(plane: &mut LeapPlane, until: u32, trial: &Trial)
     requires until { until ≤ AGE_LIMIT }
     requires young { steps_made plane.old ≤ until }
@@ -96,7 +96,7 @@ pub struct Landing {
     pub age: u32,
 }
 
-/// The cells of a board in squares, where there is memory.
+/// The cells of a board in squares, if there is memory.
 fn squares_of(alloc: Global, board: &Board, rule: &Rule) -> Option<LeapPlane>
     requires { board.now.1 ≤ AGE_LIMIT }
     ensures board { IfSome result (λ plane. plane.0 ≡ board.now) }
@@ -112,7 +112,7 @@ fn squares_of(alloc: Global, board: &Board, rule: &Rule) -> Option<LeapPlane>
     }
 }
 
-/// Where a plane of squares has come to, where there is memory for its cells.
+/// The cells and the age of a plane of squares, if there is memory for its cells.
 fn landing_of(plane: &LeapPlane) -> Option<Landing>
     ensures is { IfSome result (λ landing. (landing.cells, landing.age) ≡ plane.now.0) }
     ensures fits { IfSome result
@@ -125,7 +125,7 @@ fn landing_of(plane: &LeapPlane) -> Option<Landing>
     }
 }
 
-/// Whether the next leap of a plane that there is comes further than to an age.
+/// Whether the next leap of a plane, if there is one, goes beyond an age.
 fn lands_beyond(plane: &Option<LeapPlane>, age: u32, until: u32) -> bool {
     match plane {
         Some(plane) => {
@@ -136,8 +136,8 @@ fn lands_beyond(plane: &Option<LeapPlane>, age: u32, until: u32) -> bool {
     }
 }
 
-/// The plane that leaps go on with: the one that is there, where it is not behind, and else one with the cells of a board, where
-/// there is memory.
+/// The plane with which leaps go on: the one that is held, if it is not behind the board, or else one with the cells of
+/// the board, if there is memory.
 fn plane_for(
     alloc: Global,
     held: Option<LeapPlane>,
@@ -165,8 +165,8 @@ fn plane_for(
     }
 }
 
-/// The cells of a board some generations later, no later than at an age, where leaps get further with the work that they are
-/// given and with the memory that there is. The plane that leaps is kept.
+/// The cells of a board some generations later, at most up to an age, if leaps get further with the work and the memory
+/// that they have. The leaping plane is kept.
 pub fn leapt(
     alloc: Global,
     kept: &mut Option<LeapPlane>,

@@ -8,14 +8,14 @@ use life_cells::Rule;
 use life_plane::{AGE_LIMIT, Plane};
 use std::alloc::AllocError;
 
-/// Counts the work of steps, once in so many.
+/// Counts the work of steps, once in `SAMPLE` steps.
 fn count_steps(board: &Board, age: u32, effort: &mut Effort) {
     if age % SAMPLE == 0 {
         effort.add_steps(board.active_bands());
     }
 }
 
-/// Makes steps until an age, or until leaps are to be tried; one step at least.
+/// Makes steps until an age, or until leaps are to be tried, but at least one.
 pub fn walk(
     board: &mut Board,
     rule: &Rule,

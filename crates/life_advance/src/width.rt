@@ -1,6 +1,6 @@
-//! Whether cells grow so far apart that nothing comes again within a bound.
+//! Whether cells grow so far apart that nothing recurs within a bound.
 //!
-//! Tested in `tests_things`.
+//! Tested in `tests_objects`.
 
 mod growth;
 mod laws;

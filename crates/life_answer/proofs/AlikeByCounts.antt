@@ -13,7 +13,7 @@ use Rattle.life_objects.specs.Limits.{objects_bound_limit}
 use Rattle.life_objects.proofs.Lists.{Contains-head, Contains-later}
 use Rattle.life_objects.proofs.DecidedLemmas.Tests.{both}
 use Rattle.life_objects.specs.Independent.Independent.{independent_parts_of}
-use Rattle.life_growth.proofs.MeetingLemmas.Reach.{any_by, any_tells}
+use Rattle.life_objects.proofs.GrowthLemmas.MeetingLemmas.Reach.{any_by, any_tells}
 use Rattle.life_cells.specs.TextOrder.{shorter_cmp}
 use Rattle.life_cells.proofs.TextOrders.{shorter_exact}
 use Rattle.life_answer.specs.Census.{counted_parts, part_code}
@@ -123,7 +123,7 @@ module _ (R : Rule) where
       ∙ sym (sum_by-IsPermutation (λ (t : List ℕ). cond (has B kind fits (Ps ++ Qs) each t) 1 0) (map codes Ps) (map codes Qs) order)
       ∙ sym (count_kind B kind fits (Ps ++ Qs) each Qs (λ P one. Contains-append_right Ps Qs P one))
 
-  -- ---- what objects count as comes again
+  -- ---- what objects count as recurs
 
   parts_come : (b : ℕ) (P : Generation) (Qs : List Generation) (t : Bool) → RecursWithin R b P →
       all_come_again R objects_bound_limit Qs ≡ t → All (RecursWithin R (code_bound b)) (cond t Qs (P ∷ []))

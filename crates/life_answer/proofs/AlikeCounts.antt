@@ -1,5 +1,5 @@
--- Objects that are alike are counted alike, whatever bound they come again within, and whether what is near one another
--- counts as one object or not.
+-- Objects that are alike are counted alike, within whatever bound they recur, and whether or not things near one another
+-- count as one object.
 use Rattle.std.proofs.Common.{◌≡◌, ℕ, ◌+◌, ◌≤◌, Bool, true, cond, List, [], ◌∷◌, flat_map, count_by, inl, inr, sym, refl, ap, subst, ◌∙◌, arith}
 use Rattle.std.specs.Cmp as cmp
 use Rattle.std.specs.List.{All, AllZip, Contains, remove}
@@ -47,7 +47,7 @@ module _ (R : Rule) where
       let within : r.steps ≤ b = r.within in
       record { steps = r.steps; by = r.by; within = omega arith; recurs = r.recurs }
 
-  -- ---- of one code is one object
+  -- ---- sets with one code are one object
 
   pub same_object : (B : ℕ) (P Q : Generation) → RecursWithin R B P → RecursWithin R B Q →
       part_code R B P ≡ part_code R B Q → AreOneObject R P Q
@@ -122,7 +122,7 @@ module _ (R : Rule) where
         ones = (one, rest.ones);
       }
 
-  -- ---- and is counted alike
+  -- ---- alike objects are counted alike
 
   module _ (near : Bool) (b c : ℕ) where
     codes_alike : (Ps Qs : List Generation) → All (RecursWithin R b) Ps → All (RecursWithin R c) Qs →

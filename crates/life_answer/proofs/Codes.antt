@@ -114,7 +114,7 @@ front_same a b p q s t periods still counts =
           ∙ (λ i. front b (periods i) (still i))
     ]
 
--- what stands after the first `_`
+-- what follows the first `_`
 abbrev behind : List ℕ → List ℕ
 behind [] = []
 behind (c ∷ cs) = cond (eqb c 95) cs (behind cs)
@@ -188,7 +188,7 @@ module _ (R : Rule) (H K : Generation) (p q : ℕ) (d e : Cell) (first : RecursF
 first_return : (R : Rule) (G : Generation) (b : ℕ) (r : Recurrence) → Settles R G b r → RecursFirst R (generation R G r.onset) r.period r.displacement
 first_return R G b r s = record { recurs = s.recurs; least = s.least; unmoved = s.unmoved }
 
--- of two sets that settle, the codes are equal exactly where the generations at the onset are one object
+-- if two sets settle, their codes are equal exactly where the generations at the onset are one object
 pub codes_tell_objects : (R : Rule) (G J : Generation) (b c : ℕ) (r q : Recurrence) → Settles R G b r → Settles R J c q
     → (code_of R (generation R G r.onset) r.period r.displacement ≡ code_of R (generation R J q.onset) q.period q.displacement)
     ↔ AreOneObject R (generation R G r.onset) (generation R J q.onset)

@@ -1,4 +1,4 @@
--- Objects counted by their codes: one more, and the same in whatever order they come.
+-- Objects counted by their codes: one more, and the same result in whatever order they come.
 use Rattle.std.proofs.Common.{◌≡◌, ℕ, zero, suc, ◌+◌, ◌<◌, ◌≤◌, List, [], ◌∷◌, ◌++◌, length, get_or, set, take, drop, Ordering, Less, Equal, Greater}
 use Rattle.std.proofs.Common.{sym, refl, ap, ◌∙◌, arith}
 use Rattle.std.specs.Ordering.{ordering_reverse}
@@ -42,7 +42,7 @@ one_more code (part ∷ parts) =
 turned : (a b : List ℕ) (o : Ordering) → shorter_cmp a b ≡ o → shorter_cmp b a ≡ ordering_reverse o
 turned a b o e = shorter_total.antisymm b a ∙ ap ordering_reverse e
 
--- both before whatever stands there
+-- both before whatever is there
 both_first : (a b : List ℕ) (parts : List Part) (o : Ordering) → shorter_cmp a b ≡ o →
     with_code_by_order o a (single b) parts (single a ∷ parts)
     ≡ with_code_by_order (ordering_reverse o) b (single a) parts (single b ∷ parts)

@@ -1,4 +1,4 @@
--- What objects count as, whatever their order, and whether sets come again.
+-- What objects count as, whatever their order, and whether sets recur.
 use Rattle.std.proofs.Common.{◌≡◌, ℕ, Bool, true, nat_lt, List, [], ◌∷◌, ◌++◌, map, flat_map, refl, sym, ap, ◌∙◌}
 use Rattle.std.specs.List.{All}
 use Rattle.std.specs.List.Sorted.{IsPermutation}
@@ -16,7 +16,7 @@ use Rattle.life_answer.specs.Counted.{all_come_again, code_bound, counted_as, co
 use Rattle.life_answer.specs.Parts.{counted_codes}
 use Rattle.life_answer.proofs.Tallying.{all_codes_in_any_order}
 
--- ---- whether each of some sets comes again within a bound
+-- ---- whether each of some sets recurs within a bound
 
 module _ (R : Rule) (b : ℕ) where
   abbrev comes_again : Generation → Bool
@@ -45,7 +45,7 @@ abbrev pub codes_as : Bool → Rule → ℕ → Generation → List (List ℕ)
 codes_as near R b P = map (part_code R (code_bound b)) (counted_as near R b P)
 
 module _ (near : Bool) (R : Rule) (b : ℕ) where
-  -- of several objects
+  -- the codes of what several objects count as
   pub codes_of_each : (Ps : List Generation) →
       map (part_code R (code_bound b)) (counted_of near R b Ps) ≡ flat_map (codes_as near R b) Ps
   codes_of_each Ps = map-flat_map (part_code R (code_bound b)) (counted_as near R b) Ps

@@ -30,7 +30,7 @@ counted-any_order ts us order =
 
 -- ---- the sum
 
--- of each line its number times what g says of its tale
+-- the sum over the lines of the number of each times what g says of its tale
 abbrev pub total : (Tale → ℕ) → List Line → ℕ
 total g es = sum_by (λ (line : Line). line.1 * g line.0) es
 
@@ -159,7 +159,7 @@ module _ (ts : List Tale) where
       subst (AllPairs (λ e f. tale_cmp e.tale f.tale ≡ Less)) (sym (counted-is ts))
       (AllPairs-map (λ e f. tale_cmp e.tale f.tale ≡ Less) engines_of lines (pairs_rise lines in_order))
 
-  -- the lines tell a sum over all tales
+  -- the lines give a sum over all tales
   pub lines_total : (g : Tale → ℕ) → sum_by (λ (e : Engines). e.count * g e.tale) (counted_tales ts) ≡ sum_by g ts
   lines_total g =
       let all = all_after g ts finmap.empty in

@@ -1,4 +1,4 @@
--- What an object counts as is told by which object it is: the same codes, whichever set that is this object stands for it.
+-- Which object a set is determines what it counts as: the codes are the same for each set that is this object.
 use Rattle.std.proofs.Common.{◌≡◌, ℕ, ◌+◌, ◌*◌, ◌≤◌, Bool, true, false, cond, List, [], ◌∷◌, map, sym, refl, ap, subst, ◌∙◌, arith}
 use Rattle.std.specs.Cmp.{both_ways}
 use Rattle.std.specs.List.{All, AllZip, Contains}
@@ -33,7 +33,7 @@ use Rattle.life_answer.proofs.PartCodes.{one_code, recurs_across, turned_recurs,
 module _ (R : Rule) where
   -- ---- one object, set by set
 
-  -- two sets that come again, and are one object
+  -- two sets that recur, and are one object
   pub record AreOne (P Q : Generation) : Type 0 where
     pub steps : ℕ
     pub by : Cell
@@ -195,7 +195,7 @@ module _ (R : Rule) where
         order = one_list R (generation R Q l) (map (image k m v) Ps) (generations R Qs l) here there;
       }
 
-  -- ---- the codes of what it counts as
+  -- ---- the codes of what an object counts as
 
   pub wider_codes : (b B : ℕ) (Ps : List Generation) → b ≤ B → All (RecursWithin R b) Ps →
       map (part_code R b) Ps ≡ map (part_code R B) Ps

@@ -1,4 +1,4 @@
--- One more engine counted by what is told of it.
+-- One more engine counted by its tale.
 use Rattle.std.proofs.Common.{◌≡◌, ℕ, zero, suc, ◌+◌, ◌<◌, ◌≤◌, List, [], ◌∷◌, ◌++◌, length, get_or, set, take, drop, Ordering, Less, Equal, Greater}
 use Rattle.std.proofs.Common.{sym, refl, ap, ◌∙◌, arith}
 use Rattle.std.proofs.lemmas.List.{drop_more, drop-set, get_or_default, take-append-drop, take-set}

@@ -1,4 +1,4 @@
--- What becomes of a set is its onset, period and displacement, where it settles, and none where it doesn't.
+-- What is found for a set is its onset, period and displacement where it settles, and none where it doesn't.
 use Rattle.std.proofs.Common.{◌≡◌, ℕ, zero, suc, ◌+◌, ◌-◌, ◌<◌, ◌≤◌, ◌⊎◌, inl, inr, Bool, true, false, cond, Decides, Option, Some, None, is_some, sym, refl, ap, subst, ◌∙◌, true≢false, ℤ, List, arith}
 use Rattle.std.proofs.lemmas.Slice.Eq.{slice_eq-Decides}
 use Rattle.std.proofs.lemmas.Bool.{cases_Bool, cases_lt}
@@ -94,7 +94,7 @@ is_none : (o : Option ℕ) → is_some o ≡ false → o ≡ None
 is_none None e = refl
 is_none (Some n) e = absurd (true≢false e)
 
--- ---- generations that come again
+-- ---- generations that recur
 
 module _ (R : Rule) (G : Generation) where
   comes_again-is : (g n : ℕ) → Decides (comes_again R G g n) (shape R G (g + n) ≡ shape R G g)
@@ -228,7 +228,7 @@ module _ (R : Rule) (G : Generation) where
     large_apart_settled : (r : Recurrence) (m : ℕ) → recurrence_outcome R G r ≡ Large m → ⊥
     large_apart_settled r m e = cc
 
-    -- nor is it that a generation is too large
+    -- no such finding is that a generation is too large
     pub outcome-no_large : (first : ℕ) → outcome_of R G b ≡ Large first → ⊥
     outcome-no_large first e =
         elim settled_or_not [

@@ -1,4 +1,4 @@
--- Where growth is told as the answer, and that it is right.
+-- Where growth is the answer, and that this answer is right.
 use Rattle.std.proofs.Common.{◌≡◌, ℕ, zero, suc, ◌*◌, ◌≤◌, min, Bool, true, false, cond, List, Option, Some, None, inl, inr, sym, refl, ap, subst, ◌∙◌, true≢false, arith}
 use Rattle.std.specs.Prelude.{is_none}
 use Rattle.std.proofs.lemmas.Bool.{cases_Bool, cases_lt}
@@ -8,8 +8,8 @@ use Rattle.life_model.specs.Evolution.{generation}
 use Rattle.life_model.proofs.Recurrences.{generation-zero}
 use Rattle.life_objects.specs.Ash.{HasFallenApart}
 use Rattle.life_objects.specs.Decided.Decided.{ash_of}
-use Rattle.life_growth.specs.Growth.{IsGrowth}
-use Rattle.life_growth.proofs.OneGrowth.{engine_of, some_element}
+use Rattle.life_objects.specs.Growth.Growth.{IsGrowth}
+use Rattle.life_objects.proofs.GrowthLemmas.OneGrowth.{engine_of, some_element}
 use Rattle.life_answer.specs.Census.{ash_onset, census_found, census_of}
 use Rattle.life_answer.specs.Growing.{allowed_bound, growing_or}
 use Rattle.life_answer.specs.Limited.{StaysWithin, first_past, outcome_unless_large, unless_large}
@@ -22,7 +22,7 @@ use Rattle.life_answer.specs.declared.question.Question.TheVariants.{Objects}
 use Rattle.life_answer.specs.declared.tale.Engines.{Engines}
 use Rattle.life_answer.proofs.Ashes.{ash_is_so, ash_no_growth}
 use Rattle.life_answer.proofs.Limits.{none_past-is}
-use Rattle.life_growth.proofs.FatesLemmas.Finding.{cases_Option}
+use Rattle.life_objects.proofs.GrowthLemmas.FatesLemmas.Finding.{cases_Option}
 use Rattle.life_answer.proofs.Told.{growth_is_so, growth_later_told, told_alike, told_nothing}
 
 is_there : (o : Option ℕ) → is_none o ≡ true → o ≡ None
@@ -98,7 +98,7 @@ some_horizon R h H S Es growth =
     let within = engine.1.within in
     omega arith
 
--- what is answered that is no growth was found before
+-- an answer that is no growth was found without regard to growth
 pub growing-else : (told : Option (List Engines)) (found other : Outcome) → growing_or told found ≡ other →
     ((lines : List Engines) → other ≡ Grows lines → ⊥) → found ≡ other
 growing-else None found other e apart = e
@@ -124,7 +124,7 @@ module _ (near : Bool) (limit : Option ℕ) (R : Rule) (G : Generation) where
     unfolding census_of
     before_no_growth lines e = unless_no_growth (first_past limit R G (3 * b)) (ash_of R b (generation R G b)) lines e
 
-    -- the generation that is looked at
+    -- the generation looked at
     abbrev pub allowed : ℕ
     allowed = allowed_bound limit R G b
 
@@ -156,7 +156,7 @@ module _ (near : Bool) (limit : Option ℕ) (R : Rule) (G : Generation) where
           let told = growth_told near R (min horizon allowed) (generation R G allowed) in
           growing_told told lines (sym (outcome_by told refl) ∙ e)
 
-      -- the horizon, and the generation, by which it is told
+      -- the horizon and the generation by which growth is reported
       pub outcome_is_so : (lines : List Engines) → outcome ≡ Grows lines →
           (c : ℕ) × (1 ≤ c) × (c ≤ b) × StaysWithin limit R G (4 * c) × (h : ℕ) × (1 ≤ h) × (h ≤ c) × (h ≤ horizon)
           × (Es : List Generation) × (S : Generation) × IsGrowth R h (generation R G c) Es S

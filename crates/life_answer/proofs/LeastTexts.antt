@@ -1,4 +1,4 @@
--- The least of some texts: it is one of them, and texts that are the same have the same.
+-- The least of some texts: it is one of them, and the same texts have the same least one.
 use Rattle.std.proofs.Common.{if◌then◌else◌, ◌≡◌, ℕ, true, false, List, [], ◌∷◌, ◌++◌, map, Ordering, Less, Equal, Greater, ◌⊎◌, inl, inr, sym, refl, ap, subst, ◌∙◌, true≢false}
 use Rattle.std.specs.List.{fold}
 use Rattle.std.specs.Ordering.{ordering_reverse, is_gt}
@@ -86,7 +86,7 @@ least_text-is t (u ∷ us) h = fold-least u us
 pub least_member : (t : List ℕ) (ts : List (List ℕ)) → Member t ts → Member (least_text ts) ts
 least_member t ts h = (least_text-is t ts h).member
 
--- where each text of one list is one of the other's, and there is one, the least is the same
+-- where each text of one list is one of the other's and the other way round, and there is one, the least is the same
 pub least_same : (t : List ℕ) (ts us : List (List ℕ)) → Member t ts → ((v : List ℕ) → Member v ts → Member v us) → ((v : List ℕ) → Member v us → Member v ts) → least_text ts ≡ least_text us
 least_same t ts us h forth back =
     let one = least_text-is t ts h in

@@ -1,4 +1,4 @@
--- What a limit on cells changes: nothing of a pattern that stays within it.
+-- A limit on cells changes nothing for a pattern that stays within it.
 use Rattle.std.proofs.Common.{◌≡◌, ◌↔◌, ℕ, suc, ◌<◌, ◌≤◌, true, false, Option, None, Some, nat_lt, refl, sym, ap, arith}
 use Rattle.life_model.specs.Rule.{Rule}
 use Rattle.life_model.specs.Generation.{Generation, size}
@@ -24,7 +24,7 @@ module _ (R : Rule) (G : Generation) (last : ℕ) where
       let fails : nat_lt most (size (generation R G n)) ≡ false = first_from-none (λ n. nat_lt most (size (generation R G n))) (suc last) 0 n none (omega arith) (omega arith) in
       grind arith
 
-  -- none is past the limit exactly where all stay within it
+  -- there is no generation over the limit exactly where all stay within it
   pub none_past : (limit : Option ℕ) → StaysWithin limit R G last → first_past limit R G last ≡ None
   none_past None small = refl
   none_past (Some most) small = none_larger most small
@@ -33,11 +33,11 @@ module _ (R : Rule) (G : Generation) (last : ℕ) where
   stays_within None none n within = tt
   stays_within (Some most) none n within = all_smaller most none n within
 
-  -- of a pattern that stays within its limit the same is found as without one
+  -- for a pattern that stays within its limit the finding is the same as without one
   pub limited-same : (limit : Option ℕ) (found : Outcome) → StaysWithin limit R G last → outcome_unless_large limit R G last found ≡ found
   limited-same limit found small = ap (unless_large found) (none_past limit small)
 
-  -- where something else is found than that it is too large, it stays within its limit
+  -- where the finding is not that a generation is too large, the pattern stays within its limit
   pub limited-else : (limit : Option ℕ) (found other : Outcome) → outcome_unless_large limit R G last found ≡ other
       → ((first : ℕ) → other ≡ Large first → ⊥) → StaysWithin limit R G last × (found ≡ other)
   limited-else limit found other is differs = small_else (first_past limit R G last) refl is
@@ -66,7 +66,7 @@ module _ (R : Rule) (G : Generation) (last : ℕ) where
         λ m h. let fails : nat_lt most (size (generation R G m)) ≡ false = first.before m (omega arith) h in grind arith,
       )
 
-  -- the first generation past the limit has more cells than it may have, and none before it has
+  -- the first generation over the limit has more cells than it may have, and none before it has
   pub first_past-is : (most n : ℕ) → (first_past (Some most) R G last ≡ Some n) ↔ IsFirstLarger most n
   first_past-is most n = (larger_found most n, larger most n)
 

@@ -13,8 +13,8 @@ use Rattle.life_model.proofs.Symmetries.{contains-moved}
 use Rattle.life_objects.proofs.Unions.{contains-union}
 use Rattle.life_objects.specs.Decided.Parts.{reach}
 use Rattle.life_objects.proofs.DecidedLemmas.Reaching.{IsReached, reached_now}
-use Rattle.life_growth.specs.Engine.{IsEngine, Way}
-use Rattle.life_growth.proofs.OneGrowth.{IsUnsplit-engine}
+use Rattle.life_objects.specs.Growth.Engine.{IsEngine, Way}
+use Rattle.life_objects.proofs.GrowthLemmas.OneGrowth.{IsUnsplit-engine}
 
 -- a is no more than n from b, across and along
 record IsWithin (n : ℕ) (a b : Cell) : Type 0 where
@@ -31,7 +31,7 @@ at_most_or_more (pos m) n =
     ]
 at_most_or_more (negsuc m) n = inl (omega (arith, ints))
 
--- ---- no cell of a set is followed by one that is further, again and again
+-- ---- a set in which each cell is followed by a further one has no cell
 
 module _ (E : Generation) (f : Cell → ℤ)
     (bounded : (c : Cell) → IsReached (reach E) c → (neg_ℤ (pos (reach E)) ≤ℤ f c) × (f c ≤ℤ pos (reach E)))

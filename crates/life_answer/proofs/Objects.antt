@@ -1,4 +1,4 @@
--- One object has one period and one least text, and comes again in place or elsewhere whichever of its phases is taken.
+-- One object has one period and one least text, and recurs in place or elsewhere whichever of its phases is taken.
 use Rattle.std.proofs.Common.{◌≡◌, ℕ, ◌+◌, ◌-◌, ◌*◌, ◌≤◌, inl, inr, sym, refl, ap, subst, ◌∙◌, arith}
 use Rattle.life_model.specs.Cell.{Cell, origin}
 use Rattle.life_model.specs.Rule.{Rule}
@@ -14,7 +14,7 @@ use Rattle.life_model.proofs.Symmetries.{generation-moved, generation-turned}
 use Rattle.life_objects.proofs.Times.{generation-empty}
 use Rattle.life_answer.proofs.Sizes.{size-turned, size_by_shape}
 
--- a set comes again first after p steps, moved by d, which is nothing where there is no cell
+-- a set first recurs after p steps, moved by d, which is zero where there is no cell
 pub record RecursFirst (R : Rule) (H : Generation) (p : ℕ) (d : Cell) : Type 0 where
   pub recurs : RecursBy R H p d
   pub least : (n : ℕ) (by : Cell) → RecursBy R H n by → p ≤ n
@@ -31,7 +31,7 @@ turn-origin SwapFlipY = refl
 turn-origin SwapHalf = refl
 
 module _ (R : Rule) where
-  -- what recurs after n, in any later phase
+  -- what recurs after n does so in any later phase
   phase_moved : (H : Generation) (n : ℕ) (d : Cell) → RecursBy R H n d → (k : ℕ) → generation R H (k + n) ≡ translate_of (generation R H k) d
   phase_moved H n d r k =
       ap (generation R H) (let e : k + n ≡ n + k = omega arith in e)
@@ -62,7 +62,7 @@ module _ (R : Rule) where
         ∙ ap (λ X. image_under X m) (generation-add R H k n ∙ phase_moved H n d r k)
         ∙ turned-moved A d m)
 
-    -- what comes again after n in the first does so in the second
+    -- if the first set recurs after n, so does the second
     recurs_across : (q : ℕ) (e : Cell) → RecursBy R K q e → (n : ℕ) (d : Cell) → RecursBy R H n d → (by : Cell) × RecursBy R K n by
     recurs_across q e back n d r =
         let l = one.second_phase in
@@ -94,7 +94,7 @@ module _ (R : Rule) where
           let move = (normal_decides empty K).0 same in
           move.1 ∙ moved-empty move.0
 
-      -- what comes again in place in the first does so in the second
+      -- if the first set recurs in place, so does the second
       pub in_place_across : p ≡ q → d ≡ origin → e ≡ origin
       in_place_across periods still =
           let l = one.second_phase in
@@ -111,7 +111,7 @@ module _ (R : Rule) where
             | inr some ↦ move_one (generation R K l) some.0 e origin some.1 (sym (phase_moved K q e second.recurs l) ∙ stays)
           ]
 
-      -- the sizes of sets that come again after one step
+      -- the sizes of sets that recur after one step
       size_of_phase : (G : Generation) (by : Cell) → RecursBy R G 1 by → (k : ℕ) → size (generation R G k) ≡ size G
       size_of_phase G by r k =
           let shapes : shape R G (0 + k * 1) ≡ shape R G 0 =

@@ -1,4 +1,4 @@
--- The onset that is found of what has fallen apart is that of its ash.
+-- The onset that is found for what has fallen apart is that of its ash.
 use Rattle.std.proofs.Common.{◌≡◌, ℕ, ◌<◌, ◌≤◌, inl, inr, Bool, true, false, Option, Some, None, is_some, unwrap_or, List, refl, sym, ap, subst, ◌∙◌, true≢false, arith}
 use Rattle.std.proofs.lemmas.Bool.{cases_lt}
 use Rattle.life_model.specs.Rule.{Rule}
@@ -20,7 +20,7 @@ some_in None e = absurd (true≢false (sym e))
 some_in (Some x) e = (x, refl)
 
 module _ (R : Rule) (G : Generation) (b : ℕ) where
-  -- the test tells whether a generation is ash
+  -- the test says whether a generation is ash
   ash_by_test : (n : ℕ) → is_ash_then R G b n ≡ true → HasAsh R b (generation R G n)
   ash_by_test n e =
       let found = some_in (ash_of R b (generation R G n)) e in

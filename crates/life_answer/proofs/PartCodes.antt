@@ -1,4 +1,5 @@
--- The code of what comes again is one for all that is the same object, within each bound that is no less than its period.
+-- The code of what recurs is the same for all sets that are the same object, within each bound that is no less than its
+-- period.
 use Rattle.std.proofs.Common.{◌≡◌, ℕ, ◌+◌, ◌≤◌, inl, inr, sym, ap, subst, ◌∙◌, arith}
 use Rattle.life_model.specs.Cell.{Cell}
 use Rattle.life_model.specs.Rule.{Rule}
@@ -17,9 +18,9 @@ use Rattle.life_answer.proofs.Codes.{codes_tell_objects}
 use Rattle.life_answer.proofs.Findings.{outcome-more, outcome-settled, settled_or_not}
 
 module _ (R : Rule) where
-  -- ---- what comes again, within a bound
+  -- ---- what recurs, within a bound
 
-  -- P comes again within B, from generation 0 on
+  -- P recurs within B, from generation 0 on
   pub record SettlesAtOnce (B : ℕ) (P : Generation) : Type 0 where
     pub period : ℕ
     pub displacement : Cell
@@ -49,7 +50,7 @@ module _ (R : Rule) where
         | inr none ↦ absurd (none.nowhere 0 again)
       ]
 
-  -- what comes again at all does so at once, if a generation of it does so within B
+  -- what recurs at all does so at once, if a generation of it does so within B
   from_any : (P : Generation) (m : ℕ) (d : Cell) → RecursBy R P m d → (B g : ℕ) → SettlesAt R P B g → SettlesAtOnce B P
   from_any P m d r B g s =
       let n : ℕ = s.steps in
@@ -76,7 +77,7 @@ module _ (R : Rule) where
     again = generation-turned R P m n ∙ ap (λ G. image_under G m) r.again ∙ turned-moved P d m;
   }
 
-  -- what comes again so in the one does so in the other
+  -- if the one recurs after p steps, so does the other
   pub recurs_across : (P Q : Generation) → AreOneObject R P Q → (n : ℕ) (e : Cell) → RecursBy R Q n e → (p : ℕ) (d : Cell) →
       RecursBy R P p d → (f : Cell) × RecursBy R Q p f
   recurs_across P Q one n e back p d r =
@@ -122,7 +123,7 @@ module _ (R : Rule) where
         ]
       ]
 
-  -- within each bound that is no less
+  -- the code is the same within each bound that is no less
   pub wider_code : (b c : ℕ) (P : Generation) → b ≤ c → RecursWithin R b P → part_code R b P ≡ part_code R c P
   wider_code b c P le again =
       let s = from_start P again.steps again.by again.recurs b again.within in

@@ -1,4 +1,4 @@
--- Two lists that have each text equally often are one but for the order.
+-- Two lists that have each text equally often are equal but for the order.
 use Rattle.std.proofs.Common.{◌≡◌, ℕ, ◌+◌, ◌≤◌, Bool, true, cond, List, [], ◌∷◌, map, flat_map, count_by, inl, inr, sym, refl, ap, ◌∙◌, arith}
 use Rattle.std.specs.List.{Contains, remove, sum_by}
 use Rattle.std.specs.List.Sorted.{IsPermutation}

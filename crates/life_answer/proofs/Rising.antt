@@ -1,4 +1,4 @@
--- What is told of growth tells how the numbers of objects rise.
+-- What is reported about growth says how the numbers of objects rise.
 use Rattle.std.proofs.Common.{◌≡◌, ℕ, zero, suc, ◌+◌, ◌*◌, ◌/◌, ◌≤◌, Bool, cond, List, [], ◌∷◌, ◌++◌, map, flat_map, count_by, sym, refl, ap, ◌∙◌, arith}
 use Rattle.std.proofs.Math.Nat.{mul-div_cancel}
 use Rattle.std.specs.List.{All, AllZip, Contains, sum_by}
@@ -10,12 +10,12 @@ use Rattle.life_model.specs.Evolution.{generation}
 use Rattle.life_objects.specs.Ash.{HasFallenApart, IsObject}
 use Rattle.life_objects.specs.Kinds.{AreAlike}
 use Rattle.life_objects.proofs.Lists.{Contains-head, Contains-later}
-use Rattle.life_growth.specs.Engine.{IsEngineWithin}
-use Rattle.life_growth.specs.Growth.{IsGrowth}
-use Rattle.life_growth.specs.Told.{EmitsOver, emitted_by}
-use Rattle.life_growth.proofs.Alike.{count_by-append}
-use Rattle.life_growth.proofs.Counting.{debris_rises}
-use Rattle.life_growth.proofs.Emitting.{emits_some}
+use Rattle.life_objects.specs.Growth.Engine.{IsEngineWithin}
+use Rattle.life_objects.specs.Growth.Growth.{IsGrowth}
+use Rattle.life_objects.specs.Growth.Told.{EmitsOver, emitted_by}
+use Rattle.life_objects.proofs.GrowthLemmas.Alike.{count_by-append}
+use Rattle.life_objects.proofs.GrowthLemmas.Counting.{debris_rises}
+use Rattle.life_objects.proofs.GrowthLemmas.Emitting.{emits_some}
 use Rattle.life_answer.specs.Census.{counted_parts}
 use Rattle.life_answer.specs.Parts.{counted_codes}
 use Rattle.life_answer.specs.Rising.{number_of, risen}
@@ -29,7 +29,7 @@ use Rattle.life_answer.proofs.CountedTales.{lines_total}
 use Rattle.life_answer.proofs.Permuted.{count-flat_map}
 use Rattle.life_answer.proofs.Tales.{emits_objects, tale_right}
 
--- ---- lists of sets, each so many times
+-- ---- k copies of a list of sets
 
 times : ℕ → List Generation → List Generation
 times zero Ps = []
@@ -69,7 +69,7 @@ module _ (near : Bool) (R : Rule) (b m : ℕ) (code : List ℕ) where
       ∙ number_counted code (flat_map (codes_as near R b) Ps)
       ∙ count-flat_map (is_text code) (codes_as near R b) Ps
 
-  -- what an engine of which this is told emits in m generations
+  -- what an engine with this tale emits in m generations
   abbrev emitted : Tale → ℕ
   emitted t = (m / t.period) * number_of code t.emits
 
@@ -103,7 +103,7 @@ module _ (near : Bool) (R : Rule) (b m : ℕ) (code : List ℕ) where
             ∙ sym (sum_by-cons emitted (tale_of near R b E) (map (tale_of near R b) Es));
       }
 
-  -- ---- what the debris has more
+  -- ---- what the debris gains
 
   times_objects : (k : ℕ) (Ps : List Generation) → All (IsObject R b) Ps → All (IsObject R b) (times k Ps)
   unfolding times

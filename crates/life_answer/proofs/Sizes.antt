@@ -46,7 +46,7 @@ size-turned G m =
     let e = ap size (turned-undone G m) in
     omega arith
 
--- sets of one shape have as many cells
+-- sets of one shape have the same number of cells
 pub size_by_shape : (G H : Generation) → normal G ≡ normal H → size G ≡ size H
 size_by_shape G H e =
     let m = (normal_decides G H).0 e in

@@ -1,4 +1,4 @@
--- How often each tale is told, in the order of tales.
+-- How often each tale occurs, in the order of tales.
 use Rattle.std.proofs.Common.{◌≡◌, ℕ, zero, suc, ◌+◌, ◌<◌, Bool, true, false, cond, T, List, [], ◌∷◌, length, map, count_by, fold, Ordering, Less, Equal, Greater, Option, Some, None, inl, inr, sym, refl, ap, subst, ◌∙◌, true≢false, ◌&&◌, arith}
 use Rattle.std.specs.FinMap as finmap
 use Rattle.std.specs.FinMap.Entries as sorted
@@ -14,7 +14,7 @@ use Rattle.life_objects.proofs.Lists.{AllPairs-nil, Contains-head, Contains-late
 use Rattle.life_answer.specs.CountedTales.{counted_tales, same_tale, tale_cmp, with_tale, with_tale_by_order}
 use Rattle.life_answer.specs.declared.tale.Engines.{Engines}
 use Rattle.life_answer.specs.declared.tale.Tale.{Tale}
-use Rattle.life_growth.proofs.FatesLemmas.Finding.{cases_Option}
+use Rattle.life_objects.proofs.GrowthLemmas.FatesLemmas.Finding.{cases_Option}
 use Rattle.life_answer.proofs.TaleOrders.{same_by_test, tale_total, test_by_same}
 use Rattle.life_model.proofs.Tests.{first_holds, second_holds}
 
@@ -33,7 +33,7 @@ Line = Tale × ℕ
 abbrev pub found : Tale → List Line → Option ℕ
 found q es = sorted.find tale_cmp q es
 
--- a number that is there where it is not 0
+-- the number, unless it is 0
 abbrev pub counted : ℕ → Option ℕ
 counted zero = None
 counted (suc n) = Some (suc n)
@@ -42,7 +42,7 @@ one_counted : (n : ℕ) → Some (unwrap_or (counted n) 0 + 1) ≡ counted (n + 
 one_counted zero = refl
 one_counted (suc n) = ap Some (let e : suc n + 1 ≡ suc (n + 1) = omega arith in e) ∙ ap counted (let e : suc (n + 1) ≡ suc n + 1 = omega arith in e)
 
--- ---- what is found of a tale
+-- ---- what is found for a tale
 
 pub count-cons : (q t : Tale) (ts : List Tale) → count_by (same_tale q) (t ∷ ts) ≡ cond (same_tale q t) 1 0 + count_by (same_tale q) ts
 count-cons q t ts = sum_by-cons (λ (s : Tale). cond (same_tale q s) 1 0) t ts
@@ -147,7 +147,7 @@ none_found e es t h early =
 
 -- ---- the lines of a tally are what counting one tale after another makes
 
--- so many engines of which this is told
+-- the engines of a line: its tale, and how many have it
 abbrev pub engines_of : Line → Engines
 engines_of line = record { tale = line.0; count = line.1 }
 

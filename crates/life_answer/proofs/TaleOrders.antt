@@ -1,4 +1,4 @@
--- Tales are in one order, in which no two tie.
+-- There is one order of tales, and no two tales tie in it.
 use Rattle.std.proofs.Common.{◌≡◌, ℕ, zero, suc, ◌<◌, ◌≤◌, true, List, [], ◌∷◌, drop, length, Less, Greater, refl, sym, ap, ◌∙◌, arith}
 use Rattle.std.specs.Cmp as cmp
 use Rattle.std.specs.Cmp.{IsTotalOrder, int_cmp_total, nat_cmp_total, on_total, then_total}
@@ -50,7 +50,7 @@ same_by_test s t h = tale_exact s t ((cmp.Equal-is (tale_cmp s t)).0 h)
 pub test_by_same : (s t : Tale) → s ≡ t → same_tale s t ≡ true
 test_by_same s t e = ap (same_tale s) (sym e) ∙ ap is_eq (cmp.tied_itself tale_total s)
 
--- ---- lists of parts of which one ends
+-- ---- lists of parts, one of which ends
 
 after_none : (ps : List Part) → 1 ≤ length ps → slice_cmp part_cmp ps [] ≡ Greater
 after_none [] h = absurd (omega arith)

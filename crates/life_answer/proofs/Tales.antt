@@ -1,4 +1,4 @@
--- What is told of an engine is right, and the same of engines that are told alike.
+-- What is reported about an engine is right, and engines that are alike have the same tale.
 use Rattle.std.proofs.Common.{◌≡◌, ℕ, zero, suc, ◌<◌, Bool, true, List, [], ◌∷◌, map, sym, refl, ap, subst, ◌∙◌, arith}
 use Rattle.std.specs.List.{All, AllZip}
 use Rattle.std.proofs.lemmas.List.Elements.{All-append, All-nil}
@@ -7,13 +7,13 @@ use Rattle.life_model.specs.Generation.{Generation}
 use Rattle.life_model.proofs.Cells.{pair}
 use Rattle.life_objects.specs.Ash.{IsObject}
 use Rattle.life_objects.specs.Kinds.{AreAlike}
-use Rattle.life_growth.specs.Engines.Tracks.{way_along}
-use Rattle.life_growth.specs.Engine.{Emits, IsEngine, IsEngineWithin, Way, joined}
-use Rattle.life_growth.specs.Told.{AreToldAlike}
-use Rattle.life_growth.proofs.Emitting.{emits_some, emitted_alike}
-use Rattle.life_growth.proofs.OneWay.{displacements_are_one, periods_are_one}
-use Rattle.life_growth.specs.Fates.Tracks.{emitted_along}
-use Rattle.life_growth.proofs.FatesLemmas.Tracks.{its_track, track_emits, track_goes}
+use Rattle.life_objects.specs.Growth.Engines.Tracks.{way_along}
+use Rattle.life_objects.specs.Growth.Engine.{Emits, IsEngine, IsEngineWithin, Way, joined}
+use Rattle.life_objects.specs.Growth.Told.{AreToldAlike}
+use Rattle.life_objects.proofs.GrowthLemmas.Emitting.{emits_some, emitted_alike}
+use Rattle.life_objects.proofs.GrowthLemmas.OneWay.{displacements_are_one, periods_are_one}
+use Rattle.life_objects.specs.Growth.Fates.Tracks.{emitted_along}
+use Rattle.life_objects.proofs.GrowthLemmas.FatesLemmas.Tracks.{its_track, track_emits, track_goes}
 use Rattle.life_answer.specs.Census.{counted_parts}
 use Rattle.life_answer.specs.Counted.{counted_of}
 use Rattle.life_answer.specs.Tales.{tale_along, tale_by, tale_of}
@@ -34,7 +34,7 @@ module _ (R : Rule) where
       subst (All (IsObject R b)) (sym emits.together)
       (all_joined b emits.ashes way.period (λ n h. (emits.each n h).objects))
 
-  -- ---- what is told is right
+  -- ---- what is reported is right
 
   module _ (near : Bool) where
     pub tale_right : (b : ℕ) (E : Generation) (way : Way) (Ps : List Generation) → IsEngine R b E way → Emits R b way Ps →
@@ -73,7 +73,7 @@ module _ (R : Rule) where
     all_told_one b c (E ∷ Es) [] alike = absurd alike
     all_told_one b c (E ∷ Es) (F ∷ Fs) alike = λ i. told_one b c E F alike.0 i ∷ all_told_one b c Es Fs alike.1 i
 
-    -- ---- engines of which the same is told
+    -- ---- engines with the same tale
 
     module _ (b c : ℕ) (E F : Generation) (way other : Way) (one : IsEngine R b E way) (two : IsEngine R c F other)
         (same : tale_of near R b E ≡ tale_of near R c F) where

@@ -1,4 +1,4 @@
--- Objects are counted the same in whatever order their codes come, or they themselves.
+-- Objects are counted with the same result in whatever order their codes come, or they themselves.
 use Rattle.std.proofs.Common.{◌≡◌, ℕ, zero, suc, ◌<◌, List, [], ◌∷◌, ◌++◌, length, flat_map, fold, get_or, set, sym, refl, ap, ◌∙◌, arith}
 use Rattle.std.specs.List.{swap}
 use Rattle.std.specs.List.Sorted.{IsPermutation, SwapsInRange, apply_swaps}
@@ -8,7 +8,7 @@ use Rattle.life_answer.specs.declared.part.Part.{Part}
 use Rattle.life_answer.specs.Parts.{counted_codes, objects_in, with_code, with_codes}
 use Rattle.life_answer.proofs.Counted.{commutes, one_more}
 
--- ---- what is counted in any order, since any two are
+-- ---- what is counted in any order, since any two may change places
 
 module _ {X : Type 0} (with : X → List Part → List Part)
     (either_first : (x y : X) (parts : List Part) → with x (with y parts) ≡ with y (with x parts)) where
@@ -80,7 +80,7 @@ gather_all (code ∷ codes) =
 pub counted_all : (codes : List (List ℕ)) → objects_in (counted_codes codes) ≡ length codes
 counted_all codes = ap objects_in (gathers with_code commutes codes) ∙ gather_all codes
 
--- what counts alike does so beside others
+-- codes that count alike do so with others
 pub counted_after : (others codes alike : List (List ℕ)) → counted_codes codes ≡ counted_codes alike →
     counted_codes (others ++ codes) ≡ with_codes alike (counted_codes others)
 counted_after others codes alike same =

@@ -1,4 +1,4 @@
--- What is found of a text.
+-- What is found for a text.
 use Rattle.std.proofs.Common.{◌≡◌, ℕ, ◌≤◌, Bool, true, false, List, [], ◌∷◌, ◌++◌, Option, Some, None, Result, Ok, Err, cond, is_some, codes, ap, subst, sym, arith, ◌∙◌, ◌≢◌, IfOk, IsOk, OnErr, OnOk, refl, inl, inr}
 use Rattle.std.specs.Option.{option_or}
 use Rattle.std.specs.List.{list_all}
@@ -42,7 +42,7 @@ pub answer-refused : (q : Question) (text : List ℕ) (fault : RleFault) → ref
 unfolding answer_to_question
 answer-refused q text fault e = refused_by q (reading text) fault e
 
--- an answer that names a fault is that to a text with this fault
+-- an answer that names a fault is the answer to a text with this fault
 pub refused-answer : {E : Type 0} (r : Result Answer E) (q : Question) (text : List ℕ) (fault : RleFault) → IfOk r (λ a. a ≡ Refused (fault_number fault))
     → OnOk r (fault ≢ Memory) → (fault ≢ Memory → refusal text ≡ Some fault) → IfOk r (λ a. a ≡ answer_to_question q text)
 refused-answer (Ok a) q text fault e h refuses = e ∙ sym (answer-refused q text fault (refuses h))
@@ -149,7 +149,7 @@ outcome-no_growth R G b lines e =
       | inr not ↦ (let apart : Unresolved ≡ Grows lines = sym not.found ∙ e in cc)
     ]
 
--- what is found neither of a set within b nor where a generation is too large
+-- what is found neither for a set within b nor where a generation is too large
 record IsElse (b : ℕ) (other : Outcome) : Type 0 where
   settled : (R : Rule) (G : Generation) → outcome_of R G b ≡ other → ⊥
   large : (n : ℕ) → Large n ≡ other → ⊥
@@ -177,7 +177,7 @@ large_no_ash onset parts n e = cc
 large_no_growth : (lines : List Engines) (n : ℕ) → Large n ≡ Grows lines → ⊥
 large_no_growth lines n e = cc
 
--- where the question is which generation comes again, no answer is an ash
+-- where the question is which generation recurs, no answer is an ash
 pub answer-no_ash : (text : List ℕ) (b : ℕ) (cells : Option ℕ) (rule : Rule) (finding : Finding) (onset : ℕ) (parts : List Part)
     → answer_to_question (Settles b cells) text ≡ Found rule finding → finding.outcome ≡ Ash onset parts → ⊥
 answer-no_ash text b cells rule finding onset parts e ash =
@@ -185,7 +185,7 @@ answer-no_ash text b cells rule finding onset parts e ash =
     (record { settled = λ R G same. outcome-no_ash R G b onset parts same; large = large_no_ash onset parts }) text cells rule
     finding e ash
 
--- nor that it grows
+-- where the question is which generation recurs, no answer is that the pattern grows
 pub answer-no_growth : (text : List ℕ) (b : ℕ) (cells : Option ℕ) (rule : Rule) (finding : Finding) (lines : List Engines)
     → answer_to_question (Settles b cells) text ≡ Found rule finding → finding.outcome ≡ Grows lines → ⊥
 answer-no_growth text b cells rule finding lines e grows =

@@ -1,4 +1,4 @@
--- What is found of a pattern that settles.
+-- What is found for a pattern that settles.
 use Rattle.std.specs.Prelude.{ℕ, ◌+◌, Option, Some, None}
 use Rattle.life_model.specs.Rule.{Rule}
 use Rattle.life_model.specs.Generation.{Generation, size}
@@ -32,10 +32,10 @@ outcome_from R G b (Some onset) = outcome_at R G onset (first_return R G b onset
 unfoldable pub outcome_of : Rule → Generation → ℕ → Outcome
 outcome_of R G b = outcome_from R G b (first_onset R G b)
 
--- this is found of a set where that becomes of it
+-- what is found for a set with this outcome
 abbrev pub finding_with : Generation → Outcome → Finding
 finding_with G outcome = record { population = size G; outcome = outcome }
 
--- what is found of a set within the bound
+-- what is found for a set within the bound
 abbrev pub finding_of : Rule → Generation → ℕ → Finding
 finding_of R G b = finding_with G (outcome_of R G b)

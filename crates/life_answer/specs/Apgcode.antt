@@ -9,8 +9,8 @@ use Rattle.life_model.specs.Symmetry.{Orientation, Same, FlipX, FlipY, Half, Swa
 use Rattle.life_cells.specs.Wechsler.{body}
 use Rattle.life_cells.specs.TextOrder.{least_text}
 
--- `xs` and the population of what stays as it is, `xp` and the period of what comes again in place, `xq` and the
--- period of what comes again elsewhere
+-- `xs` and the population of a still life, `xp` and the period of what recurs in place, `xq` and the period of what recurs
+-- elsewhere
 abbrev pub prefix : ℕ → ℕ → Cell → List ℕ
 prefix population period displacement =
     if same_cell displacement origin
@@ -24,11 +24,11 @@ orientations = Same ∷ FlipX ∷ FlipY ∷ Half ∷ Swap ∷ SwapFlipX ∷ Swap
 abbrev pub turned_bodies : Generation → List (List ℕ)
 turned_bodies G = map (λ m. body (image_under G m)) orientations
 
--- those of all phases of one period
+-- the Wechsler texts of all phases of one period
 abbrev pub bodies : Rule → Generation → ℕ → List (List ℕ)
 bodies R H period = flat_map (λ n. turned_bodies (generation R H n)) (range_with_len 0 period)
 
--- the code of a set that comes again after so many steps, moved so far: after its prefix the least of those texts, by
--- length and then by bytes
+-- the code of a set that recurs after `period` steps, moved by `displacement`: its prefix, and then the least of those texts,
+-- by length and then by bytes
 unfoldable pub code_of : Rule → Generation → ℕ → Cell → List ℕ
 code_of R H period displacement = prefix (size H) period displacement ++ codes "_" ++ least_text (bodies R H period)

@@ -28,7 +28,7 @@ abbrev pub engines_found : Outcome → List Engines
 engines_found (Grows engines) = engines
 engines_found _ = []
 
--- the code that is found of a part alone
+-- the code that is found for a part alone
 abbrev pub part_code : Rule → ℕ → Generation → List ℕ
 part_code R b P = code_found (outcome_of R P b)
 
@@ -40,7 +40,7 @@ is_ash_then R G b n = is_some (ash_of R b (generation R G n))
 unfoldable pub ash_onset : Rule → Generation → ℕ → ℕ
 ash_onset R G b = unwrap_or (first_from (is_ash_then R G b) 0 b) b
 
--- what objects count as, counted by the codes that are found of each alone
+-- what objects count as, counted by the codes that are found for each alone
 abbrev pub counted_parts : Bool → Rule → ℕ → List Generation → List Part
 counted_parts near R b Ps = counted_codes (map (part_code R (code_bound b)) (counted_of near R b Ps))
 

@@ -1,4 +1,4 @@
--- Which sets are counted of a pattern that has fallen apart.
+-- Which sets are counted for a pattern that has fallen apart.
 use Rattle.std.specs.Prelude.{ℕ, ◌+◌, Bool, true, false, List, [], ◌∷◌, flat_map, nat_lt, if◌then◌else◌}
 use Rattle.std.specs.List.{list_all}
 use Rattle.life_model.specs.Rule.{Rule}
@@ -7,16 +7,16 @@ use Rattle.life_objects.specs.Limits.{objects_bound_limit}
 use Rattle.life_objects.specs.Decided.Parts.{period}
 use Rattle.life_objects.specs.Independent.Independent.{independent_parts_of}
 
--- whether each of the sets comes again within b
+-- whether each of the sets recurs within b
 abbrev pub all_come_again : Rule → ℕ → List Generation → Bool
 all_come_again R b Qs = list_all (λ Q. nat_lt 0 (period R b Q)) Qs
 
--- The independent parts of an object; but the object itself where one of them takes more than 100,000 generations to come
--- again, as one might that changes places with others.
+-- The independent parts of an object; or the object itself, if one of the parts takes more than 100,000 generations to recur,
+-- as one might that changes places with others.
 abbrev pub parts_or_whole : Rule → Generation → List Generation → List Generation
 parts_or_whole R P Qs = if all_come_again R objects_bound_limit Qs then Qs else (P ∷ [])
 
--- what an object counts as: itself, where what is near one another is one object, and else its independent parts
+-- what an object counts as: itself, if things near one another are one object, and otherwise its independent parts
 abbrev pub counted_as : Bool → Rule → ℕ → Generation → List Generation
 counted_as true R b P = P ∷ []
 counted_as false R b P = parts_or_whole R P (independent_parts_of R b P)
@@ -25,6 +25,6 @@ counted_as false R b P = parts_or_whole R P (independent_parts_of R b P)
 abbrev pub counted_of : Bool → Rule → ℕ → List Generation → List Generation
 counted_of near R b Ps = flat_map (counted_as near R b) Ps
 
--- a bound within which each of these comes again
+-- a bound within which each of these recurs
 abbrev pub code_bound : ℕ → ℕ
 code_bound b = objects_bound_limit + b

@@ -1,4 +1,4 @@
--- Within which bound growth is looked for where no generation may have more than some number of cells.
+-- The bound within which growth is looked for, where no generation may have more than some number of cells.
 use Rattle.std.specs.Prelude.{ℕ, zero, suc, ◌*◌, List, Option, Some, None, is_none, if◌then◌else◌}
 use Rattle.life_model.specs.Rule.{Rule}
 use Rattle.life_model.specs.Generation.{Generation}
@@ -14,7 +14,7 @@ allowed_bound limit R G zero = 0
 allowed_bound limit R G (suc b) =
     if is_none (first_past limit R G (4 * suc b)) then suc b else allowed_bound limit R G b
 
--- that it grows, where that is told, or else an outcome
+-- that it grows, where that is reported, and otherwise another outcome
 abbrev pub growing_or : Option (List Engines) → Outcome → Outcome
 growing_or (Some engines) outcome = Grows engines
 growing_or None outcome = outcome

@@ -5,7 +5,7 @@ use Rattle.std.specs.declared.cmp.Ordering.TheVariants.{Less, Equal, Greater}
 use Rattle.life_cells.specs.TextOrder.{shorter_cmp}
 use Rattle.life_answer.specs.declared.part.Part.{Part}
 
--- how many objects they are in all
+-- the total number of objects
 abbrev pub objects_in : List Part → ℕ
 objects_in [] = 0
 objects_in (part ∷ parts) = part.count + objects_in parts

@@ -1,10 +1,10 @@
--- In which range that is what is told of engines.
+-- The range of what is reported about engines.
 use Rattle.std.specs.Prelude.{ℕ, ◌≤◌, pos, neg_ℤ, ◌≤ℤ◌}
 use Rattle.life_answer.specs.Parts.{objects_in}
 use Rattle.life_answer.specs.declared.tale.Engines.{Engines}
 
--- There are such engines. They come again within h generations, having moved by no more cells than they took generations, and
--- emit something.
+-- There are such engines. They recur within h generations, having moved by no more cells than they took generations, and emit
+-- something.
 pub record IsInRange (h : ℕ) (engines : Engines) : Type 0 where
   pub some : 1 ≤ engines.count
   pub later : 1 ≤ engines.tale.period

@@ -11,20 +11,20 @@ use Rattle.life_model.specs.Symmetry.{normal, corner}
 abbrev pub same_shape : Generation → Generation → Bool
 same_shape G H = pointwise same_cell (cells (normal G)) (cells (normal H))
 
--- the first of so many numbers from n on that passes the test
+-- the first of the `count` numbers from n on that passes the test
 abbrev pub first_from : (ℕ → Bool) → ℕ → ℕ → Option ℕ
 first_from test n zero = None
 first_from test n (suc count) = if test n then Some n else first_from test (n + 1) count
 
--- whether generation g comes again after n steps, moved as a whole
+-- whether generation g recurs after n steps, moved as a whole
 abbrev pub comes_again : Rule → Generation → ℕ → ℕ → Bool
 comes_again R G g n = same_shape (generation R G (g + n)) (generation R G g)
 
--- after how many steps generation g first comes again, no later than generation b
+-- the number of steps after which generation g first recurs, no later than generation b
 abbrev pub first_return : Rule → Generation → ℕ → ℕ → Option ℕ
 first_return R G b g = first_from (comes_again R G g) 1 (b - g)
 
--- the first generation that comes again no later than generation b
+-- the first generation that recurs no later than generation b
 abbrev pub first_onset : Rule → Generation → ℕ → Option ℕ
 first_onset R G b = first_from (λ g. is_some (first_return R G b g)) 0 b
 

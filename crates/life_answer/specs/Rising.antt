@@ -11,6 +11,6 @@ abbrev pub number_of : List ℕ → List Part → ℕ
 number_of code [] = 0
 number_of code (part ∷ parts) = (if eq_by_cmp shorter_cmp code part.code then part.count else 0) + number_of code parts
 
--- how many objects with this code are emitted in m generations, by as many engines as each line says
+-- the number of objects with this code that the engines of all lines emit in m generations
 abbrev pub risen : List ℕ → ℕ → List Engines → ℕ
 risen code m lines = sum_by (λ line. line.count * ((m / line.tale.period) * number_of code line.tale.emits)) lines

@@ -1,5 +1,5 @@
-//! The laws of the census of a pattern: that it is right, and that it hangs neither on the bound nor on the generation that
-//! is looked at. Where what is near one another counts as one object they hold, and where independent parts are counted.
+//! The laws of the census of a pattern: that it is right, and that it depends neither on the bound nor on the generation
+//! looked at. They hold both where things near one another count as one object and where independent parts are counted.
 
 ghost use Rattle.std.specs.Prelude.{◌≡◌, ℕ, ◌≤◌, Bool, List};
 ghost use Rattle.life_model.specs.Evolution.{generation};
@@ -10,7 +10,7 @@ ghost use Rattle.life_answer.specs.Census.{ash_onset, census_of, counted_parts};
 ghost use Rattle.life_answer.specs.declared.finding.Outcome.TheVariants.{Ash, Unresolved};
 ghost use Rattle.life_answer.specs.declared.part.Part.{Part};
 
-/// Of what has fallen apart the objects are found, counted by codes, and nothing of what hasn't.
+/// For a set that has fallen apart the objects are found, counted by codes. For any other set nothing is found.
 pub fn the_census_is_right()
     ensures ash { (near : Bool) (R : Rule) (b : ℕ) (G : Generation) (parts : List Generation) →
         HasFallenApart R b G parts → census_of near R G b ≡ Ash (ash_onset R G b) (counted_parts near R b parts) }
@@ -18,7 +18,7 @@ pub fn the_census_is_right()
         ((parts : List Generation) → HasFallenApart R b G parts → ⊥) → census_of near R G b ≡ Unresolved }
 {}
 
-/// Only of what has fallen apart objects are found.
+/// Objects are found only for sets that have fallen apart.
 pub fn nothing_else_is_ash()
     ensures ash { (near : Bool) (R : Rule) (b onset : ℕ) (G : Generation) (told : List Part) →
         census_of near R G b ≡ Ash onset told →
@@ -27,8 +27,8 @@ pub fn nothing_else_is_ash()
         census_of near R G b ≡ Unresolved → HasFallenApart R b G parts → ⊥ }
 {}
 
-/// A census hangs neither on the bound nor on the generation that is looked at: within each greater bound it is the same; and
-/// of two generations of a pattern, within two bounds, the objects that are found are the same wherever some are.
+/// A census depends neither on the bound nor on the generation looked at. Within each greater bound it is the same. If
+/// objects are found for two generations of a pattern, within two bounds, they are the same.
 pub fn a_census_lasts()
     ensures bound { (near : Bool) (R : Rule) (b c onset : ℕ) (G : Generation) (parts : List Part) → b ≤ c →
         census_of near R G b ≡ Ash onset parts → census_of near R G c ≡ Ash onset parts }
@@ -37,8 +37,8 @@ pub fn a_census_lasts()
         census_of near R (generation R G n) c ≡ Ash other others → parts ≡ others }
 {}
 
-/// Ash that is seen sooner is found: where some generation is ash within some bound, its objects are found within each bound
-/// that is no smaller than either.
+/// Ash that is seen sooner is found: if some generation is ash within some bound, its objects are found within each bound
+/// that is no smaller than either number.
 pub fn ash_that_is_seen_sooner_is_found()
     ensures { (near : Bool) (R : Rule) (b g h : ℕ) (G : Generation) (parts : List Generation) →
         IsAsh R h (generation R G g) parts → g ≤ b → h ≤ b →

@@ -5,7 +5,7 @@ use smallvec::SmallVec;
 use std::alloc::{AllocError, Global};
 use std::marker::Model;
 
-/// So many bytes of a code need no memory of their own, which are enough for those of most small objects.
+/// A code of at most `SHORT_LEN` bytes needs no memory of its own. This is enough for the codes of most small objects.
 const SHORT_LEN: usize = 32;
 
 /// An apgcode, as on LifeWiki: the bytes of its text.

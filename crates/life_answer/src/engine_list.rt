@@ -10,10 +10,10 @@ use std::alloc::{AllocError, Global};
 use std::cmp::Ordering;
 use std::marker::Model;
 
-/// How many engines are counted at most: more are no memory's.
+/// The greatest number of engines that are counted. No memory holds more.
 const COUNT_LIMIT: u64 = 4_294_967_295;
 
-/// The engines by which a pattern grows, by what is told of them. They are fewer than 2 to the 32nd.
+/// The engines by which a pattern grows, grouped by their tales. They are fewer than 2 to the 32nd.
 #[derive(Drop)]
 pub struct EngineList {
     engines: Vec<Engines>,
@@ -33,7 +33,7 @@ impl Model for EngineList {
     ghost invariant = { λ l. (l.count ≡ engines_in l.engines.items) × (l.count < 2 ^ 32) };
 }
 
-/// Where among the engines one of which this is told is counted, and whether one is counted there already.
+/// The place among the engines where one with this tale is counted, and whether one is counted there already.
 fn place_of(engines: &[Engines], tale: &Tale) -> (usize, bool)
     ensures within { result.0 ≤ length engines.now }
     ensures inside { result.1 ≡ true → result.0 < length engines.now }
@@ -53,7 +53,7 @@ fn place_of(engines: &[Engines], tale: &Tale) -> (usize, bool)
 }
 
 impl EngineList {
-    /// No engine.
+    /// An empty list of engines.
     pub fn none(alloc: Global) -> EngineList
         ensures { result ≡ [] }
     {
@@ -63,8 +63,8 @@ impl EngineList {
         }
     }
 
-    /// Counts one more engine of which this is told. The engines are in the order of what is told of them, those of which the
-    /// same is told together. After an error they are as before: there is no memory, or 4,294,967,295 engines are counted.
+    /// Counts one more engine with this tale. The engines are in the order of their tales, with one entry for each tale.
+    /// After an error they are unchanged: memory is refused, or 4,294,967,295 engines are counted already.
     pub fn add(&mut self, tale: Tale) -> Result<(), AllocError>
         ensures added { OnOk result (self.new ≡ with_tale tale self.old) }
         ensures unchanged { OnErr result (self.new ≡ self.old) }
@@ -82,7 +82,7 @@ impl EngineList {
         Ok(())
     }
 
-    /// How many engines there are in all.
+    /// The total number of engines.
     pub fn count(&self) -> u64
         ensures value { result ≡ engines_in self.now }
         ensures few { result < 2 ^ 32 }
@@ -90,7 +90,7 @@ impl EngineList {
         self.count
     }
 
-    /// The engines, those of which the same is told together.
+    /// The engines, with one entry for each tale.
     pub fn as_slice(&self) -> &[Engines]
         ensures engines { result.now ≡ self.now }
         ensures few { engines_in self.now < 2 ^ 32 }

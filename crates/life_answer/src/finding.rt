@@ -1,4 +1,4 @@
-//! What is found of a pattern and of a text.
+//! What is found for a pattern and for a text.
 ghost use Rattle.std.specs.Prelude.{◌≡◌};
 ghost use Rattle.life_answer.specs.Census.{engines_found, parts_found};
 
@@ -9,7 +9,7 @@ use crate::parts::Parts;
 use crate::tale::Engines;
 use life_cells::Rule;
 
-/// What is found of a pattern within a bound.
+/// What is found for a pattern within a bound.
 #[derive(Drop)]
 pub struct Finding {
     /// How many live cells generation 0 has.
@@ -21,20 +21,20 @@ pub struct Finding {
 /// What becomes of a pattern within a bound.
 #[derive(Drop)]
 pub enum Outcome {
-    /// It comes again, moved as a whole.
+    /// It recurs, moved as a whole.
     Recurs {
-        /// The first generation that comes again within the bound.
+        /// The first generation that recurs within the bound.
         onset: u32,
-        /// After how many generations that one first comes again.
+        /// The number of generations after which that one first recurs.
         period: u32,
-        /// How far to the right it then stands; 0 where there is no cell.
+        /// How far to the right it is then; 0 where there is no cell.
         dx: i32,
-        /// How far down it then stands; 0 where there is no cell.
+        /// How far down it is then; 0 where there is no cell.
         dy: i32,
         /// The code of the object that it has become.
         code: Code,
     },
-    /// No generation comes again within the bound.
+    /// No generation recurs within the bound.
     Unresolved,
     /// Some generation has more cells than it may have.
     Large {
@@ -66,7 +66,7 @@ impl Outcome {
         }
     }
 
-    /// The engines by which it grows, those of which the same is told together, or none.
+    /// The engines by which it grows, with one entry for each tale, or none.
     pub fn engines(&self) -> &[Engines]
         ensures { result.now ≡ engines_found self.now }
     {
@@ -77,7 +77,7 @@ impl Outcome {
     }
 }
 
-/// What is found of an RLE text within a bound.
+/// What is found for an RLE text within a bound.
 #[derive(Drop)]
 pub enum Answer {
     /// The text means a pattern.

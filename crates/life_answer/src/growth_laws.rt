@@ -1,6 +1,6 @@
-//! The laws of what is told of growth: that it is right, and that it hangs neither on the bound nor on the generation that
-//! is looked at. Where what is near one another counts as one object they hold, and where independent parts are counted,
-//! if not said otherwise.
+//! The laws of what is reported about growth: that it is right, and that it depends neither on the bound nor on the
+//! generation looked at. Unless said otherwise, they hold both where things near one another count as one object and where
+//! independent parts are counted.
 
 ghost use Rattle.std.specs.Prelude.{◌≡◌, ◌↔◌, ℕ, ◌+◌, ◌*◌, ◌≤◌, Bool, Option, None, Some, List, Contains, count_by, length, true};
 ghost use Rattle.std.specs.List.{All, AllPairs};
@@ -11,9 +11,9 @@ ghost use Rattle.life_model.specs.Generation.{Generation};
 ghost use Rattle.life_model.specs.Rule.{Rule};
 ghost use Rattle.life_objects.specs.Ash.{HasFallenApart};
 ghost use Rattle.life_objects.specs.Kinds.{AreAlike};
-ghost use Rattle.life_growth.specs.Engine.{Emits, IsEngine, IsEngineWithin, Way};
-ghost use Rattle.life_growth.specs.Growth.{IsGrowth};
-ghost use Rattle.life_growth.specs.Told.{AreToldAlike};
+ghost use Rattle.life_objects.specs.Growth.Engine.{Emits, IsEngine, IsEngineWithin, Way};
+ghost use Rattle.life_objects.specs.Growth.Growth.{IsGrowth};
+ghost use Rattle.life_objects.specs.Growth.Told.{AreToldAlike};
 ghost use Rattle.life_answer.specs.Census.{census_of, counted_parts};
 ghost use Rattle.life_answer.specs.Counted.{counted_of};
 ghost use Rattle.life_answer.specs.CountedTales.{counted_tales, engines_in, same_tale, tale_cmp};
@@ -29,8 +29,8 @@ ghost use Rattle.life_answer.specs.declared.question.Question.TheVariants.{Objec
 ghost use Rattle.life_answer.specs.declared.tale.Engines.{Engines};
 ghost use Rattle.life_answer.specs.declared.tale.Tale.{Tale};
 
-/// What is told of an engine is the period and the displacement of its way, and what it emits in a period, counted as the
-/// objects of ash are.
+/// The tale of an engine is the period and the displacement of its way, and what it emits in a period, counted as the objects
+/// of ash are.
 pub fn tales_are_right()
     ensures { (near : Bool) (R : Rule) (b : ℕ) (E : Generation) (way : Way) (objects : List Generation) →
         IsEngine R b E way → Emits R b way objects → tale_of near R b E ≡ record {
@@ -41,10 +41,10 @@ pub fn tales_are_right()
         } }
 {}
 
-/// The same is told of two engines that go alike and emit alike, whatever the bounds. And of two engines of which the same
-/// is told the periods and displacements are the same, and what counts of what they emit is alike. So where what is near one
-/// another counts as one object, the engines are told alike exactly where their tales are one; independent parts alone don't
-/// tell the objects that are emitted.
+/// Two engines that move alike and emit alike have the same tale, whatever the bounds. Two engines with the same tale have
+/// the same period and displacement, and what they emit counts as alike sets. So where things near one another count as one
+/// object, two engines are alike (`AreToldAlike`) exactly where they have the same tale. Independent parts alone don't
+/// determine the objects that are emitted.
 pub fn tales_tell_engines()
     ensures one { (near : Bool) (R : Rule) (b c : ℕ) (E F : Generation) → AreToldAlike R b c E F →
         tale_of near R b E ≡ tale_of near R c F }
@@ -57,8 +57,8 @@ pub fn tales_tell_engines()
         AreAlike R (counted_of near R b Ps) (counted_of near R c Qs)) }
 {}
 
-/// Tales are counted: a line has a tale and how often it is told, which is at least once; each tale has a line; the lines
-/// rise in the order of tales; their numbers add up to the number of tales; and the order in which these come has no say.
+/// Tales are counted. A line has a tale and how often it occurs, which is at least once. Each tale has a line. The lines rise
+/// in the order of tales. Their numbers add up to the number of tales. The order in which the tales come makes no difference.
 pub fn tales_are_counted()
     ensures number { (ts : List Tale) (line : Engines) → Contains (counted_tales ts) line →
         (1 ≤ line.count) × (line.count ≡ count_by (same_tale line.tale) ts) }
@@ -71,8 +71,8 @@ pub fn tales_are_counted()
     ensures any_order { (ts us : List Tale) → IsPermutation ts us → counted_tales ts ≡ counted_tales us }
 {}
 
-/// What is told is what there is: of a set that grows its engines, counted by what is told of each, and nothing of a set
-/// that doesn't.
+/// What is reported is what there is: the engines of a set that grows, counted by their tales, and nothing for a set that
+/// doesn't grow.
 pub fn what_is_told_is_right()
     ensures grows { (near : Bool) (R : Rule) (b : ℕ) (G S : Generation) (Es : List Generation) → IsGrowth R b G Es S →
         growth_told near R b G ≡ Some (told_of_engines near R b Es) }
@@ -80,7 +80,7 @@ pub fn what_is_told_is_right()
         ((S : Generation) (Es : List Generation) → IsGrowth R b G Es S → ⊥) → growth_told near R b G ≡ None }
 {}
 
-/// Only what is so is told: growth of what grows, and that there is none of what doesn't.
+/// Only what is true is reported: growth of what grows, and no growth of what doesn't.
 pub fn nothing_else_is_told()
     ensures grows { (near : Bool) (R : Rule) (b : ℕ) (G : Generation) (told : List Engines) →
         growth_told near R b G ≡ Some told →
@@ -89,9 +89,9 @@ pub fn nothing_else_is_told()
         growth_told near R b G ≡ None → IsGrowth R b G Es S → ⊥ }
 {}
 
-/// What is told hangs neither on the bound nor on the generation that is looked at: within each greater bound, and of each
-/// later generation, the same is told; and of two generations of a pattern, within two bounds, the same is told wherever
-/// something is.
+/// What is reported depends neither on the bound nor on the generation looked at. Within each greater bound, and for each
+/// later generation, the same is reported. If something is reported for two generations of a pattern, within two bounds, it
+/// is the same.
 pub fn what_is_told_lasts()
     ensures bound { (near : Bool) (R : Rule) (b c : ℕ) (G : Generation) (told : List Engines) → b ≤ c →
         growth_told near R b G ≡ Some told → growth_told near R c G ≡ Some told }
@@ -102,18 +102,18 @@ pub fn what_is_told_lasts()
         told ≡ others }
 {}
 
-/// What is seen sooner is told: where some generation grows, within some number of generations that is no more than the
-/// horizon, and neither is more than some c up to the bound such that no generation up to four times c has more cells than
-/// allowed, the answer is that the pattern grows, by these engines.
+/// Growth that is seen sooner is reported. Take a generation that grows within some number of generations that is no more
+/// than the horizon. Let neither be more than some c up to the bound such that no generation up to four times c has more
+/// cells than allowed. Then the answer is that the pattern grows, by these engines.
 pub fn what_is_seen_sooner_is_told()
     ensures { (near : Bool) (limit : Option ℕ) (R : Rule) (b horizon c g h : ℕ) (G S : Generation) (Es : List Generation) →
         IsGrowth R h (generation R G g) Es S → g ≤ c → h ≤ c → h ≤ horizon → c ≤ b → StaysWithin limit R G (4 * c) →
         outcome_to (Objects b limit near horizon) R G ≡ Grows (told_of_engines near R h Es) }
 {}
 
-/// Only of what grows it is answered that it does, and else the answer is what was found before anything was told of growth.
-/// What is answered of growth is answered within each greater bound and each greater horizon; and of a pattern there is one
-/// such answer, whatever the bound, the horizon and the limit on cells.
+/// Only for what grows the answer is that it grows. Otherwise the answer is what was found without regard to growth. An
+/// answer of growth stays within each greater bound and each greater horizon. A pattern has one such answer, whatever the
+/// bound, the horizon and the limit on cells.
 pub fn what_is_answered_is_right()
     ensures only { (near : Bool) (limit : Option ℕ) (R : Rule) (b horizon : ℕ) (G : Generation) (told : List Engines) →
         outcome_to (Objects b limit near horizon) R G ≡ Grows told →
@@ -134,7 +134,7 @@ pub fn what_is_answered_is_right()
         outcome_to (Objects c other near further) R G ≡ Grows others → told ≡ others }
 {}
 
-/// What is told is in range: some engines, each of which comes again within the bound or the horizon, has moved by no more cells
+/// What is reported is in range. There are engines. Each recurs within the bound or the horizon, has moved by no more cells
 /// than it took generations, and emits something.
 pub fn what_is_told_is_in_range()
     ensures told { (near : Bool) (R : Rule) (b : ℕ) (G : Generation) (told : List Engines) →
@@ -144,8 +144,8 @@ pub fn what_is_told_is_in_range()
         (1 ≤ engines_in told) × All (IsInRange horizon) told }
 {}
 
-/// No pattern falls apart and grows, whatever the bounds and from whichever of its generations it is looked at. So the answer
-/// of what falls apart within the bound is what was found before anything was told of growth.
+/// No pattern both falls apart and grows, whatever the bounds and from whichever of its generations it is looked at. So the
+/// answer for what falls apart within the bound is what was found without regard to growth.
 pub fn what_is_ash_never_grows()
     ensures told { (near close : Bool) (R : Rule) (b c m n onset : ℕ) (G : Generation) (parts : List Part)
         (told : List Engines) → census_of near R (generation R G m) b ≡ Ash onset parts →
@@ -158,9 +158,10 @@ pub fn what_is_ash_never_grows()
         ≡ outcome_unless_large limit R G (3 * b) (census_of near R G b) }
 {}
 
-/// What is told of growth is true for ever. Over some generations that are so many periods of each engine, the number of
-/// objects with a code that a growing pattern's debris has fallen apart into rises by exactly what the lines tell: for
-/// each line as many engines as it says, and for each of these, in each of its periods, as many such objects as it emits.
+/// What is reported about growth is true for ever. Take a number of generations that is a whole number of periods of each
+/// engine, and the objects with a code that a growing pattern's debris has fallen apart into. Their number rises by exactly
+/// what the lines say: for each line its number of engines, and for each of these, in each of its periods, the number of such
+/// objects that it emits.
 pub fn what_is_told_goes_on()
     ensures { (near : Bool) (R : Rule) (b m n : ℕ) (G S T U : Generation) (Es Fs Hs parts others : List Generation)
         (code : List ℕ) → IsGrowth R b G Es S → IsGrowth R b (generation R G n) Fs T →

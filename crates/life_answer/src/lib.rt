@@ -1,5 +1,5 @@
-//! What is found of a pattern: the types, the definition of the answer, and the laws of that definition as the contracts
-//! of functions that do nothing.
+//! What is found about a pattern: the types, the definition of the answer, and the laws of that definition as the contracts of
+//! functions that do nothing.
 //!
 //! Tested in `tests_patterns`.
 #![tactic(auto)]

@@ -11,7 +11,7 @@ use std::alloc::{AllocError, Global};
 use std::cmp::Ordering;
 use std::marker::Model;
 
-/// How many objects are counted at most: a list of more parts is no memory's.
+/// The greatest number of objects that are counted. No memory holds a list of more parts.
 const COUNT_LIMIT: u64 = 4_294_967_295;
 
 /// The parts into which a pattern has fallen apart, object by object. They are fewer than 2 to the 32nd.
@@ -33,7 +33,7 @@ impl Model for Parts {
     ghost invariant = { λ p. (p.count ≡ objects_in p.parts.items) × (p.count < 2 ^ 32) };
 }
 
-/// Where among the parts an object with this code is counted, and whether one is counted there already.
+/// The place among the parts where an object with this code is counted, and whether one is counted there already.
 fn place_of(parts: &[Part], code: &[u8]) -> (usize, bool)
     ensures within { result.0 ≤ length parts.now }
     ensures inside { result.1 ≡ true → result.0 < length parts.now }
@@ -53,7 +53,7 @@ fn place_of(parts: &[Part], code: &[u8]) -> (usize, bool)
 }
 
 impl Parts {
-    /// No part.
+    /// An empty list of parts.
     pub fn none(alloc: Global) -> Parts
         ensures { result ≡ [] }
     {
@@ -64,7 +64,7 @@ impl Parts {
     }
 
     /// Counts one more object that has this code. The parts are in the order of their codes, by length and then by bytes, one
-    /// for each code. After an error they are as before: there is no memory, or 4,294,967,295 objects are counted.
+    /// for each code. After an error they are unchanged: memory is refused, or 4,294,967,295 objects are counted already.
     pub fn add(&mut self, code: Code) -> Result<(), AllocError>
         ensures added { OnOk result (self.new ≡ with_code code self.old) }
         ensures unchanged { OnErr result (self.new ≡ self.old) }
@@ -82,7 +82,7 @@ impl Parts {
         Ok(())
     }
 
-    /// How many objects there are in all.
+    /// The total number of objects.
     pub fn count(&self) -> u64
         ensures value { result ≡ objects_in self.now }
         ensures few { result < 2 ^ 32 }

@@ -1,4 +1,4 @@
-//! What is told of engines.
+//! What is reported about engines.
 ghost use Rattle.std.specs.Prelude.{◌≡◌};
 ghost use Rattle.std.specs.Cmp.Lexicographic.{slice_cmp};
 ghost use Rattle.life_answer.specs.CountedTales.{part_cmp, tale_cmp};
@@ -8,25 +8,25 @@ use crate::parts::Parts;
 use life_cells::shorter;
 use std::cmp::Ordering;
 
-/// What is told of an engine.
+/// What is reported about an engine.
 #[derive(Drop)]
 pub struct Tale {
-    /// After how many generations it comes again.
+    /// The number of generations after which it recurs.
     pub period: u32,
-    /// How far to the right it then stands.
+    /// How far to the right it is then.
     pub dx: i32,
-    /// How far down it then stands.
+    /// How far down it is then.
     pub dy: i32,
     /// What it emits in that time, object by object.
     pub emits: Parts,
 }
 
-/// Engines of which the same is told.
+/// Engines that have the same tale.
 #[derive(Drop)]
 pub struct Engines {
-    /// What is told of each.
+    /// The tale of each.
     pub tale: Tale,
-    /// How many engines they are.
+    /// The number of engines.
     pub count: u64,
 }
 
@@ -57,7 +57,7 @@ fn parts_order(parts: &[Part], others: &[Part]) -> Ordering
 }
 
 impl Tale {
-    /// The order of what is told: by period, by how far to the right and by how far down, and then by what is emitted.
+    /// The order of tales: by period, by how far to the right and by how far down, and then by what is emitted.
     pub fn order(&self, other: &Tale) -> Ordering
         ensures { result ≡ tale_cmp self.now other.now }
     {

@@ -42,7 +42,7 @@ rising_from_sorted ss sorted i j d before within =
     (ranks_by (then_total (on_total (λ (p : ℕ × ℤ). p.0) nat_cmp_total) (on_total (λ (p : ℕ × ℤ). p.1) int_cmp_total)) (λ (a : Span). (a.band, a.start)))
     ss sorted i j d before within)
 
--- where one is past another, none after it is next to that one
+-- if a span is past another, none after it is next to that one
 pub none_after : (ss : List Span) → AreRisingSpans ss → (n m k : ℕ) (d e : Span) → n ≤ m → m ≤ k → k < length ss →
     IsPast (get_or ss n e) (get_or ss m e) → IsNext (get_or ss n d) (get_or ss k d) → ⊥
 none_after ss rising n m k d e before after within past next =
@@ -77,7 +77,7 @@ cases_le x y =
     ] in
     by (int_cmp x y) (int_ranked x y (int_cmp x y) refl)
 
--- boxes with rows, that begin no more than two columns and rows past each other's end
+-- boxes with rows, each beginning no more than two columns and rows after the end of the other
 pub record AreClose (g h : Hull) : Type 0 where
   pub left : h.left ≤ℤ (g.right +ℤ pos 2)
   pub right : g.left ≤ℤ (h.right +ℤ pos 2)
@@ -139,7 +139,7 @@ no_later_band row other m n le here there =
 
 -- the spans of two places in one band
 module _ (R : Rule) (os : List Course) (ss : List Span) (apart : AreApartInOrder R os ss) where
-  -- of which the first stands before the second
+  -- the first comes before the second
   ordered : (g h : Hull) (i j k a b : ℕ) → a < b → b < length ss → ((d : Span) → get_or ss a d ≡ span_at g i k) →
       ((d : Span) → get_or ss b d ≡ span_at h j k) → h.left ≤ℤ (g.right +ℤ pos 2) → ArePlacesApart R os i j
   ordered g h i j k a b before within first second close =

@@ -14,7 +14,7 @@ use Rattle.life_apart.specs.Alone.{AreFar}
 use Rattle.life_apart.specs.Bounds.{IsFarOff, IsInBounds}
 use Rattle.life_apart.specs.declared.clearance.Bounds.{Bounds}
 
--- the one box has no less than the other
+-- one box contains the other
 pub record IsWider (b e : Bounds) : Type 0 where
   pub left : b.left ≤ℤ e.left
   pub right : e.right ≤ℤ b.right
@@ -32,7 +32,7 @@ in_wider b e c wide within = record {
 
 -- ---- how far a cell is from a box
 
--- what is so far off is so far off or less
+-- what is `n` off is also `m` off, for a smaller m
 pub less_far : (b : Bounds) (m n : ℤ) (d : Cell) → m ≤ℤ n → IsFarOff b n d → IsFarOff b m d
 less_far b m n d less far c within k close = far c within k (omega (arith, ints))
 
@@ -44,7 +44,7 @@ one_of x y = elim (int_lt y x) as (λ t. (cond t x y ≡ x) ⊎ (cond t x y ≡ 
 ]
 
 module _ (b : Bounds) (d : Cell) where
-  -- it is as far off as in the direction in which it is further
+  -- the distance is that in the direction in which it is greater
   pub further_of : (x y z : ℤ) → z ≡ int_max x y → IsFarOff b x d → IsFarOff b y d → IsFarOff b z d
   further_of x y z is one other =
       elim (one_of x y) [
@@ -74,11 +74,11 @@ module _ (b : Bounds) (d : Cell) where
 
 -- ---- cells that are in a set or far from a box around it
 
--- the cell is in the set, or so far from the box
+-- the cell is in the set, or at least `far` from the box
 abbrev pub IsOwnOrFarOff : Generation → Bounds → ℤ → Cell → Type 0
 IsOwnOrFarOff P b far d = (contains P d ≡ true) ⊎ IsFarOff b far d
 
--- which stays so for less
+-- this also holds for a smaller distance
 pub own_or_less_far : (P : Generation) (b : Bounds) (m n : ℤ) (d : Cell) → m ≤ℤ n → IsOwnOrFarOff P b n d →
     IsOwnOrFarOff P b m d
 own_or_less_far P b m n d less known =
@@ -87,7 +87,7 @@ own_or_less_far P b m n d less known =
       | inr off ↦ inr (less_far b m n d less off)
     ]
 
--- the box is around the set, so the cells that it has not are as far from the set as from the box
+-- the box is around the set, so the cells that the set has not are as far from it as they are from the box
 pub far_from_others : (P A Q : Generation) (b : Bounds) (far : ℤ) (n : ℕ) → All (IsInBounds b) (cells P) →
     All (IsOwnOrFarOff P b far) (cells A) → pos n ≤ℤ far → IsSubsetOf Q A → AreDisjoint P Q → AreFar n P Q
 far_from_others P A Q b far n around known long within apart c d h k close =

@@ -11,11 +11,11 @@ use Rattle.life_model.proofs.Cells.{same_cell-is}
 use Rattle.life_model.proofs.Generations.{contains-cells}
 use Rattle.life_model.proofs.Tests.{list_any-alike}
 
--- as pairs of numbers are compared
+-- by comparing pairs of numbers
 abbrev is_same : Cell → Cell → Bool
 is_same c d = int_eq d.0 c.0 && int_eq d.1 c.1
 
--- which tells cells apart
+-- this decides whether cells are equal
 is_same_decides : (c d : Cell) → Decides (is_same c d) (c ≡ d)
 is_same_decides c d = (
   λ h. let both = and_parts _ _ h in
@@ -24,7 +24,7 @@ is_same_decides c d = (
       ((Decides-int_eq d.1 c.1).1 (ap (λ (e : Cell). e.1) (sym same))),
 )
 
--- a search of the list tells whether a cell is a member
+-- a search of the list decides whether a cell is a member
 pub listed_by_test : (G : Generation) (c : Cell) (all : List Cell) → all ≡ cells G →
     list_any (is_same c) all ≡ contains G c
 listed_by_test G c all are =

@@ -54,7 +54,7 @@ module _ (G L : Generation) where
           ap (λ H. contains H c) (ap (λ H. generation R H n) (sym together) ∙ generation-union R n L (others_of G L) far)
           ∙ in_second (generation R L n) (generation R (others_of G L) n) c h
 
-      -- where the other cells stay away for some generations more
+      -- if the other cells stay away for some generations more
       pub apart_longer : (n k : ℕ) (now alone : Generation) → now ≡ generation R G n → alone ≡ generation R L n →
           AreApartBefore R n L (others_of G L) →
           ((Q : Generation) → IsSubsetOf Q now → AreDisjoint alone Q → AreApartBefore R k alone Q) →
@@ -75,7 +75,7 @@ module _ (G L : Generation) where
                 (subst (AreApart (generation R alone rest)) (generation-add R O n rest) far))
           ]
 
-      -- a set that was alone for so many generations
+      -- a set that was alone for more than b generations
       pub end_then : (b sure : ℕ) (end : Generation) → b < sure → AreApartBefore R sure L (others_of G L) →
           end ≡ generation R L b → IsEndAlone R b G L end
       end_then b sure end h far is = record {

@@ -1,4 +1,4 @@
--- Orbits that are looked at one by one, and the sets that recur so.
+-- Orbits that are looked at one by one, and their sets.
 use Rattle.std.proofs.Common.{◌≡◌, ℕ, ◌+◌, ◌<◌, List, get_or, length, take, inl, inr, sym, ap, subst, ◌∙◌, arith}
 use Rattle.std.specs.List.{All, AllPairs}
 use Rattle.std.proofs.lemmas.Bool.{cases_lt}
@@ -15,12 +15,12 @@ use Rattle.life_apart.specs.Sets.{sets_of}
 length-sets : (os : List Course) → length (sets_of os) ≡ length os
 length-sets os = length-map os (λ o. o.set)
 
--- each set, where each orbit is looked at
+-- each set, if each orbit is looked at
 pub of_each : (P : Generation → Type 0) (os : List Course) →
     ((k : ℕ) (e : Course) → k < length os → P (get_or os k e).set) → All P (sets_of os)
 of_each P os each = All-map P (λ o. o.set) os (λ k e h. each k e h)
 
--- each orbit, where each set is known
+-- each orbit, if each set is known
 pub at_each : (P : Generation → Type 0) (os : List Course) → All P (sets_of os) → (k : ℕ) (e : Course) → k < length os →
     P (get_or os k e).set
 at_each P os all k e h =
@@ -31,7 +31,7 @@ module _ (R : Rule) (os : List Course) where
   abbrev pub ArePairsBefore : ℕ → Type 0
   ArePairsBefore n = (i j : ℕ) (e : Course) → i < j → j < n → AreApartForEver R (get_or os i e).set (get_or os j e).set
 
-  -- one orbit more, which stays apart from those before it
+  -- one more orbit, which stays apart from those before it
   pub one_more : (n : ℕ) (o : Course) → n < length os → o ≡ get_or os n o → ArePairsBefore n →
       All (AreApartForEver R o.set) (sets_of (take n os)) → ArePairsBefore (n + 1)
   one_more n o there is so_far apart i j e before h =

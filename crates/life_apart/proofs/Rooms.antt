@@ -8,7 +8,7 @@ use Rattle.life_model.proofs.Near.{next_near}
 use Rattle.life_objects.specs.Apart.{AreApart, AreApartBefore}
 use Rattle.life_apart.specs.Alone.{AreFar}
 
--- sets that are so far from each other are so far or less
+-- sets that are n from each other are also m from each other, for a smaller m
 pub far_weaker : (m n : ℕ) (P Q : Generation) → m ≤ n → AreFar n P Q → AreFar m P Q
 far_weaker m n P Q h far c d k l close = far c d k l (record {
   left = omega (arith, ints);
@@ -17,7 +17,7 @@ far_weaker m n P Q h far c d k l close = far c d k l (record {
   below = omega (arith, ints);
 })
 
--- and three places are enough to be apart
+-- a distance of three places is enough to be apart
 apart_of_far : (P Q : Generation) → AreFar 3 P Q → AreApart P Q
 apart_of_far P Q far c d h k near = far c d h k (record {
   left = omega (arith, ints);
@@ -39,7 +39,7 @@ module _ (R : Rule) where
         below = omega (arith, ints);
       })
 
-  -- so in each generation they come nearer by two at most
+  -- so in each generation they come nearer by at most two
   far_later : (n m : ℕ) (P Q : Generation) → AreFar (n + 2 * m) P Q → AreFar n (generation R P m) (generation R Q m)
   unfolding generation
   far_later n zero P Q far = far_weaker n (n + 0) P Q (omega arith) far

@@ -1,4 +1,4 @@
--- Sets of which any two stay apart for ever, band by band where they stay where they are.
+-- Sets of which any two stay apart for ever, compared band by band if they stay where they are.
 use Rattle.std.proofs.Common.{◌≡◌, ◌⊎◌, ℕ, ◌<◌, List, length, get_or}
 use Rattle.std.proofs.Common.{Bool, true, false, inl, inr, refl, sym, subst, ◌∙◌, true≢false, arith}
 use Rattle.std.specs.List.{All, AllPairs, Contains}
@@ -18,7 +18,7 @@ use Rattle.life_apart.specs.Spans.{AreApartInOrder, AreMoversApart, ArePlacesApa
 use Rattle.life_apart.specs.declared.span.Span.{Span}
 use Rattle.life_apart.proofs.Bands.{close_apart, far_or_close}
 
--- where any two sets stay apart for ever, so do those in two places
+-- if any two sets stay apart for ever, so do those in two places
 pub places_apart : (R : Rule) (os : List Course) → AllPairs (AreApartForEver R) (sets_of os) → (i j : ℕ) → i < length os →
     j < length os → ArePlacesApart R os i j
 places_apart R os pairs i j within other =

@@ -24,7 +24,7 @@ same_places-is a b =
     (λ e. (ap (λ c. c.0) e, ap (λ c. c.1) e))
     (Decides-and _ _ (Decides-int_eq a.0 b.0) (Decides-int_eq a.1 b.1))
 
--- Cells in order tell whether they make up a set.
+-- Cells in order show whether they make up a set.
 pub together_test : (r : Bool) (Ps : List Generation) (G : Generation) (cs sorted ds : List Cell) → T (is_rising sorted) →
     from_list sorted ≡ from_list (flat_map cells Ps) → cs ≡ sorted → ds ≡ cells G → r ≡ pointwise same_places cs ds →
     IsTrue r ↔ (union_of Ps ≡ G)
@@ -34,7 +34,7 @@ together_test r Ps G cs sorted ds rising same e f test =
       λ u. test ∙ d.1 (e ∙ sym (cells-from_list sorted rising) ∙ ap cells (same ∙ union_from_cells Ps ∙ u) ∙ sym f),
     )
 
--- the cells of one orbit more
+-- the cells of one more orbit
 pub more_cells : (os : List Course) (i : ℕ) (d : Course) → i < length os →
     flat_map cells (sets_of (take (i + 1) os)) ≡ flat_map cells (sets_of (take i os)) ++ cells (get_or os i d).set
 more_cells os i d h =

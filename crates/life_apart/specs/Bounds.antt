@@ -1,4 +1,4 @@
--- The box around a set, and how far other cells are from it.
+-- The bounding box of a set, and how far other cells are from it.
 use Rattle.std.specs.Prelude.{ℕ, ℤ, pos, ◌≤ℤ◌}
 use Rattle.life_model.specs.Cell.{Cell}
 use Rattle.life_apart.specs.Alone.{IsCloser}
@@ -11,6 +11,6 @@ pub record IsInBounds (b : Bounds) (c : Cell) : Type 0 where
   pub above : b.top ≤ℤ c.1
   pub below : c.1 ≤ℤ b.bottom
 
--- no cell in the box is less than so far from d
+-- no cell in the box is less than `far` from d
 abbrev pub IsFarOff : Bounds → ℤ → Cell → Type 0
 IsFarOff b far d = (c : Cell) → IsInBounds b c → (n : ℕ) → pos n ≤ℤ far → IsCloser n c d → ⊥

@@ -4,7 +4,7 @@ use Rattle.life_model.specs.Generation.{Generation}
 use Rattle.life_model.specs.Rule.{Rule}
 use Rattle.life_orbit.specs.Course.{Course}
 
--- the sets that recur so
+-- the sets of these courses
 abbrev pub sets_of : List Course → List Generation
 sets_of courses = map (λ o. o.set) courses
 

@@ -1,4 +1,4 @@
--- The bands of rows in which sets stay that recur, and the columns in which they stay there.
+-- The bands of rows in which sets that recur stay, and the columns in which they stay there.
 use Rattle.std.specs.Prelude.{◌≡◌, ◌⊎◌, ℕ, ◌+◌, ◌*◌, ◌<◌, ◌≤◌, ◌^◌, ℤ, pos, ◌+ℤ◌, ◌<ℤ◌, ◌≤ℤ◌}
 use Rattle.std.specs.Prelude.{List, length, slice_index_or}
 use Rattle.std.specs.List.{All, Contains}
@@ -15,11 +15,11 @@ pub record IsBandOf (row : ℤ) (band : ℕ) : Type 0 where
   pub first : pos (64 * band) ≤ℤ (row +ℤ pos (2 ^ 32))
   pub last : (row +ℤ pos (2 ^ 32)) <ℤ pos (64 * band + 64)
 
--- the span of what is in this place and stays in this box, in one band
+-- the span, in one band, of the set in this place, which stays in this box
 abbrev pub span_at : Hull → ℕ → ℕ → Span
 span_at h place band = record { band = band; start = h.left; end = h.right; place = place }
 
--- there is a span for each band from that of the first row of the box to that of the second row past its last
+-- there is a span for each band from that of the first row of the box to that of the second row after its last
 pub record HasBands (ss : List Span) (h : Hull) (place : ℕ) : Type 0 where
   pub first : ℕ
   pub last : ℕ
@@ -34,7 +34,7 @@ pub record HasSpans (ss : List Span) (o : Course) (place : ℕ) : Type 0 where
   pub has : IsHullOf box o
   pub bands : HasBands ss box place
 
--- the span is that of one of so many sets
+-- the span is that of one of n sets
 abbrev pub IsPlacedIn : ℕ → Span → Type 0
 IsPlacedIn n s = s.place < n
 
@@ -44,24 +44,24 @@ pub record AreSpans (os : List Course) (ss : List Span) : Type 0 where
   pub each : (i : ℕ) (e : Course) → i < length os → (slice_index_or os i e).displacement ≡ origin →
       HasSpans ss (slice_index_or os i e) i
 
--- the one is in an earlier band, or in the same and does not begin later
+-- the first is in an earlier band, or in the same and does not begin later
 abbrev pub IsUpTo : Span → Span → Type 0
 IsUpTo s t = (s.band < t.band) ⊎ ((s.band ≡ t.band) × (s.start ≤ℤ t.start))
 
--- none stands before one that it comes after
+-- the spans are in this order
 abbrev pub AreRisingSpans : List Span → Type 0
 AreRisingSpans ss = (i j : ℕ) (d : Span) → i ≤ j → j < length ss → IsUpTo (slice_index_or ss i d) (slice_index_or ss j d)
 
--- the other is in a later band, or begins more than two columns past the end
+-- the other is in a later band, or begins more than two columns after the end
 abbrev pub IsPast : Span → Span → Type 0
 IsPast s t = (s.band < t.band) ⊎ ((s.end +ℤ pos 3) ≤ℤ t.start)
 
--- the other is in the same band, and begins no more than two columns past the end
+-- the other is in the same band, and begins no more than two columns after the end
 pub record IsNext (s t : Span) : Type 0 where
   pub band : s.band ≡ t.band
   pub columns : t.start ≤ℤ (s.end +ℤ pos 2)
 
--- the sets in two places stay apart for ever, or the places are one
+-- the sets in two places stay apart for ever, or the places are the same
 abbrev pub ArePlacesApart : Rule → List Course → ℕ → ℕ → Type 0
 ArePlacesApart R os i j =
     (i ≡ j) ⊎ ((e : Course) → AreApartForEver R (slice_index_or os i e).set (slice_index_or os j e).set)
@@ -73,7 +73,7 @@ IsApartFromOthers R os i = (j : ℕ) → j < length os → ArePlacesApart R os i
 abbrev pub IsStillOrApart : Rule → List Course → ℕ → Type 0
 IsStillOrApart R os i = (e : Course) → ((slice_index_or os i e).displacement ≡ origin → ⊥) → IsApartFromOthers R os i
 
--- each set that moves does
+-- each set that moves stays apart from all others
 abbrev pub AreMoversApart : Rule → List Course → Type 0
 AreMoversApart R os = (i : ℕ) → i < length os → IsStillOrApart R os i
 

@@ -1,4 +1,4 @@
-//! Whether sets that recur make up a set, and stay apart for ever.
+//! Whether sets that recur make up a set and stay apart for ever.
 ghost use Rattle.std.specs.Prelude.{◌≡◌, ◌≤◌, ◌↔◌, ◌++◌, All, AllPairs, IfOk, IsTrue, flat_map};
 ghost use Rattle.life_model.specs.Generation as generations;
 ghost use Rattle.life_model.specs.Rule.{Rule as ModelRule};
@@ -12,7 +12,7 @@ use life_cells::{CellList, put_in_order};
 use life_orbit::Orbit;
 use std::alloc::{AllocError, Global};
 
-/// Up to so many sets are compared each with each, which takes fewer steps than to put them in order.
+/// Up to `FEW` sets are compared each with each, which takes fewer steps than putting them in order.
 const FEW: usize = 16;
 
 /// The cells of each of the sets.
@@ -36,7 +36,7 @@ pub fn are_together(alloc: Global, orbits: &[Orbit], cells: &CellList) -> Result
     Ok(all.as_slice() == cells.as_slice())
 }
 
-/// Whether a set stays apart for ever from each of some others.
+/// Whether a set stays apart for ever from each of the others.
 fn is_apart_from_all(orbit: &Orbit, others: &[Orbit]) -> bool
     requires { All (IsCourseBy orbit.now.rule) others.now }
     ensures { IsTrue result ↔ All (AreApartForEver orbit.now.rule orbit.now.set)
@@ -64,9 +64,9 @@ fn each_is_apart(orbits: &[Orbit]) -> bool
     true
 }
 
-/// Whether any two of the sets stay apart for ever. Of more than a few, those that stay where they are are compared only
-/// with those in the same band of rows whose columns are near. Where memory for that is not there, each is compared with
-/// each.
+/// Whether any two of the sets stay apart for ever. If there are more than a few, those that stay where they are are
+/// compared only with those in the same band of rows whose columns are near. If there is no memory for that, each is
+/// compared with each.
 pub fn are_apart(alloc: Global, orbits: &[Orbit]) -> bool
     requires { (R : ModelRule) × All (IsCourseBy R) orbits.now }
     ensures { (R : ModelRule) → All (IsCourseBy R) orbits.now →

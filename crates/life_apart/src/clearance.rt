@@ -1,4 +1,4 @@
-//! How long cells surely stay away from a set.
+//! For how many generations cells are known to stay away from a set.
 ghost use Rattle.std.specs.Prelude.{◌≡◌, ℕ, ◌≤◌, ◌^◌, ◌-ℤ◌, ◌≤ℤ◌, All, pos};
 ghost use Rattle.std.specs.Int.{int_max};
 ghost use Rattle.life_model.specs.Generation.{Generation, cells, contains};
@@ -10,10 +10,10 @@ ghost use Rattle.life_apart.specs.Bounds.{IsFarOff, IsInBounds};
 
 use life_cells::CellList;
 
-/// So far away are cells taken to be that are further.
+/// Cells that are further away count as this far.
 const FARTHEST: i64 = 1_048_576;
 
-/// The box around a set.
+/// The bounding box of a set.
 #[derive(Clone, Copy)]
 struct Bounds {
     left: i32,
@@ -22,7 +22,7 @@ struct Bounds {
     bottom: i32,
 }
 
-/// The bounding box of the cells, and one that no cell is in where there are none.
+/// The bounding box of the cells, or a box that contains no cell if there are none.
 fn bounds_of(set: &CellList) -> Bounds
     ensures { All (IsInBounds result) (cells set.now) }
 {
@@ -41,7 +41,7 @@ fn bounds_of(set: &CellList) -> Bounds
     bounds
 }
 
-/// How far a place is from a stretch of places, and no more than 0 within it.
+/// How far a place is from a range of places, and no more than 0 within it.
 fn distance_from(first: i32, last: i32, place: i32) -> i64
     ensures { result ≡ int_max (first -ℤ place) (place -ℤ last) }
 {
@@ -60,14 +60,15 @@ impl Bounds {
     }
 }
 
-/// Whether a set has a cell. It is looked up among all.
+/// Whether a set has a cell. All its cells are searched.
 fn has(set: &CellList, cell: (i32, i32)) -> bool
     ensures { result ≡ contains set.now cell }
 {
     set.as_slice().contains(&cell)
 }
 
-/// How far the nearest of the cells that a set has not is from a box around the set, and 0 where one of them is near it.
+/// The distance from a box around a set to the nearest of the cells that the set has not, or 0 if one of them is near
+/// the box.
 fn distance(set: &CellList, cells: &CellList) -> i64
     ensures far { (n : ℕ) (Q : Generation) → pos n ≤ℤ result → IsSubsetOf Q cells.now →
         AreDisjoint set.now Q → AreFar n set.now Q }
@@ -88,7 +89,8 @@ fn distance(set: &CellList, cells: &CellList) -> i64
     least
 }
 
-/// For how many generations from now on surely no other of the cells is near one of a set, and 0 where one may be near.
+/// For how many generations from now on no other of the cells is near one of a set, for certain. It is 0 if one may be
+/// near.
 pub fn room(set: &CellList, cells: &CellList) -> u32
     ensures apart { (R : ModelRule) (Q : Generation) → IsSubsetOf Q cells.now → AreDisjoint set.now Q →
         AreApartBefore R result set.now Q }

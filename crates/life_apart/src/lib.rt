@@ -1,4 +1,4 @@
-//! Whether sets that recur make up a set, and stay apart for ever. `onsets` tells from which generation on a pattern is ash.
+//! Whether sets that recur make up a set, and stay apart for ever. `onsets` finds the generation from which on a pattern is ash.
 //!
 //! Tested in `tests_objects`, by `life_census`.
 #![tactic(auto)]

@@ -1,6 +1,6 @@
-//! From which generation on a pattern is ash, where a later generation is ash of known parts.
+//! The generation from which on a pattern is ash, if a later generation is ash of known parts.
 //!
-//! Tested in `tests_parts`.
+//! Tested in `tests_objects`.
 
 mod pattern;
 mod since;

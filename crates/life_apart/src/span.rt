@@ -7,8 +7,8 @@ ghost use Rattle.life_apart.specs.Spans.{AreRisingSpans, AreSpans, HasBands, Has
 use life_orbit::{Hull, Orbit};
 use std::alloc::{AllocError, Global};
 
-/// A set that stays where it is, in one band of rows: the band, the first and the last column in which the set stays, and
-/// its place in a list.
+/// A set that stays where it is, in one band of rows: the band, the first and the last column in which the set stays,
+/// and its place in a list.
 #[derive(Clone, Copy)]
 pub struct Span {
     pub band: u32,
@@ -25,7 +25,7 @@ fn first_band(hull: Hull) -> u32
     (from_least / 64) as u32
 }
 
-/// The band of the second row past the last of a box.
+/// The band of the second row after the last of a box.
 fn last_band(hull: Hull) -> u32
     ensures band { IsBandOf (hull.bottom +ℤ pos 2) result }
     ensures few { result < 2 ^ 28 }
@@ -46,14 +46,14 @@ fn span_at(hull: Hull, place: usize, band: u32) -> Span
     }
 }
 
-/// Whether a set comes again where it is.
+/// Whether a set recurs without moving.
 pub fn rests(orbit: &Orbit) -> bool
     ensures { IsTrue result ↔ (orbit.now.displacement ≡ origin) }
 {
     orbit.displacement() == (0, 0)
 }
 
-/// Adds a span for each band from that of the first row of a box to that of the second row past its last.
+/// Adds a span for each band from that of the first row of a box to that of the second row after its last.
 fn add_bands(spans: &mut Vec<Span>, hull: Hull, place: usize) -> Result<(), AllocError>
     ensures kept { (s : Span) → Contains spans.old.items s → Contains spans.new.items s }
     ensures placed { (n : ℕ) → place < n → All (IsPlacedIn n) spans.old.items →
@@ -68,7 +68,7 @@ fn add_bands(spans: &mut Vec<Span>, hull: Hull, place: usize) -> Result<(), Allo
     Ok(())
 }
 
-/// Adds the spans of a set, where it stays where it is.
+/// Adds the spans of a set, if it stays where it is.
 fn add_spans(spans: &mut Vec<Span>, orbit: &Orbit, place: usize) -> Result<(), AllocError>
     ensures kept { (s : Span) → Contains spans.old.items s → Contains spans.new.items s }
     ensures placed { (n : ℕ) → place < n → All (IsPlacedIn n) spans.old.items →
@@ -93,7 +93,7 @@ fn spans_of(alloc: Global, orbits: &[Orbit]) -> Result<Vec<Span>, AllocError>
     Ok(spans)
 }
 
-/// The spans of the sets that stay where they are, band after band, and in each in order by where they begin.
+/// The spans of the sets that stay where they are, band after band, and in each band ordered by where they begin.
 pub fn spans_in_order(alloc: Global, orbits: &[Orbit]) -> Result<Vec<Span>, AllocError>
     ensures spans { IfOk result (λ spans. AreSpans orbits.now spans.items) }
     ensures rising { IfOk result (λ spans. AreRisingSpans spans.items) }

@@ -1,4 +1,4 @@
-//! Sets that recur, compared band by band where they stay where they are.
+//! Sets that recur. Those that stay where they are are compared band by band.
 ghost use Rattle.std.specs.Prelude.{◌<◌, ◌↔◌, All, AllPairs, IsTrue, length};
 ghost use Rattle.std.specs.Bool.{OnTrue};
 ghost use Rattle.life_model.specs.Rule.{Rule as ModelRule};
@@ -9,7 +9,7 @@ ghost use Rattle.life_apart.specs.Spans.{AreApartInOrder, AreMoversApart, ArePla
 use crate::span::{Span, rests};
 use life_orbit::Orbit;
 
-/// Whether the sets in two places stay apart for ever, or are one.
+/// Whether the sets in two places stay apart for ever, or the places are the same.
 fn are_places_apart(orbits: &[Orbit], first: usize, second: usize) -> bool
     requires rule { (R : ModelRule) × All (IsCourseBy R) orbits.now }
     requires first { first < length orbits.now }
@@ -69,7 +69,7 @@ fn are_movers_apart(orbits: &[Orbit]) -> bool
     true
 }
 
-/// Whether the other is in a later band, or begins more than two columns past the end of the first.
+/// Whether the other is in a later band, or begins more than two columns after the end of the first.
 fn is_past(span: Span, other: Span) -> bool
     ensures { OnTrue result (IsPast span other) }
 {
@@ -122,7 +122,7 @@ fn are_apart_in_order(orbits: &[Orbit], spans: &[Span]) -> bool
     true
 }
 
-/// Whether any two of the sets stay apart for ever, where these are the spans of those that stay where they are. Each set
+/// Whether any two of the sets stay apart for ever. `spans` are the spans of those that stay where they are. Each set
 /// that moves is compared with all others.
 pub fn are_apart_by_bands(orbits: &[Orbit], spans: &[Span]) -> bool
     requires rule { (R : ModelRule) × All (IsCourseBy R) orbits.now }

@@ -39,7 +39,7 @@ use Rattle.life_ash.specs.Parts.{IsEnd, ash_age_limit}
 use Rattle.life_ash.proofs.Finding.{of_some}
 use Rattle.life_ash.proofs.Places.{generation_within, itself_within, subset_within}
 
--- a list has what its elements were made of
+-- Q is generation n of one of Ps
 abbrev IsLaterOf : Rule → ℕ → List Generation → Generation → Type 0
 IsLaterOf R n Ps Q = (P : Generation) × Contains Ps P × (generation R P n ≡ Q)
 
@@ -161,7 +161,7 @@ module _ (R : Rule) (b : ℕ) (G : Generation) (parts : List Generation) (ash : 
           | inr x ↦ absurd (undivided L left of_part lives (λ none. in_empty x.0 (ap (λ H. contains H x.0) (sym none) ∙ x.1)))
         ]
 
-  -- some part becomes what a set becomes that stays alone
+  -- some part becomes what a set that stays alone becomes
   pub part_of_end : LivesThrough R b L → (P : Generation) × Contains parts P × (generation R P b ≡ generation R L b)
   part_of_end lives =
       elim (nothing_or_some L) [
@@ -191,7 +191,7 @@ part_there R b G parts L others ash placed split whole lives =
       },
     )
 
--- what is not torn by splits for some generations is not by splits for more
+-- a set that splits for some generations don't tear is torn by no splits for more
 pub whole_set : (R S : Rule) (n b : ℕ) (G : Generation) (cs : List Class) (k : ℕ) (c : Class) → S ≡ R → n ≤ b →
     k < length cs → c ≡ get_or cs k c → union_of (first_sets cs) ≡ G → All (StaysWhole S n G) (first_sets cs) →
     IsWholeIn R b G c.first
@@ -215,7 +215,7 @@ module _ (R : Rule) (b : ℕ) (G H L end : Generation) (later : H ≡ generation
       (subst (λ S. StaysWhole R b S L) later whole.whole) (λ none. some (alone.becomes ∙ none)) in
       (there.0, there.1, subst (λ S. IsEnd R b (2 * b) S there.0) (sym alone.becomes) there.2)
 
-  -- where that stands
+  -- where the end stands
   pub end_within : (a n : ℕ) → a + b ≤ n → All (IsWithin a) (cells H) → All (IsWithin n) (cells end)
   end_within a n le placed =
       subst (λ S. All (IsWithin n) (cells S)) (sym alone.becomes)

@@ -1,4 +1,4 @@
--- What has become of the classes that live on tells the parts of ash.
+-- What has become of the classes that live on determines the parts of ash.
 use Rattle.std.proofs.Common.{◌≡◌, ℕ, true, List, sym, subst, arith}
 use Rattle.std.specs.List.{All, AllPairs, Contains}
 use Rattle.std.proofs.lemmas.List.Elements.{All-contains, All-contains_itself, All-filter, All-map, All-weaker, filter_passes}

@@ -1,4 +1,4 @@
--- The parts of ash are told by what becomes of them.
+-- The parts of ash are determined by what becomes of them.
 use Rattle.std.proofs.Common.{◌≡◌, ℕ, ◌<◌, true, List, length, get_or, inl, inr, sym, ap, subst, ◌∙◌, arith}
 use Rattle.std.specs.List.{All, AllPairs, Contains}
 use Rattle.std.proofs.lemmas.List.Elements.{All-contains, All-map, All-weaker, Contains-get_or}
@@ -31,7 +31,7 @@ module _ (R : Rule) (b ago : ℕ) (G : Generation) (parts : List Generation) (as
         | inr x ↦ x
       ]
 
-  -- two parts of which some cell becomes the same are one
+  -- two parts that become the same set are one
   one_end : (P Q : Generation) → Contains parts P → Contains parts Q → generation R P ago ≡ generation R Q ago → P ≡ Q
   one_end P Q p q same =
       elim (related_or_same (AreApartForEver R) (AreApartForEver-swap R) parts P Q p q ash.apart) [

@@ -1,20 +1,20 @@
--- What is said of nothing that is found.
+-- What holds where nothing is found.
 use Rattle.std.proofs.Common.{◌≡◌, Option, None, Some, Result, Ok, Err, IfNone, IfOk, IfSome, subst}
 
--- where nothing is found, what follows from what is so there
+-- what follows where nothing is found, from what holds there
 pub none_then : {X N M : Type 0} (o : Option X) → IfNone o N → (N → M) → IfNone o M
 none_then None h then = then h
 none_then (Some x) h then = tt
 
--- what is said of nothing, where nothing is found
+-- what holds where nothing is found
 pub of_none : {X N : Type 0} {o : Option X} → o ≡ None → IfNone o N → N
 of_none {N = N} e h = subst (λ p. IfNone p N) e h
 
--- what is said of what is found
+-- what holds of what is found
 pub of_some : {X : Type 0} {o : Option X} {x : X} (P : X → Type 0) → o ≡ Some x → IfSome o P → P x
 of_some P e h = subst (λ p. IfSome p P) e h
 
--- what follows from two things that are said of what is found
+-- what follows from two things that hold of what is found
 pub both_then : {E X : Type 0} {P Q S : X → Type 0} (r : Result (Option X) E) → IfOk r (λ o. IfSome o P) →
     IfOk r (λ o. IfSome o Q) → ((x : X) → P x → Q x → S x) → IfOk r (λ o. IfSome o S)
 both_then (Ok (Some x)) p q then = then x p q

@@ -20,7 +20,7 @@ use Rattle.life_ash.specs.Parts.{IsOnlyOne}
 use Rattle.life_ash.proofs.Places.{generation_within, itself_within, subset_within}
 use Rattle.life_ash.proofs.Survivors.{ends}
 
--- one orbit more, for the next set
+-- each orbit is the only one for its set, with one orbit more for the next set
 pub only_more : (R : Rule) (b ago : ℕ) (Qs : List Generation) (os : List Course) (o : Course) →
     ((k : ℕ) (e : Course) (d : Generation) → k < length os → IsOnlyOne R b ago (get_or Qs k d) (get_or os k e)) →
     ((d : Generation) → IsOnlyOne R b ago (get_or Qs (length os) d) o) → (k : ℕ) (e : Course) (d : Generation) →
@@ -34,7 +34,7 @@ only_more R b ago Qs os o so_far here k e d h =
           (subst (λ n. IsOnlyOne R b ago (get_or Qs n d) o) (sym last) (here d))
     ]
 
--- the same, where the list has grown by the orbit of the next set
+-- each orbit is the only one for its set, where the list has grown by the orbit of the next set
 pub only_next : (R : Rule) (b ago : ℕ) (Qs : List Generation) (os ps : List Course) (o : Course) (Q : Generation) (i : ℕ) →
     length os ≡ i → i < length Qs → Q ≡ get_or Qs i Q → ps ≡ os ++ o ∷ [] →
     ((k : ℕ) (e : Course) (d : Generation) → k < length os → IsOnlyOne R b ago (get_or Qs k d) (get_or os k e)) →

@@ -23,7 +23,7 @@ and-swap true false = refl
 and-swap false true = refl
 and-swap false false = refl
 
--- the next generation is those of the cells that may be live next that are
+-- the next generation has those of its candidates that live
 next_filtered : (R : Rule) (G : Generation) →
     next R G ≡ from_list (filter (lives R (contains G)) (candidates G))
 unfolding next
@@ -61,7 +61,7 @@ later_nine R G n =
     let most = next_nine R (generation R G n) in
     omega arith
 
--- nor have the next three more than 729 times as many
+-- the next three generations have no more than 729 times as many
 pub three_later : (R : Rule) (G : Generation) (n : ℕ) → n < 4 → size (generation R G n) ≤ 729 * size G
 three_later R G zero h = let start : size (generation R G 0) ≡ size G = ap size (generation-zero R G) in omega arith
 three_later R G (suc zero) h =
@@ -81,7 +81,7 @@ three_later R G (suc (suc (suc zero))) h =
     omega arith
 three_later R G (suc (suc (suc (suc n)))) h = absurd (omega arith)
 
--- from generation n on, where those before it are allowed, and so many from there on
+-- all are allowed before generation n + k, where those before n are, and `more` generations from n on
 pub allowed_on : (R : Rule) (G : Generation) (limit : Option ℕ) (n more k : ℕ) → AreAllowedBefore R G limit n →
     AreAllowedBefore R (generation R G n) limit more → k ≤ more → AreAllowedBefore R G limit (n + k)
 allowed_on R G limit n more k before on few m h =

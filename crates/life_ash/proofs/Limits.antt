@@ -13,7 +13,7 @@ module _ (R : Rule) (G : Generation) where
   pub none_before : (limit : Option ℕ) → AreAllowedBefore R G limit 0
   none_before limit m h = absurd (omega arith)
 
-  -- nor is this one
+  -- this generation is not past the limit either
   pub allowed_next : (limit : Option ℕ) (n : ℕ) → AreAllowedBefore R G limit n →
       IsAllowed limit (size (generation R G n)) → AreAllowedBefore R G limit (n + 1)
   allowed_next limit n before here m h =
@@ -24,7 +24,7 @@ module _ (R : Rule) (G : Generation) where
             subst (λ k. IsAllowed limit (size (generation R G k))) last here
       ]
 
-  -- this one is
+  -- this generation is past the limit
   pub past_here : (limit : Option ℕ) (last n : ℕ) → n ≤ last → AreAllowedBefore R G limit n →
       (IsAllowed limit (size (generation R G n)) → ⊥) → first_past limit R G last ≡ Some n
   past_here None last n within before past = absurd (past tt)
@@ -46,7 +46,7 @@ module _ (R : Rule) (G : Generation) where
   past_within None last n past = absurd cc
   past_within (Some most) last n past = ((first_past-is R G last most n).0 past).0
 
-  -- where none before this one is, the first is one of those from here on
+  -- where none before generation n is past the limit, the first that is past it is one of those from n on
   module _ (limit : Option ℕ) (last n : ℕ) (within : n ≤ last) (before : AreAllowedBefore R G limit n) where
     pub past_nowhere_later : first_past limit R (generation R G n) (last - n) ≡ None → first_past limit R G last ≡ None
     past_nowhere_later none =

@@ -20,7 +20,7 @@ use Rattle.life_ash.specs.Parts.{IsFit, ash_age_limit}
 use Rattle.life_ash.proofs.Places.{generation_within, itself_within}
 
 module _ (R : Rule) where
-  -- what becomes undivided is so within as many generations more
+  -- what becomes undivided after k generations is undivided within k more
   undivided_sooner : (a k b : ℕ) (Q : Generation) → k + a ≤ b → IsUndivided R a (generation R Q k) → IsUndivided R b Q
   undivided_sooner a k b Q le whole A B split h l =
       whole (generation R A k) (generation R B k)
@@ -59,7 +59,7 @@ module _ (R : Rule) (b : ℕ) (o : Course) (fit : IsFit R b o) where
   abbrev pub AreWholeFrom : ℕ → Type 0
   AreWholeFrom n = (m : ℕ) → n ≤ m → m < o.period → IsUndivided R b (generation R o.set m)
 
-  -- A phase that is undivided within fewer generations tells as many before it.
+  -- A phase that is undivided within `step - 1` generations fewer shows the same of that many phases before it, within b.
   pub more_phases : (step end : ℕ) (phase : Generation) → 1 ≤ step → step ≤ end → step ≤ b →
       phase ≡ generation o.rule o.set (end - 1) → IsUndivided R (b - (step - 1)) phase → AreWholeFrom end →
       AreWholeFrom (end - step)

@@ -1,4 +1,4 @@
--- What becomes ash is told by the ash that it becomes.
+-- What becomes ash is determined by the ash that it becomes.
 use Rattle.std.proofs.Common.{◌≡◌, ℕ, ◌<◌, List, [], ◌∷◌, inl, inr, subst, arith}
 use Rattle.std.specs.List.{All, AllPairs, Contains}
 use Rattle.std.proofs.lemmas.List.Elements.{All-contains_itself, All-weaker}

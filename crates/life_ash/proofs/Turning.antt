@@ -1,4 +1,4 @@
--- What a set was that comes again and again.
+-- What a set that recurs was before.
 use Rattle.std.proofs.Common.{◌≡◌, ℕ, ◌+◌, ◌-◌, ◌/◌, ◌%◌, ◌≤◌, sym, ap, subst, ◌∙◌, arith}
 use Rattle.life_model.specs.Cell.{Cell, opposite}
 use Rattle.life_model.specs.Rule.{Rule}

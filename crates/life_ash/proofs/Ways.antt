@@ -41,7 +41,7 @@ module _ (R : Rule) (b : ℕ) (G : Generation) (limit : Option ℕ) where
   found_further from end later few small (Large n) h = absurd cc
   found_further from end later few small Nothing h = small
 
--- what is ash at some age is so many generations after generation b
+-- what is ash at some age is ash `age - b` generations after generation b
 pub ash_ahead : (R : Rule) (b age : ℕ) (G H : Generation) (parts : List Course) → b ≤ age → H ≡ generation R G b →
     IsAshThen R b G age parts → IsAshThen R b H (age - b) parts
 ash_ahead R b age G H parts le here then = record {
@@ -87,7 +87,7 @@ trail_from_start t G from H before after cells start none told =
     told G (cells ∙ sym (ap (generation t.rule G) start ∙ generation-zero t.rule G))
     (subst (All (IsMomentOf t.rule G)) (sym none) (All-nil (IsMomentOf t.rule G)))
 
--- what ends later ends later than each of the generations before
+-- a pattern of which a later generation ends later ends later itself
 ends_later : (R : Rule) (b : ℕ) (G : Generation) → EndsLater R (generation R G b) → EndsLater R G
 ends_later R b G ends = (
   ends.0,

@@ -21,7 +21,7 @@ pub record IsAshThen (R : Rule) (b : ℕ) (G : Generation) (n : ℕ) (parts : Li
   pub placed : All IsPlaced parts
   pub courses : All IsCourse parts
 
--- Found of G from an age on, before the end: ash, where no generation up to the last is past the limit; the first
+-- What is found of G from an age on, before the end: ash, where no generation up to the last is past the limit; the first
 -- generation up to the last that is; or neither, and then no generation before the end is.
 abbrev pub IsFound : Rule → ℕ → Generation → Option ℕ → ℕ → ℕ → ℕ → Found → Type 0
 IsFound R b G limit from end last (Parts parts age) =
@@ -29,13 +29,13 @@ IsFound R b G limit from end last (Parts parts age) =
 IsFound R b G limit from end last (Large n) = first_past limit R G last ≡ Some n
 IsFound R b G limit from end last Nothing = AreAllowedBefore R G limit end
 
--- so old is a plane where nothing is found up to the end
+-- where nothing is found up to the end, the plane is as old as the end
 abbrev pub HasEnded : ℕ → ℕ → Found → Type 0
 HasEnded end age (Parts parts n) = Unit {0}
 HasEnded end age (Large n) = Unit {0}
 HasEnded end age Nothing = age ≡ end
 
--- Found of G from generation b on: ash of a later generation, the first generation up to three times b that is past the
+-- What is found of G from generation b on: ash of a later generation, the first generation up to three times b that is past the
 -- limit, or neither.
 abbrev pub IsFoundPast : Rule → ℕ → Generation → Option ℕ → Found → Type 0
 IsFoundPast R b G limit (Parts parts age) =

@@ -20,9 +20,9 @@ IsSmallEnough R G b limit = first_past limit R G (3 * b) ≡ None
 abbrev pub EndsLater : Rule → Generation → Type 0
 EndsLater R G = (b : ℕ) × (n : ℕ) × (parts : List Generation) × IsAsh R b (generation R G n) parts
 
--- This becomes of G within b: it falls apart, a generation up to b being ash of these parts, and these are some of its
--- generations, or it doesn't, and where it is seen to end it falls apart later, or the first generation past the limit is
--- this one.
+-- What becomes of G within b: it falls apart, a generation up to b being ash of these parts, and the trail has some of its
+-- generations; or it doesn't, and where it is seen to end it falls apart later; or the first generation past the limit is this
+-- one.
 abbrev pub IsFate : Rule → Generation → ℕ → Option ℕ → Fate → Type 0
 IsFate R G b limit (Ash parts age trail) =
     IsSmallEnough R G b limit × (age ≤ b) × IsAsh R b (generation R G age) (sets_of parts) × All (IsCourseBy R) parts ×

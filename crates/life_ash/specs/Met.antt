@@ -12,7 +12,7 @@ pub record Terms : Type 0 where
   pub rule : Rule
   pub bound : ℕ
 
--- as what they are made of
+-- coded as a rule and a bound
 abbrev pub coded_terms : Coded Terms
 coded_terms =
     code_by (Rule × ℕ) (coded× coded_rule coded_ℕ) (λ t. (t.rule, t.bound)) (λ p. record { rule = p.0; bound = p.1 })

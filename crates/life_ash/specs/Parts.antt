@@ -8,7 +8,7 @@ use Rattle.life_cells.specs.Limits.{IsWithin}
 use Rattle.life_objects.specs.Ash.{RecursWithin}
 use Rattle.life_orbit.specs.Course.{Course, IsCourse}
 
--- the greatest age of a plane whose cells are told as ash
+-- the greatest age of a plane whose cells are reported as ash
 abbrev pub ash_age_limit : ℕ
 ash_age_limit = 400000
 
@@ -23,7 +23,7 @@ pub record IsFit (R : Rule) (b : ℕ) (o : Course) : Type 0 where
   pub period : o.period ≤ b
   pub within : IsPlaced o
 
--- P is in the field at age 400,000, recurs within the bound, and becomes the set last after so many generations
+-- P is in the field at age 400,000, recurs within the bound, and becomes the set last after `ago` generations
 pub record IsEnd (R : Rule) (b ago : ℕ) (last P : Generation) : Type 0 where
   pub within : All (IsWithin ash_age_limit) (cells P)
   pub recurs : RecursWithin R b P

@@ -1,4 +1,4 @@
--- What later generations tell of a set.
+-- What later generations say about a set.
 use Rattle.std.specs.Prelude.{ℕ, ◌≤◌, List}
 use Rattle.std.specs.Bool.{OnTrue}
 use Rattle.std.specs.List.{All}
@@ -14,13 +14,13 @@ use Rattle.life_ash.specs.declared.at_bound.AtBound.TheVariants.{Ash, NoAsh}
 use Rattle.life_ash.specs.declared.told.Told.{Told}
 use Rattle.life_ash.specs.declared.told.Told.TheVariants.{Never, Nothing, Parts}
 
--- so many generations later H is ash of these parts within b, or H is none
+-- after `ago` generations H is ash of these parts within b, or H itself is no ash
 abbrev pub IsTold : Rule → ℕ → Generation → Told → Type 0
 IsTold R b H (Parts parts ago) = (ago ≤ ash_age_limit) × IsAshThen R b H ago parts.items
 IsTold R b H Never = (parts : List Generation) → IsAsh R b H parts → ⊥
 IsTold R b H Nothing = Unit {0}
 
--- H is ash of these parts within b, or H is none, and where it is seen to end it becomes ash later
+-- H is ash of these parts within b; or H is no ash, and where it is seen to end it becomes ash later
 abbrev pub IsAtBound : Rule → ℕ → Generation → AtBound → Type 0
 IsAtBound R b H (Ash parts) = IsAsh R b H (sets_of parts) × All (IsCourseBy R) parts
 IsAtBound R b H (NoAsh ends) = ((parts : List Generation) → IsAsh R b H parts → ⊥) × OnTrue ends (EndsLater R H)

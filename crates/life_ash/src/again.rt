@@ -1,4 +1,4 @@
-//! Whether sets come again, without keeping what they become on the way.
+//! Whether sets recur, without keeping the generations on the way.
 ghost use Rattle.std.specs.Prelude.{◌≡◌, ◌≤◌, All, IfOk, IsTrue};
 ghost use Rattle.life_model.specs.Cell.{Cell};
 ghost use Rattle.life_model.specs.Generation as generations;
@@ -12,7 +12,7 @@ use life_orbit::BOUND_LIMIT;
 use life_plane::Plane;
 use std::alloc::{AllocError, Global};
 
-/// The age at whose places a set stands.
+/// The age of the plane on which a set is followed.
 const AGE: u32 = 4_000_000;
 
 /// Whether a plane's cells are those of another, moved as a whole.
@@ -26,8 +26,8 @@ fn are_moved<P: Plane>(later: &P, first: &P) -> Result<bool, AllocError>
     Ok(later.offset_from_plane(first)?.is_some())
 }
 
-/// Whether a set comes again, moved as a whole, within so many generations. Where it does not, nothing tells so sooner; but
-/// none of them is kept.
+/// Whether a set recurs, moved as a whole, within `bound` generations. A set that does not is followed for all of them, but none
+/// of them is kept.
 pub fn comes_again<P: Plane>(
     alloc: Global,
     cells: &CellList,

@@ -43,14 +43,14 @@ pub fn parts_if_due<P: Plane>(
     guessed_parts(alloc, plane, met, pace.looks())
 }
 
-/// Walks on to an age, the end, and looks now and then whether the plane's cells are ash. Whether those of the end are is not
-/// asked. No generation that the walk comes to may have more cells than the limit, and where ash is found none up to the last.
-/// Some generations are kept on a trail. The rule and the bound are those of what is known. An observer is told each
-/// generation.
+/// Walks on to the age `end`, and checks now and then whether the plane's cells are ash. The generation of the end itself is not
+/// checked. No generation that the walk comes to may have more cells than the limit; where ash is found, none up to the last may.
+/// Some generations are kept on a trail. The rule and the bound are those of what is known. Each generation on the way is
+/// reported to an observer.
 ///
-/// Where `Nothing` is found the plane is as old as the end, and one may walk on from there: with a greater end, and the same
-/// plane, knowledge, pace, trail, limit and last. A plane's age may be the end already. The end is at most 400,000 and at
-/// most one more than the last.
+/// Where `Nothing` is found, the plane is as old as the end. One may walk on from there, with a greater end and the same plane,
+/// knowledge, pace, trail, limit and last. A plane's age may be the end already. The end is at most 400,000 and at most one more
+/// than the last.
 pub fn walk_on<P: Plane, W: Observer>(
     alloc: Global,
     observer: &W,
@@ -102,7 +102,7 @@ pub fn walk_on<P: Plane, W: Observer>(
     Ok(Found::Nothing)
 }
 
-/// Walks on from a plane that is as old as the bound, to three times the bound. The plane itself stays as it is.
+/// Walks on from a plane that is as old as the bound, to three times the bound. The plane itself is unchanged.
 pub fn found_past<P: Plane, W: Observer>(
     alloc: Global,
     observer: &W,

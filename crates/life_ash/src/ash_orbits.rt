@@ -124,7 +124,8 @@ pub fn ash_by<P: Plane>(
     }
 }
 
-/// The same of cells that become ash of these parts after so many generations.
+/// The ash that a plane's cells are within the bound of what is known, where they are ash at all. After `ago` generations they
+/// become ash of the parts `later`.
 pub fn ash_before<P: Plane>(
     alloc: Global,
     plane: &P,

@@ -1,4 +1,4 @@
-//! What a set was that comes again and again.
+//! What a set that recurs was before.
 ghost use Rattle.std.specs.Prelude.{◌≡◌, ℕ, ◌≤◌, ◌^◌, All, IfNone, IfOk, IfSome};
 ghost use Rattle.life_model.specs.Cell.{opposite, plus};
 ghost use Rattle.life_model.specs.Evolution.{generation};
@@ -14,10 +14,10 @@ use life_cells::{CellList, PLACE_LIMIT};
 use life_orbit::{Orbit, repeated};
 use std::alloc::{AllocError, Global};
 
-/// The greatest age of a plane whose cells are told as ash.
+/// The greatest age of a plane whose cells are reported as ash.
 const ASH_AGE_LIMIT: i128 = 400_000;
 
-/// The cell, moved back, where it then is in the field at age 400,000.
+/// The cell, moved back, if it is then in the field at age 400,000.
 fn cell_before(cell: (i32, i32), by: (i128, i128)) -> Option<(i32, i32)>
     requires { IsReach (2 ^ 126) by }
     ensures moved { IfSome result (λ place. place ≡ plus cell (opposite by)) }
@@ -34,7 +34,7 @@ fn cell_before(cell: (i32, i32), by: (i128, i128)) -> Option<(i32, i32)>
     None
 }
 
-/// The cells, moved back, where they then are in the field at age 400,000.
+/// The cells, moved back, if they are then in the field at age 400,000.
 fn cells_before(
     alloc: Global,
     cells: &CellList,
@@ -60,7 +60,7 @@ fn cells_before(
     Ok(Some(CellList::from_ordered(items)))
 }
 
-/// What a set was so many generations ago that comes again as this orbit does, where it was in the field at age 400,000.
+/// The set that recurs as this orbit does and becomes its set after `ago` generations, if it is in the field at age 400,000.
 pub fn set_before(alloc: Global, orbit: &Orbit, ago: u32) -> Result<Option<CellList>, AllocError>
     requires { 1 ≤ ago × ago ≤ ash_age_limit }
     ensures within { IfOk result

@@ -1,5 +1,5 @@
-//! Walks far past the bound, for what later generations tell of its own.
-ghost use Rattle.std.specs.Prelude.{◌≡◌, ◌+◌, ◌*◌, ◌≤◌, IfOk, IfSome};
+//! Walks far past the bound, for what later generations say about the generation of the bound.
+ghost use Rattle.std.specs.Prelude.{◌≡◌, ◌+◌, ◌*◌, ◌<◌, ◌≤◌, IfOk, IfSome, length};
 ghost use Rattle.life_model.specs.Generation.{size};
 ghost use Rattle.life_ash.specs.Parts.{ash_age_limit};
 ghost use Rattle.life_ash.specs.Telling.{IsTold};
@@ -12,14 +12,14 @@ use life_plane::Plane;
 use life_strays::{Pace, are_no_ash, is_uneven};
 use std::alloc::{AllocError, Global};
 
-/// How many times as old as the bound a pattern gets at most.
+/// A pattern is followed to at most this many times the bound.
 const LATE: u32 = 8;
 
-/// The greatest age of a plane whose cells are told as ash.
+/// The greatest age of a plane whose cells are reported as ash.
 const LAST: u32 = 400_000;
 
-/// How many cells stand in all generations up to the bound, about, at most where islands are asked before the walk. With more
-/// it takes long to refuse growth too, which ash that a pattern becomes does at once.
+/// Islands are asked before the walk where all generations up to the bound have about this many cells together, or fewer. With
+/// more cells it takes long to refuse growth too, which ash that a pattern becomes does at once.
 const FEW: u64 = 20_000_000;
 
 /// The age to which a walk goes.
@@ -30,7 +30,7 @@ fn last_age(bound: u32) -> u32
     LAST.min(bound.saturating_mul(LATE))
 }
 
-/// A total, and the cells of one more generation, where that is no larger than can be counted. The pace notes how many these are.
+/// A total plus the cells of one more generation, where the sum can be counted. The pace notes the population.
 fn counted<P: Plane>(total: u64, plane: &P, pace: &mut Pace, age: u32) -> Option<u64>
     ensures { IfSome result (λ sum. sum ≡ total + size (P.members plane.now)) }
 {
@@ -39,9 +39,27 @@ fn counted<P: Plane>(total: u64, plane: &P, pace: &mut Pace, age: u32) -> Option
     total.checked_add(population)
 }
 
-/// Walks on from a plane that is as old as the bound. A stretch of as many generations as is the bound has many more cells
-/// than another only where there is no ash, so the cells are counted. After three times the bound it is looked now and
-/// then whether they are ash.
+/// How many cells the stretch has that ends with the total in a place.
+fn stretch_to(totals: &[u64], place: usize) -> u64
+    requires { 1 ≤ place × place < length totals.now }
+{
+    totals[place].saturating_sub(totals[place - 1])
+}
+
+/// Whether a further stretch costs much and promises little: the last one has more than `FEW` cells, and less than a tenth more
+/// than the one before it. The totals are those before each stretch and after the last.
+fn is_dear(totals: &[u64]) -> bool {
+    let count = totals.len();
+    if count < 3 {
+        return false;
+    }
+    let last = stretch_to(totals, count - 1);
+    FEW < last && last / 11 < stretch_to(totals, count - 2) / 10
+}
+
+/// Walks on from a plane that is as old as the bound. Only where there is no ash does one stretch of `bound` generations have
+/// many more cells than another, so the cells are counted. After three times the bound, checks now and then whether they are ash.
+/// Ends early where a further stretch is dear.
 fn told_until<P: Plane>(
     alloc: Global,
     plane: &P,
@@ -64,6 +82,9 @@ fn told_until<P: Plane>(
             if is_uneven(totals.as_slice()) {
                 return Ok(Told::Never);
             }
+            if is_dear(totals.as_slice()) {
+                return Ok(Told::Nothing);
+            }
             left = bound;
         }
         if 3 * bound < age {
@@ -84,13 +105,13 @@ fn told_until<P: Plane>(
     Ok(Told::Nothing)
 }
 
-/// Whether few cells stand in the generations up to the bound, if they are about as many as now.
+/// Whether the generations up to the bound have few cells together, if each has about as many as this one.
 fn are_few<P: Plane>(plane: &P, bound: u32) -> bool {
     plane.population().saturating_mul(u64::from(bound)) <= FEW
 }
 
-/// What later generations tell of a plane's cells, which are as old as the bound: by what hangs on an island of theirs, by how
-/// many they are, by the ash that they become, and by what stands alone and is new.
+/// What later generations say about a plane's cells, which are as old as the bound: by what depends on an island of theirs, by
+/// how many they are, by the ash that they become, and by what stands alone and is new.
 pub fn told_later<P: Plane>(
     alloc: Global,
     plane: &P,

@@ -20,12 +20,12 @@ use std::alloc::{AllocError, Global};
 struct Effort {
     /// For how many generations the cells are followed.
     followed: u32,
-    /// Within how many generations each part must come again.
+    /// Within how many generations each part must recur.
     recurs: u32,
 }
 
-/// The efforts of the guesses, each made where those before it found nothing. Most objects come again within four
-/// generations, and most that are in several places come near each other as soon.
+/// The efforts of the guesses, each made where those before it found nothing. Most objects recur within four generations, and the
+/// islands of most that have several come near each other as soon.
 const EFFORTS: [Effort; 4] = [
     Effort {
         followed: 0,
@@ -45,10 +45,10 @@ const EFFORTS: [Effort; 4] = [
     },
 ];
 
-/// Of a set with more cells than this it is seen whether it comes again before any of its generations is kept.
+/// A set with more cells than this is checked for recurrence before any of its generations is kept.
 const LARGE: usize = 4096;
 
-/// The orbits of the classes as they were at first, where each recurs within so many generations or was met before.
+/// The orbits of the classes as they were at first, where each recurs within `tried` generations or was met before.
 fn orbits_of<P: Plane>(
     alloc: Global,
     known: &mut Known,
@@ -111,9 +111,9 @@ fn parts_by_effort<P: Plane>(
     Ok(None)
 }
 
-/// Parts of which a plane's cells are ash within the bound of what is known, where they are found at once: cells that
-/// belong together come near each other within a while, and each part comes again within a while or was met before. That
-/// none are found tells nothing. At most so many efforts are made, each greater than those before it.
+/// Parts of which a plane's cells are ash within the bound of what is known, where they are found at once: cells that belong
+/// together come near each other within a while, and each part recurs within a while or was met before. Finding none means
+/// nothing. At most `most` efforts are made, each greater than those before it.
 pub fn guessed_parts<P: Plane>(
     alloc: Global,
     plane: &P,

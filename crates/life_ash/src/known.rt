@@ -41,7 +41,7 @@ impl Model for Known {
     ghost invariant = { λ k. AreKnown (record { rule = k.rule; bound = k.bound }) k.orbits.items };
 }
 
-/// The orbit of a set that is one of some sets, moved as a whole. That none is found tells nothing.
+/// The orbit of a set that is one of some sets, moved as a whole. Finding none means nothing.
 fn moved_orbit(
     alloc: Global,
     orbits: &[Orbit],
@@ -73,7 +73,7 @@ fn keep(alloc: Global, orbits: &mut Vec<Orbit>, orbit: &Orbit) -> Result<(), All
 }
 
 impl Known {
-    /// No orbit yet, of sets that recur by this rule within so many generations.
+    /// No orbit yet, of sets that recur by this rule within `bound` generations.
     pub fn new(alloc: Global, rule: &Rule, bound: u32) -> Known
         requires { 1 ≤ bound × bound ≤ BOUND_LIMIT }
         ensures rule { result.rule ≡ rule.now }
@@ -102,8 +102,8 @@ impl Known {
         self.rule
     }
 
-    /// The orbit of a set, where it recurs within so many generations, which are no more than the bound. It is worked out
-    /// where no orbit of this set, moved as a whole, is kept; one that is kept may recur later, but within the bound.
+    /// The orbit of a set, where it recurs within `tried` generations, which are no more than the bound. It is worked out where
+    /// no orbit of this set, moved as a whole, is kept; one that is kept may have a longer period, but within the bound.
     pub fn orbit_of(
         &mut self,
         alloc: Global,

@@ -1,6 +1,6 @@
 //! The objects that a set of cells falls apart into.
 //!
-//! Tested in `tests_objects`, by `life_census`, and in `tests_parts`.
+//! Tested in `tests_objects`, in part by `life_census`.
 #![tactic(auto)]
 
 mod again;

@@ -16,7 +16,7 @@ use life_plane::{AGE_LIMIT, Plane};
 use life_strays::{Pace, STRIDE};
 use std::alloc::AllocError;
 
-/// Whether so many cells are allowed.
+/// Whether this population is allowed.
 fn is_allowed(limit: Option<u32>, population: u64) -> bool
     ensures { IsTrue result ↔ IsAllowed limit population }
 {
@@ -26,7 +26,7 @@ fn is_allowed(limit: Option<u32>, population: u64) -> bool
     }
 }
 
-/// For how many generations, from a set of so many cells on, surely none has more cells than are allowed: 0 where the set
+/// For how many generations, from a set of `population` cells on, certainly none has more cells than are allowed: 0 where the set
 /// itself has more, and 4 at most. No generation has more than nine times as many cells as the one before.
 fn few_for(limit: Option<u32>, population: u64) -> u32
     ensures few { (R : ModelRule) (G : Generation) → size G ≡ population →
@@ -46,9 +46,9 @@ fn few_for(limit: Option<u32>, population: u64) -> u32
     1
 }
 
-/// Before which age surely no generation has more cells than are allowed, where this is known before some age: a later
-/// age than that of the plane, or nothing where its own cells are more. They are counted only where that age is reached,
-/// and at least at each age at which the pace needs it.
+/// The age before which certainly no generation has more cells than are allowed: later than that of the plane, or nothing where
+/// its own cells are more. That none before the age `known` has more is known already. The cells are counted only where that age
+/// is reached, and at least at each age at which the pace needs it.
 pub fn few_until<P: Plane>(
     limit: Option<u32>,
     plane: &P,
@@ -103,7 +103,8 @@ pub fn first_past<P: Plane>(
     Ok(None)
 }
 
-/// The same of ash, whose parts mostly tell it without a walk.
+/// The first generation of ash past the limit, from a plane's own cells, which are generation 0, to the last. The parts mostly
+/// decide it without a walk.
 pub fn first_past_of_ash<P: Plane>(
     plane: &P,
     parts: &[Orbit],

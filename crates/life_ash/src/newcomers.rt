@@ -21,11 +21,11 @@ use life_classes::{classes_of, reaches};
 use life_plane::Plane;
 use std::alloc::{AllocError, Global};
 
-/// For how many generations cells are followed to tell which belong together: first none, then as many as most spaceships
-/// of several pieces need.
+/// For how many generations cells are followed to see which belong together: first none, then as many as most spaceships of
+/// several pieces need.
 const FOLLOWED: [u32; 2] = [0, 64];
 
-/// Within how many generations a set must come again.
+/// Within how many generations a set must recur.
 const TRIED: u32 = 64;
 
 /// How many cells a set has at most.
@@ -34,7 +34,7 @@ const LARGEST: usize = 512;
 /// How many sets are looked at more closely.
 const MANY: usize = 32;
 
-/// For how many of them it is tried whether they stay alone.
+/// How many of them are followed to see whether they stay alone.
 const TRIES: usize = 4;
 
 /// Whether each cell of a set is one of these cells.
@@ -47,7 +47,7 @@ fn is_within(set: &CellList, cells: &CellList) -> bool
         .all(|cell| reaches(0, cells, cell))
 }
 
-/// Whether a set comes again, and stood nowhere among these cells so many generations ago as the bound is.
+/// Whether a set recurs, and what it was `known.bound()` generations ago is not among these cells.
 fn is_new(
     alloc: Global,
     known: &mut Known,
@@ -77,7 +77,7 @@ fn copied(alloc: Global, set: &CellList) -> Result<CellList, AllocError>
     Ok(CellList::from_ordered(set.as_slice().to_vec(alloc)?))
 }
 
-/// Sets of a plane's cells that no split for the bound tears and that are new beside these cells.
+/// Sets of a plane's cells that no split for the bound tears and that are new compared with these cells.
 fn newcomers<P: Plane>(
     alloc: Global,
     plane: &P,
@@ -121,8 +121,8 @@ fn loneliest(sets: &[CellList], cells: &CellList) -> usize
     best
 }
 
-/// Whether a set of a plane's cells, which no split for the bound tears, tells that the generation that was there so many
-/// generations before as the bound is, is no ash: it stays alone, and what must have become it was not there.
+/// Whether a set of a plane's cells, which no split for the bound tears, shows that the generation of one bound before is no ash:
+/// the set stays alone, and what must have become it was not there.
 fn tells<P: Plane>(
     alloc: Global,
     plane: &P,
@@ -154,7 +154,7 @@ fn tells<P: Plane>(
     }
 }
 
-/// Whether one of some sets of a plane's cells tells so. The loneliest are tried first, and only a few.
+/// Whether one of some sets of a plane's cells shows this. The loneliest are tried first, and only a few.
 fn some_tells<P: Plane>(
     alloc: Global,
     plane: &P,
@@ -185,8 +185,8 @@ fn some_tells<P: Plane>(
     Ok(false)
 }
 
-/// Whether a plane's cells, which are as old as the bound, are seen to be no ash by what stands alone once they are twice
-/// as old. That it isn't seen tells nothing.
+/// Whether a plane's cells, which are as old as the bound, are seen to be no ash by what stands alone once they are twice as old.
+/// A negative answer means nothing.
 pub fn is_no_ash<P: Plane>(alloc: Global, plane: &P, known: &mut Known) -> Result<bool, AllocError>
     requires age { P.steps_made plane.now ≡ known.old.bound }
     ensures same { known.new ≡ known.old }

@@ -20,7 +20,7 @@ use life_orbit::Orbit;
 use life_plane::Plane;
 use std::alloc::{AllocError, Global};
 
-/// The only set that may have become this one after so many generations and that comes again within the bound.
+/// The only set that may have become this one after `ago` generations and that recurs within the bound.
 pub fn part_of(
     alloc: Global,
     known: &mut Known,
@@ -47,7 +47,7 @@ pub fn part_of(
     known.orbit_of(alloc, &set, bound)
 }
 
-/// The only sets that may have become these ones. Of what does not come again no generations are kept.
+/// The only sets that may have become these ones. No generations are kept of a set that does not recur.
 fn parts_of<P: Plane>(
     alloc: Global,
     known: &mut Known,
@@ -118,8 +118,8 @@ fn sets(alloc: Global, orbits: &[Orbit]) -> Result<Vec<CellList>, AllocError>
     Ok(sets)
 }
 
-/// The only parts of which the cells of a plane may be ash within the bound of what is known, where they become ash of
-/// these ones after so many generations: what these were then.
+/// The only parts of which the cells of a plane may be ash within the bound of what is known, where they become ash of the parts
+/// `later` after `ago` generations: what these parts were before.
 pub fn parts_before<P: Plane>(
     alloc: Global,
     plane: &P,

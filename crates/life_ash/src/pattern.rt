@@ -27,8 +27,8 @@ use life_plane::{Observer, Plane};
 use life_strays::Pace;
 use std::alloc::{AllocError, Global};
 
-/// What becomes of a pattern of which no generation up to three times the bound is past the limit, of which the generation
-/// of the bound is this, and some on the way there are on a trail.
+/// What becomes of a pattern, by what its generation of the bound is. No generation up to three times the bound is past the
+/// limit. Some generations on the way are on a trail.
 fn fate_of(found: AtBound, bound: u32, trail: Trail) -> Fate
     ensures { (R : ModelRule) (G : Generation) (limit : Option ℕ) →
         IsSmallEnough R G bound limit → All (IsMomentOf R G) trail →
@@ -44,10 +44,10 @@ fn fate_of(found: AtBound, bound: u32, trail: Trail) -> Fate
     }
 }
 
-/// What becomes of a pattern of which a plane has the generation of the bound, where no ash was found before, and no generation
-/// before has more cells than it may have. So it is where `walk_on`, from generation 0 to the bound, finds `Nothing`. The rule
-/// and the bound are those of what is known. The trail has some of the pattern's generations, and the plane stays as it is.
-/// That its cells are no ash within the bound may be known before.
+/// What becomes of a pattern whose generation of the bound is on a plane, where no ash was found before and no generation before
+/// has more cells than it may have. This is the case where `walk_on`, from generation 0 to the bound, finds `Nothing`. The rule
+/// and the bound are those of what is known. The trail has some of the pattern's generations. The plane is unchanged. It may be
+/// known already that its cells are no ash within the bound.
 pub fn fate_past<P: Plane, W: Observer>(
     alloc: Global,
     observer: &W,
@@ -87,10 +87,10 @@ pub fn fate_past<P: Plane, W: Observer>(
     )
 }
 
-/// What becomes of a pattern within the bound. What it falls apart into is looked for now and then on the way to the
-/// bound, since what is ash stays so. With a limit no generation from 0 to three times the bound may have more cells;
-/// generations after that at which ash is found are mostly not looked at, since the parts tell their sizes. An observer is
-/// told the generations on the way.
+/// What becomes of a pattern within the bound. On the way to the bound it is checked now and then whether the pattern is ash,
+/// since ash stays ash. With a limit no generation from 0 to three times the bound may have more cells; generations after the one
+/// at which ash is found are mostly not looked at, since the parts give their sizes. The generations on the way are reported to
+/// an observer.
 pub fn fate<P: Plane, W: Observer>(
     alloc: Global,
     observer: &W,

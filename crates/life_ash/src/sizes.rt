@@ -17,8 +17,8 @@ fn largest(orbit: &Orbit) -> u64
     most
 }
 
-/// Whether the largest generations of sets that recur have no more cells together than so many. That they have more
-/// tells nothing of any one time.
+/// Whether the largest generations of sets that recur have no more cells together than `most`. A negative answer means nothing
+/// for any one generation.
 pub fn are_few(orbits: &[Orbit], most: u32) -> bool
     ensures { IsTrue result → (n : ℕ) → total_later n orbits.now ≤ most }
 {

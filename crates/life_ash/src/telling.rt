@@ -1,4 +1,4 @@
-//! What ash the cells of the bound are, as later generations tell.
+//! What ash the cells of the bound are, as later generations show.
 ghost use Rattle.std.specs.Prelude.{◌≡◌, ℕ, ◌≤◌, All, IfNone, IfOk, IfSome, List};
 ghost use Rattle.std.specs.Bool.{OnTrue};
 ghost use Rattle.life_model.specs.Generation.{Generation};
@@ -20,7 +20,7 @@ use life_plane::Plane;
 use life_strays::Pace;
 use std::alloc::{AllocError, Global};
 
-/// What cells are that are this ash or none, and if it is none are seen, or not, to become ash later.
+/// What cells are, by the ash that they are or none. If they are none, `ends` says whether they are seen to become ash later.
 fn at_bound(ash: Option<Ash>, ends: bool) -> AtBound
     ensures { (R : ModelRule) (b : ℕ) (H : Generation) →
         IfSome ash (λ ash. IsAsh R b H (sets_of ash)) → IfSome ash (All (IsCourseBy R)) →
@@ -33,7 +33,7 @@ fn at_bound(ash: Option<Ash>, ends: bool) -> AtBound
     }
 }
 
-/// What a plane's cells are that become ash of these parts after so many generations.
+/// What a plane's cells are, where they become ash of the parts `later` after `ago` generations.
 pub fn ash_by_later<P: Plane>(
     alloc: Global,
     plane: &P,
@@ -50,8 +50,8 @@ pub fn ash_by_later<P: Plane>(
     Ok(at_bound(ash, true))
 }
 
-/// What a plane's cells are that are as old as the bound, which later generations mostly tell. That they are no ash may be
-/// known before.
+/// What a plane's cells are, which are as old as the bound. Later generations mostly decide it. It may be known already that they
+/// are no ash.
 pub fn ash_told<P: Plane>(
     alloc: Global,
     plane: &P,

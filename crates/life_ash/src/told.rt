@@ -1,7 +1,7 @@
-//! What later generations tell of a plane's cells.
+//! What later generations say about a plane's cells.
 use life_orbit::Orbit;
 
-/// Of a set: what ash it becomes, or that it is no ash.
+/// What ash a set becomes, or that it is no ash.
 #[derive(Drop)]
 pub enum Told {
     /// It becomes ash of these parts.
@@ -13,6 +13,6 @@ pub enum Told {
     },
     /// It is no ash within the bound.
     Never,
-    /// Nothing is told.
+    /// Neither is known.
     Nothing,
 }

@@ -12,8 +12,8 @@ use life_orbit::{BOUND_LIMIT, Orbit};
 use life_plane::Plane;
 use std::alloc::{AllocError, Global};
 
-/// Whether of no two sets into which the cells split do both live on. Mostly the cells are near each other, which needs
-/// no plane to be seen.
+/// Whether the cells split into no two sets that both live on. Mostly the cells are near each other, which is seen without a
+/// plane.
 fn is_undivided<P: Plane>(
     alloc: Global,
     cells: &CellList,
@@ -31,9 +31,9 @@ fn is_undivided<P: Plane>(
     life_classes::is_undivided(alloc, plane, rule, bound)
 }
 
-/// Whether no generation of a set that recurs is divided. A generation that is undivided within some generations tells
-/// that the one before it is within one more, so mostly a few phases tell of all: the last of as many as may be is looked
-/// at, and where that doesn't tell, of half as many.
+/// Whether no generation of a set that recurs is divided. If a generation is undivided within some generations, the one before it
+/// is undivided within one more, so a few phases mostly decide for all. The last of as many phases as possible is looked at, and
+/// where that doesn't decide, of half as many.
 fn is_one_piece<P: Plane>(
     alloc: Global,
     orbit: &Orbit,

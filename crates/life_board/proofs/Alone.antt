@@ -28,7 +28,7 @@ row_is tile y high =
 pub above_is : (tile : Tile) → area_row (alone tile) 63 ≡ wide_row 0 0 0
 above_is tile = area_first (alone tile) 63 (omega arith) ∙ (λ i. wide_row (empty_row 63 i) (empty_row 63 i) (empty_row 63 i))
 
--- a row, and the one before it, where they have no live cell
+-- a row, and the one before it, if they have no live cell
 pub void_is : (tile : Tile) (y : ℕ) → y < 64 → slice_index tile.rows y ≡ 0 → area_row (alone tile) (y + 64) ≡ wide_row 0 0 0
 void_is tile y high void = row_is tile y high ∙ ap (λ w. wide_row 0 w 0) void
 
@@ -74,7 +74,7 @@ around_is nine x y =
     + area_cell nine (x + 63) (row_on j) + area_cell nine (two_on j) (row_on j)
     + area_cell nine (x + 63) (rows_on j) + area_cell nine (one_on j) (rows_on j) + area_cell nine (two_on j) (rows_on j)
 
--- what a rule makes of a cell of a row
+-- what a rule makes from a cell of a row
 pub next_of : (rule : Rule) (nine : Nine) (x y here number : ℕ) → here ≡ bit_at (area_row nine (y + 64)) (x + 64) →
     number ≡ around_in (area_row nine (y + 63)) (area_row nine (y + 64)) (area_row nine (y + 65)) x →
     next_state rule here number ≡ next_in_area rule nine x y
@@ -84,7 +84,7 @@ unborn : (rule : Rule) → next_state rule 0 0 ≡ 0
 unfolding born
 unborn rule = refl
 
--- no cell is born in a row without a live cell in it, above or below
+-- no cell is born in a row if neither it nor the rows above and below have a live cell
 dead_rows : (rule : Rule) (nine : Nine) (x y : ℕ) → area_row nine (y + 63) ≡ wide_row 0 0 0 → area_row nine (y + 64) ≡ wide_row 0 0 0 → area_row nine (y + 65) ≡ wide_row 0 0 0 →
     next_in_area rule nine x y ≡ 0
 dead_rows rule nine x y above here below =

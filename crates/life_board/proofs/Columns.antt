@@ -1,4 +1,4 @@
--- At which columns a tile has a live cell.
+-- The columns in which a tile has a live cell.
 use Rattle.std.proofs.Common.{◌≡◌, ◌≢◌, ℕ, ◌+◌, ◌*◌, ◌%◌, ◌^◌, ◌<◌, ◌≤◌, ◌⊎◌, inl, ⊎_elim, ◌↔◌, List, w64, slice_index, slice_set, bit_or, max, sym, ap, ◌∙◌, below_more, arith}
 use Rattle.std.specs.Int.{bit_at}
 use Rattle.std.proofs.lemmas.Bool.{cases_eq, cases_lt}
@@ -22,7 +22,7 @@ AreColumnsTo columns rows n = (x : ℕ) → x < 64 → (bit_at columns x ≡ 0) 
 pub columns_none : (rows : List ℕ) (n : ℕ) → ((k : ℕ) → k < n → slice_index rows k ≡ 0) → AreColumnsTo 0 rows n
 columns_none rows n void = λ x wide. (λ none k less. ap (λ w. bit_at w x) (void k less) ∙ bit_at-zero x, λ dead. bit_at-zero x)
 
--- one row more, which is changed
+-- one more row, which is changed
 pub columns_more : (rows : List ℕ) (columns y row : ℕ) → AreColumnsTo columns rows y →
     AreColumnsTo (bit_or columns (slice_index (slice_set rows y row) y)) (slice_set rows y row) (y + 1)
 columns_more rows columns y row before = λ x wide.
@@ -40,7 +40,7 @@ columns_more rows columns y row before = λ x wide.
           ((before x wide).1 (λ k less. sym (old k less) ∙ dead k (omega arith))) (dead y (omega arith)),
     )
 
--- where no later row has a live cell, these are the tile's
+-- if no later row has a live cell, these are the tile's columns
 pub columns_all : (tile : Tile) (columns n : ℕ) → n ≤ 64 → AreColumnsTo columns tile.rows n → ((k : ℕ) → n ≤ k → k < 64 → slice_index tile.rows k ≡ 0) → AreColumnsOf columns tile
 columns_all tile columns n few to void = λ x wide. (
   λ none y high.

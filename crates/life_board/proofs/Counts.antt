@@ -1,4 +1,4 @@
--- How many cells of a square are live, and where they are.
+-- The number of live cells of a square, and where they are.
 use Rattle.std.proofs.Common.{List, ◌≡◌, ℤ, All, length, ℕ, ◌+◌, ◌-◌, ◌<◌, ◌≤◌, slice_index, sym, ap, ◌∙◌, arith}
 use Rattle.life_model.specs.Cell.{Cell}
 use Rattle.life_model.specs.Generation.{cells, size}

@@ -91,14 +91,14 @@ shown_put left top before after x y c wide high is here others =
         live_after q b.row.j b.i b.row.inside b.inside b.row.is b.row.set_bit)
         (inserted_cases (shown left top before) c q has)
 
--- and what is kept then
+-- what a square keeps then
 pub within_put : (G H : Generation) (c : Cell) (age : ℕ) → H ≡ insert G c → IsWithin age c → ((q : Cell) → contains G q ≡ true → IsWithin age q) →
     (q : Cell) → contains H q ≡ true → IsWithin age q
 within_put G H c age is here before q live =
     ⊎_elim (λ (same : q ≡ c). subst (IsWithin age) (sym same) here) (λ (old : contains G q ≡ true). before q old)
     (inserted_cases G c q (sym (ap (λ (K : Generation). contains K q) is) ∙ live))
 
--- the range of the rows that have a live cell, with one row more
+-- the range of the rows that have a live cell, with one more row
 pub void_widened : (before after : List ℕ) (first end low high y : ℕ) → IsVoidOutside before first end → y < 64 → low ≡ min first y → high ≡ max end (y + 1) →
     ((k : ℕ) → k ≢ y → slice_index after k ≡ slice_index before k) → IsVoidOutside after low high
 void_widened before after first end low high y void small low_is high_is others =

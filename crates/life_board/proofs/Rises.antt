@@ -38,7 +38,7 @@ below_each c (d ∷ ds) each =
     both_hold (is_lt (cell_cmp c d)) (below_all c ds) (subst (λ r. T (is_lt r)) (sym (each d (has_head d ds))) tt)
     (below_each c ds (λ e has. each e (has_tail d e ds has)))
 
--- cells in order before others in order
+-- cells in order, followed by others in order
 rise_append : (xs ys : List Cell) → T (is_rising xs) → T (is_rising ys) → ((a b : Cell) → Has xs a → Has ys b → cell_cmp a b ≡ Less) → T (is_rising (xs ++ ys))
 rise_append [] ys one other before = other
 rise_append (x ∷ xs) ys one other before =
@@ -100,7 +100,7 @@ from_turned left top tile =
     ∙ list_any-reverse (same_cell q) (block_cells left top tile.rows 64)
     ∙ sym (contains-from_list (block_cells left top tile.rows 64) q))
 
--- one row more of the list
+-- one more row of the list
 pub row_listed : (left top : ℤ) (rows : List ℕ) (n : ℕ) (items new : List Cell) → items ≡ reverse (block_cells left top rows n) →
     new ≡ items ++ reverse (row_cells left (top +ℤ pos n) (slice_index rows n) 64) → new ≡ reverse (block_cells left top rows (suc n))
 unfolding block_cells

@@ -1,4 +1,4 @@
--- A cell is live exactly where its bit of the square is set.
+-- A cell is live exactly if its bit of the square is set.
 use Rattle.std.proofs.Common.{◌≡◌, ℕ, ℤ, pos, ◌+ℤ◌, ◌<◌, ⊎_elim, true, false, slice_index, sym, ap, ◌∙◌, arith}
 use Rattle.std.proofs.lemmas.Int.{ints}
 use Rattle.life_model.specs.Cell.{Cell}

@@ -19,7 +19,7 @@ shown left top tile = from_list (block_cells left top tile.rows 64)
 abbrev pub members_of : Square → Generation
 members_of square = shown square.left square.top square.tile
 
--- a place far from the ends of the numbers of 32 bits
+-- a place whose coordinates are far from the ends of 32 bits
 pub record IsFarFromEnds (left top : ℤ) : Type 0 where
   pub west : negsuc corner_limit ≤ℤ left
   pub east : left ≤ℤ pos corner_limit
@@ -33,7 +33,7 @@ pub record IsVoidOutside (rows : List ℕ) (first end : ℕ) : Type 0 where
   pub above : (k : ℕ) → k < first → slice_index rows k ≡ 0
   pub below : (k : ℕ) → end ≤ k → k < 64 → slice_index rows k ≡ 0
 
--- at each column a bit is set exactly where one of its cells is live
+-- the bit of each column is set exactly if one of its cells is live
 abbrev pub AreColumnsOf : ℕ → Tile → Type 0
 AreColumnsOf columns tile = (x : ℕ) → x < 64 → (bit_at columns x ≡ 0) ↔ ((y : ℕ) → y < 64 → tile_cell tile x y ≡ 0)
 
@@ -66,7 +66,7 @@ pub record IsInner (tile : Tile) : Type 0 where
   pub north : (x : ℕ) → x < 64 → tile_cell tile x 0 ≡ 0
   pub south : (x : ℕ) → x < 64 → tile_cell tile x 63 ≡ 0
 
--- two numbers that are places of cells
+-- two numbers that are coordinates of cells
 pub record IsRange (range : ℤ × ℤ) : Type 0 where
   pub low_from : negsuc last_place ≤ℤ range.0
   pub low_to : range.0 ≤ℤ pos last_place

@@ -8,8 +8,9 @@ use life_plane::Plane;
 use std::alloc::{AllocError, Global};
 use std::marker::Model;
 
-/// A plane that keeps its live cells in one square of 64 by 64 cells, as rows of bits, for as long as they stay in it, and then in
-/// tiles. In the square a step, the span and a comparison with a list or with another square take no memory.
+/// A plane that keeps its live cells in one square of 64 by 64 cells, as rows of bits, for as long as they stay in it,
+/// and after that in tiles. In the square a step, the span and a comparison with a list or with another square take no
+/// memory.
 #[derive(Drop)]
 pub struct Board {
     kind: Kind,
@@ -31,7 +32,7 @@ impl Model for Board {
 }
 
 impl Board {
-    /// How many bands of eight rows the next step works out, which is what it takes of time. Nothing rests on it.
+    /// How many bands of eight rows the next step works out, which determines its time. No answer depends on it.
     pub fn active_bands(&self) -> u64 {
         self.kind.active_bands()
     }

@@ -1,4 +1,5 @@
-//! Whether some cells, moved as a whole, are live in a square: those of a list one by one, those of another square by rows of 64.
+//! Whether some cells, moved as a whole, are live in a square: those of a list one by one, and those of another square
+//! in rows of 64.
 ghost use Rattle.std.specs.Prelude.{◌≡◌, ◌≢◌, ◌↔◌, ◌+ℤ◌, ◌<◌, ◌<ℤ◌, ◌≤ℤ◌, ℕ, pos, negsuc, All, IfNone, IfSome, IsTrue};
 ghost use Rattle.std.specs.Int.{bit_at};
 ghost use Rattle.life_model.specs.Cell.{Cell, opposite, plus};
@@ -13,7 +14,7 @@ ghost use Rattle.life_board.specs.Squares.{members_of, IsSquare, IsFarFromEnds};
 
 use crate::small::Square;
 
-/// Which of the 64 columns from a column on this one is. The same for rows.
+/// Which of the 64 columns from a column on this one is. It also serves for rows.
 fn index_from(z: i32, from: i32) -> Option<usize>
     requires west { negsuc reach_limit ≤ℤ z }
     requires east { z ≤ℤ pos reach_limit }
@@ -46,7 +47,7 @@ fn is_live(square: &Square, cell: (i32, i32)) -> bool
     }
 }
 
-/// The cell, moved as one place is from another.
+/// The cell after the move from one place to another.
 pub fn moved(cell: (i32, i32), from: (i32, i32), to: (i32, i32)) -> (i32, i32)
     requires cell { IsFarFromEnds cell.0 cell.1 }
     requires from { IsPlace from }
@@ -57,7 +58,7 @@ pub fn moved(cell: (i32, i32), from: (i32, i32), to: (i32, i32)) -> (i32, i32)
     (cell.0 - from.0 + to.0, cell.1 - from.1 + to.1)
 }
 
-/// Whether each of some cells is live, moved as one place is from another.
+/// Whether each of some cells is live after the move from one place to another.
 pub fn are_live(square: &Square, cells: &[(i32, i32)], from: (i32, i32), to: (i32, i32)) -> bool
     requires kept { IsSquare square.now }
     requires placed { All IsPlace cells.now }
@@ -74,7 +75,7 @@ pub fn are_live(square: &Square, cells: &[(i32, i32)], from: (i32, i32), to: (i3
     true
 }
 
-/// The 64 bits from a bit of a word on. Before its first bit and after its last there are zeros.
+/// The 64 bits of a word from a bit on. There are zeros before its first bit and after its last.
 fn bits_from(word: u64, from: i32) -> u64
     ensures inside { (j n : ℕ) → j < 64 → n < 64 → (from +ℤ pos j) ≡ pos n →
         bit_at result j ≡ bit_at word n }
@@ -105,7 +106,7 @@ pub fn row_from(square: &Square, cell: (i32, i32)) -> u64
     }
 }
 
-/// Whether each set bit of a word is a live cell, where bit 0 is at this cell.
+/// Whether each set bit of a word is a live cell. Bit 0 is at `start`.
 fn has_row(square: &Square, word: u64, start: (i32, i32)) -> bool
     requires kept { IsSquare square.now }
     requires reach { IsInReach start }
@@ -114,7 +115,7 @@ fn has_row(square: &Square, word: u64, start: (i32, i32)) -> bool
     word & !row_from(square, start) == 0
 }
 
-/// Whether each live cell of another square is live, moved as one place is from another.
+/// Whether each live cell of another square is live in this one after the move from one place to another.
 pub fn has_square(square: &Square, other: &Square, from: (i32, i32), to: (i32, i32)) -> bool
     requires kept { IsSquare square.now }
     requires other { IsSquare other.now }

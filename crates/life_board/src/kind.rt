@@ -38,7 +38,7 @@ fn as_tiles(square: &Square) -> Result<TilePlane, AllocError>
 }
 
 impl Kind {
-    /// A square without a live cell that has those of a list in its middle, where it is large enough.
+    /// A square without a live cell whose middle is that of the cells of a list, if they fit into it.
     pub fn around(alloc: Global, list: &CellList, age: u32) -> Kind
         requires { age ≤ age_limit }
         ensures kept { IsKind result }
@@ -49,7 +49,8 @@ impl Kind {
         Kind::Small(Square::empty(alloc, left, top, age))
     }
 
-    /// Puts the cells of a list into a square without a live cell, or into tiles where one is too near to its edge.
+    /// Puts the cells of a list into a square without a live cell, or into tiles if a cell is too near to the edge of
+    /// the square.
     pub fn fill(&mut self, alloc: Global, list: &CellList, age: u32) -> Result<(), AllocError>
         requires kept { IsKind self.old }
         requires empty { members_of self.old ≡ from_list [] }
@@ -68,9 +69,10 @@ impl Kind {
         self.fill_tiles(alloc, list, age)
     }
 
-    /// Puts the cells of a list into tiles, whatever it held.
+    /// Puts the cells of a list into tiles, whatever was there before.
     ///
-    /// It stands apart in the program too: within `fill` each square would first make room for tiles.
+    /// It is a function of its own in the program too: inlined into `fill`, it would make every square reserve stack
+    /// space for tiles first.
     #[inline(never)]
     fn fill_tiles(&mut self, alloc: Global, list: &CellList, age: u32) -> Result<(), AllocError>
         requires age { age ≤ age_limit }
@@ -85,7 +87,8 @@ impl Kind {
 
     /// Keeps the cells in tiles from now on.
     ///
-    /// It stands apart in the program too: within `step` each step of a square would first make room for tiles.
+    /// It is a function of its own in the program too: inlined into `step`, it would make each step of a square reserve
+    /// stack space for tiles first.
     #[inline(never)]
     fn leave_square(&mut self) -> Result<(), AllocError>
         requires { IsKind self.old }
@@ -116,7 +119,7 @@ impl Kind {
         Ok(())
     }
 
-    /// Makes the next generation. After an `Err` the cells and the age are what they were.
+    /// Makes the next generation. After an `Err` the cells and the age are unchanged.
     pub fn step(&mut self, rule: &Rule) -> Result<(), AllocError>
         requires kept { IsKind self.old }
         requires young { age_of self.old < age_limit }
@@ -136,7 +139,7 @@ impl Kind {
         }
     }
 
-    /// How many live cells there are.
+    /// The number of live cells.
     pub fn population(&self) -> u64
         requires { IsKind self.now }
         ensures { result ≡ size (members_of self.now) }
@@ -155,7 +158,7 @@ impl Kind {
         }
     }
 
-    /// How many steps it has made.
+    /// The number of steps it has made.
     pub fn age(&self) -> u32
         requires { IsKind self.now }
         ensures age { result ≡ age_of self.now }
@@ -167,7 +170,7 @@ impl Kind {
         }
     }
 
-    /// The cell and the 63 to the east of it, of which each is live where its bit is set: the first has bit 0.
+    /// The cell and the 63 to the east of it. Each is live if its bit is set: the first has bit 0.
     pub fn row(&self, cell: (i32, i32)) -> u64
         requires kept { IsKind self.now }
         requires placed { IsPlace cell }
@@ -214,7 +217,7 @@ impl Kind {
         }
     }
 
-    /// How far the last of its cells, by y and then by x, is from the first, or (0, 0) where there is none.
+    /// How far the last of its cells, by y and then by x, is from the first, or (0, 0) if there is none.
     pub fn span(&self) -> Result<(i32, i32), AllocError>
         requires { IsKind self.now }
         ensures { IfOk result (λ span. span ≡ set_span (members_of self.now)) }
@@ -225,7 +228,7 @@ impl Kind {
         }
     }
 
-    /// How far its cells are from the listed ones, where they are those moved as a whole.
+    /// How far its cells are from the listed ones, if they are those moved as a whole.
     pub fn offset_from(&self, list: &CellList) -> Result<Option<(i32, i32)>, AllocError>
         requires { IsKind self.now }
         ensures offset { IfOk result
@@ -239,7 +242,7 @@ impl Kind {
         }
     }
 
-    /// How far its cells are from those of another board, where they are those moved as a whole.
+    /// How far its cells are from those of another board, if they are those moved as a whole.
     pub fn offset_from_plane(&self, other: &Kind) -> Result<Option<(i32, i32)>, AllocError>
         requires kept { IsKind self.now }
         requires other { IsKind other.now }
@@ -265,7 +268,7 @@ impl Kind {
         self.offset_from(&other.cells()?)
     }
 
-    /// The same cells at the same age.
+    /// A kind with the same cells at the same age.
     pub fn copy(&self) -> Result<Kind, AllocError>
         requires { IsKind self.now }
         ensures kept { IfOk result IsKind }

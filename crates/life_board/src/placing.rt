@@ -1,10 +1,10 @@
-//! Where the square of a pattern stands.
+//! Where the square of a pattern is.
 ghost use Rattle.std.specs.Prelude.{pos, negsuc, ◌≤ℤ◌, All};
 ghost use Rattle.life_cells.specs.Limits.{IsPlace, last_place};
 ghost use Rattle.life_board.specs.Squares.{IsFarFromEnds, IsRange};
 ghost use Rattle.life_board.specs.Limits.{corner_limit};
 
-/// The range with one number more.
+/// The range, widened to contain a number.
 fn widened(range: (i32, i32), number: i32) -> (i32, i32)
     requires range { IsRange range }
     requires from { negsuc last_place ≤ℤ number }
@@ -17,7 +17,7 @@ fn widened(range: (i32, i32), number: i32) -> (i32, i32)
     )
 }
 
-/// The first of 64 columns that have this range in their middle, where they are wide enough. The same for rows.
+/// The first of 64 columns with this range in their middle, if it fits into them. It also serves for rows.
 fn start_around(range: (i32, i32)) -> i32
     requires { IsRange range }
     ensures from { negsuc corner_limit ≤ℤ result }
@@ -26,8 +26,7 @@ fn start_around(range: (i32, i32)) -> i32
     (range.0 + range.1).div_euclid(2) - 32
 }
 
-/// The corner of a square of 64 by 64 cells that has these cells, which are in order, in its middle, where it is large
-/// enough.
+/// The corner of a square of 64 by 64 cells with these cells, which are in order, in its middle, if they fit into it.
 pub fn corner_around(cells: &[(i32, i32)]) -> (i32, i32)
     requires { All IsPlace cells.now }
     ensures { IsFarFromEnds result.0 result.1 }

@@ -10,7 +10,8 @@ ghost use Rattle.life_board.specs.Squares.{alone, around_in, AreColumnsOf, IsVoi
 use life_cells::Rule;
 use life_plane::{Count, Logic, RowSums, Tile, full_adder, sums};
 
-/// How many live neighbours each cell of a row has, by the sums of the row above, of its own and of the row below.
+/// The number of live neighbours of each cell of a row, from the sums of the row above, of its own row and of the row
+/// below.
 #[inline(always)]
 fn count(above: RowSums, beside: RowSums, below: RowSums) -> Count
     ensures { (a b c : ℕ) → IsRowSumsOf above a → IsRowSumsOf beside b → IsRowSumsOf below c →
@@ -27,7 +28,7 @@ fn count(above: RowSums, beside: RowSums, below: RowSums) -> Count
     }
 }
 
-/// Makes a tile its next generation by a logic, as `advance` says.
+/// Turns a tile into its next generation by a logic, as `advance` says.
 #[inline(always)]
 fn advance_by(tile: &mut Tile, first: usize, end: usize, logic: &Logic) -> u64
     requires first { 0 < first }
@@ -51,9 +52,10 @@ fn advance_by(tile: &mut Tile, first: usize, end: usize, logic: &Logic) -> u64
     columns
 }
 
-/// Makes a tile its next generation by any rule, as `advance` says.
+/// Turns a tile into its next generation by any rule, as `advance` says.
 ///
-/// It stands apart in the program too: within `advance` a step by Conway's rule would first make room for the logic of any rule.
+/// It is a function of its own in the program too: inlined into `advance`, it would make a step by Conway's rule
+/// reserve stack space for the logic of any rule first.
 #[inline(never)]
 fn advance_by_rule(tile: &mut Tile, first: usize, end: usize, rule: &Rule) -> u64
     requires first { 0 < first }
@@ -67,8 +69,8 @@ fn advance_by_rule(tile: &mut Tile, first: usize, end: usize, rule: &Rule) -> u6
     advance_by(tile, first, end, &Logic::of(rule))
 }
 
-/// Makes a tile its next generation, where all cells around it are dead and no row outside a range has a live cell. Gives at each
-/// column whether one of its cells is live then.
+/// Turns a tile into its next generation, if all cells around it are dead and no row outside a range has a live cell.
+/// Returns for each column whether one of its cells is then live.
 pub fn advance(tile: &mut Tile, first: usize, end: usize, rule: &Rule) -> u64
     requires first { 0 < first }
     requires end { end ≤ 62 }
@@ -85,7 +87,7 @@ pub fn advance(tile: &mut Tile, first: usize, end: usize, rule: &Rule) -> u64
     }
 }
 
-/// The first row of a range that has a live cell, or the end of the range where none has.
+/// The first row of a range that has a live cell, or the end of the range if none has.
 pub fn first_row(tile: &Tile, first: usize, end: usize) -> usize
     requires { IsVoidOutside tile.now.rows first end }
     ensures from { first ≤ result }
@@ -98,7 +100,7 @@ pub fn first_row(tile: &Tile, first: usize, end: usize) -> usize
     y
 }
 
-/// The row after the last of a range that has a live cell, or the start of the range where none has.
+/// The row after the last of a range that has a live cell, or the start of the range if none has.
 pub fn end_of_rows(tile: &Tile, first: usize, end: usize) -> usize
     requires { IsVoidOutside tile.now.rows first end }
     ensures void { IsVoidOutside tile.now.rows first result }

@@ -16,16 +16,16 @@ use life_plane::{Tile, move_between};
 use life_slots::{Rim, push_row};
 use std::alloc::{AllocError, Global};
 
-/// A list of so few cells is made without growing.
+/// A list of up to this many cells never has to grow.
 const FEW: usize = 64;
 
-/// A cell that is put into a square is at least so far from its edge.
+/// A cell that is put into a square is at least this far from its edge.
 const MARGIN: i32 = 8;
 
 /// The row around which cells are put into a square.
 const MIDDLE: usize = 32;
 
-/// 64 by 64 cells at a place, and how many steps they have made. All other cells are dead.
+/// 64 by 64 cells at a place, and the number of steps they have made. All other cells are dead.
 #[derive(Clone, Copy)]
 pub struct Square {
     pub alloc: Global,
@@ -38,7 +38,7 @@ pub struct Square {
     pub first: usize,
     /// No row from this one on has a live cell.
     pub end: usize,
-    /// At each column whether one of its cells is live.
+    /// For each column whether one of its cells is live.
     pub columns: u64,
     pub age: u32,
 }
@@ -60,7 +60,7 @@ fn is_at_edge(tile: &Tile, columns: u64) -> bool
     north | west | east | south
 }
 
-/// How many cells of a row are live.
+/// The number of live cells of a row.
 fn count_row(row: u64) -> u64
     ensures few { result ≤ 64 }
     ensures cells { (left y : ℤ) → result ≡ length (row_cells left y row 64) }
@@ -68,7 +68,7 @@ fn count_row(row: u64) -> u64
     u64::from(row.count_ones())
 }
 
-/// How many cells of a tile are live.
+/// The number of live cells of a tile.
 fn count_rows(tile: &Tile, first: usize, end: usize) -> u64
     requires { IsVoidOutside tile.now.rows first end }
     ensures { (left top : ℤ) → result ≡ length (block_cells left top tile.now.rows 64) }
@@ -80,7 +80,7 @@ fn count_rows(tile: &Tile, first: usize, end: usize) -> u64
     count
 }
 
-/// Makes a cell of a tile live. Every other one stays as it was.
+/// Makes a cell of a tile live. Every other cell is unchanged.
 fn make_live(tile: &mut Tile, x: usize, y: usize)
     requires column { x < 64 }
     requires row { y < 64 }
@@ -92,7 +92,8 @@ fn make_live(tile: &mut Tile, x: usize, y: usize)
     tile.rows[y] |= 1 << x;
 }
 
-/// Which of the 64 columns from a column on this one is, where it is not too near to the first or the last. The same for rows.
+/// Which of the 64 columns from a column on this one is, if it is not too near to the first or the last. It also serves
+/// for rows.
 fn column_of(z: i32, from: i32) -> Option<usize>
     requires west { negsuc corner_limit ≤ℤ z }
     requires east { z ≤ℤ pos corner_limit }
@@ -131,7 +132,7 @@ impl Square {
         }
     }
 
-    /// Makes a cell live, where it is not too near to the edge.
+    /// Makes a cell live, if it is not too near to the edge.
     fn put(&mut self, cell: (i32, i32)) -> Option<()>
         requires kept { IsSquare self.old }
         requires within { IsWithin self.old.age cell }
@@ -149,7 +150,7 @@ impl Square {
         Some(())
     }
 
-    /// Makes cells live in a square without a live cell, where none of them is too near to its edge.
+    /// Makes cells live in a square without a live cell, if none of them is too near to its edge.
     pub fn put_all(&mut self, cells: &[(i32, i32)]) -> Option<()>
         requires kept { IsSquare self.old }
         requires empty { members_of self.old ≡ from_list [] }
@@ -199,7 +200,7 @@ impl Square {
         self.shrink();
     }
 
-    /// How many live cells there are.
+    /// The number of live cells.
     pub fn population(&self) -> u64
         requires { IsSquare self.now }
         ensures { result ≡ size (members_of self.now) }
@@ -254,7 +255,7 @@ impl Square {
         Some((self.cell_at(left, top), self.cell_at(right, bottom)))
     }
 
-    /// How far the last of its cells, by y and then by x, is from the first, or (0, 0) where there is none.
+    /// How far the last of its cells, by y and then by x, is from the first, or (0, 0) if there is none.
     pub fn span(&self) -> Result<(i32, i32), AllocError>
         requires { IsSquare self.now }
         ensures { IfOk result (λ span. span ≡ set_span (members_of self.now)) }

@@ -1,4 +1,4 @@
--- The box of a set, and where the cells of a normal form stand.
+-- The bounding box of a set, and where the cells of a normal form are.
 use Rattle.std.proofs.Common.{◌≡◌, ℕ, length, get_or, take, ◌+◌, ◌<◌, ◌≤◌, ℤ, pos, negsuc, neg_ℤ, ◌+ℤ◌, ◌≤ℤ◌, ◌<ℤ◌, true, List, [], ◌∷◌, map, sym, refl, ap, subst, ◌∙◌, arith}
 use Rattle.std.specs.Prelude.{All, nat_abs, max}
 use Rattle.std.specs.List.{AllByRecursion}
@@ -38,7 +38,7 @@ module _ (f : Cell → ℤ) where
 
 -- ---- the places of a normal form
 
--- where a cell of a normal form stands
+-- where a cell of a normal form is
 pub record IsInBox (G : Generation) (c : Cell) : Type 0 where
   pub left : pos 0 ≤ℤ c.0
   pub right : c.0 <ℤ pos (width G)
@@ -78,7 +78,7 @@ contains-normal G c = contains-moved G (opposite (corner G)) c ∙ ap (contains 
 pub contains-normal_back : (G : Generation) (c : Cell) → contains (normal G) (plus c (opposite (corner G))) ≡ contains G c
 contains-normal_back G c = contains-normal G (plus c (opposite (corner G))) ∙ ap (contains G) (plus-opposite_first c (corner G))
 
--- ---- sets whose places lie close together
+-- ---- sets whose cells lie close together
 
 size_below : (x k least low : ℤ) (n : ℕ) → pos 0 ≤ℤ x → least ≡ k → low ≤ℤ least → (x +ℤ k) <ℤ (low +ℤ pos n) → nat_abs x < n
 size_below x k least low n h e l b = omega (arith, ints)
@@ -101,7 +101,7 @@ height_within G low n h =
     let k = corner-is G (plus c (corner G)) there in
     size_below c.1 (corner G).1 k.topmost.1 low n (normal_in_box G c e).above k.topmost_at (h k.topmost k.topmost_in).0 (h (plus c (corner G)) there).1))
 
--- the box of cells on a plane of this age
+-- the bounding box of cells on a plane of this age
 within_age : (z : ℤ) (a : ℕ) → z ≤ℤ pos (1048575 + a) → z <ℤ (neg_ℤ (pos a) +ℤ pos (place_limit + (a + a)))
 within_age z a h = omega (arith, ints)
 
@@ -113,7 +113,7 @@ pub height_at_age : (G : Generation) (a : ℕ) → All (IsWithin a) (cells G) �
 height_at_age G a all =
     height_within G (neg_ℤ (pos a)) _ (λ c e. let w = member_has (IsWithin a) G all c e in (w.above, within_age c.1 a w.below))
 
--- ---- boxes at most 16,777,216 wide and high
+-- ---- bounding boxes at most 16,777,216 wide and high
 
 ahead : (z k : ℤ) (n : ℕ) → pos 0 ≤ℤ (z +ℤ neg_ℤ k) → (z +ℤ neg_ℤ k) <ℤ pos n → n ≤ extent_limit → (k ≤ℤ z) × (z ≤ℤ (k +ℤ pos 16777215))
 ahead z k n h l b = (omega (arith, ints), omega (arith, ints))
@@ -139,7 +139,7 @@ normal_placed G wide high =
     let y = placed c.1 (height G) b.above b.below high in
     record { left = x.0; right = x.1; above = y.0; below = y.1 }))
 
--- ---- what the code makes of the cells of a set
+-- ---- what the code makes from the cells of a set
 
 pub corner-cells : (G : Generation) (cs : List Cell) → cs ≡ cells G → corner_of cs ≡ corner G
 unfolding corner
@@ -151,7 +151,7 @@ cells-normal G cs k ds e f h =
     h ∙ ap (λ bs. map (λ c. plus c (opposite k)) bs) e ∙ ap (λ l. map (λ c. plus c (opposite l)) (cells G)) (f ∙ corner-cells G cs e)
     ∙ sym (cells-moved G (opposite (corner G)))
 
--- ---- shapes and what the maps make of them
+-- ---- shapes, and what the maps make from them
 
 in_field : (N : Generation) → normal N ≡ N → All IsPlace (cells N) → (c : Cell) → contains N c ≡ true → IsInField c
 in_field N e all c h =
@@ -177,7 +177,7 @@ pub all_turned : (m : Orientation) (cs ds : List Cell) → ds ≡ map (turn m) c
 all_turned m cs ds e all =
     subst (All IsPlace) (sym e) (All-map IsPlace (turn m) cs (All-weaker IsInField (λ c. IsPlace (turn m c)) (turned_place m) cs all))
 
--- the least place that a map may bring such a cell to
+-- the least coordinate that a map may take such a cell to
 abbrev reach : Orientation → Cell
 reach Same = (pos 0, pos 0)
 reach FlipX = (negsuc 16777214, pos 0)

@@ -61,7 +61,7 @@ module _ (v : ℕ → ℕ) where
   columns_first x k s zero e h = absurd (omega arith)
   columns_first x k s (suc w) e h = ap (λ u. columns_text s (u ∷ map v (range_with_len (x + 1) k))) e
 
-  -- from column x on, where p is the next that is not 0
+  -- from column x on, if p is the next that is not 0
   pub columns_next : (x p wide s w : ℕ) → x ≤ p → p < wide → s ≡ p - x → ((q : ℕ) → x ≤ q → q < p → v q ≡ 0) → v p ≡ w → 0 < w → columns_text 0 (map v (range_with_len x (wide - x))) ≡ zeros s ++ digit w ∷ columns_text 0 (map v (range_with_len (p + 1) (wide - (p + 1))))
   columns_next x p wide s w h k e none is live =
       let left : wide - x ≡ (p - x) + suc (wide - (p + 1)) = omega arith in

@@ -29,7 +29,7 @@ no_dots x ds all =
 pub value_of_parts : (x n : ℕ) (ds : List Dot) → dots_value (take n ds) x + dots_value (drop n ds) x ≡ dots_value ds x
 value_of_parts x n ds = sum_by-take-drop (in_column x) ds n
 
--- the first column's dots stand at the start
+-- the first column's dots are at the start
 pub first_value : (p n : ℕ) (ds : List Dot) → All (λ d. p < d.0) (drop n ds) → dots_value (take n ds) p ≡ dots_value ds p
 first_value p n ds behind =
     let parts = value_of_parts p n ds in
@@ -42,7 +42,7 @@ other_values p n x ds front h =
     let none = no_dots x (take n ds) (λ k d l. let e = front k d l in λ f. absurd (omega arith)) in
     omega arith
 
--- where a dot of another column stands, all after it are further
+-- after a dot of another column, all dots are further on
 pub behind_other : (p n : ℕ) (e : Dot) (ds : List Dot) → IsNonDecreasingBy (λ d. d.0) ds → n < length ds → p < (get_or ds n e).0 → All (λ d. p < d.0) (drop n ds)
 behind_other p n e ds sorted l h =
     All-from_get_or (λ d. p < d.0) (drop n ds) e (λ k m.
@@ -59,7 +59,7 @@ sorted_drop n ds sorted i j d h l =
     let b = ap (λ e. e.0) (get_or-drop n ds j d) in
     omega arith
 
--- no dot stands left of the first
+-- no dot is left of the first
 pub from_first : (e : Dot) (ds : List Dot) → IsNonDecreasingBy (λ d. d.0) ds → All (λ d. (get_or ds 0 e).0 ≤ d.0) ds
 from_first e ds sorted = All-from_get_or (λ d. (get_or ds 0 e).0 ≤ d.0) ds e (λ k l. sorted 0 k e (omega arith) l)
 

@@ -71,7 +71,7 @@ far_fault at k x v h = ap (λ b. if b then Some (TooFar at) else None) h
 
 -- ---- strip and column may be kept capped
 
--- they are one, or both past the limit
+-- they are equal, or both beyond the limit
 pub record AreNear (a b : ℕ) : Type 0 where
   pub same : min a place_limit ≡ min b place_limit
 
@@ -118,7 +118,7 @@ drawn_near (Zeros n ∷ ms) k l x y h g = drawn_near ms k l (x + n) (y + n) h (n
 drawn_near (NextStrip ∷ ms) k l x y h g = drawn_near ms (k + 1) (l + 1) 0 0 (near_more k l 1 h) (near_itself 0)
 drawn_near (Offence fault ∷ ms) k l x y h g = refl
 
--- ---- the rows of a column, from one on
+-- ---- the rows of a column, from one row on
 
 one_more : (j : ℕ) → j < 5 → 5 - j ≡ suc (5 - (j + 1))
 one_more j h = omega arith

@@ -148,7 +148,7 @@ form_found text birth survival h = by_birth (digits_by_letters (codes "Bb") (cod
         inl (lettered_form (codes "Bb") (codes "Ss") text birth survival (e ∙ ap (λ x. Some (x, s)) same_b ∙ ap (λ x. Some (birth, x)) same_s))
     by_birth None e h = by_survival (digits_by_letters (codes "Ss") (codes "Bb") text) refl h
 
--- # What is there the function finds
+-- # The function finds what is there
 
 pub and_left : (a b : Bool) → (a && b) ≡ true → a ≡ true
 and_left true b h = refl
@@ -158,7 +158,7 @@ pub and_right : (a b : Bool) → (a && b) ≡ true → b ≡ true
 and_right true b h = h
 and_right false b h = absurd (false≢true h)
 
--- digits before a byte that is none
+-- digits before a byte that is no digit
 digits_end : (one : List ℕ) (c : ℕ) (rest : List ℕ) → IsDigits one → is_count c ≡ false → (digits_of (one ++ c ∷ rest) ≡ one) × (after_digits (one ++ c ∷ rest) ≡ c ∷ rest)
 digits_end [] c rest h stop =
     let none : prefix_len is_count (c ∷ rest) ≡ 0 = ap (λ b. cond b (1 + prefix_len is_count rest) 0) stop in
@@ -232,14 +232,14 @@ s_no_b n h = grind (arith, nat_tests)
 digit_no_letter : (n : ℕ) → is_count n ≡ true → (is_in (codes "Bb") n ≡ false) × (is_in (codes "Ss") n ≡ false)
 digit_no_letter n h = (grind (arith, nat_tests), grind (arith, nat_tests))
 
--- digits and `/` begin with no letter
+-- digits and `/` start with no letter
 slashed_no_letter : (one other : List ℕ) → IsDigits one → (digits_by_letters (codes "Bb") (codes "Ss") (one ++ 47 ∷ other) ≡ None) × (digits_by_letters (codes "Ss") (codes "Bb") (one ++ 47 ∷ other) ≡ None)
 slashed_no_letter [] other h = (refl, refl)
 slashed_no_letter (d ∷ one) other h =
     let no = digit_no_letter d (and_left (is_count d) (list_all is_count one) h) in
     (not_lettered (codes "Bb") (codes "Ss") d (one ++ 47 ∷ other) no.0, not_lettered (codes "Ss") (codes "Bb") d (one ++ 47 ∷ other) no.1)
 
--- a text of a form is found so
+-- a text of a form is found as one
 pub form_is : (text birth survival : List ℕ) → HasForm text birth survival → digits_by_form text ≡ Some (birth, survival)
 form_is text birth survival (inl f) =
     ap (λ o. option_or o (option_map reversed_pair (option_or (digits_by_letters (codes "Ss") (codes "Bb") text) (digits_by_slash text)))) (lettered_found (codes "Bb") (codes "Ss") text birth survival small_s f)

@@ -30,7 +30,7 @@ run_here text at h e =
     run_behind text at (omega arith) e ∙ ap (marks (Some at) (at + 1)) (drop_more text (at + 1) 0 h)
     ∙ ap (λ n. mark_of_run at (get_or text (at + 1) 0) ∷ marks None n (drop n text)) (let two : at + 1 + 1 ≡ at + 2 = omega arith in two)
 
--- ---- bytes that are no digit
+-- ---- bytes that are not digits
 
 no_value : (b : Bool) (v : ℕ) (r : Option ℕ) → r ≡ (if b then Some v else None) → r ≡ None → b ≡ false
 no_value true v r e n = cc

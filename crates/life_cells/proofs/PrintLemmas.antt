@@ -18,7 +18,7 @@ use Rattle.life_cells.proofs.FormLemmas.{form_is, and_left, and_right}
 
 -- # A set of digits
 
--- the set with the number of one digit more
+-- the set with the number of one more digit
 abbrev with : ℕ → ℕ → ℕ
 with set c = bit_or set (2 ^ (c - 48))
 
@@ -69,7 +69,7 @@ members_below (c ∷ digits) set h small =
     let below : 2 ^ (c - 48) < 2 ^ 9 = pow-lt few in
     members_below digits (with set c) (and_right (is_count c) (list_all is_count digits) h) (or_lt 9 set (2 ^ (c - 48)) small below)
 
--- # The digits that are printed of a set
+-- # The printed digits of a set
 
 -- those below a number, from one on
 abbrev pub digits_from : ℕ → ℕ → ℕ → List ℕ
@@ -90,7 +90,7 @@ digits_are set (suc n) a h = by_bit (digits_are set n (a + 1) (omega arith)) (bi
     by_bit rest true e = ap (list_all is_count) (digits_step set a n true e) ∙ ap (λ b. b && list_all is_count (digits_from set (a + 1) n)) (digit a (omega arith)) ∙ rest
     by_bit rest false e = ap (list_all is_count) (digits_step set a n false e) ∙ rest
 
--- a digit before those from a number on is none of them
+-- a digit before those from a number on is not one of them
 digit_before : (set n a m : ℕ) → m < a → is_in (digits_from set a n) (48 + m) ≡ false
 digit_before set zero a m h = refl
 digit_before set (suc n) a m h = by_bit (digit_before set n (a + 1) m (omega arith)) (bit_at set a == 1) refl
@@ -126,7 +126,7 @@ digit_in set (suc n) a m lo hi = by_place (λ more. digit_in set n (a + 1) m mor
         let more : a + 1 ≤ m = grind (arith, nat_tests) in
         ap (λ ds. is_in ds (48 + m)) (digits_step set a n false e) ∙ rest more
 
--- one number more
+-- one more number
 pub range_more : (a n : ℕ) → range_with_len a (suc n) ≡ range_with_len a n ++ (a + n) ∷ []
 range_more a zero = let same : a ≡ a + 0 = omega arith in ap (λ k. k ∷ []) same
 range_more a (suc n) = let same : a + 1 + n ≡ a + suc n = omega arith in ap (λ ks. a ∷ ks) (range_more (a + 1) n ∙ ap (λ k. range_with_len (a + 1) n ++ k ∷ []) same)

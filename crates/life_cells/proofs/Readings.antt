@@ -9,7 +9,7 @@ pub with_prefix-twice : {F : Type 0} (one two : List Cell) (rest : Result (List 
 with_prefix-twice one two (Ok cells) = ap Ok (sym (append_assoc one two cells))
 with_prefix-twice one two (Err fault) = refl
 
--- ---- one element more
+-- ---- one more element
 
 suffix_len-push : {X : Type 0} (p : X → Bool) (xs : List X) (x : X) → suffix_len p (xs ++ x ∷ []) ≡ cond (p x) (1 + suffix_len p xs) 0
 suffix_len-push p xs x = ap (prefix_len p) (reverse-append xs (x ∷ []))

@@ -14,7 +14,7 @@ use Rattle.life_cells.specs.Rules.{is_count}
 pub count_range : (c : ℕ) → is_count c ≡ true → (48 ≤ c) × (c ≤ 56)
 count_range c h = grind (arith, nat_tests)
 
--- each byte of a text of digits is one
+-- each byte of a text of digits is a digit
 pub digit_at : (digits : List ℕ) (i : ℕ) → list_all is_count digits ≡ true → i < length digits → (48 ≤ get_or digits i 0) × (get_or digits i 0 ≤ 56)
 digit_at digits i h lt = count_range _ (AllPass-from_list_all is_count digits h i 0 lt)
 
@@ -38,7 +38,7 @@ even_more set c even lo hi =
     let p : 2 ^ (c - 48) % 2 ≡ 0 = rw k (even_power (c - 49)) in
     rw s.0 (or_mod set (2 ^ (c - 48)) 1 ∙ ap (λ n. bit_or n (2 ^ (c - 48) % 2)) even ∙ p)
 
--- a byte that a text lacks is at none of its places
+-- a byte that a text lacks is in none of its places
 absent : (xs : List ℕ) (c : ℕ) (i : ℕ) → is_in xs c ≡ false → i < length xs → eqb (get_or xs i 0) c ≡ false
 absent [] c i h lt = absurd (omega arith)
 absent (x ∷ xs) c zero h lt = (or_parts (eqb x c) (is_in xs c) h).0
@@ -47,7 +47,7 @@ absent (x ∷ xs) c (suc i) h lt = absent xs c i (or_parts (eqb x c) (is_in xs c
 pub not_zero : (digits : List ℕ) (i : ℕ) → is_in digits 48 ≡ false → i < length digits → 48 ≤ get_or digits i 0 → 48 < get_or digits i 0
 not_zero digits i h lt lo = let ne = absent digits 48 i h lt in grind (arith, nat_tests)
 
--- the front that passes a test passes it
+-- each byte of the front that passes a test passes it
 pub front_passes : (p : ℕ → Bool) (xs : List ℕ) → list_all p (take (prefix_len p xs) xs) ≡ true
 front_passes p xs = list_all-from_AllPass p (take (prefix_len p xs) xs) (λ k d lt.
     let n : length (take (prefix_len p xs) xs) ≡ prefix_len p xs = length-prefix_len p xs in

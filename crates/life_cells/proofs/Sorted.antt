@@ -89,7 +89,7 @@ unfolding IsStrictlySortedBy
 sorted_from_rising [] h = tt
 sorted_from_rising (c ∷ cs) h = (all_from_below c cs (first_holds _ _ h), sorted_from_rising cs (second_holds _ _ h))
 
--- two lists with the same elements make one set
+-- two lists with the same elements make the same set
 pub same_sets : (cs ds : List Cell) → ((c : Cell) → list_any (same_cell c) cs ≡ list_any (same_cell c) ds) → from_list cs ≡ from_list ds
 same_sets cs ds h = same_members _ _ (λ c. contains-from_list cs c ∙ h c ∙ sym (contains-from_list ds c))
 
@@ -100,7 +100,7 @@ empty_from_cells G e = sym (from_list-cells G) ∙ ap from_list e
 pub cells_of_empty : (G : Generation) → G ≡ empty → cells G ≡ []
 cells_of_empty G e = ap cells e ∙ cells-from_list [] tt
 
--- no list with a first element has no element
+-- a list with a first element is not empty
 has_length : (n m : ℕ) (b : Bool) → b ≡ (m == 0) → m ≡ n + 1 → IsTrue b → ⊥
 has_length n m b t e h = grind (arith, nat_tests)
 

@@ -56,12 +56,12 @@ run_of-digit at n h =
 
 -- ---- the cells of a text and of what follows it
 
--- what stands after a text is read from column y on, and no fault comes before where these cells are near
+-- what follows a text is read from column y on, and if these cells are near, no fault comes before it
 pub record Leads (k x y at next : ℕ) (text : List ℕ) (cs : List (ℕ × ℕ)) (rest : List ℕ) : Type 0 where
   pub cells : cells_from k x (marks None at (text ++ rest)) ≡ cs ++ cells_from k y (marks None next rest)
   pub faults : list_any is_far cs ≡ false → fault_from k x (marks None at (text ++ rest)) ≡ fault_from k y (marks None next rest)
 
--- text, read from column x of strip k on, spells these cells, and what follows is read from column y on
+-- the text, read from column x of strip k on, spells these cells, and what follows is read from column y on
 pub record Spells (k x y : ℕ) (text : List ℕ) (cs : List (ℕ × ℕ)) : Type 0 where
   pub goes : (at : ℕ) (rest : List ℕ) → (next : ℕ) × Leads k x y at next text cs rest
 

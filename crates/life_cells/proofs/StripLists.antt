@@ -51,7 +51,7 @@ from_front : (row : ℤ) (cs : List Cell) (d : Cell) → 0 < length cs → T (is
 from_front row [] d l h k = tt
 from_front row (c ∷ cs) d l h k = (k, all_under row c cs k (first_holds _ _ h))
 
--- where a cell stands on the row or below it, so do all after it
+-- if a cell is on the row or below it, so are all after it
 pub behind_row : (row : ℤ) (cs : List Cell) (n : ℕ) (d : Cell) → n < length cs → T (is_rising cs) → row ≤ℤ (get_or cs n d).1 → All (λ c. row ≤ℤ c.1) (drop n cs)
 behind_row row cs n d l h k =
     let len = length-drop n cs in

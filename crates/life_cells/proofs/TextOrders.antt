@@ -1,4 +1,4 @@
--- The least of some texts.
+-- The least of several texts.
 use Rattle.std.proofs.Common.{◌≡◌, ℕ, true, false, cond, List, [], ◌∷◌, length, Ordering, Less, Equal, Greater, ◌⊎◌, inl, inr, sym, refl, ap, subst, ◌∙◌, true≢false}
 use Rattle.std.specs.List.{AllByRecursion, fold}
 use Rattle.std.specs.Ordering.{nat_cmp, ordering_reverse, is_gt}
@@ -17,7 +17,7 @@ shorter_total = then_total (on_total length nat_cmp_total) nat_list_cmp_total
 pub shorter_exact : (a b : List ℕ) → shorter_cmp a b ≡ Equal → a ≡ b
 shorter_exact a b e = slice_cmp-IsAntisymmetric nat_cmp-IsAntisymmetric a b (both_equal (nat_cmp (length a) (length b)) (slice_cmp nat_cmp a b) e).1
 
--- ---- the least of some texts
+-- ---- the least of several texts
 
 greater_turned : (r s : Ordering) → s ≡ ordering_reverse r → is_gt r ≡ true → is_gt s ≡ false
 greater_turned Less s e h = absurd (true≢false (sym h))
@@ -82,7 +82,7 @@ upto_among a x (t ∷ ts) all h = elim h [
   | inr later ↦ upto_among a x ts all.1 later
 ]
 
--- two texts, neither greater, are one
+-- two texts of which neither is greater are equal
 pub upto_both : (a b : List ℕ) → IsUpto a b → IsUpto b a → a ≡ b
 upto_both a b h k = shorter_exact a b (tied (shorter_cmp a b) (shorter_cmp b a) (shorter_total.antisymm b a) h k)
   where

@@ -13,7 +13,7 @@ use Rattle.life_model.proofs.Tests.{first_holds, second_holds}
 use Rattle.life_cells.specs.Wechsler.{column_value}
 use Rattle.life_cells.specs.Dots.{weight, weights, dot, dots_value, IsInStrip}
 
--- ---- each cell of a list in order stands in it once
+-- ---- each cell of a list in order is in it once
 
 apart : (a b : Bool) (w : ℕ) → (a ≡ true → b ≡ false) → (if a || b then w else 0) ≡ (if a then w else 0) + (if b then w else 0)
 apart true b w h = sym (add-zero w) ∙ ap (λ t. w + (if t then w else 0)) (sym (h refl))
@@ -29,7 +29,7 @@ one_part f g h (x ∷ xs) e =
     let rest = one_part f g h xs e in
     omega arith
 
--- what a column weighs whose cells pass a test
+-- the weight of a column whose cells pass a test
 abbrev pub live_value : (ℕ → Bool) → ℕ
 live_value live = sum_by (λ j. if live j then 2 ^ j else 0) (range_with_len 0 5)
 
@@ -37,7 +37,7 @@ live_value live = sum_by (λ j. if live j then 2 ^ j else 0) (range_with_len 0 5
 abbrev pub among : List Cell → ℕ → ℕ → ℕ → Bool
 among cs k x j = list_any (same_cell (pos x, pos (5 * k + j))) cs
 
--- a cell more, that is none of those that are there
+-- one more cell, which is not yet there
 pub one_cell_more : (k x : ℕ) (c : Cell) (cs : List Cell) → list_any (same_cell c) cs ≡ false →
     live_value (among cs k x) ≡ weights k cs x → live_value (among (c ∷ cs) k x) ≡ weights k (c ∷ cs) x
 one_cell_more k x c cs new so_far =

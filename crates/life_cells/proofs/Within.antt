@@ -1,4 +1,4 @@
--- How far cells stand that are near others.
+-- How far cells near others may be.
 use Rattle.std.proofs.Common.{ℕ, ◌+◌, arith}
 use Rattle.std.proofs.lemmas.Int.{ints}
 use Rattle.life_model.specs.Cell.{Cell, IsNear}

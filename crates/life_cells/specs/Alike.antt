@@ -1,4 +1,4 @@
--- Whether two sets are one, as a test, and that it is one.
+-- Whether two sets are equal, as a test, and what the test means.
 use Rattle.std.specs.Prelude.{◌≡◌, Bool, ◌&&◌}
 use Rattle.std.specs.Bool.{Decides}
 use Rattle.std.specs.Ordering.{int_eq}

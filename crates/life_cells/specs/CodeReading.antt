@@ -1,4 +1,4 @@
--- Wechsler texts, as they are read: which cells a text spells, and the first character that offends.
+-- Reading Wechsler texts: the cells that a text spells, and the first character that offends.
 use Rattle.std.specs.Prelude.{ℕ, ◌+◌, ◌-◌, ◌*◌, Bool, true, false, not, ◌&&◌, ◌||◌, List, [], ◌∷◌, ◌++◌, Option, Some, None, map, nat_le, ◌==◌, if◌then◌else◌}
 use Rattle.std.specs.List.{list_any, range_with_len, after_last, filter, sum_by}
 use Rattle.std.specs.Option.{option_or}
@@ -34,7 +34,7 @@ mark_of_byte at c =
 abbrev pub mark_of_run : ℕ → ℕ → Mark
 mark_of_run at c = if is_base_36_digit c then Zeros (4 + digit_value c) else Offence (CutRun at)
 
--- The marks of a text from this place on, which a `y` stands before where there is one: its place.
+-- The marks of a text from this place on. If a `y` comes before it, its place is given.
 abbrev pub marks : Option ℕ → ℕ → List ℕ → List Mark
 marks None at [] = []
 marks (Some y) at [] = Offence (CutRun y) ∷ []
@@ -56,7 +56,7 @@ columns_in (Zeros n) = n
 columns_in NextStrip = 0
 columns_in (Offence fault) = 0
 
--- the strip of a mark that these stand before
+-- the strip of a mark that comes after these
 abbrev pub strip_number : List Mark → ℕ
 strip_number before = sum_by (λ m. if is_next_strip m then 1 else 0) before
 
@@ -79,7 +79,7 @@ mark_cells k x (Zeros n) = []
 mark_cells k x NextStrip = []
 mark_cells k x (Offence fault) = []
 
--- the cells that marks spell which these stand before, of any size
+-- the cells, of any size, that marks after these spell
 abbrev pub cells_after : List Mark → List Mark → List (ℕ × ℕ)
 cells_after before [] = []
 cells_after before (m ∷ ms) = mark_cells (strip_number before) (column before) m ++ cells_after (before ++ m ∷ []) ms
@@ -94,7 +94,7 @@ mark_fault k x (Zeros n) = None
 mark_fault k x NextStrip = None
 mark_fault k x (Offence fault) = Some fault
 
--- the fault of the first mark that has one, of those which these stand before
+-- the fault of the first mark that has one, among those after these
 abbrev pub first_fault : List Mark → List Mark → Option CodeFault
 first_fault before [] = None
 first_fault before (m ∷ ms) = option_or (mark_fault (strip_number before) (column before) m) (first_fault (before ++ m ∷ []) ms)
@@ -119,7 +119,8 @@ abbrev pub begins_near : List (ℕ × ℕ) → Bool
 begins_near [] = false
 begins_near (c ∷ cells) = not (is_far c)
 
--- whether a live cell is kept before the first fault: before the first byte that offends there is one, and the first of these is not too far
+-- whether a live cell is kept before the first fault: there is one before the first byte that offends, and the first of
+-- these is not too far
 unfoldable pub keeps_a_cell : List ℕ → Bool
 keeps_a_cell text = begins_near (cells_after [] (until_offence (marks_of text)))
 

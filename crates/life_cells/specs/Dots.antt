@@ -5,7 +5,7 @@ use Rattle.life_model.specs.Cell.{Cell, same_cell}
 use Rattle.life_cells.specs.Wechsler.{columns_text}
 use Rattle.life_cells.specs.Limits.{last_place}
 
--- as many strips of five rows as the most rows have
+-- the number of strips of five rows that the greatest height has
 abbrev pub strip_limit : ℕ
 strip_limit = 3355444
 
@@ -28,21 +28,21 @@ dots_value dots x = sum_by (λ d. if d.0 == x then d.1 else 0) dots
 abbrev pub values_text : (ℕ → ℕ) → ℕ → List ℕ
 values_text value wide = columns_text 0 (map value (range_with_len 0 wide))
 
--- the cell stands in strip k, at no more than 16,777,215
+-- the cell is in strip k, with no coordinate above 16,777,215
 pub record IsInStrip (k : ℕ) (c : Cell) : Type 0 where
   pub left : pos 0 ≤ℤ c.0
   pub right : c.0 ≤ℤ pos last_place
   pub above : pos (5 * k) ≤ℤ c.1
   pub below : c.1 <ℤ pos (5 * k + 5)
 
--- the places of a cell of a shape
+-- the coordinates of a cell of a shape
 pub record IsInField (c : Cell) : Type 0 where
   pub left : pos 0 ≤ℤ c.0
   pub right : c.0 ≤ℤ pos last_place
   pub above : pos 0 ≤ℤ c.1
   pub below : c.1 ≤ℤ pos last_place
 
--- the column of the cell is one of so many
+-- the column of the cell is less than `wide`
 abbrev pub IsLeftOf : ℕ → Cell → Type 0
 IsLeftOf wide c = c.0 <ℤ pos wide
 

@@ -32,7 +32,7 @@ abbrev pub fault_from : ℕ → ℕ → List Mark → Option CodeFault
 fault_from k x [] = None
 fault_from k x (m ∷ ms) = option_or (mark_fault k x m) (fault_from (strip_behind k m) (column_behind x m) ms)
 
--- cells, or the fault where there is one
+-- cells, or the fault if there is one
 abbrev pub cells_unless : Option CodeFault → List (ℕ × ℕ) → Result (List Cell) CodeFault
 cells_unless fault cells = unless_refused fault (map cell_of_pair cells)
 
@@ -51,7 +51,7 @@ marks_at text at = marks None at (drop at text)
 abbrev pub BeginsWithMark : Mark → List Mark → Type 0
 BeginsWithMark m ms = (rest : List Mark) × (ms ≡ m ∷ rest)
 
--- what a sign at this place stands for
+-- what a sign at this place means
 abbrev pub mark_of_sign : ℕ → Sign → Mark
 mark_of_sign at (Value v) = Column at v
 mark_of_sign at (Skip n) = Zeros n

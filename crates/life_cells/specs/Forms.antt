@@ -1,4 +1,4 @@
--- The three forms of a rule text, as what they are made of.
+-- The three forms of a rule text, as sequences of parts.
 use Rattle.std.specs.Prelude.{◌≡◌, ℕ, true, List, [], ◌∷◌, ◌++◌, codes, ◌⊎◌}
 use Rattle.std.specs.List.{list_all}
 use Rattle.texts.specs.Bytes.{is_in}

@@ -27,16 +27,16 @@ digits_of text = take_while is_count text
 abbrev pub after_digits : List ℕ → List ℕ
 after_digits text = without_front is_count text
 
--- the digits at the start and a second run of digits, where there is one and it is digits alone
+-- the digits at the start and a second run of digits, if there is one and it has only digits
 abbrev pub runs_with : List ℕ → Option (List ℕ) → Option (List ℕ × List ℕ)
 runs_with text None = None
 runs_with text (Some second) = if list_all is_count second then Some (digits_of text, second) else None
 
--- after the digits `/` and no letter
+-- `/` after the digits, and no letter
 abbrev pub digits_by_slash : List ℕ → Option (List ℕ × List ℕ)
 digits_by_slash text = runs_with text (after_one_of (codes "/") (after_digits text))
 
--- one of these letters, with `/` before it or not
+-- one of these letters, with or without `/` before it
 abbrev pub after_slash_and : List ℕ → List ℕ → Option (List ℕ)
 after_slash_and letters text = option_or (after_one_of (codes "/") text >>= after_one_of letters) (after_one_of letters text)
 
@@ -49,7 +49,7 @@ digits_by_letters first second text = do
 abbrev pub reversed_pair : List ℕ × List ℕ → List ℕ × List ℕ
 reversed_pair (one, other) = (other, one)
 
--- the birth digits and the survival digits, where the text has one of the three forms
+-- the birth digits and the survival digits, if the text has one of the three forms
 abbrev pub digits_by_form : List ℕ → Option (List ℕ × List ℕ)
 digits_by_form text =
     option_or (digits_by_letters (codes "Bb") (codes "Ss") text)

@@ -1,5 +1,5 @@
--- Wechsler texts, as they are written: LifeWiki's extended Wechsler format, with this project's rule for more than 39
--- zeros in a row.
+-- Writing Wechsler texts: LifeWiki's extended Wechsler format, with this project's rule for more than 39 zeros in a
+-- row.
 use Rattle.std.specs.Prelude.{ℕ, zero, suc, ◌+◌, ◌*◌, ◌/◌, ◌%◌, ◌^◌, List, [], ◌∷◌, ◌++◌, codes, map, pos, nat_lt, if◌then◌else◌}
 use Rattle.std.specs.List.{range_with_len, join_with_byte, sum_by}
 use Rattle.life_model.specs.Box.{width, height}
@@ -22,7 +22,7 @@ short_zeros (suc (suc zero)) = codes "w"
 short_zeros (suc (suc (suc zero))) = codes "x"
 short_zeros (suc (suc (suc (suc n)))) = 121 ∷ digit n ∷ []
 
--- `yz` so many times
+-- n times `yz`
 abbrev pub full_runs : ℕ → List ℕ
 full_runs zero = []
 full_runs (suc n) = 121 ∷ 122 ∷ full_runs n
@@ -31,17 +31,17 @@ full_runs (suc n) = 121 ∷ 122 ∷ full_runs n
 abbrev pub zeros : ℕ → List ℕ
 zeros n = full_runs (n / 39) ++ short_zeros (n % 39)
 
--- columns after a run of so many zeros; zeros at the end are dropped
+-- columns after a run of `skipped` zeros; zeros at the end are dropped
 abbrev pub columns_text : ℕ → List ℕ → List ℕ
 columns_text skipped [] = []
 columns_text skipped (zero ∷ values) = columns_text (skipped + 1) values
 columns_text skipped (suc v ∷ values) = zeros skipped ++ digit (suc v) ∷ columns_text 0 values
 
--- strip k of a normal form so many columns wide
+-- strip k of a normal form that is `wide` columns wide
 abbrev pub strip_text : Generation → ℕ → ℕ → List ℕ
 strip_text G wide k = columns_text 0 (map (column_value G k) (range_with_len 0 wide))
 
--- so many strips from the top, with a `z` between each two, and `0` where there is none
+-- the first n strips from the top, with a `z` between each two, and `0` if there are none
 abbrev pub strips_text : (ℕ → List ℕ) → ℕ → List ℕ
 strips_text text zero = codes "0"
 strips_text text (suc n) = join_with_byte 122 (map text (range_with_len 0 (suc n)))

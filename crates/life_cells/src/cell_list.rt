@@ -14,10 +14,10 @@ use thiserror::Error;
 /// Why cells are no list of cells.
 #[derive(Clone, Copy, Debug, PartialEq, Eq, Drop, Error)]
 pub enum CellFault {
-    /// A place below -16,777,216 or above 16,777,215.
+    /// A coordinate below -16,777,216 or above 16,777,215.
     #[error("cell fault 1")]
     OutOfField,
-    /// Memory was refused.
+    /// Out of memory.
     #[error("out of memory")]
     Memory,
 }
@@ -33,7 +33,7 @@ impl From<AllocError> for CellFault {
     }
 }
 
-/// A finite set of cells `(x, y)`, listed by rising y and then x, each once. Every place is from -16,777,216 to
+/// A finite set of cells `(x, y)`, listed by rising y and then x, each once. Every coordinate is from -16,777,216 to
 /// 16,777,215.
 #[derive(Drop)]
 pub struct CellList {
@@ -55,7 +55,7 @@ impl Model for CellList {
     ghost invariant = { λ l. T (is_rising l.items.items) × All IsPlace l.items.items };
 }
 
-/// Whether a cell has a place of a list of cells.
+/// Whether a cell is within the range of a list of cells.
 fn is_place(cell: (i32, i32)) -> bool
     ensures { IsTrue result ↔ IsPlace cell }
 {
@@ -65,7 +65,7 @@ fn is_place(cell: (i32, i32)) -> bool
         && cell.1 < COORDINATE_LIMIT
 }
 
-/// Whether both places of a cell are from 0 to 1,048,575.
+/// Whether both coordinates of a cell are from 0 to 1,048,575.
 fn is_in_field(cell: (i32, i32)) -> bool
     ensures { IsTrue result ↔ IsWithin 0 cell }
 {
@@ -73,7 +73,7 @@ fn is_in_field(cell: (i32, i32)) -> bool
     0 <= cell.0 && cell.0 < limit && 0 <= cell.1 && cell.1 < limit
 }
 
-/// Whether all cells have places of a list of cells.
+/// Whether all cells are within the range of a list of cells.
 fn are_places(cells: &[(i32, i32)]) -> bool
     ensures { IsTrue result ↔ All IsPlace cells.now }
 {
@@ -85,7 +85,7 @@ fn are_places(cells: &[(i32, i32)]) -> bool
     true
 }
 
-/// Whether all places of the cells are from 0 to 1,048,575.
+/// Whether all coordinates of the cells are from 0 to 1,048,575.
 fn are_in_field(cells: &[(i32, i32)]) -> bool
     ensures { IsTrue result ↔ All (IsWithin 0) cells.now }
 {
@@ -100,11 +100,12 @@ fn are_in_field(cells: &[(i32, i32)]) -> bool
 impl CellList {
     /// The set of these cells `(x, y)`, which may come in any order and with repeats.
     ///
-    /// `OutOfField` is answered where a place is below -16,777,216 or above 16,777,215, before any memory is asked for.
+    /// The result is `OutOfField` if a coordinate is below -16,777,216 or above 16,777,215. This is checked before any
+    /// memory is requested.
     pub fn of(alloc: Global, cells: &[(i32, i32)]) -> Result<CellList, CellFault>
         ensures cells { IfOk result (λ list. list ≡ from_list cells.now) }
         ensures lawful { OnOk result (All IsPlace cells.now) }
-        // It comes before memory runs out.
+        // This fault precedes out of memory.
         ensures outside { (result ≡ Err OutOfField) ↔ (All IsPlace cells.now → ⊥) }
     {
         if !are_places(cells) {
@@ -115,7 +116,7 @@ impl CellList {
         Ok(CellList { items })
     }
 
-    /// The set without a cell, in memory for so many cells.
+    /// The set without a cell, in memory for `capacity` cells.
     pub fn with_capacity(alloc: Global, capacity: usize) -> Result<CellList, AllocError>
         ensures { IfOk result (λ list. list ≡ empty) }
     {
@@ -133,7 +134,7 @@ impl CellList {
         CellList { items }
     }
 
-    /// The cells, rising by y and then by x, each once, in the memory that the list has.
+    /// The cells, rising by y and then by x, each once, in the memory of the list.
     pub fn into_vec(self) -> Vec<(i32, i32)>
         ensures cells { result.items ≡ generation.cells self }
         ensures rising { T (is_rising result.items) }
@@ -151,7 +152,7 @@ impl CellList {
         self.items.as_slice()
     }
 
-    /// How many cells there are.
+    /// The number of cells.
     pub fn len(&self) -> usize
         ensures { result ≡ generation.size self.now }
     {
@@ -165,7 +166,7 @@ impl CellList {
         self.as_slice().is_empty()
     }
 
-    /// Whether every place is from 0 to 1,048,575.
+    /// Whether every coordinate is from 0 to 1,048,575.
     pub fn fits(&self) -> bool
         ensures { IsTrue result ↔ All (IsWithin 0) (generation.cells self.now) }
     {

@@ -1,4 +1,4 @@
-//! Codes as texts: where the body begins, and which of two is less.
+//! Codes as texts: where the body begins, and which of two comes first.
 ghost use Rattle.std.specs.Prelude.{◌≡◌, ◌<◌, ◌==◌, IfSome, length, position};
 ghost use Rattle.life_cells.specs.TextOrder.{body_of, shorter_cmp};
 
@@ -12,7 +12,7 @@ fn mark(code: &[u8]) -> Option<usize>
     code.iter().position(|byte| *byte == b'_')
 }
 
-/// The bytes after the first `_`, or all bytes where there is none.
+/// The bytes after the first `_`, or all bytes if there is none.
 pub fn body_of(code: &[u8]) -> &[u8]
     ensures { result.now ≡ body_of code.now }
 {

@@ -13,12 +13,12 @@ pub fn a_text_spells_its_set()
     ensures normal { (G : Generation) → normal (cells_spelled (body G)) ≡ normal G }
 {}
 
-/// Two sets, of any size, have one text exactly where they are equal up to a move.
+/// Two sets, of any size, have the same text exactly if they are equal up to a move.
 pub fn texts_tell_sets()
     ensures { (G H : Generation) → (body G ≡ body H) ↔ (normal G ≡ normal H) }
 {}
 
-/// The text of a set that stands within the limit of places is read without a fault.
+/// The text of a set that is within the limit of places is read without a fault.
 pub fn a_text_is_lawful()
     ensures { (G : Generation) → width G ≤ place_limit → height G ≤ place_limit →
         refusal (body G) ≡ None }

@@ -1,7 +1,7 @@
-//! Where cells may stand.
+//! Where cells may be.
 
-/// The places of a pattern's cells at generation 0 are below this.
+/// The coordinates of a pattern's cells at generation 0 are below this.
 pub const PLACE_LIMIT: u32 = 1_048_576;
 
-/// The places of a list of cells are below this, and none is below minus this.
+/// The coordinates of a list of cells are below this, and none is below minus this.
 pub const COORDINATE_LIMIT: i32 = 16_777_216;

@@ -34,7 +34,7 @@ pub fn put_in_order(items: &mut Vec<(i32, i32)>)
     if are_rising(items) {
         return;
     }
-    // (a stable sort keeps the runs of its input; without memory for it the other does the same)
+    // (a stable sort keeps the runs of its input; without memory for it the other sort gives the same result)
     if items.sort_by_key(|c| (c.1, c.0)).is_err() {
         items.sort_unstable_by_key(|c| (c.1, c.0));
     }

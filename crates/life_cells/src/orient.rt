@@ -1,12 +1,12 @@
-//! The eight maps of the plane that keep neighbours, without moves.
+//! The eight maps of the plane that keep neighbours, apart from moves.
 ghost use Rattle.std.specs.Prelude.{◌≡◌, length, map};
 ghost use Rattle.life_model.specs.Symmetry.{Orientation, turn};
 ghost use Rattle.std.specs.List.{Contains};
 ghost use Rattle.life_cells.specs.Limits.{IsPlace};
 ghost use Rattle.life_cells.specs.Orients.{orientation};
 
-/// One of the eight maps of the plane that take each cell's neighbours to those of its image. Where a cell `(x, y)` goes
-/// stands beside each.
+/// One of the eight maps of the plane that take each cell's neighbours to those of its image. Beside each is the image
+/// of a cell `(x, y)`.
 #[derive(Clone, Copy, Debug, PartialEq, Eq)]
 pub enum Orient {
     /// (x, y)
@@ -59,7 +59,7 @@ impl Orient {
     }
 }
 
-/// Each of the eight maps stands in `Orient::ALL`, and none twice.
+/// `Orient::ALL` has each of the eight maps, and none twice.
 pub fn eight_maps()
     ensures each { (m : Orientation) → Contains (map orientation Orient.ALL) m }
     ensures all { length Orient.ALL ≡ 8 }

@@ -24,7 +24,7 @@ pub enum CodeFault {
     /// A byte is none of `0` to `9` and `a` to `z`.
     #[error("code fault 2 at {at}")]
     BadChar { at: usize },
-    /// `y` stands at the end, or before a byte that is none of these. `at` is the `y`.
+    /// `y` is the last byte, or comes before a byte that is none of these. `at` is the `y`.
     #[error("code fault 3 at {at}")]
     CutRun { at: usize },
     /// A live cell's x or y is above 1,048,575. `at` is its column's byte.
@@ -50,13 +50,13 @@ impl From<AllocError> for CodeFault {
 enum Sign {
     // a column of this value
     Value(u8),
-    // so many columns of zeros
+    // this many columns of zeros
     Skip(u32),
     // the next strip
     Down,
 }
 
-// The number of a byte that is `0` to `9` or `a` to `z`.
+// The number of a byte from `0` to `9` or `a` to `z`.
 fn digit_value(byte: u8) -> Option<u8>
     ensures { result ≡ (if is_base_36_digit byte then Some (digit_value byte) else None) }
 {
@@ -67,7 +67,7 @@ fn digit_value(byte: u8) -> Option<u8>
     }
 }
 
-// What stands at a place, and the place after it.
+// The sign at a place, and the place after it.
 fn next_sign(text: &[u8], at: usize) -> Result<(Sign, usize), CodeFault>
     requires { at < length text.now }
     ensures found { IfOk result
@@ -176,7 +176,7 @@ fn read_cells(alloc: Global, text: &[u8]) -> Result<Vec<(i32, i32)>, CodeFault>
     Ok(cells)
 }
 
-/// The shape that a Wechsler text spells, in any spelling: zeros may stand anywhere. Memory is refused only where a live
+/// The shape that a Wechsler text spells, in any spelling: zeros may be anywhere. It runs out of memory only if a live
 /// cell is kept before the first fault.
 pub fn read_wechsler(alloc: Global, text: &[u8]) -> Result<Shape, CodeFault>
     ensures shape { IfOk result (λ shape. shape ≡ normal (cells_spelled text.now)) }

@@ -13,8 +13,8 @@ use std::alloc::AllocError;
 use std::marker::Model;
 use thiserror::Error;
 
-/// A Life-like rule: at which numbers of live neighbours, of 0 to 8, a cell is born, and at which it stays alive. 0 is
-/// never among the births.
+/// A Life-like rule: the numbers of live neighbours, from 0 to 8, with which a cell is born, and those with which it
+/// stays alive. 0 is never among the births.
 ///
 /// The notation is that of LifeWiki's article on rulestrings and of Golly's help on Life-like rules.
 #[derive(Clone, Copy, Debug, PartialEq, Eq, Hash)]
@@ -45,7 +45,7 @@ pub enum RuleFault {
     /// It has none of the three forms.
     #[error("rule fault 1")]
     NotLifeLike,
-    /// It has one of the three forms, with 0 among the numbers of births.
+    /// It has one of the three forms, but with 0 among the births.
     #[error("rule fault 2")]
     HasB0,
 }
@@ -76,7 +76,7 @@ pub fn after_byte<'a>(text: &'a [u8], byte: u8) -> Option<&'a [u8]>
     }
 }
 
-// How many digits from 0 to 8 a text begins with.
+// How many digits from 0 to 8 are at the start of a text.
 fn count_digits(text: &[u8]) -> usize
     ensures value { result ≡ prefix_len is_count text.now }
     ensures within { result ≤ length text.now }
@@ -171,11 +171,11 @@ impl Rule {
     }
 
     /// The rule that a text names, in one of three forms, without blanks: `B3/S23` and `S23/B3`, whose letters may be
-    /// small and whose `/` may be left out, and `23/3`, where the survivals come first. The digits are 0 to 8 in any
+    /// in lower case and whose `/` may be left out, and `23/3`, with the survivals first. The digits are 0 to 8 in any
     /// order and with repeats, and a run of digits may be empty.
     ///
-    /// `HasB0` is answered where a text has one of the forms, with 0 among the births, and `NotLifeLike` at any other
-    /// text.
+    /// The result is `HasB0` if a text has one of the forms with 0 among the births, and `NotLifeLike` if it has none of
+    /// the forms.
     pub fn parse(text: &[u8]) -> Result<Rule, RuleFault>
         ensures { result ≡ rule_of text.now }
     {
@@ -223,8 +223,8 @@ fn push_set(text: &mut Vec<u8>, set: u16) -> Result<(), AllocError>
 }
 
 impl Rule {
-    /// Appends the printed rule: `B`, the numbers of births rising, `/S`, the numbers of survivals rising. Where memory
-    /// is refused, the text is unchanged.
+    /// Appends the printed rule: `B`, the numbers of births rising, `/S`, the numbers of survivals rising. If memory runs
+    /// out, the text is unchanged.
     pub fn text_into(&self, text: &mut Vec<u8>) -> Result<(), AllocError>
         ensures printed { OnOk result (text.new.items ≡ text.old.items ++ rule_text self.now) }
         ensures refused { OnErr result (text.new.items ≡ text.old.items) }
@@ -242,7 +242,7 @@ impl Rule {
     }
 }
 
-/// The set of some digits from 0 to 8 has the numbers that stand among them.
+/// The set of some digits from 0 to 8 has exactly the numbers of these digits.
 pub fn members_are_digits()
     ensures { (digits : List ℕ) (n : ℕ) → IsDigits digits → n ≤ 8 →
         has_bit (members digits) n ≡ is_in digits (48 + n) }

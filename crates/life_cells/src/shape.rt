@@ -1,4 +1,4 @@
-//! Shapes: sets of cells without regard to where they stand.
+//! Shapes: sets of cells regardless of their position.
 ghost use Rattle.std.specs.Prelude.{◌≡◌, ◌↔◌, ◌<◌, ◌≤◌, ◌++◌, All, IfOk, IsTrue, OnErr, OnOk, T, length, map};
 ghost use Rattle.life_model.specs.Box.{height, width};
 ghost use Rattle.life_model.specs.Cell.{opposite, plus};
@@ -62,7 +62,7 @@ impl Eq for Shape {
     ghost laws = { same_cells_equiv };
 }
 
-// The cell, moved so that the corner comes to the origin.
+// The cell, moved as the corner is moved to the origin.
 fn back(cell: (i32, i32), corner: (i32, i32)) -> (i32, i32)
     requires { IsAhead corner cell }
     ensures { result ≡ plus cell (opposite corner) }
@@ -70,7 +70,7 @@ fn back(cell: (i32, i32), corner: (i32, i32)) -> (i32, i32)
     (cell.0 - corner.0, cell.1 - corner.1)
 }
 
-// The cells, moved so that the corner comes to the origin.
+// The cells, moved as the corner is moved to the origin.
 fn moved_back(
     alloc: Global,
     cells: &[(i32, i32)],
@@ -105,14 +105,14 @@ fn turned_cells(
 }
 
 impl Shape {
-    /// The shape of the cells, and their least x and least y, which are (0, 0) where there is no cell. Their box is at
-    /// most 16,777,216 wide and high.
+    /// The shape of the cells, and their least x and least y, which are (0, 0) if there is no cell. Their bounding box
+    /// is at most 16,777,216 wide and high.
     pub fn of(alloc: Global, list: &CellList) -> Result<(Shape, (i32, i32)), AllocError>
         requires wide { width list.now ≤ extent_limit }
         requires high { height list.now ≤ extent_limit }
         ensures shape { IfOk result (λ r. r.0 ≡ normal list.now) }
         ensures corner { IfOk result (λ r. r.1 ≡ corner list.now) }
-        // Memory is never refused to no cell.
+        // Without a cell it never runs out of memory.
         ensures memory { OnErr result (0 < length (cells list.now)) }
     {
         let cells = list.as_slice();
@@ -129,7 +129,7 @@ impl Shape {
         &self.list
     }
 
-    /// How wide its box is: one more than the greatest x, or 0 where there is no cell.
+    /// The width of its bounding box: one more than the greatest x, or 0 if there is no cell.
     pub fn width(&self) -> u32
         ensures { result ≡ width self.now }
     {
@@ -140,7 +140,7 @@ impl Shape {
         width
     }
 
-    /// How high its box is: one more than the greatest y, or 0 where there is no cell.
+    /// The height of its bounding box: one more than the greatest y, or 0 if there is no cell.
     pub fn height(&self) -> u32
         ensures { result ≡ height self.now }
     {
@@ -170,7 +170,7 @@ impl Shape {
         text_of(self.alloc, self.list.as_slice(), strips)
     }
 
-    /// Appends its Wechsler text. After an `Err` the vector is what it was.
+    /// Appends its Wechsler text. After an `Err` the vector is unchanged.
     pub fn encode(&self, out: &mut Vec<u8>) -> Result<(), AllocError>
         ensures ok { OnOk result (out.new.items ≡ out.old.items ++ body self.now) }
         ensures err { OnErr result (out.new.items ≡ out.old.items) }

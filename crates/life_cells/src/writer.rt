@@ -16,7 +16,7 @@ fn digit(n: u8) -> u8
     if n < 10 { b'0' + n } else { b'a' + (n - 10) }
 }
 
-// Adds a run of so many zeros.
+// Adds a run of `count` zeros.
 fn push_zeros(text: &mut Vec<u8>, count: u32) -> Result<(), AllocError>
     ensures { OnOk result (text.new.items ≡ text.old.items ++ zeros count) }
 {
@@ -47,7 +47,7 @@ fn push_short(text: &mut Vec<u8>, count: u32) -> Result<(), AllocError>
     Ok(())
 }
 
-// The value of the column of the first dot, and how many dots it has. The dots come by rising columns.
+// The value of the column of the first dot, and the number of its dots. The dots come by rising columns.
 fn first_column(dots: &[(u32, u8)]) -> (u8, usize)
     requires some { 0 < length dots.now }
     requires sorted { IsNonDecreasingBy (λ d. d.0) dots.now }
@@ -71,7 +71,7 @@ fn first_column(dots: &[(u32, u8)]) -> (u8, usize)
     (value, dots.len())
 }
 
-// Adds the text of a strip whose dots these are, by rising columns.
+// Adds the text of a strip with these dots, by rising columns.
 fn push_columns(text: &mut Vec<u8>, dots: &[(u32, u8)]) -> Result<(), AllocError>
     requires sorted { IsNonDecreasingBy (λ d. d.0) dots.now }
     requires live { All (λ d. 0 < d.1) dots.now }
@@ -117,7 +117,7 @@ fn dot_of(cell: (i32, i32), strip: u32) -> (u32, u8)
     (cell.0 as u32, 1 << (cell.1 as u32 - 5 * strip))
 }
 
-// Adds the text of a strip, whose cells these are.
+// Adds the text of a strip with these cells.
 fn push_strip(
     alloc: Global,
     text: &mut Vec<u8>,
@@ -137,7 +137,7 @@ fn push_strip(
     Ok(())
 }
 
-// Whether a cell stands below a strip.
+// Whether a cell is below a strip.
 fn is_below(cell: (i32, i32), strip: u32) -> bool
     requires { strip ≤ strip_limit }
     ensures { IsTrue result ↔ (pos (5 * strip + 5) ≤ℤ cell.1) }
@@ -145,7 +145,7 @@ fn is_below(cell: (i32, i32), strip: u32) -> bool
     cell.1 >= 5 * strip as i32 + 5
 }
 
-// How many cells at the start don't stand below a strip.
+// How many cells at the start are not below a strip.
 fn count_within(cells: &[(i32, i32)], strip: u32) -> usize
     requires rising { T (is_rising cells.now) }
     requires strips { strip ≤ strip_limit }
@@ -161,7 +161,7 @@ fn count_within(cells: &[(i32, i32)], strip: u32) -> usize
     cells.len()
 }
 
-// Adds what stands before a strip.
+// Adds what comes before a strip.
 fn begin_strip(text: &mut Vec<u8>, strip: u32) -> Result<(), AllocError>
     ensures { OnOk result (text.new.items ≡ text.old.items ++ strip_mark strip) }
 {
@@ -171,7 +171,7 @@ fn begin_strip(text: &mut Vec<u8>, strip: u32) -> Result<(), AllocError>
     Ok(())
 }
 
-// The text of the cells of a normal form, which has so many strips.
+// The text of the cells of a normal form with `strips` strips.
 pub fn text_of(alloc: Global, cells: &[(i32, i32)], strips: u32) -> Result<Vec<u8>, AllocError>
     requires rising { T (is_rising cells.now) }
     requires placed { All IsInField cells.now }

@@ -31,13 +31,13 @@ use Rattle.life_orbit.specs.Course.{Course, IsCourse}
 use Rattle.life_census.specs.Courses.{course_code}
 use Rattle.life_census.proofs.PartCodes.{code_alone}
 
--- the codes of the parts of a set, where each of these comes again within 100,000 generations, and else that of the set
+-- the codes of the parts of a set, where each of these recurs within 100,000 generations, and else that of the set
 abbrev pub codes_by_parts : Course → List Generation → List (List ℕ)
 codes_by_parts o parts =
     cond (all_come_again o.rule objects_bound_limit parts) (map (part_code o.rule objects_bound_limit) parts)
     (course_code o ∷ [])
 
--- These are so the codes of the independent parts of a set that recurs.
+-- In this way these are the codes of the independent parts of a set that recurs.
 pub record AreCodesOfParts (o : Course) (codes : List (List ℕ)) : Type 0 where
   pub parts : List Generation
   pub independent : AreIndependentParts o.rule o.set parts
@@ -48,7 +48,7 @@ abbrev pub HasCodes : Bool → Course → List (List ℕ) → Type 0
 HasCodes true o codes = codes ≡ course_code o ∷ []
 HasCodes false o codes = AreCodesOfParts o codes
 
--- what comes again within b after n generations does so at once
+-- what recurs within b after n generations recurs within b at once
 sooner_within : (R : Rule) (b n : ℕ) (Q : Generation) (k : ℕ) (e : Cell) → RecursBy R Q k e →
     RecursWithin R b (generation R Q n) → RecursWithin R b Q
 sooner_within R b n Q k e again late = record {
@@ -81,7 +81,7 @@ module _ (R : Rule) (b n : ℕ) where
   all_later : (Qs : List Generation) → All (RecursWithin R b) Qs → All (RecursWithin R b) (generations R Qs n)
   all_later Qs all = All-map (RecursWithin R b) (λ Q. generation R Q n) Qs (λ i d h. later_within R b n _ (all i d h))
 
--- a set that comes again within a bound has one code in all its generations, within each bound that is no less
+-- a set that recurs within a bound has one code in all its generations, within each bound that is no less
 code_in_time : (R : Rule) (b c n : ℕ) (Q : Generation) → b ≤ c → RecursWithin R b Q →
     part_code R c (generation R Q n) ≡ part_code R b Q
 code_in_time R b c n Q le again =

@@ -1,4 +1,4 @@
--- Growth that is seen on the way to a bound, and what is told of it.
+-- Growth that is seen on the way to a bound, and what is reported of it.
 use Rattle.std.proofs.Common.{◌≡◌, ℕ, ◌*◌, ◌≤◌, min, Bool, true, List, Option, None, Some, sym, ap, subst, ◌∙◌, arith}
 use Rattle.std.proofs.lemmas.Option.{none-some}
 use Rattle.life_model.specs.Evolution.{generation}
@@ -40,7 +40,7 @@ grown_early R G H limit age b horizon least g some by_then small here soon early
       };
     }
 
--- what is told of growth that is seen early
+-- what is reported of growth that is seen early
 pub told_grown : (near : Bool) (R : Rule) (G : Generation) (c horizon : ℕ) (g : Growth) (lines : List Engines) →
     IsGrownWithin R G c horizon g →
     ((S : Rule) (b : ℕ) (H : Generation) → IsGrowthOf S b H g → lines ≡ told_of_engines near S b (starts_of g.engines)) →
@@ -51,7 +51,7 @@ told_grown near R G c horizon g lines grown told =
     seen.growth.set seen.growth.growth
     ∙ sym (ap Some (told R seen.bound (generation R G grown.age) seen.growth))
 
--- nothing is told of the growth of what is ash later
+-- nothing is reported of the growth of what is ash later
 pub nothing_told : (near : Bool) (R : Rule) (G : Generation) (h c : ℕ) → EndsLater R G →
     growth_told near R h (generation R G c) ≡ None
 nothing_told near R G h c ends =

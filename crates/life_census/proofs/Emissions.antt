@@ -1,4 +1,4 @@
--- What is counted of what leaves an engine is what is told that it emits.
+-- What is counted of what leaves an engine is reported as what it emits.
 use Rattle.std.proofs.Common.{◌≡◌, ℕ, zero, suc, ◌+◌, ◌-◌, ◌<◌, ◌≤◌, Bool, List, [], ◌∷◌, ◌++◌, length, take, count_by, sym, refl, ap, subst, ◌∙◌, arith}
 use Rattle.std.specs.List.{All}
 use Rattle.std.proofs.lemmas.Grind.{flat_map-append}
@@ -10,8 +10,8 @@ use Rattle.life_objects.specs.Ash.{IsObject}
 use Rattle.life_objects.specs.Kinds.{AreAlike}
 use Rattle.life_objects.specs.Union.{generations}
 use Rattle.life_objects.proofs.Many.{generations-zero}
-use Rattle.life_growth.specs.Engine.{Emits, Way, joined}
-use Rattle.life_growth.proofs.Alike.{count_joined, sum_to-alike}
+use Rattle.life_objects.specs.Growth.Engine.{Emits, Way, joined}
+use Rattle.life_objects.proofs.GrowthLemmas.Alike.{count_joined, sum_to-alike}
 use Rattle.life_answer.specs.Census.{counted_parts}
 use Rattle.life_answer.specs.Tales.{tale_of}
 use Rattle.life_answer.specs.declared.part.Part.{Part}
@@ -19,8 +19,8 @@ use Rattle.life_answer.proofs.AlikeCounts.{counted_alike}
 use Rattle.life_answer.proofs.Tales.{emits_objects, tale_right}
 use Rattle.life_apart.specs.Sets.{IsCourseBy, sets_of}
 use Rattle.life_orbit.specs.Course.{Course}
-use Rattle.life_settled.specs.Settling.{IsSettling, Settling}
-use Rattle.life_settled.proofs.Parting.{parts_are_alike, parts_by_then}
+use Rattle.life_growing.specs.Settled.Settling.{IsSettling, Settling}
+use Rattle.life_growing.proofs.SettlingLemmas.Parting.{parts_are_alike, parts_by_then}
 use Rattle.life_tracks.specs.Tracks.{way_of}
 use Rattle.life_growing.specs.Emissions.{Emission, IsEmission, left_at, nothing_left}
 use Rattle.life_census.specs.Counted.{AreCounted}
@@ -112,7 +112,7 @@ module _ (R : Rule) (b : ℕ) (E : Generation) (e : Emission) (found : IsEmissio
         ∙ ap (counted_parts near R b) here
         ∙ counted_alike R near b b (sets_of os) objects objects_now (emits_objects R b way objects emits) alike
 
-    -- what is told of the engine
+    -- what is reported of the engine
     pub tale_found : tale_of near R b E
         ≡ record { period = way.period; dx = way.displacement.0; dy = way.displacement.1; emits = parts }
     tale_found =

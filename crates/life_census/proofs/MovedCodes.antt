@@ -125,7 +125,7 @@ module _ (R : Rule) (P Q : Generation) (p : ℕ) (d by : Cell) (is : Q ≡ trans
     of_parts = counts.of_parts ∙ codes-moved counts.parts;
   }
 
--- wherever it stands, a set counts as what its codes tell
+-- wherever it stands, a set counts as what its codes say
 module _ (near : Bool) (o : Course) (course : IsCourse o) (codes : List (List ℕ)) (has : HasCodes near o codes) where
   course_moved : (d : Cell) → IsCourse (record { rule = o.rule; set = translate_of o.set d; period = o.period; displacement = o.displacement })
   course_moved d = record {
@@ -141,7 +141,7 @@ module _ (near : Bool) (o : Course) (course : IsCourse o) (codes : List (List �
       (counted_later o.rule b n (translate_of o.set d) o.period o.displacement (course_moved d) object near codes
       (counts-moved o.rule o.set (translate_of o.set d) o.period o.displacement d refl near codes has))
 
--- what counts so wherever it stands does so where it is moved
+-- what counts in this way wherever it stands does so where it is moved
 pub moved_counts : (near : Bool) (R : Rule) (P Q : Generation) (by : Cell) (codes : List (List ℕ)) → Q ≡ translate_of P by →
     CountsAs near R P codes → CountsAs near R Q codes
 moved_counts near R P Q by codes is counts d b n =

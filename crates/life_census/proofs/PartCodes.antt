@@ -15,7 +15,7 @@ use Rattle.life_census.specs.Courses.{course_code}
 
 -- ---- a set that recurs so, alone
 
--- it comes again from the first generation on
+-- it recurs from the first generation on
 abbrev pub recurrence_of : Course → Recurrence
 recurrence_of o = record { onset = 0; period = o.period; displacement = o.displacement }
 

@@ -42,7 +42,7 @@ module _ (o : Course) (codes : List (List ℕ)) where
   abbrev by_answer : List Generation → Bool → List (List ℕ)
   by_answer Qs t = cond t (map (part_code o.rule objects_bound_limit) Qs) (course_code o ∷ [])
 
-  -- where each part comes again in time
+  -- where each part recurs in time
   pub counts_as_parts : (os : List Course) → AreIndependentParts o.rule o.set (sets_of os) →
       All (IsCourseWithin o.rule objects_bound_limit) os → codes ≡ map course_code os → HasCodes false o codes
   counts_as_parts os are within is =

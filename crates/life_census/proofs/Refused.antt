@@ -1,4 +1,4 @@
--- What neither falls apart within the bound nor grows within the horizon is told as unresolved.
+-- What neither falls apart within the bound nor grows within the horizon is reported as unresolved.
 use Rattle.std.proofs.Common.{◌≡◌, ℕ, min, Bool, List, None, Option, sym, ap, ◌∙◌}
 use Rattle.life_model.specs.Evolution.{generation}
 use Rattle.life_model.specs.Generation.{Generation}

@@ -15,7 +15,7 @@ module _ (R : Rule) (G : Generation) where
       let within = allowed_within None R G b in
       omega arith
 
-  -- none before this one has more cells than so many
+  -- no generation before n has more than `most` cells
   abbrev pub AreFewBefore : ℕ → ℕ → Type 0
   AreFewBefore most n = (m : ℕ) → m < n → size (generation R G m) ≤ most
 

@@ -1,7 +1,7 @@
 -- What is counted of what leaves an engine.
 use Rattle.std.specs.Prelude.{List, flat_map}
 use Rattle.life_orbit.specs.Course.{Course}
-use Rattle.life_settled.specs.Settling.{Settling}
+use Rattle.life_growing.specs.Settled.Settling.{Settling}
 
 -- the parts of what becomes of each, one after the other
 abbrev pub parts_of_each : List Settling → List Course

@@ -1,4 +1,4 @@
-//! Within which bound a pattern may be looked at for growth, where no generation may have more than some number of cells.
+//! Within which bound a pattern may be searched for growth, where no generation may have more than some number of cells.
 ghost use Rattle.std.specs.Prelude.{◌≡◌, ◌≤◌, All, IfOk};
 ghost use Rattle.life_model.specs.Generation as generations;
 ghost use Rattle.life_cells.specs.Limits.{IsWithin};

@@ -34,9 +34,9 @@ fn codes_in_order(alloc: Global, orbits: &[Orbit]) -> Result<Vec<Code>, AllocErr
     Ok(codes)
 }
 
-/// The codes of what an orbit's set counts as, whose cells are places at age 400,000: its own, where what is near one another is
-/// one object, and else those of its independent parts. But where one of these takes more than 100,000 generations to come
-/// again it is its own.
+/// The codes of what an orbit's set counts as, whose cells are places at age 400,000. Where what is near one another is one
+/// object, it is the set's own code, and otherwise those of its independent parts. But if one of these takes more than 100,000
+/// generations to recur, it is the set's own.
 pub fn codes_of(alloc: Global, orbit: &Orbit, near: bool) -> Result<Vec<Code>, AllocError>
     requires within { IsPlaced orbit.now }
     requires course { IsCourse orbit.now }

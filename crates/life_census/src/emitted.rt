@@ -7,10 +7,10 @@ ghost use Rattle.life_census.specs.Emitted.{parts_of_each};
 use crate::field::is_placed;
 use crate::known_sets::KnownSets;
 use life_answer::Parts;
-use life_settled::Settled;
+use life_growing::Settled;
 use std::alloc::{AllocError, Global};
 
-/// Counts the objects that a set falls apart into, beside what was counted.
+/// Counts the objects that a set falls apart into, in addition to what was counted.
 fn count_left(
     alloc: Global,
     known: &mut KnownSets,

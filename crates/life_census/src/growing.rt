@@ -6,7 +6,7 @@ ghost use Rattle.life_model.specs.Generation as generations;
 ghost use Rattle.life_cells.specs.Limits.{IsWithin};
 ghost use Rattle.life_ash.specs.Parts.{ash_age_limit};
 ghost use Rattle.life_answer.specs.Growing.{allowed_bound};
-ghost use Rattle.life_growth.specs.Growth.{IsGrowth};
+ghost use Rattle.life_objects.specs.Growth.Growth.{IsGrowth};
 ghost use Rattle.life_census.specs.Grown.{IsGrownWithin, IsSeenWithin, NeverGrows, NeverGrowsThen};
 
 use crate::allowed::allowed_bound;
@@ -19,7 +19,7 @@ use life_strays::never_grow;
 use life_things::WAY_LIMIT;
 use std::alloc::{AllocError, Global};
 
-/// How many generations the first film has that is looked at. Each further one has twice as many as the one before it.
+/// How many generations the first film has. Each further one has twice as many as the one before it.
 const FIRST_LENGTH: u32 = 32;
 
 /// Below this horizon short films are looked at in any case.
@@ -44,8 +44,8 @@ fn plane_at<P: Plane>(
     Ok(plane)
 }
 
-/// The growth of a plane's cells that a short film shows, if one does, each within as many generations as the film has, and
-/// these no more than the horizon.
+/// The growth of a plane's cells that a short film shows, if one does. Each film shows growth within as many generations as it
+/// has, no more than the horizon.
 fn growth_soon<P: Plane>(
     alloc: Global,
     plane: &P,
@@ -69,8 +69,8 @@ fn growth_soon<P: Plane>(
     growth_of(alloc, plane, rule, horizon, horizon)
 }
 
-/// The same, where the population seems to rise steadily over so many generations or the horizon is short. Films are dear
-/// where nothing grows.
+/// The growth of a plane's cells that a short film shows, if one does. Films are looked at only where the population seems to
+/// rise steadily over `length` generations or the horizon is short, as they are dear where nothing grows.
 fn growth_if_rising<P: Plane>(
     alloc: Global,
     plane: &P,
@@ -89,9 +89,9 @@ fn growth_if_rising<P: Plane>(
     growth_soon(alloc, plane, rule, horizon)
 }
 
-/// The growth that a generation on the way to some bound shows soon, if one does. It is that of the pattern within each bound
-/// that is no less than the age of this generation, 1 to 100,000; and it is `None` where some generation up to four times that
-/// age has more cells than the limit. The horizon is 1 to 10,000.
+/// The growth that a generation on the way to some bound shows soon, if one does. It is that of the pattern within each bound, 1
+/// to 100,000, that is no less than the age of this generation. It is `None` where some generation up to four times that age has
+/// more cells than the limit. The horizon is 1 to 10,000.
 pub fn growth_on_the_way<P: Plane>(
     alloc: Global,
     plane: &P,
@@ -118,8 +118,8 @@ pub fn growth_on_the_way<P: Plane>(
     Ok(Some(growth))
 }
 
-/// The growth of a plane's cells within the horizon, if there is one. Short films are looked at first, and the last one, which
-/// has twice as many generations as the horizon, tells exactly.
+/// The growth of a plane's cells within the horizon, if there is one. Short films are looked at first. The last one, which has
+/// twice as many generations as the horizon, decides it.
 fn growth_up_to<P: Plane>(
     alloc: Global,
     plane: &P,
@@ -157,9 +157,9 @@ fn growth_at<P: Plane>(
     growth_up_to(alloc, &plane, rule, horizon.min(age))
 }
 
-/// The growth of a pattern, looked for within the horizon in the generation of the greatest bound up to which it is small
-/// enough: no generation up to four times that bound may have more cells than the limit. The bound is 1 to 100,000
-/// generations, and the horizon 1 to 10,000, of which no more than that bound count.
+/// The growth of a pattern, searched for within the horizon in the generation of the greatest bound up to which it is small
+/// enough: no generation up to four times that bound may have more cells than the limit. The bound is 1 to 100,000 generations,
+/// and the horizon 1 to 10,000, of which no more than that bound count.
 pub fn growth_within<P: Plane>(
     alloc: Global,
     rule: &Rule,
@@ -188,8 +188,8 @@ pub fn growth_within<P: Plane>(
     growth_up_to(alloc, &plane, rule, least)
 }
 
-/// What `growth_within` finds, sooner where nothing grows: the generation of the bound is looked at first, and how many cells
-/// later ones have only where it grows. What grows earlier grows there too.
+/// What `growth_within` finds, sooner where nothing grows: the generation of the bound is looked at first, and the sizes of later
+/// ones only where it grows. What grows earlier grows there too.
 pub fn growth_at_bound<P: Plane>(
     alloc: Global,
     rule: &Rule,

@@ -36,7 +36,7 @@ impl KnownSet {
         })
     }
 
-    /// Whether the set evolves by the rule of an orbit, and this is asked.
+    /// Whether the set evolves by the rule of an orbit, and was counted with the same `near`.
     fn evolves_as(&self, orbit: &Orbit, near: bool) -> bool
         ensures near { IsTrue result → self.now.near ≡ near }
         ensures rule { IsTrue result → self.now.rule ≡ orbit.now.rule }

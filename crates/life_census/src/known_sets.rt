@@ -25,7 +25,7 @@ pub struct KnownSets {
     sets: Vec<KnownSet>,
 }
 
-/// Where among the sets one stands that is an orbit's set, moved as a whole. That there is none tells nothing.
+/// Where among the sets there is one that is an orbit's set, moved as a whole. Finding none means nothing.
 fn place_of(sets: &[KnownSet], orbit: &Orbit, near: bool) -> Option<usize>
     ensures inside { IfSome result (λ n. n < length sets.now) }
     ensures codes { IfSome result (λ n. (d : declared.KnownSet) →
@@ -73,8 +73,8 @@ impl KnownSets {
         Ok(())
     }
 
-    /// Counts what an orbit's set counts as, whose cells are places at age 400,000, beside what was counted. It is decided where
-    /// none is kept of this set, moved as a whole.
+    /// Counts what an orbit's set counts as, whose cells are places at age 400,000, in addition to what was counted. It is worked
+    /// out where this set, moved as a whole, is not kept.
     pub fn count(
         &mut self,
         alloc: Global,

@@ -9,8 +9,8 @@ use life_answer::Parts;
 use life_orbit::Orbit;
 use std::alloc::{AllocError, Global};
 
-/// What the sets of orbits count as, counted by codes: each itself, where what is near one another is one object, and else its
-/// independent parts. Their cells are places at age 400,000.
+/// What the sets of orbits count as, counted by codes: each itself, where what is near one another is one object, and otherwise
+/// its independent parts. Their cells are places at age 400,000.
 pub fn parts_of(alloc: Global, orbits: &[Orbit], near: bool) -> Result<Parts, AllocError>
     requires within { All IsPlaced orbits.now }
     requires courses { All IsCourse orbits.now }

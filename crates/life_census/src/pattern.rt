@@ -31,9 +31,8 @@ use life_plane::{Observer, Plane};
 use life_things::WAY_LIMIT;
 use std::alloc::{AllocError, Global};
 
-/// What becomes of a pattern of which the generation of this age is this ash, and of which some generations are on a trail: the
-/// first generation that is ash, and what the objects count as, by codes. It is the same within each bound that the age is not
-/// past.
+/// What becomes of a pattern, by the ash that its generation of this age is and some generations on a trail: the first generation
+/// that is ash, and what the objects count as, by codes. It is the same within each bound that is no less than the age.
 fn outcome_of_ash<P: Plane>(
     alloc: Global,
     rule: &Rule,
@@ -59,7 +58,7 @@ fn outcome_of_ash<P: Plane>(
     })
 }
 
-/// What is told of growth that was looked for within the greatest bound up to which a pattern is small enough.
+/// What is reported of growth that was searched for within the greatest bound up to which a pattern is small enough.
 fn engines_of(
     alloc: Global,
     growth: Option<Growth>,
@@ -76,7 +75,7 @@ fn engines_of(
     }
 }
 
-/// That a pattern grows by these engines, or else another outcome.
+/// A pattern's growth by these engines, if there are any, or else another outcome.
 fn growing_or(engines: Option<EngineList>, outcome: Outcome) -> Outcome
     ensures { result ≡ growing_or engines outcome }
 {
@@ -86,7 +85,7 @@ fn growing_or(engines: Option<EngineList>, outcome: Outcome) -> Outcome
     }
 }
 
-/// The outcome of a pattern of which this becomes. What is ash never grows, so no growth is looked for in what is seen to end.
+/// The outcome of a pattern of which this becomes. Ash never grows, so no growth is searched for where a pattern is seen to end.
 fn outcome_of_fate<P: Plane>(
     alloc: Global,
     rule: &Rule,
@@ -122,14 +121,16 @@ fn outcome_of_fate<P: Plane>(
     }
 }
 
-/// What a pattern falls apart into within the bound, counted by codes, and the first generation that is ash: `Ash` exactly
-/// where it does. Else the engines by which it grows, counted by what is told of each, and with the codes of what it emits:
-/// `Grows` exactly where it does so within the horizon, as it is seen within the greatest bound, up to this one, such that no
-/// generation up to four times that bound has more cells than it may have. Else `Large`, with the first such generation,
-/// where some generation from 0 to three times the bound has more cells than it may have; and that goes before `Ash`. Else
-/// `Unresolved`. The bound is 1 to 100,000 generations, and the horizon 1 to 10,000. What is near one another counts as one
-/// object where that is asked for; else the independent parts of each object count. An observer is told the generations on
-/// the way, up to three times the bound.
+/// What a pattern falls apart into within the bound, counted by codes, and the first generation that is ash: `Ash` exactly where
+/// it falls apart. Otherwise the engines by which it grows, counted by what is reported of each, and with the codes of what it
+/// emits: `Grows` exactly where it grows within the horizon, as seen within the greatest bound, up to this one, such that no
+/// generation up to four times that bound has more cells than it may have. Otherwise `Large`, with the first such generation,
+/// where some generation from 0 to three times the bound has more cells than it may have; and that goes before `Ash`. Otherwise
+/// `Unresolved`.
+///
+/// The bound is 1 to 100,000 generations, and the horizon 1 to 10,000. What is near one another counts as one object where that
+/// is asked for; otherwise the independent parts of each object count. The generations on the way, up to three times the bound,
+/// are reported to an observer.
 pub fn census<P: Plane, W: Observer>(
     alloc: Global,
     observer: &W,

@@ -1,4 +1,4 @@
-//! What is told of growth.
+//! What is reported of growth.
 ghost use Rattle.std.specs.Prelude.{◌≡◌, ℕ, IfOk};
 ghost use Rattle.life_model.specs.Generation.{Generation};
 ghost use Rattle.life_model.specs.Rule.{Rule};
@@ -12,7 +12,7 @@ use life_answer::{EngineList, Parts, Tale};
 use life_growing::{Engine, Growth};
 use std::alloc::{AllocError, Global};
 
-/// What is told of what comes again after so many generations, this far off, and emits these objects.
+/// What is reported of what recurs after `period` generations, moved by `by`, and emits these objects.
 fn tale_of_way(period: u32, by: (i32, i32), emits: Parts) -> Tale
     ensures { result ≡ record { period = period; dx = by.0; dy = by.1; emits = emits } }
 {
@@ -25,7 +25,7 @@ fn tale_of_way(period: u32, by: (i32, i32), emits: Parts) -> Tale
     }
 }
 
-/// What is told of an engine.
+/// What is reported of an engine.
 fn tale(
     alloc: Global,
     known: &mut KnownSets,
@@ -37,15 +37,16 @@ fn tale(
 {
     let track = engine.track();
     let Ok(period) = u32::try_from(track.period()) else {
-        // No memory holds so many steps.
+        // No memory holds that many steps.
         return Err(AllocError);
     };
     let emits = emitted(alloc, known, engine.lefts(), near)?;
     Ok(tale_of_way(period, track.displacement(), emits))
 }
 
-/// What is told of growth: its engines, those of which the same is told together. What an engine emits counts as the parts of
-/// ash do: what is near one another as one object, where that is asked for, and else the independent parts of each object.
+/// What is reported of growth: its engines, with those of which the same is reported together. What an engine emits counts as the
+/// parts of ash do: what is near one another as one object, where that is asked for, and otherwise the independent parts of each
+/// object.
 pub fn told(alloc: Global, growth: &Growth, near: bool) -> Result<EngineList, AllocError>
     ensures { IfOk result (λ told. (R : Rule) (b : ℕ) (G : Generation) → IsGrowthOf R b G growth.now →
         told ≡ told_of_engines near R b (starts_of growth.now.engines)) }

@@ -5,7 +5,7 @@ use life_cells::Rule;
 use life_plane::{AGE_LIMIT, Plane};
 use std::alloc::{AllocError, Global};
 
-/// In how many generations at least one looks for a trend.
+/// The least number of generations in which to look for a trend.
 pub const LEAST_TREND: u32 = 128;
 
 /// Whether the counts rise by the same in each period, phase by phase.
@@ -34,8 +34,8 @@ fn have_risen(counts: &[u64], period: usize) -> bool
     first < second
 }
 
-/// Whether the counts rise steadily: with the least period, up to a third of their number, in which they rise by the same
-/// each time, phase by phase, they do rise.
+/// Whether the counts rise steadily. With the least period, up to a third of their number, in which they rise by the same each
+/// time, phase by phase, they must have risen.
 fn is_rising(counts: &[u64]) -> bool {
     for period in 1..counts.len() / 3 + 1 {
         if rise_alike(counts, period) {
@@ -45,8 +45,8 @@ fn is_rising(counts: &[u64]) -> bool {
     false
 }
 
-/// Whether the population of a plane's cells seems to rise steadily, as the next generations show, so many of them. That it
-/// says yes or no tells nothing for certain.
+/// Whether the population of a plane's cells seems to rise steadily over the next `length` generations. Neither answer is
+/// certain.
 pub fn rises_steadily<P: Plane>(
     alloc: Global,
     plane: &P,

@@ -1,4 +1,4 @@
-//! The walk of a pattern to the bound, on which one looks for ash and for growth.
+//! The walk of a pattern to the bound, on which ash and growth are searched for.
 ghost use Rattle.std.specs.Prelude.{◌≡◌, ℕ, ◌+◌, ◌≤◌, All, IfNone, IfOk, IfSome, List, Option, min};
 ghost use Rattle.life_model.specs.Evolution.{generation};
 ghost use Rattle.std.specs.Bool.{OnTrue};
@@ -22,20 +22,20 @@ use life_things::WAY_LIMIT;
 use std::alloc::{AllocError, Global};
 use std::mem;
 
-/// The first age at which one looks for growth. Each further one is twice the one before it.
+/// The first age at which growth is searched for. Each further one is twice the one before it.
 const FIRST_LOOK: u32 = 512;
 
-/// For how many times the horizon one looks after the bound whether a pattern falls apart late. That spares the look for its
+/// After the bound, patterns are checked for falling apart late for this many times the horizon. That spares the search for their
 /// growth, which costs about as much.
 const LATER: u32 = 8;
 
-/// What has more cells than this is not looked at after the bound.
+/// A pattern with more cells than this is not looked at after the bound.
 const MANY: u64 = 20_000;
 
-/// Of what has fewer cells than this one island alone is followed before it is looked at after the bound.
+/// For a pattern with fewer cells than this, one island alone is followed before the pattern is looked at after the bound.
 const FEW: u64 = 4_000;
 
-/// Walks on to an age up to the bound. What becomes of the pattern, where that is found before: then the trail is spent.
+/// Walks on to an age up to the bound. Returns what becomes of the pattern, if that is found before. The trail is spent then.
 fn fate_before<P: Plane, W: Observer>(
     alloc: Global,
     observer: &W,
@@ -73,8 +73,9 @@ fn fate_before<P: Plane, W: Observer>(
     }
 }
 
-/// Whether a pattern is seen to fall apart in the next generations after that of a plane, up to sixteen times the plane's age
-/// and to `LATER` times the horizon more. What has more cells than `MANY`, or comes to have more, is not looked at further.
+/// Whether a pattern is seen to fall apart in the generations after that of a plane: up to sixteen times the plane's age, but at
+/// most `LATER` times the horizon further. A pattern that has more cells than `MANY`, or comes to have more, is not looked at
+/// further.
 fn ends_late<P: Plane>(
     alloc: Global,
     plane: P,
@@ -120,8 +121,8 @@ fn ends_late<P: Plane>(
     Ok(false)
 }
 
-/// Whether it is seen of a plane's cells, of the age of the bound, that they are no ash within it and do not grow within the
-/// horizon. What has fewer cells than generations, and where the horizon is shorter, is looked at after the bound first: that
+/// Whether a plane's cells, of the age of the bound, are seen to be no ash within it and not to grow within the horizon. Cells
+/// that are fewer than the generations so far, and all where the horizon is shorter, are looked at after the bound first, which
 /// costs little.
 fn are_refused<P: Plane>(
     alloc: Global,
@@ -146,8 +147,8 @@ fn are_refused<P: Plane>(
     never_grow(alloc, plane, rule, age)
 }
 
-/// What is seen of a pattern of which a plane has the generation of the bound, and of which this becomes. What does not grow
-/// mostly shows it at little cost, if it is not known yet, and else it is seen whether it falls apart late.
+/// What is seen of a pattern, by the plane of its generation of the bound and by its fate. A pattern that does not grow mostly
+/// shows it at little cost, if it is not known yet. Otherwise the pattern is checked for falling apart late.
 fn seen_at_bound<P: Plane>(
     alloc: Global,
     plane: P,
@@ -179,9 +180,9 @@ fn seen_at_bound<P: Plane>(
     }
 }
 
-/// What is seen of a pattern within the bound. On the way there one looks now and then whether it has fallen apart, and each
-/// time that the age has doubled whether it grows, where its population rises steadily. An observer is told the generations
-/// on the way.
+/// What is seen of a pattern within the bound. On the way there it is checked now and then for having fallen apart, and each time
+/// that the age has doubled for growth, where its population rises steadily. The generations on the way are reported to an
+/// observer.
 pub fn seen<P: Plane, W: Observer>(
     alloc: Global,
     observer: &W,

@@ -1,4 +1,4 @@
--- Cells that are near each other are joined where those of one row are, and those of two rows.
+-- Cells that are near each other are joined, if those of one row are and those of two rows are.
 use Rattle.std.proofs.Common.{◌≡◌, ◌⊎◌, ℕ, ◌^◌, ◌<◌, ℤ, pos, ◌+ℤ◌, ◌-ℤ◌, ◌≤ℤ◌, List, length, get_or, inl, inr, sym, ap, refl, subst, ◌∙◌, arith}
 use Rattle.std.proofs.lemmas.Bool.{cases_lt}
 use Rattle.std.proofs.lemmas.Int.{ints}
@@ -18,7 +18,7 @@ use Rattle.life_classes.proofs.Numbers.{number_at, tags_rise}
 abbrev pub cell_at : Labelled → ℕ → Cell
 cell_at l k = get_or (cells l.cells) k origin
 
--- the number of the one tag is at most two from that of the place one row or two rows above the other
+-- the number of one tag is at most two from that of the place one row or two rows above the other
 pub record IsAcross (l : Labelled) (i j : ℕ) : Type 0 where
   pub row : ℤ
   pub rows : (row ≡ pos (2 ^ 31)) ⊎ (row ≡ pos (2 ^ 32))
@@ -39,7 +39,7 @@ AreJoined l f =
 
 module _ (l : Labelled) (f : List ℕ) (labelled : AreLabelled l f) where
   module _ (joined : AreJoinedInRows l.tags.items f) (across : AreJoinedAcross l f) where
-    -- a cell in the same row, and one that is not above it
+    -- a cell and another in the same row, and a cell and one that is not above it
     same_row : (i j : ℕ) → i < length l.tags.items → j < length l.tags.items → AreNear (cell_at l i) (cell_at l j) →
         (cell_at l i).1 ≡ (cell_at l j).1 → root_of_tag l.tags.items f i ≡ root_of_tag l.tags.items f j
     same_row i j h k near row =

@@ -1,4 +1,4 @@
--- Cells that are near each other have one root where those in listed places are tied with all that are near them.
+-- Cells that are near each other have one root if those in listed places are tied with all that are near them.
 use Rattle.std.proofs.Common.{◌≡◌, ℕ, suc, ◌+◌, ◌<◌, pos, ◌+ℤ◌, ◌-ℤ◌, ◌≤ℤ◌, List, length, get_or, inl, inr, refl, sym, subst, arith}
 use Rattle.std.specs.List.{Contains}
 use Rattle.std.proofs.lemmas.Bool.{cases_lt}
@@ -23,7 +23,7 @@ pub record IsTiedAbout (ts : List Tag) (f : List ℕ) (n : ℕ) : Type 0 where
   pub at : IsTiedAt ts f n
   pub after : IsTiedAfter ts f n
 
--- those in the first n of the listed places are
+-- so it is for the first n of the listed places
 abbrev pub AreTiedAbout : List Tag → List ℕ → List ℕ → ℕ → Type 0
 AreTiedAbout ts f places n = (k : ℕ) (d : ℕ) → k < n → IsTiedAbout ts f (get_or places k d)
 

@@ -18,7 +18,7 @@ use Rattle.life_classes.specs.Forest.{root}
 use Rattle.life_classes.specs.Labels.{cells_of_root, chosen, class_of_root, classes_by}
 use Rattle.life_classes.specs.Nearness.{lists_cell}
 
--- the cell stands in this place, and its label has the root
+-- the cell is in this place, and its label has the root
 pub record IsChosen (cs : List Cell) (ts : List Tag) (f : List ℕ) (r : ℕ) (c : Cell) : Type 0 where
   pub place : ℕ
   pub inside : place < length cs

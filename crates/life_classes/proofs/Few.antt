@@ -1,4 +1,4 @@
--- Where at most one class lives, the cells are undivided, and no sooner.
+-- The cells are undivided as soon as at most one class lives, and not before.
 use Rattle.std.proofs.Common.{◌≡◌, ℕ, ◌<◌, ◌≤◌, ◌↔◌, List, length, refl, sym, ap, subst, ◌∙◌, arith}
 use Rattle.std.specs.List.{All, AllPairs}
 use Rattle.std.proofs.lemmas.List.{get_or-map, length-map}

@@ -31,11 +31,11 @@ alike (suc n) (suc m) f k h l =
 pub root_within_long : (n : ℕ) (f : List ℕ) (k : ℕ) → k ≤ n → root_within n f k ≡ root f k
 root_within_long n f k h = alike n k f k h (omega arith)
 
--- what goes nowhere is its own root
+-- what points nowhere is its own root
 pub root-stays : (f : List ℕ) (k : ℕ) → k ≤ get_or f k k → root f k ≡ k
 root-stays f k h = stays k f k h
 
--- what goes to a lesser one has its root
+-- what points to a smaller number has the root of that number
 pub root-up : (f : List ℕ) (k : ℕ) → get_or f k k < k → root f k ≡ root f (get_or f k k)
 root-up f k h =
     alike k (suc k) f k (omega arith) (omega arith) ∙ steps k f k h ∙ root_within_long k f (get_or f k k) (omega arith)
@@ -54,7 +54,7 @@ by_steps_to f P stop go (suc n) k h =
       | inr most ↦ stop k most
     ]
 
--- what holds of roots, and of a number where it holds of the one that it goes to, holds of all
+-- what holds of roots, and passes from each number's target to the number, holds of all numbers
 pub by_steps : (f : List ℕ) (P : ℕ → Type 0) → ((k : ℕ) → k ≤ get_or f k k → P k) →
     ((k : ℕ) → get_or f k k < k → P (get_or f k k) → P k) → (k : ℕ) → P k
 by_steps f P stop go k = by_steps_to f P stop go k k (omega arith)
@@ -74,7 +74,7 @@ root-is f k =
 pub root-root : (f : List ℕ) (k : ℕ) → root f (root f k) ≡ root f k
 root-root f k = root-stays f (root f k) (root-is f k)
 
--- what was told as the root is its own
+-- what was returned as the root is its own root
 pub told_root : (f g : List ℕ) (k r : ℕ) → g ≡ f → r ≡ root g k → root f r ≡ r
 told_root f g k r same is =
     let it = is ∙ ap (λ h. root h k) same in
@@ -83,7 +83,7 @@ told_root f g k r same is =
 pub is_root : (f : List ℕ) (k : ℕ) → root f k ≡ k → IsRoot f k
 is_root f k e = subst (IsRoot f) e (root-is f k)
 
--- the root is at most the number that one goes to
+-- the root is at most the number that one points to
 pub root-le_up : (f : List ℕ) (k : ℕ) → root f k ≤ get_or f k k
 root-le_up f k =
     elim (cases_lt (get_or f k k) k) [
@@ -91,7 +91,7 @@ root-le_up f k =
       | inr most ↦ omega (arith, root-stays f k most)
     ]
 
--- ---- a number goes to a lesser one
+-- ---- a number points to a smaller one
 
 module _ (f : List ℕ) (k v : ℕ) (within : k < length f) (lower : v < k) where
   abbrev after : List ℕ
@@ -106,7 +106,7 @@ module _ (f : List ℕ) (k v : ℕ) (within : k < length f) (lower : v < k) wher
   not_here : (x : ℕ) → x ≤ get_or after x x → x ≡ k → ⊥
   not_here x h e = omega (arith, up_here x e)
 
-  -- where it had this root already
+  -- if it had this root already
   pub root-set_within : root f v ≡ root f k → (x : ℕ) → root after x ≡ root f x
   root-set_within same x =
       by_steps after (λ x. root after x ≡ root f x)
@@ -118,7 +118,7 @@ module _ (f : List ℕ) (k v : ℕ) (within : k < length f) (lower : v < k) wher
             root-up after x h ∙ l ∙ ap (root f) (up_other x other) ∙ sym (root-up f x (omega (arith, up_other x other)))
       ]) x
 
-  -- where both were roots
+  -- if both were roots
   pub root-set_roots : IsRoot f k → IsRoot f v → (x : ℕ) → root after x ≡ moved k v (root f x)
   root-set_roots high low x =
       by_steps after (λ x. root after x ≡ moved k v (root f x))
@@ -144,7 +144,7 @@ module _ (f : List ℕ) (k v : ℕ) (within : k < length f) (lower : v < k) wher
   pub sum-set-le : v ≤ get_or f k k → sum after ≤ sum f
   sum-set-le h = omega (arith, sum_by-set (λ x. x) f k v k within)
 
--- ---- a root goes to another
+-- ---- a root points to another
 
 pub moved_here : (k v a : ℕ) → a ≡ k → moved k v a ≡ v
 moved_here k v a e = cond-true (a == k) v a (eq-eqb a k e)
@@ -208,7 +208,7 @@ module _ (old new : List ℕ) (one other : ℕ) (long : length new ≡ length ol
         put = λ h. inr (record { lower = lower; goes = by });
       }
 
--- two that have one root are joined as they are
+-- two numbers with one root are joined already
 pub joined_already : (old : List ℕ) (one other : ℕ) → root old one ≡ root old other → IsJoined old old one other false
 joined_already old one other same = record {
   long = refl;

@@ -21,7 +21,7 @@ one_empty_more lists v n are none =
     map-append (λ list. list.items) lists (v ∷ []) ∙ ap (λ w. w ++ (v.items ∷ [])) are
     ∙ ap (λ w. replicate n [] ++ (w ∷ [])) none ∙ replicate-append-replicate n 1 []
 
--- one cell more in one list
+-- one more cell in one list
 pub one_cell_put : {A : Type 0} (lists : List (Vec Cell A)) (i : ℕ) (x v : Vec Cell A) (c : Cell) → i < length lists →
     x ≡ get_or lists i x → v.items ≡ x.items ++ (c ∷ []) →
     lists_of (set lists i v) ≡ set (lists_of lists) i (get_or (lists_of lists) i [] ++ (c ∷ []))
@@ -64,7 +64,7 @@ with_more : (b : Bool) (x : Cell) (ys zs : List Cell) → cond b (x ∷ (ys ++ z
 with_more true x ys zs = refl
 with_more false x ys zs = refl
 
--- one cell more
+-- one more cell
 chosen_more : (cs : List Cell) (ts : List Tag) (f : List ℕ) (r n : ℕ) (d : Tag) (e : Cell) → n < length cs →
     n < length ts →
     chosen (take (suc n) cs) ts f r

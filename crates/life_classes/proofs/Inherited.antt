@@ -22,7 +22,7 @@ use Rattle.life_classes.proofs.Forests.{root-le}
 use Rattle.life_classes.proofs.Joined.{set_of_root}
 use Rattle.life_classes.proofs.Reached.{touched_by, touching}
 
--- a member stands in some place
+-- a member has a place in the list of cells
 pub stands_in : (G : Generation) (c : Cell) → contains G c ≡ true → (k : ℕ) × (k < length (cells G)) × (get_or (cells G) k origin ≡ c)
 stands_in G c h =
     let one = Any-from_list_any (same_cell c) (cells G) (sym (contains-cells G c) ∙ h) in
@@ -35,7 +35,7 @@ module _ (a old new : Labelled) (f : List ℕ) (before : AreLabelled old f) (aft
   abbrev tag : Tag
   tag = record { number = pos 0; label = 0 }
 
-  -- the cell is one of the set of the root of the label
+  -- the cell is in the set of the label's root
   pub of_label : (c : Cell) (label : ℕ) (w : IsLabelOf old c label) →
       contains (set_of_root old f (root f label)) (get_or (cells old.cells) w.by origin) ≡ true
   of_label c label w =
@@ -58,7 +58,7 @@ module _ (a old new : Labelled) (f : List ℕ) (before : AreLabelled old f) (aft
       (ap (λ (e : Class). contains e.last g) (class_at a old f r d k) ∙ in_r)
       (ap (λ (e : Class). contains e.last h) (class_at a old f s d l) ∙ in_s) near
 
-  -- two sets of which cells are near each other are one
+  -- two sets with cells near each other are one
   pub one_set : (r s : ℕ) (g h : Cell) → r < length f → s < length f → contains (set_of_root old f r) g ≡ true →
       contains (set_of_root old f s) h ≡ true → AreNear g h → r ≡ s
   one_set r s g h k l in_r in_s near = elim (cases_lt r s) [

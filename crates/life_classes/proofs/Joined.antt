@@ -1,4 +1,4 @@
--- What becomes of the classes that labels tell where two roots are joined.
+-- What becomes of the classes that labels give when two roots are joined.
 use Rattle.std.proofs.Common.{◌≡◌, ℕ, ◌<◌, pos, Bool, true, false, List, length, get_or, inl, inr, sym, refl, ap, subst, ◌∙◌, arith}
 use Rattle.std.proofs.lemmas.Bool.{cases_eq}
 use Rattle.life_model.specs.Cell.{Cell, origin}
@@ -29,7 +29,7 @@ module _ (l : Labelled) (f g : List ℕ) (high low : ℕ) (put : IsPut f g high 
   differ : low ≡ high → ⊥
   differ e = let lower = put.lower in omega arith
 
-  -- what was chosen is chosen, by the root that its root has gone to
+  -- what was chosen by its root is chosen by the root that this one now points to
   chosen_then : (r s : ℕ) (c : Cell) → IsChosen (cells l.cells) l.tags.items f r c → moved high low r ≡ s →
       contains (set_of_root l g s) c ≡ true
   chosen_then r s c w goes =

@@ -90,7 +90,7 @@ module _ (R : Rule) (b n : ℕ) (G : Generation) (cs : List Class) (t : AreTrack
 
 -- ---- before the first generation
 
--- classes into which the cells of G, each a class of its own, are joined
+-- classes into which the cells of G, each at first a class of its own, are joined
 pub tracked_at_first : (R : Rule) (b : ℕ) (G : Generation) (cs : List Cell) (ds : List Class) → cs ≡ cells G →
     LeadTo (map class_of_cell cs) ds → AreTracked R b 0 G ds
 tracked_at_first R b G cs ds is leads =

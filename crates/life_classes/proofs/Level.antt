@@ -1,4 +1,4 @@
--- Tags of one row, of which each is joined with the one before it where that is near.
+-- Tags of one row, each joined with the tag before it if that is near.
 use Rattle.std.proofs.Common.{◌≡◌, ℕ, zero, suc, ◌-◌, ◌<◌, ◌≤◌, ℤ, pos, ◌+ℤ◌, ◌-ℤ◌, ◌≤ℤ◌, List, length, get_or, inl, inr, sym, ap, ◌∙◌, arith}
 use Rattle.std.proofs.lemmas.Bool.{cases_lt}
 use Rattle.std.proofs.lemmas.Int.{ints}
@@ -16,7 +16,7 @@ number_of_tag ts k = (get_or ts k no_tag).number
 abbrev pub root_of_tag : List Tag → List ℕ → ℕ → ℕ
 root_of_tag ts f k = root f (get_or ts k no_tag).label
 
--- each tag is joined with the next, where their numbers are at most two apart
+-- each tag is joined with the next, if their numbers are at most two apart
 abbrev pub AreJoinedInRows : List Tag → List ℕ → Type 0
 AreJoinedInRows ts f =
     (k : ℕ) → suc k < length ts → number_of_tag ts (suc k) ≤ℤ (number_of_tag ts k +ℤ pos 2) →

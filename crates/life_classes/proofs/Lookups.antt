@@ -31,7 +31,7 @@ has_contains cs c h =
     let same : c ≡ one.1 = (same_cell-is c one.1).0 one.4 in
     subst (Contains cs) (sym same) (one.0, one.2, one.3)
 
--- one more passes, as those before it do
+-- one more element passes, as those before it do
 pub one_more : {X : Type 0} (P : X → Type 0) (xs : List X) (n : ℕ) (s : X) → n < length xs →
     ((k : ℕ) (d : X) → k < n → P (get_or xs k d)) → P (get_or xs n s) → (k : ℕ) (d : X) → k < n + 1 → P (get_or xs k d)
 one_more P xs n s h all one k d below = elim (cases_lt k n) [
@@ -40,7 +40,7 @@ one_more P xs n s h all one k d below = elim (cases_lt k n) [
       subst (λ m. P (get_or xs m d)) (let z : n ≡ k = omega arith in z) (subst P (get_or_default xs n s d h) one)
 ]
 
--- what holds of the elements of a list by their places, where one more is put behind them
+-- what holds of the elements of a list by their places, when one more is appended
 pub pushed : {X : Type 0} (P : ℕ → X → Type 0) (xs ys : List X) (x : X) (n : ℕ) → length xs ≡ n → ys ≡ xs ++ (x ∷ []) →
     ((k : ℕ) (d : X) → k < n → P k (get_or xs k d)) → P n x → (k : ℕ) (d : X) → k < n + 1 → P k (get_or ys k d)
 pushed P xs ys x n long is all one k d below = elim (cases_lt k n) [

@@ -13,7 +13,7 @@ emptied [] h = refl
 emptied (c ∷ cs) h = absurd (omega arith)
 
 module _ (R : Rule) (b n : ℕ) (G : Generation) where
-  -- the order of two lists is exchanged
+  -- the order of two lists is swapped
   pub exchanged : (cs ds : List Class) → AreTracked R b n G (cs ++ ds) → AreTracked R b n G (ds ++ cs)
   exchanged [] ds t = subst (AreTracked R b n G) (sym (append-nil ds)) t
   exchanged (c ∷ cs) ds t =

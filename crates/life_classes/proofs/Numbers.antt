@@ -17,7 +17,7 @@ use Rattle.life_classes.specs.Tags.{AreRisingTags, IsNumbered, place_number}
 use Rattle.life_classes.specs.Ties.{IsRowsAway}
 use Rattle.life_classes.proofs.RowsRise.{numbers_rise}
 
--- cells that have one number are one
+-- cells with the same number are the same
 pub cell_by_number : (c d : Cell) → IsPlace c → IsPlace d → place_number c ≡ place_number d → c ≡ d
 cell_by_number c d p q same =
     let a = p.left in
@@ -26,7 +26,7 @@ cell_by_number c d p q same =
     let f = q.right in
     pair (omega (arith, ints)) (omega (arith, ints))
 
--- cells whose numbers are so far apart are at most one away from each other
+-- cells whose numbers, but for the row, are at most one apart are at most one away from each other
 pub near_by_number : (c g : Cell) (row : ℤ) → IsPlace c → IsPlace g →
     ((row ≡ pos 0) ⊎ ((row ≡ pos (2 ^ 31)) ⊎ (row ≡ neg_ℤ (pos (2 ^ 31))))) →
     (place_number c +ℤ row +ℤ neg_ℤ (pos 1)) ≤ℤ place_number g →
@@ -47,7 +47,7 @@ near_by_number c g row p q rows from to =
       ]
     ]
 
--- cells whose numbers are so far apart are near each other
+-- cells whose numbers, but for the row, are at most two apart are near each other
 pub two_by_number : (c g : Cell) (row : ℤ) → IsPlace c → IsPlace g →
     ((row ≡ pos 0) ⊎ ((row ≡ pos (2 ^ 31)) ⊎ (row ≡ pos (2 ^ 32)))) →
     (place_number c -ℤ row -ℤ pos 2) ≤ℤ place_number g → place_number g ≤ℤ (place_number c -ℤ row +ℤ pos 2) → AreNear g c
@@ -95,7 +95,7 @@ module _ (l : Labelled) (tagged : IsTagged l) where
       let f = p.below in
       record { low = omega (arith, ints); high = omega (arith, ints) }
 
-  -- cells in two places whose numbers are so far apart are near each other
+  -- cells in two places whose numbers, but for the row, are at most two apart are near each other
   pub near_at : (i j : ℕ) (row : ℤ) (t : Tag) → i < length l.tags.items → j < length l.tags.items →
       ((row ≡ pos 0) ⊎ ((row ≡ pos (2 ^ 31)) ⊎ (row ≡ pos (2 ^ 32)))) →
       ((get_or l.tags.items j t).number -ℤ row -ℤ pos 2) ≤ℤ (get_or l.tags.items i t).number →
@@ -106,7 +106,7 @@ module _ (l : Labelled) (tagged : IsTagged l) where
       two_by_number (get_or (cells l.cells) j e) (get_or (cells l.cells) i d) row (place_at j e k) (place_at i d h) rows
       (omega (arith, ints)) (omega (arith, ints))
 
-  -- the cell before one, where its number is at most two less
+  -- the cell before another is near it if its number is at most two less
   pub before_near : (n : ℕ) (number : ℤ) (t : Tag) → 0 < n → n < length l.tags.items →
       number ≡ (get_or l.tags.items n t).number → (number -ℤ pos 2) ≤ℤ (get_or l.tags.items (n - 1) t).number →
       AreNearAt l (n - 1) n
@@ -114,7 +114,7 @@ module _ (l : Labelled) (tagged : IsTagged l) where
       let up = tags_rise (n - 1) n t (omega arith) h in
       near_at (n - 1) n (pos 0) t (omega arith) h (inl refl) (omega (arith, ints)) (omega (arith, ints))
 
-  -- a cell whose number is at most two from that of a place above one or below it
+  -- a cell is near another if its number is at most two from that of a place above or below the other
   pub away_near : (k n : ℕ) (number : ℤ) (t : Tag) → k < length l.tags.items → n < length l.tags.items →
       IsRowsAway l.tags.items n number → (number -ℤ pos 2) ≤ℤ (get_or l.tags.items k t).number →
       (get_or l.tags.items k t).number ≤ℤ (number +ℤ pos 2) → AreNearAt l k n
@@ -130,7 +130,7 @@ module _ (l : Labelled) (tagged : IsTagged l) where
             ])
       ]
 
--- the same labels and a forest as long
+-- the same labels, with a forest of the same length
 pub relabelled : (l : Labelled) (f g : List ℕ) → length g ≡ length f → AreLabelled l f → AreLabelled l g
 relabelled l f g long labelled = record {
   tagged = labelled.tagged;

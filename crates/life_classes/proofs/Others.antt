@@ -1,4 +1,4 @@
--- The cells of a list with labels that have other roots than one.
+-- The cells of a labelled list whose labels have a root other than a given one.
 use Rattle.std.proofs.Common.{◌≡◌, ℕ, ◌+◌, ◌<◌, List, length, get_or, ◌∷◌, [], ◌++◌, inl, inr, sym, ap, subst, ◌∙◌, arith}
 use Rattle.std.specs.List.{All, Contains}
 use Rattle.std.proofs.lemmas.Bool.{cases_lt}
@@ -21,7 +21,7 @@ module _ (l : Labelled) (f : List ℕ) (m : ℕ) where
   abbrev root_at : ℕ → Tag → ℕ
   root_at k d = root f (get_or l.tags.items k d).label
 
-  -- those looked at are listed where they have other roots
+  -- the cells looked at are listed if they have other roots
   pub record AreListed (n : ℕ) (items : List Cell) : Type 0 where
     pub sound : All (IsOther l f m) items
     pub all : (k : ℕ) (d : Tag) (e : Cell) → k < n → (root_at k d ≡ m → ⊥) → Contains items (get_or (cells l.cells) k e)

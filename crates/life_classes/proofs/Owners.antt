@@ -1,4 +1,4 @@
--- Of sets that are apart, which one a cell of the next generation comes from.
+-- Which one of several sets that are apart a cell of the next generation comes from.
 use Rattle.std.proofs.Common.{◌≡◌, ◌<◌, true, List, [], ◌∷◌, inl, inr, sym, ap, ◌∙◌}
 use Rattle.std.proofs.Common.{arith}
 use Rattle.std.proofs.lemmas.Bool.{and_from}
@@ -29,7 +29,7 @@ module _ (R : Rule) where
     step : next R (union_of (Q ∷ Qs)) ≡ union (next R Q) (next R (union_of Qs))
     step = next-union R Q (union_of Qs) apart_from_rest
 
-  -- a cell within one of a cell of P comes from P
+  -- a cell at most one away from a cell of P comes from P
   pub owner : (Ps : List Generation) → AllPairs AreApart Ps → (P : Generation) → Contains Ps P → (c g : Cell) →
       contains (next R (union_of Ps)) c ≡ true → contains P g ≡ true → IsNear c g → contains (next R P) c ≡ true
   owner [] far P one c g h k near = let none : one.0 < 0 = one.1 in absurd (omega arith)
@@ -51,7 +51,7 @@ module _ (R : Rule) where
         ]
       ]
 
-  -- the next generation of one of the sets, from that of all
+  -- the next generation of one of the sets, found in that of all
   pub next_by_touch : (Ps : List Generation) → AllPairs AreApart Ps → (P : Generation) → Contains Ps P →
       keep (next R (union_of Ps)) (reaches 1 P) ≡ next R P
   next_by_touch Ps far P one =

@@ -1,4 +1,4 @@
--- Two classes in a list that become one, in the place of the first.
+-- Two classes in a list become one, in the place of the first.
 use Rattle.std.proofs.Common.{◌≡◌, ℕ, suc, ◌+◌, ◌<◌, ◌≤◌, List, ◌∷◌, length, get_or, take, drop, inl, inr, sym, subst, ◌∙◌, arith}
 use Rattle.std.specs.List.{remove}
 use Rattle.std.proofs.lemmas.Bool.{cases_lt}

@@ -1,4 +1,4 @@
--- What it means that a set reaches a cell.
+-- What it means for a set to reach a cell.
 use Rattle.std.proofs.Common.{◌≡◌, ℕ, ◌≤◌, ℤ, pos, ◌+ℤ◌, ◌-ℤ◌, ◌≤ℤ◌, Bool, true, false}
 use Rattle.std.proofs.Common.{arith}
 use Rattle.std.specs.Prelude.{nat_le, unsigned_abs}
@@ -70,6 +70,6 @@ pub touching : (P : Generation) (c d : Cell) → contains P d ≡ true → IsNea
 touching P c d h near =
     reaching 1 P c d h (record { left = near.left; right = near.right; above = near.above; below = near.below })
 
--- a cell that is reached stands in a row that is as near
+-- a cell that is reached is in a row that is as near
 pub row_within : (r : ℕ) (c d : Cell) → are_within r c d ≡ true → ((c.1 -ℤ pos r) ≤ℤ d.1) × (d.1 ≤ℤ (c.1 +ℤ pos r))
 row_within r c d h = let w = within_by_test r c d h in (omega (arith, ints), omega (arith, ints))

@@ -1,4 +1,4 @@
--- Cells that are given the labels that others have.
+-- Cells that are given the labels of others.
 use Rattle.std.proofs.Common.{◌≡◌, ◌⊎◌, ℕ, zero, suc, ◌<◌, ◌≤◌, ℤ, pos, ◌<ℤ◌, ◌≤ℤ◌, true, List, [], ◌∷◌, length, get_or, inl, inr, Ordering, Less, Equal, Greater}
 use Rattle.std.proofs.Common.{sym, ap, subst, ◌∙◌, arith}
 use Rattle.std.specs.List.Sorted.{IsStrictlySortedBy}
@@ -27,7 +27,7 @@ use Rattle.life_classes.proofs.Numbers.{cell_by_number, number_at, place_at, tag
 abbrev tag : Tag
 tag = record { number = pos 0; label = 0 }
 
--- ---- where a cell is looked for
+-- ---- where a cell is found
 
 module _ (l : Labelled) (tagged : IsTagged l) (c : Cell) (placed : IsPlace c) (ts : List Tag) (low : ℤ)
     (are : ts ≡ l.tags.items) (is : low ≡ place_number c) (at : ℕ) (less : AreLess ts at low) (least : AreFrom ts at low) where
@@ -81,7 +81,7 @@ module _ (l : Labelled) (tagged : IsTagged l) (c : Cell) (placed : IsPlace c) (t
             ∙ ap (λ us. (get_or us at tag).label) (sym are);
       }
 
--- ---- a cell stands in one place alone
+-- ---- a cell is in one place only
 
 not_equal_less : (r : Ordering) → r ≡ Equal → r ≡ Less → ⊥
 not_equal_less Less e h = cc

@@ -1,4 +1,4 @@
--- Cells in a list, some of which may stand there more than once, and the cells of their set.
+-- Cells in a list, some of which may appear more than once, and the cells of their set.
 use Rattle.std.proofs.Common.{◌≡◌, Bool, true, false, cond, not, ◌&&◌, ◌||◌, List, [], ◌∷◌, map, filter, inl, inr, sym, refl, ap, subst, ◌∙◌, true≢false, Less, Greater}
 use Rattle.std.specs.List.Sorted.{IsStrictlySortedBy}
 use Rattle.std.specs.Ordering.{ordering_reverse}
@@ -43,7 +43,7 @@ twice y cs =
     let k = class_of_cell y in
     lead_joined k k k cs (sym (union-same k.first)) (sym (union-same k.last)) (meets_itself y)
 
--- two classes at the front change places
+-- two classes at the front are swapped
 turned : (c d : Class) (cs : List Class) → LeadTo (c ∷ (d ∷ cs)) (d ∷ (c ∷ cs))
 turned c d cs = lead_front d (c ∷ []) cs
 
@@ -69,7 +69,7 @@ module _ (y : Cell) where
       (in_turn (one ∷ (k ∷ singles xs)) (one ∷ (k ∷ singles (others xs))) (k ∷ (one ∷ singles (others xs)))
       (behind one (k ∷ singles xs) (k ∷ singles (others xs)) leads) (turned one k (singles (others xs))))
 
-  -- where a cell is a class, it may be left out of those behind it
+  -- a cell that is a class may be left out of those after it
   weeded : (xs : List Cell) → LeadTo (class_of_cell y ∷ singles xs) (class_of_cell y ∷ singles (others xs))
   weeded [] = lead_same (class_of_cell y ∷ [])
   weeded (x ∷ xs) = weed_more x xs (same_cell x y) refl (weeded xs)

@@ -1,4 +1,4 @@
--- Cells in order have rows and numbers that don't fall, and those that have others can be left out.
+-- Cells in order have rows and numbers that don't fall. Those with other rows or numbers can be left out.
 use Rattle.std.proofs.Common.{◌≡◌, ℕ, zero, suc, ◌+◌, ◌-◌, ◌<◌, ◌≤◌, ℤ, ◌≤ℤ◌, ◌<ℤ◌, Bool, true}
 use Rattle.std.proofs.Common.{false, cond, ◌||◌, ◌⊎◌, inl, inr, T, List, [], ◌∷◌}
 use Rattle.std.proofs.Common.{length, get_or, take, drop, filter, int_le, int_lt, Ordering}
@@ -51,7 +51,7 @@ number_not_below a b e p q =
           omega (arith, ints)
     ]
 
--- a number of the cells doesn't fall from one to the next
+-- a number of the cells doesn't fall from each cell to the next
 abbrev pub Rise : (Cell → ℤ) → List Cell → Type 0
 Rise key cs = (i j : ℕ) (d : Cell) → i ≤ j → j < length cs → key (get_or cs i d) ≤ℤ key (get_or cs j d)
 
@@ -81,7 +81,7 @@ some_listed cs d one =
     let within : at.0 < length cs = at.2 in
     omega arith
 
--- a listed cell stands between the rows of the first and the last
+-- the row of a listed cell is between those of the first and the last
 pub between : (cs : List Cell) → T (is_rising cs) → (d x y : Cell) → list_any (same_cell d) cs ≡ true →
     ((get_or cs 0 x).1 ≤ℤ d.1) × (d.1 ≤ℤ (get_or cs (length cs - 1) y).1)
 between cs h d x y one =
@@ -150,7 +150,7 @@ not_above x t e h = grind (arith, ints)
 not_past : (x t : ℤ) → int_le x t ≡ false → x ≤ℤ t → ⊥
 not_past x t e h = grind (arith, ints)
 
--- a test that is passed by some numbers alone, over the cells of these numbers
+-- a test that only some numbers pass, over the cells with these numbers
 pub keys_between : (key : Cell → ℤ) (p : Cell → Bool) (cs : List Cell) (top bottom : ℤ) (s n : ℕ) →
     ((c : Cell) → p c ≡ true → (top ≤ℤ key c) × (key c ≤ℤ bottom)) →
     ((k : ℕ) (d : Cell) → k < s → int_lt (key (get_or cs k d)) top ≡ true) →

@@ -15,7 +15,7 @@ use Rattle.life_classes.specs.Tracking.{class_of_cell}
 use Rattle.life_classes.proofs.Chosen.{class_at, count_classes, in_root, of_root}
 use Rattle.life_classes.proofs.Joined.{set_of_root}
 
--- ---- labels of which each is a root of its own
+-- ---- labels each of which is a root of its own
 
 module _ (f : List ℕ) (roots : (k : ℕ) → root f k ≡ k) where
   module _ (l : Labelled) (tagged : IsTagged l) (own : AreOwnLabels (length l.tags.items) l.tags.items) where

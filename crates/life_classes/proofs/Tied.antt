@@ -1,4 +1,4 @@
--- Cells that are near each other have one root where each is tied with those next to it in order.
+-- Cells that are near each other have one root if each is tied with those next to it in order.
 use Rattle.std.proofs.Common.{◌≡◌, ℕ, suc, ◌+◌, ◌-◌, ◌^◌, ◌<◌, ℤ, pos, ◌+ℤ◌, ◌-ℤ◌, ◌≤ℤ◌, List, length, get_or, inl, inr, sym, subst, arith}
 use Rattle.std.proofs.lemmas.Bool.{cases_lt}
 use Rattle.std.proofs.lemmas.Int.{ints}
@@ -12,7 +12,7 @@ use Rattle.life_classes.proofs.Across.{AreJoined, AreJoinedAcross, IsAcross, all
 use Rattle.life_classes.proofs.Level.{AreJoinedInRows, around_one, no_tag, number_of_tag, root_of_tag}
 use Rattle.life_classes.proofs.Numbers.{tags_rise}
 
--- ---- where more is joined
+-- ---- more is joined
 
 pub around_still : (ts : List Tag) (f g : List ℕ) (n : ℕ) (number : ℤ) →
     ((k m : ℕ) → root f k ≡ root f m → root g k ≡ root g m) → IsTiedAround ts f n number → IsTiedAround ts g n number

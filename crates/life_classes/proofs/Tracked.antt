@@ -1,4 +1,4 @@
--- Classes that are followed stay so where their order changes, and where two of them that are near become one.
+-- Classes stay tracked when their order changes, and when two of them that are near become one.
 use Rattle.std.proofs.Common.{◌≡◌, ℕ, ◌≤◌, List, [], ◌∷◌, ◌++◌, get_or}
 use Rattle.std.proofs.Common.{sym, refl, ap, subst, ◌∙◌, arith}
 use Rattle.std.specs.List.{All}

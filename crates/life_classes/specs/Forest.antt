@@ -1,8 +1,8 @@
--- Numbers that are joined: each number of a list goes to a lesser one, or is a root.
+-- Numbers that are joined: each number of a list points to a smaller one, or is a root.
 use Rattle.std.specs.Prelude.{◌≡◌, ◌⊎◌, ℕ, zero, suc, ◌<◌, ◌==◌, Bool, true, false, cond, leb, List, length, get_or}
 use Rattle.std.specs.List.{sum}
 
--- where one comes from k in at most n steps, each to a lesser number
+-- where at most n steps lead from k, each to a smaller number
 abbrev pub root_within : ℕ → List ℕ → ℕ → ℕ
 root_within zero forest k = k
 root_within (suc n) forest k =
@@ -12,7 +12,7 @@ root_within (suc n) forest k =
 abbrev pub root : List ℕ → ℕ → ℕ
 root forest k = root_within k forest k
 
--- where a root is once one of them goes to another
+-- where a root is once one of them points to another
 abbrev pub moved : ℕ → ℕ → ℕ → ℕ
 moved high low k = cond (k == high) low k
 
@@ -20,12 +20,12 @@ moved high low k = cond (k == high) low k
 abbrev pub AreAs : List ℕ → ℕ → ℕ → ℕ → ℕ → Type 0
 AreAs forest k l one other = (root forest k ≡ root forest one) × (root forest l ≡ root forest other)
 
--- A root goes to a lesser one.
+-- A root points to a smaller one.
 pub record IsPut (old new : List ℕ) (high low : ℕ) : Type 0 where
   pub lower : low < high
   pub goes : (k : ℕ) → root new k ≡ moved high low (root old k)
 
--- Two numbers are joined, and no more than that makes needful.
+-- Two numbers are joined, and nothing more than that requires.
 pub record IsJoined (old new : List ℕ) (one other : ℕ) (is_new : Bool) : Type 0 where
   pub long : length new ≡ length old
   pub coarser : (k l : ℕ) → root old k ≡ root old l → root new k ≡ root new l

@@ -1,4 +1,4 @@
--- Cells with labels, and the classes that they tell.
+-- Cells with labels, and the classes that they give.
 use Rattle.std.specs.Prelude.{◌≡◌, ◌⊎◌, ℕ, ◌<◌, ◌==◌, cond, true, List, [], ◌∷◌, length, get_or, map}
 use Rattle.std.specs.List.{All, Contains, range_with_len}
 use Rattle.life_model.specs.Cell.{Cell, IsNear}
@@ -25,7 +25,7 @@ cells_of_root l f r = chosen (cells l.cells) l.tags.items f r
 abbrev pub class_of_root : Labelled → Labelled → List ℕ → ℕ → Class
 class_of_root a l f r = record { first = from_list (cells_of_root a f r); last = from_list (cells_of_root l f r) }
 
--- the class of each number, that of a number that is no root without a cell
+-- the class of each number; that of a number that is no root has no cell
 abbrev pub classes_by : Labelled → Labelled → List ℕ → List Class
 classes_by a l f = map (class_of_root a l f) (range_with_len 0 (length f))
 
@@ -47,21 +47,21 @@ pub record IsLabelOf (l : Labelled) (c : Cell) (label : ℕ) : Type 0 where
   pub near : (e : Cell) → IsNear c (get_or (cells l.cells) by e)
   pub same : (d : Tag) → (get_or l.tags.items by d).label ≡ label
 
--- the label has the root of one of a cell that is at most one away
+-- the label has the same root as the label of a cell that is at most one away
 pub record IsHeir (l : Labelled) (f : List ℕ) (c : Cell) (t : Tag) : Type 0 where
   pub label : ℕ
   pub from : IsLabelOf l c label
   pub same : root f t.label ≡ root f label
 
--- each of the first n cells is so
+-- each of the first n cells has such a label
 abbrev pub AreHeirs : Labelled → List ℕ → List Cell → ℕ → List Tag → Type 0
 AreHeirs l f cs n ts = (k : ℕ) (d : Tag) (e : Cell) → k < n → IsHeir l f (get_or cs k e) (get_or ts k d)
 
--- each of the first n cells stands in a listed place, or was there before
+-- each of the first n cells is in a listed place, or was there before
 abbrev pub AreBornOrOld : Labelled → List Cell → ℕ → List ℕ → Type 0
 AreBornOrOld l cs n born = (k : ℕ) (e : Cell) → k < n → Contains born k ⊎ (contains l.cells (get_or cs k e) ≡ true)
 
--- a cell that is at most one away from each
+-- each cell is at most one away from a labelled one
 abbrev pub AreReached : Labelled → Generation → Type 0
 AreReached l G = (c : Cell) → contains G c ≡ true → reaches 1 l.cells c ≡ true
 

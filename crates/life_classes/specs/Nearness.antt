@@ -1,4 +1,4 @@
--- Which cells a set reaches.
+-- The cells that a set reaches.
 use Rattle.std.specs.Prelude.{ℕ, ◌-ℤ◌, Bool, ◌&&◌, List, nat_le, unsigned_abs}
 use Rattle.std.specs.List.{list_any}
 use Rattle.life_model.specs.Cell.{Cell, same_cell}

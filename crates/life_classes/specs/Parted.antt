@@ -1,4 +1,4 @@
--- Classes of which one is followed by itself.
+-- Classes, one of which is followed by itself.
 use Rattle.std.specs.Prelude.{◌≡◌, ◌⊎◌, ℕ, ◌+◌, ◌<◌, ◌≤◌, true, List, ◌∷◌, length, get_or}
 use Rattle.life_model.specs.Cell.{Cell}
 use Rattle.life_model.specs.Rule.{Rule}
@@ -21,11 +21,11 @@ pub record HasLabel (l : Labelled) (c : Cell) (label : ℕ) : Type 0 where
   pub is : (e : Cell) → get_or (cells l.cells) place e ≡ c
   pub same : (d : Tag) → (get_or l.tags.items place d).label ≡ label
 
--- the cell has the label, or is not one of them, and the label is the other
+-- the cell has the label; or it is not one of the labelled cells, and the label is the other
 abbrev pub IsLabelOr : Labelled → ℕ → Cell → ℕ → Type 0
 IsLabelOr l other c label = HasLabel l c label ⊎ ((contains l.cells c ≡ true → ⊥) × (label ≡ other))
 
--- the labels of the first n cells are so
+-- the labels of the first n cells are such
 abbrev pub AreLabelsOr : Labelled → ℕ → List Cell → ℕ → List Tag → Type 0
 AreLabelsOr l other cs n ts = (k : ℕ) (d : Tag) (e : Cell) → k < n → IsLabelOr l other (get_or cs k e) (get_or ts k d).label
 
@@ -53,7 +53,7 @@ pub record IsParted (first herd : Generation) (rest : Split) : Type 0 where
   pub firsts : AreDisjoint first rest.first.cells
   pub lasts : AreDisjoint herd rest.last.cells
 
--- classes, and what they are so many generations later
+-- classes, and what they are m generations later
 abbrev pub LeadFor : Rule → ℕ → List Class → List Class → Type 0
 LeadFor R m cs ds =
     (b n : ℕ) (G : Generation) → n + m ≤ b → AreTracked R b n G cs → AreTracked R b (n + m) G ds

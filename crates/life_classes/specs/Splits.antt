@@ -1,4 +1,4 @@
--- The classes of a pattern, as labels tell them.
+-- The classes of a pattern, as labels give them.
 use Rattle.std.specs.Prelude.{List}
 use Rattle.life_classes.specs.declared.class.Class.{Class}
 use Rattle.life_classes.specs.declared.split.Split.{Split}

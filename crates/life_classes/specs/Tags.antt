@@ -12,11 +12,11 @@ pub record IsNumbered (t : Tag) : Type 0 where
   pub low : neg_ℤ (pos (2 ^ 62 + 2 ^ 31)) ≤ℤ t.number
   pub high : t.number ≤ℤ pos (2 ^ 62 + 2 ^ 31)
 
--- no number is less than one that stands before it
+-- the numbers do not fall from place to place
 abbrev pub AreRisingTags : List Tag → Type 0
 AreRisingTags ts = (i j : ℕ) (d : Tag) → i ≤ j → j < length ts → (get_or ts i d).number ≤ℤ (get_or ts j d).number
 
--- those before place n have numbers that are less
+-- those before place n have smaller numbers
 abbrev pub AreLess : List Tag → ℕ → ℤ → Type 0
 AreLess ts n low = (k : ℕ) (d : Tag) → k < n → k < length ts → (get_or ts k d).number <ℤ low
 
@@ -32,24 +32,24 @@ AreNumbersOf cs n ts = (k : ℕ) (d : Tag) (e : Cell) → k < n → (get_or ts k
 abbrev pub AreOwnLabels : ℕ → List Tag → Type 0
 AreOwnLabels n ts = (k : ℕ) (d : Tag) → k < n → (get_or ts k d).label ≡ k
 
--- the tag in this place has a number from this one to two more
+-- the tag in this place has a number from `low` to `low + 2`
 pub record IsFrom (ts : List Tag) (low : ℤ) (place : ℕ) : Type 0 where
   pub inside : place < length ts
   pub first : (d : Tag) → low ≤ℤ (get_or ts place d).number
   pub last : (d : Tag) → (get_or ts place d).number ≤ℤ (low +ℤ pos 2)
 
--- no tag has
+-- no tag has such a number
 abbrev pub HasNoneFrom : List Tag → ℤ → Type 0
 HasNoneFrom ts low = (k : ℕ) (d : Tag) → k < length ts → low ≤ℤ (get_or ts k d).number →
     (get_or ts k d).number ≤ℤ (low +ℤ pos 2) → ⊥
 
--- the tag in this place has a number that is at most one from this one, or from those of the cells above and below it
+-- the tag in this place has a number that is at most one from this one, or from that of the cell above or below it
 pub record IsBeside (ts : List Tag) (number : ℤ) (place : ℕ) : Type 0 where
   pub row : ℤ
   pub rows : (row ≡ pos 0) ⊎ ((row ≡ pos (2 ^ 31)) ⊎ (row ≡ neg_ℤ (pos (2 ^ 31))))
   pub from : IsFrom ts (number +ℤ row +ℤ neg_ℤ (pos 1)) place
 
--- no tag has
+-- no tag has such a number
 pub record HasNoneBeside (ts : List Tag) (number : ℤ) : Type 0 where
   pub level : HasNoneFrom ts (number +ℤ neg_ℤ (pos 1))
   pub above : HasNoneFrom ts (number +ℤ neg_ℤ (pos (2 ^ 31)) +ℤ neg_ℤ (pos 1))

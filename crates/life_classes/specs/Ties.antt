@@ -1,4 +1,4 @@
--- Labels that are joined where their cells are near each other.
+-- Labels that are joined because their cells are near each other.
 use Rattle.std.specs.Prelude.{◌≡◌, ◌⊎◌, ℕ, ◌+◌, ◌-◌, ◌<◌, ◌≤◌, ◌^◌, ℤ, pos, neg_ℤ, ◌+ℤ◌, ◌-ℤ◌, ◌≤ℤ◌, List, length, get_or}
 use Rattle.std.specs.List.{Contains}
 use Rattle.life_classes.specs.declared.labels.Labelled.{Labelled}
@@ -8,7 +8,7 @@ use Rattle.life_classes.specs.Labels.{AreNearAt, classes_by}
 use Rattle.life_classes.specs.Tags.{AreFrom, AreLess}
 use Rattle.life_classes.specs.Tracking.{LeadTo}
 
--- Labels are joined where their classes are near each other.
+-- Labels are joined, but only if their classes are near each other.
 pub record IsTied (l : Labelled) (old new : List ℕ) : Type 0 where
   pub long : length new ≡ length old
   pub coarser : (k m : ℕ) → root old k ≡ root old m → root new k ≡ root new m
@@ -23,14 +23,14 @@ abbrev pub AreNearOne : Labelled → List ℕ → Type 0
 AreNearOne l f =
     (i j : ℕ) → i < length l.tags.items → j < length l.tags.items → AreNearAt l i j → AreOne l.tags.items f i j
 
--- of any two cells that are near each other one stands in a listed place, or their labels are joined
+-- of any two cells that are near each other one is in a listed place, or their labels are joined
 abbrev pub AreOneOrListed : Labelled → List ℕ → List ℕ → Type 0
 AreOneOrListed l f places =
     (i j : ℕ) → i < length l.tags.items → j < length l.tags.items → AreNearAt l i j →
     Contains places i ⊎ (Contains places j ⊎ AreOne l.tags.items f i j)
 
--- The first tag from a number on, and the last before it, have labels that are joined with that of the n-th, unless their
--- numbers are more than two away from it.
+-- The labels of the first tag from a number on, and of the last tag before it, are joined with that of the n-th, unless
+-- their numbers are more than two away from that number.
 pub record IsTiedAround (ts : List Tag) (f : List ℕ) (n : ℕ) (number : ℤ) : Type 0 where
   pub place : ℕ
   pub within : place ≤ length ts

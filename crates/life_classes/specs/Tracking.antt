@@ -1,4 +1,4 @@
--- Classes as they are followed from generation to generation.
+-- Classes that are followed from generation to generation.
 use Rattle.std.specs.Prelude.{◌≡◌, ◌≢◌, ℕ, ◌≤◌, List, [], ◌∷◌, ◌++◌, map}
 use Rattle.std.specs.List.{All, AllPairs}
 use Rattle.life_model.specs.Cell.{Cell}
@@ -25,11 +25,11 @@ at_first cs = record { first = from_list cs; last = from_list cs }
 abbrev pub class_of_cell : Cell → Class
 class_of_cell c = record { first = from_list (c ∷ []); last = from_list (c ∷ []) }
 
--- a class a generation later, of whose cells these are all
+-- a class a generation later, if G is all cells of that generation
 abbrev pub moved_on : Generation → Class → Class
 moved_on G c = record { first = c.first; last = keep G (reaches 1 c.last) }
 
--- a class so many generations later, where no other has a say in what becomes of it
+-- a class n generations later, if no other class influences it
 abbrev pub after : Rule → ℕ → Class → Class
 after R n c = record { first = c.first; last = generation R c.last n }
 
@@ -37,19 +37,19 @@ after R n c = record { first = c.first; last = generation R c.last n }
 abbrev pub AreApartNow : List Class → Type 0
 AreApartNow cs = AllPairs (λ c d. AreApart c.last d.last) cs
 
--- G is these classes after n generations, in each of which but the last any two of them were apart, and none of which a
--- split for b generations tears.
+-- The classes are G after n generations. In each of these but the last any two of them were apart, and no split for b
+-- generations tears one of them.
 pub record AreTracked (R : Rule) (b n : ℕ) (G : Generation) (cs : List Class) : Type 0 where
   pub together : union_of (first_sets cs) ≡ G
   pub whole : All (λ c. StaysWhole R b G c.first) cs
   pub before : AllPairs (λ c d. AreApartBefore R n c.first d.first) cs
   pub later : All (λ c. c.last ≡ generation R c.first n) cs
 
--- of no two classes is something left
+-- at most one class has a cell left
 abbrev pub AreFew : List Class → Type 0
 AreFew cs = AllPairs (λ c d. c.last ≢ empty → d.last ≢ empty → ⊥) cs
 
--- among any other classes, these may be replaced by those, as they are joined
+-- among any other classes, the first list may be replaced by the second
 abbrev pub LeadTo : List Class → List Class → Type 0
 LeadTo cs ds =
     (R : Rule) (b n : ℕ) (G : Generation) (rest : List Class) → n ≤ b → AreTracked R b n G (cs ++ rest) →

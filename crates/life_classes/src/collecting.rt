@@ -1,4 +1,4 @@
-//! The classes that labels tell.
+//! The classes that labels give.
 ghost use Rattle.std.specs.Prelude.{◌≡◌, ◌<◌, ◌==◌, ◌++◌, ◌∷◌, [], cond, All, IfOk, OnOk, get_or, length, replicate, set, vec_len};
 ghost use Rattle.life_model.specs.Generation as generations;
 ghost use Rattle.life_model.specs.Generation.{from_list};
@@ -12,7 +12,7 @@ use crate::labels::Labelled;
 use life_cells::{CellList, put_in_order};
 use std::alloc::{AllocError, Global};
 
-/// So many lists without a cell.
+/// `count` empty lists.
 fn empty_groups(alloc: Global, count: usize) -> Result<Vec<Vec<(i32, i32)>>, AllocError>
     ensures { IfOk result (λ all. lists_of all.items ≡ replicate count []) }
 {
@@ -23,7 +23,7 @@ fn empty_groups(alloc: Global, count: usize) -> Result<Vec<Vec<(i32, i32)>>, All
     Ok(all)
 }
 
-/// Adds a cell to the list in some place.
+/// Adds a cell to the list in a place.
 fn give(all: &mut Vec<Vec<(i32, i32)>>, place: usize, cell: (i32, i32)) -> Result<(), AllocError>
     requires { place < vec_len all.old }
     ensures { OnOk result (lists_of all.new.items ≡
@@ -51,7 +51,7 @@ pub fn groups(
     Ok(all)
 }
 
-/// The set of some cells.
+/// The set of these cells.
 pub fn set_of(alloc: Global, cells: &[(i32, i32)]) -> Result<CellList, AllocError>
     requires { All IsPlace cells.now }
     ensures { IfOk result (λ list. list ≡ from_list cells.now) }
@@ -61,7 +61,7 @@ pub fn set_of(alloc: Global, cells: &[(i32, i32)]) -> Result<CellList, AllocErro
     Ok(CellList::from_ordered(items))
 }
 
-/// Adds the class of these cells, if there are some at first.
+/// Adds the class of these cells, if it has a cell at first.
 fn add_class(
     alloc: Global,
     all: &mut Vec<Class>,

@@ -1,4 +1,4 @@
-//! The labels of cells of the next generation, told by those of the generation before in one sweep.
+//! The labels of cells of the next generation, found from those of the generation before in one sweep.
 ghost use Rattle.std.specs.Prelude.{◌≡◌, ◌≤ℤ◌, ◌≤◌, ◌<◌, ◌-◌, ◌+◌, ◌+ℤ◌, ◌^◌, ℕ, neg_ℤ, pos, false, true, All, Contains, IfNone, IfOk, IfSome, OnOk, length};
 ghost use Rattle.life_model.specs.Generation as generations;
 ghost use Rattle.life_model.specs.Generation.{contains};
@@ -13,7 +13,7 @@ use crate::tags::{ROW, Tag, place_number, place_of};
 use life_cells::CellList;
 use std::alloc::{AllocError, Global};
 
-/// Cells with labels, and the places of those that were not there in the generation before.
+/// Cells with labels, and the places of the cells that were not there in the generation before.
 #[derive(Drop)]
 pub struct Heirs {
     pub cells: Labelled,
@@ -35,7 +35,7 @@ struct Cursors {
     below: usize,
 }
 
-/// The place of the first tag whose number is from this one to two more, where there is one.
+/// The place of the first tag with a number from `low` to `low + 2`, if there is one.
 #[inline(always)]
 fn place_from(tags: &[Tag], low: i64, cursor: &mut usize) -> Option<usize>
     requires rising { AreRisingTags tags.now }
@@ -56,7 +56,8 @@ fn place_from(tags: &[Tag], low: i64, cursor: &mut usize) -> Option<usize>
     Some(at)
 }
 
-/// The place of a tag whose number is at most one from this one. It is that of the number itself, where there is one.
+/// The place of a tag whose number is at most one from this one, if there is one. It is that of the number itself, if
+/// possible.
 #[inline(always)]
 fn place_level(tags: &[Tag], number: i64, cursor: &mut usize) -> Option<usize>
     requires rising { AreRisingTags tags.now }
@@ -86,7 +87,7 @@ fn place_level(tags: &[Tag], number: i64, cursor: &mut usize) -> Option<usize>
     None
 }
 
-/// The place of a tag whose number is at most one from this one, or from those of the cells above and below it.
+/// The place of a tag whose number is at most one from this one, or from that of the cell above or below it.
 #[inline(always)]
 fn place_beside(tags: &[Tag], number: i64, cursors: &mut Cursors) -> Option<usize>
     requires rising { AreRisingTags tags.now }
@@ -142,7 +143,7 @@ fn heir_of(old: &Labelled, cell: (i32, i32), cursors: &mut Cursors) -> Heir
     }
 }
 
-/// Lists a place, where its cell is born.
+/// Lists a place if its cell is born.
 #[inline(always)]
 fn list_born(born: &mut Vec<usize>, place: usize, is_born: bool) -> Result<(), AllocError>
     ensures kept { OnOk result ((k : ℕ) → Contains born.old.items k → Contains born.new.items k) }

@@ -1,4 +1,4 @@
-//! Labels of cells that are near each other become one.
+//! Labels of cells that are near each other are joined.
 ghost use Rattle.std.specs.Prelude.{◌≡◌, ◌+◌, ◌-◌, ◌≤◌, ◌<◌, ◌^◌, ◌+ℤ◌, ◌-ℤ◌, ◌≤ℤ◌, All, neg_ℤ, pos, length, get_or};
 ghost use Rattle.life_classes.specs.declared.tags.Tag.{Tag as ModelTag};
 ghost use Rattle.life_classes.specs.Labels.{AreLabelled, AreNearAt, IsTagged};
@@ -9,7 +9,7 @@ use crate::forest::join;
 use crate::labels::Labelled;
 use crate::tags::{ROW, place_of};
 
-/// Where more than one cell of so many is born, it is quicker to go over all cells.
+/// If more than one cell in `MANY` is born, it is quicker to visit all cells.
 const MANY: usize = 8;
 
 /// Where tags were found that may be near the last one, in the two rows above it.
@@ -55,7 +55,7 @@ fn number_at(cells: &Labelled, n: usize) -> i64
     cells.tags[n].number
 }
 
-/// Joins the label of a cell, whose number this is, with that of the one before it, where that is near.
+/// Joins the label of a cell, whose number this is, with that of the cell before it, if that is near.
 #[inline(always)]
 fn tie_before(forest: &mut Vec<usize>, cells: &Labelled, n: usize, number: i64)
     requires labelled { AreLabelled cells.now forest.old.items }
@@ -77,8 +77,8 @@ fn tie_before(forest: &mut Vec<usize>, cells: &Labelled, n: usize, number: i64)
     tie(forest, cells, n - 1, n);
 }
 
-/// Joins the label of a cell with that of the cell in a place, the first whose number is not less than this one, where it is
-/// near.
+/// Joins the label of a cell with that of the cell in a place, if that is near. It is the first cell whose number is
+/// not less than `number`.
 #[inline(always)]
 fn tie_next(forest: &mut Vec<usize>, cells: &Labelled, n: usize, number: i64, at: usize)
     requires labelled { AreLabelled cells.now forest.old.items }
@@ -102,8 +102,8 @@ fn tie_next(forest: &mut Vec<usize>, cells: &Labelled, n: usize, number: i64, at
     tie(forest, cells, at, n);
 }
 
-/// Joins the label of a cell with that of the cell before a place, the last whose number is less than this one, where it is
-/// near.
+/// Joins the label of a cell with that of the cell before a place, if that is near. It is the last cell whose number is
+/// less than `number`.
 #[inline(always)]
 fn tie_last(forest: &mut Vec<usize>, cells: &Labelled, n: usize, number: i64, at: usize)
     requires labelled { AreLabelled cells.now forest.old.items }
@@ -128,8 +128,8 @@ fn tie_last(forest: &mut Vec<usize>, cells: &Labelled, n: usize, number: i64, at
     tie(forest, cells, at - 1, n);
 }
 
-/// Joins the label of a cell with those of the cells next to this number, where they are near. It is that of a place in a row
-/// above the cell or below it.
+/// Joins the label of a cell with those of the cells next to this number, if they are near. The number is that of a
+/// place in a row above the cell or below it.
 #[inline(always)]
 fn tie_around(forest: &mut Vec<usize>, cells: &Labelled, n: usize, number: i64, cursor: &mut usize)
     requires labelled { AreLabelled cells.now forest.old.items }
@@ -148,7 +148,7 @@ fn tie_around(forest: &mut Vec<usize>, cells: &Labelled, n: usize, number: i64, 
     tie_last(forest, cells, n, number, at);
 }
 
-/// Joins the label of a cell with those of the cells before it that are near.
+/// Joins the label of a cell with those of the near cells before it.
 #[inline(always)]
 fn tie_at(forest: &mut Vec<usize>, cells: &Labelled, n: usize, cursors: &mut Cursors)
     requires labelled { AreLabelled cells.now forest.old.items }
@@ -166,7 +166,7 @@ fn tie_at(forest: &mut Vec<usize>, cells: &Labelled, n: usize, cursors: &mut Cur
     tie_around(forest, cells, n, number - 2 * ROW, &mut cursors.further);
 }
 
-/// Joins the labels of those of the cells that are near each other.
+/// Joins the labels of all cells that are near each other.
 pub fn join_near(forest: &mut Vec<usize>, cells: &Labelled)
     requires labelled { AreLabelled cells.now forest.old.items }
     ensures tied { IsTied cells.now forest.old.items forest.new.items }
@@ -181,7 +181,7 @@ pub fn join_near(forest: &mut Vec<usize>, cells: &Labelled)
     }
 }
 
-/// Joins the label of a cell with that of the one after it, where that is near.
+/// Joins the label of a cell with that of the cell after it, if that is near.
 #[inline(always)]
 fn tie_after(forest: &mut Vec<usize>, cells: &Labelled, n: usize)
     requires labelled { AreLabelled cells.now forest.old.items }
@@ -197,7 +197,7 @@ fn tie_after(forest: &mut Vec<usize>, cells: &Labelled, n: usize)
     }
 }
 
-/// Joins the label of a cell with those of the cells after it that are near.
+/// Joins the label of a cell with those of the near cells after it.
 #[inline(always)]
 fn tie_below(forest: &mut Vec<usize>, cells: &Labelled, n: usize, cursors: &mut CursorsBelow)
     requires labelled { AreLabelled cells.now forest.old.items }
@@ -215,8 +215,8 @@ fn tie_below(forest: &mut Vec<usize>, cells: &Labelled, n: usize, cursors: &mut 
     tie_around(forest, cells, n, number + 2 * ROW, &mut cursors.beyond);
 }
 
-/// Joins the labels of cells that are near each other, where those are joined already of which neither stands in a listed
-/// place.
+/// Joins the labels of cells that are near each other. Where neither of the two is in a listed place, they are joined
+/// already.
 pub fn join_born(forest: &mut Vec<usize>, cells: &Labelled, born: &[usize])
     requires labelled { AreLabelled cells.now forest.old.items }
     requires inside { All (λ k. k < length cells.now.tags.items) born.now }

@@ -11,7 +11,7 @@ use crate::tags::{Tag, place_number, tagged};
 use life_cells::CellList;
 use std::alloc::{AllocError, Global};
 
-/// Cells, and a tag of each, in one order.
+/// Cells, and a tag of each, in the same order.
 #[derive(Drop)]
 pub struct Labelled {
     pub cells: CellList,
@@ -45,7 +45,7 @@ pub fn labelled_alike(alloc: Global, cells: CellList, label: usize) -> Result<La
     Ok(Labelled { cells, tags })
 }
 
-/// The label of the first of the cells, or 0 where there is none.
+/// The label of the first of the cells, or 0 if there is none.
 pub fn first_label(cells: &Labelled) -> usize
     ensures { (d : ModelTag) → 0 < length cells.now.tags.items →
         result ≡ (get_or cells.now.tags.items 0 d).label }

@@ -1,4 +1,4 @@
-//! The sets that a pattern falls apart into where it is torn as finely as sets that stay apart allow.
+//! The sets that a pattern falls apart into when it is split as finely as sets that stay apart allow.
 //!
 //! Tested in `tests_objects`.
 #![tactic(auto)]

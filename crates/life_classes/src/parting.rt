@@ -18,7 +18,7 @@ use life_cells::CellList;
 use life_plane::{AGE_LIMIT, Plane};
 use std::alloc::{AllocError, Global};
 
-/// A class, by its cells at first and a plane of those that have become of them, and the other classes with a plane of
+/// A class, as its cells at first and a plane of those that have become of them, and the other classes with a plane of
 /// their own.
 #[derive(Drop)]
 pub struct Parted<P> {
@@ -36,7 +36,7 @@ pub struct Walk<P> {
     pub made: u32,
 }
 
-/// The place of a list that has more than three quarters of so many cells, where there is one.
+/// The place of a list that has more than three quarters of `count` cells, if there is one.
 fn longest(lists: &[Vec<(i32, i32)>], count: usize) -> Option<usize>
     ensures { IfSome result (λ n. n < length lists.now) }
 {
@@ -48,7 +48,7 @@ fn longest(lists: &[Vec<(i32, i32)>], count: usize) -> Option<usize>
     None
 }
 
-/// The root that more than three quarters of the cells have, where there is one.
+/// The root that more than three quarters of the cells have, if there is one.
 pub fn main_root(
     alloc: Global,
     forest: &[usize],
@@ -164,7 +164,7 @@ fn age_of<P: Plane>(parted: &Parted<P>) -> u32
     age
 }
 
-/// All classes again, the herd's with a label of its own, and with those joined that are near each other.
+/// All classes again, the herd's with a label of its own. Those that are near each other are joined.
 pub fn fell_back<P: Plane>(
     alloc: Global,
     parted: Parted<P>,

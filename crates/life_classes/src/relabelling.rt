@@ -1,4 +1,4 @@
-//! Cells that are given the labels that others have.
+//! Cells that are given the labels of others.
 ghost use Rattle.std.specs.Prelude.{◌≡◌, ◌≤◌, IfOk, length};
 ghost use Rattle.life_model.specs.Generation as generations;
 ghost use Rattle.life_cells.specs.Limits.{IsPlace};
@@ -12,7 +12,7 @@ use crate::tags::{Tag, place_number, place_of};
 use life_cells::CellList;
 use std::alloc::{AllocError, Global};
 
-/// The label of a cell, or another one where the cell has none.
+/// The label of a cell, or another one if the cell has none.
 #[inline(always)]
 fn label_or(from: &Labelled, cell: (i32, i32), other: usize, cursor: &mut usize) -> usize
     requires tagged { IsTagged from.now }
@@ -34,7 +34,7 @@ fn label_or(from: &Labelled, cell: (i32, i32), other: usize, cursor: &mut usize)
     tags[at].label
 }
 
-/// The cells, each with the label that it has, or another one where it has none.
+/// The cells, each with its label, or with another one if it has none.
 pub fn relabelled(
     alloc: Global,
     cells: CellList,
@@ -59,7 +59,7 @@ pub fn relabelled(
     Ok(Labelled { cells, tags })
 }
 
-/// The cells whose labels have other roots than this one.
+/// The cells whose labels have a root other than this one.
 pub fn others_of(
     alloc: Global,
     forest: &[usize],

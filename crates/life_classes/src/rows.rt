@@ -1,11 +1,11 @@
-//! The rows that cells in order stand in.
+//! The rows of cells in order.
 ghost use Rattle.std.specs.Prelude.{◌≡◌, ◌≤ℤ◌, Bool, T, filter, true};
 ghost use Rattle.life_model.specs.Cell.{Cell};
 ghost use Rattle.life_model.specs.Generation.{is_rising};
 
-/// Those of the cells that stand in the rows from one to another.
+/// Those of the cells that are in the rows from one to another.
 ///
-/// No cell that passes a test is left out, where the test is passed in these rows alone.
+/// No cell that passes a test is left out, provided that the test is passed in these rows alone.
 pub fn rows(cells: &[(i32, i32)], top: i64, bottom: i64) -> &[(i32, i32)]
     requires { T (is_rising cells.now) }
     ensures { (p : Cell → Bool) → ((c : Cell) → p c ≡ true → (top ≤ℤ c.1) × (c.1 ≤ℤ bottom)) →

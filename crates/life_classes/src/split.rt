@@ -20,7 +20,7 @@ pub struct Split {
     pub forest: Vec<usize>,
 }
 
-/// So many numbers, each of which is a root.
+/// The numbers below `count`, each of which is a root.
 fn roots(alloc: Global, count: usize) -> Result<Vec<usize>, AllocError>
     ensures long { IfOk result (λ forest. length forest.items ≡ count) }
     ensures roots { IfOk result (λ forest. (k : ℕ) → root forest.items k ≡ k) }
@@ -32,7 +32,7 @@ fn roots(alloc: Global, count: usize) -> Result<Vec<usize>, AllocError>
     Ok(forest)
 }
 
-/// The cells as classes of those that are near each other. The list is taken twice.
+/// The cells as classes of those that are near each other. The list is passed twice.
 pub fn first_split(alloc: Global, first: CellList, last: CellList) -> Result<Split, AllocError>
     requires { last ≡ first }
     ensures first { IfOk result (λ split. split.first.cells ≡ first) }
@@ -53,7 +53,8 @@ pub fn first_split(alloc: Global, first: CellList, last: CellList) -> Result<Spl
     })
 }
 
-/// The classes a generation later, where these are all cells of that generation, with those joined that are near each other.
+/// The classes a generation later, if `cells` are all cells of that generation. Classes that are near each other are
+/// joined.
 pub fn followed(alloc: Global, split: Split, cells: CellList) -> Result<Split, AllocError>
     requires labelled { IsLabelledSplit split }
     requires apart { AreApartNow (classes_of_split split) }
@@ -75,7 +76,7 @@ pub fn followed(alloc: Global, split: Split, cells: CellList) -> Result<Split, A
     })
 }
 
-/// Whether something is left of at most one of the classes.
+/// Whether at most one of the classes has a cell left.
 pub fn are_few(split: &Split) -> bool
     requires { IsLabelledSplit split.now }
     ensures { IsTrue result ↔ AreFew (classes_of_split split.now) }

@@ -40,7 +40,7 @@ pub fn first_classes(alloc: Global, cells: &[(i32, i32)]) -> Result<Vec<Class>, 
     Ok(all)
 }
 
-/// The plane so many generations later.
+/// The plane `count` generations later.
 fn stepped<P: Plane>(plane: P, rule: &Rule, count: u32) -> Result<P, AllocError>
     requires young { P.steps_made plane + count ≤ AGE_LIMIT }
     ensures { IfOk result (λ later. P.members later ≡ generation rule.now (P.members plane) count) }
@@ -52,7 +52,7 @@ fn stepped<P: Plane>(plane: P, rule: &Rule, count: u32) -> Result<P, AllocError>
     Ok(plane)
 }
 
-/// The classes so many generations later, where something is left of at most one of them. The plane has its cells.
+/// The classes `count` generations later, if at most one of them has a cell left. The plane has their cells.
 fn lone_class_later<P: Plane>(
     alloc: Global,
     split: Split,
@@ -79,10 +79,11 @@ fn lone_class_later<P: Plane>(
     })
 }
 
-/// The generation at which it is first tried to follow a class by itself.
+/// The generation at which following a class by itself is first tried.
 const FIRST_TRIAL: u32 = 16;
 
-/// The generation at which that is tried next, after it was to be at one, and from another on some more were made.
+/// The generation of the next trial, after one that was due at `trial`. From generation `before`, `made` generations
+/// were made.
 fn next_trial(trial: u32, before: u32, made: u32) -> u32
     requires before { before ≤ AGE_LIMIT }
     requires made { made ≤ AGE_LIMIT }
@@ -97,7 +98,7 @@ fn next_trial(trial: u32, before: u32, made: u32) -> u32
     2 * before
 }
 
-/// The classes after so many generations, joined where they came near each other. The plane has their cells.
+/// The classes after `bound` generations, joined where they came near each other. The plane has their cells.
 fn followed_for<P: Plane>(
     alloc: Global,
     split: Split,
@@ -133,9 +134,9 @@ fn followed_for<P: Plane>(
     Ok(split)
 }
 
-/// The classes of a plane's cells that stay apart for so many generations, torn as finely as can be: however the cells
-/// split into two sets that stay apart for as long, each class lies in one of the two. A class that has died out stays
-/// in the list, with no last cell.
+/// The classes of a plane's cells that stay apart for `bound` generations, split as finely as possible: however the
+/// cells split into two sets that stay apart for as long, each class lies in one of the two. A class that has died out
+/// stays in the list, with no last cell.
 pub fn classes<P: Plane>(
     alloc: Global,
     plane: P,
@@ -159,7 +160,8 @@ pub fn classes<P: Plane>(
     Ok(all)
 }
 
-/// The same of a plane that stays as it is. It is copied only where a generation is made.
+/// The classes of a plane's cells that stay apart for `bound` generations, as `classes` gives them. The plane is
+/// unchanged. It is copied only if a generation is made.
 pub fn classes_of<P: Plane>(
     alloc: Global,
     plane: &P,

@@ -4,13 +4,13 @@ ghost use Rattle.life_classes.specs.Tags.{AreFrom, AreLess, AreNumbersOf, AreOwn
 
 use std::alloc::{AllocError, Global};
 
-/// How much greater the number of a cell is than that of the one above it.
+/// How much greater the number of a cell is than that of the cell above it.
 pub const ROW: i64 = 2_147_483_648;
 
-/// How many tags are looked at one by one, before they are passed over in greater steps.
+/// How many tags are looked at one by one, before larger steps are taken.
 const SHORT: usize = 32;
 
-/// A cell, told by its number, and its label: the place of a cell of the first generation, of whose class it is.
+/// A cell, given by its number, and its label: the place of a cell of the first generation, to whose class it belongs.
 #[derive(Clone, Copy)]
 pub struct Tag {
     pub number: i64,
@@ -26,7 +26,7 @@ pub fn place_number(cell: (i32, i32)) -> i64
     i64::from(cell.1) * ROW + i64::from(cell.0)
 }
 
-/// A place before which each tag has a lesser number: one that may be near, or else the first.
+/// A place before which each tag has a smaller number: `near` if possible, or else the first.
 #[inline(always)]
 fn start_from(tags: &[Tag], near: usize, low: i64) -> usize
     requires rising { AreRisingTags tags.now }
@@ -43,8 +43,8 @@ fn start_from(tags: &[Tag], near: usize, low: i64) -> usize
     near
 }
 
-/// A place from which on no number is less. It is looked for in steps that double, so that it is not much further than it
-/// has to be.
+/// A place from which on no number is less than `low`. The steps of the search double, so it is not much further than
+/// it has to be.
 #[inline(always)]
 fn leap(tags: &[Tag], from: usize, low: i64) -> usize
     requires rising { AreRisingTags tags.now }
@@ -63,7 +63,7 @@ fn leap(tags: &[Tag], from: usize, low: i64) -> usize
     tags.len()
 }
 
-/// The place of the first tag whose number is not less, where it is one from the first of these places to the last.
+/// The place of the first tag whose number is not less than `low`, if that is one from `first` to `last`.
 #[inline(always)]
 fn place_between(tags: &[Tag], first: usize, last: usize, low: i64) -> usize
     requires rising { AreRisingTags tags.now }
@@ -88,7 +88,7 @@ fn place_between(tags: &[Tag], first: usize, last: usize, low: i64) -> usize
     from
 }
 
-/// The place of the first tag whose number is not less, where those before this place have lesser ones.
+/// The place of the first tag whose number is not less than `low`, if those before `from` have smaller ones.
 fn far_place(tags: &[Tag], from: usize, low: i64) -> usize
     requires rising { AreRisingTags tags.now }
     requires within { from ≤ length tags.now }
@@ -100,8 +100,8 @@ fn far_place(tags: &[Tag], from: usize, low: i64) -> usize
     place_between(tags, from, leap(tags, from, low), low)
 }
 
-/// The place of the first tag whose number is not less. It is looked for from a place on that may be near it, and mostly
-/// is where tags are asked for in order.
+/// The place of the first tag whose number is not less than `low`. The search starts from a place that may be near it,
+/// and mostly is if tags are asked for in order.
 #[inline(always)]
 pub fn place_of(tags: &[Tag], near: usize, low: i64) -> usize
     requires rising { AreRisingTags tags.now }

@@ -1,4 +1,4 @@
-//! Classes that are followed over many generations, the one with most of the cells by itself.
+//! Classes that are followed for many generations, the one with most of the cells by itself.
 ghost use Rattle.std.specs.Prelude.{◌≡◌, ◌≤◌, ◌<◌, ◌+◌, IfOk, IsTrue};
 ghost use Rattle.life_objects.specs.Apart.{AreApart};
 ghost use Rattle.life_classes.specs.Parted.{IsParted, LeadFor, classes_beside};
@@ -12,14 +12,14 @@ use life_cells::Rule;
 use life_plane::{AGE_LIMIT, Plane};
 use std::alloc::{AllocError, Global};
 
-/// Classes of which one is followed by itself, and how many generations were made.
+/// Classes, one of which is followed by itself, and how many generations were made.
 #[derive(Drop)]
 struct Far<P> {
     parted: Parted<P>,
     made: u32,
 }
 
-/// Whether no cell of the rest is near one of the herd, and the rest has few cells beside those.
+/// Whether no cell of the rest is near one of the herd, and the rest has at most half as many cells as the herd.
 fn is_apart<P: Plane>(parted: &Parted<P>) -> Result<bool, AllocError>
     ensures { IfOk result
         (λ is. IsTrue is → AreApart (P.members parted.now.herd) parted.now.rest.last.cells) }
@@ -35,7 +35,7 @@ fn is_apart<P: Plane>(parted: &Parted<P>) -> Result<bool, AllocError>
     Ok(!reaches_any(2, &herd, rest))
 }
 
-/// The classes a generation later, where no cell of the rest is near one of the herd.
+/// The classes a generation later, if no cell of the rest is near one of the herd.
 fn stepped_apart<P: Plane>(
     alloc: Global,
     parted: Parted<P>,
@@ -68,7 +68,7 @@ fn stepped_apart<P: Plane>(
     })
 }
 
-/// The classes some generations later, at most so many: until cells of the rest come near the herd.
+/// The classes at most `limit` generations later. The walk ends when cells of the rest come near the herd.
 fn walked_apart<P: Plane>(
     alloc: Global,
     parted: Parted<P>,
@@ -104,7 +104,8 @@ fn walked_apart<P: Plane>(
     })
 }
 
-/// The classes some generations later, at most so many: while one with most of the cells stays away from the others.
+/// The classes at most `limit` generations later. The walk goes on while a class with most of the cells stays away from
+/// the others.
 fn walked_off<P: Plane>(
     alloc: Global,
     split: Split,
@@ -169,7 +170,7 @@ fn one_later<P: Plane>(
     })
 }
 
-/// The classes a generation later, or many at once where it is time to try that.
+/// The classes a generation later, or many generations later if it is time to try that.
 pub fn onward<P: Plane>(
     alloc: Global,
     split: Split,

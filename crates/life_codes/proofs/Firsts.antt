@@ -8,9 +8,9 @@ use Rattle.life_cells.specs.Dots.{strip_mark}
 use Rattle.life_cells.specs.TextOrder.{lesser_text, shorter_cmp}
 use Rattle.life_cells.specs.Wechsler.{digit, columns_text}
 use Rattle.life_cells.proofs.Columns.{joined, joined_turn}
-use Rattle.life_lengths.specs.Grids.{columns_from, strip_of, grid_text}
+use Rattle.life_codes.specs.Lengths.Grids.{columns_from, strip_of, grid_text}
 use Rattle.life_codes.specs.Least.{text_if, with_text}
-use Rattle.life_lengths.proofs.Written.{rest_from, one_more}
+use Rattle.life_codes.proofs.LengthsLemmas.Written.{rest_from, one_more}
 
 -- ---- of texts of one length the one with the lesser first byte is less
 

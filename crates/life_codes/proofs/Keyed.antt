@@ -1,4 +1,4 @@
--- Keys as cells are marked in them, and the texts that their columns tell.
+-- Keys as cells are marked in them, and the texts of their columns.
 use Rattle.std.proofs.Common.{◌≡◌, ℕ, zero, suc, ◌+◌, ◌-◌, ◌*◌, ◌/◌, ◌%◌, ◌^◌, ◌<◌, pos, ◌-ℤ◌, Bool, true, false, List, [], ◌∷◌, ◌++◌, map, length, get_or, inl, inr, if◌then◌else◌, w32, take, subst, sym, refl, ap, ◌∙◌, arith}
 use Rattle.std.specs.Prelude.{nat_abs}
 use Rattle.std.specs.Int.{bit_at}
@@ -18,15 +18,15 @@ use Rattle.life_model.proofs.Objects.{then_turned, turned-turned}
 use Rattle.life_cells.specs.Wechsler.{column_value, columns_text, digit, strip_text, strips_text, body}
 use Rattle.life_cells.proofs.Weights.{live_value}
 use Rattle.life_answer.specs.Apgcode.{turned_bodies}
-use Rattle.life_lengths.specs.declared.frame.Frame.{Frame}
+use Rattle.life_codes.specs.declared.lengths.frame.Frame.{Frame}
 use Rattle.life_codes.specs.declared.keys.Keys.{Keys}
-use Rattle.life_lengths.specs.Frames.{IsBounded, IsTinyFrame, cell_in_frame, frame_of, strips_of, turned_frame, wide_of}
+use Rattle.life_codes.specs.Lengths.Frames.{IsBounded, IsTinyFrame, cell_in_frame, frame_of, strips_of, turned_frame, wide_of}
 use Rattle.life_codes.specs.Keys.{AreBelow, AreKeys, ArePlain, IsKey, IsPlain, IsTurnedKey, column_of, key_text, key_texts}
-use Rattle.life_lengths.specs.Words.{is_at}
-use Rattle.life_lengths.proofs.Bodies.{column-mirror, contains-normal_placed, framed_cells, strip_number}
-use Rattle.life_lengths.proofs.Framed.{Framed, framed_turned, range_ordered, width_framed}
-use Rattle.life_lengths.proofs.Written.{one_more}
-use Rattle.life_lengths.proofs.Rows.{at_last, not_at_last}
+use Rattle.life_codes.specs.Lengths.Words.{is_at}
+use Rattle.life_codes.proofs.LengthsLemmas.Bodies.{column-mirror, contains-normal_placed, framed_cells, strip_number}
+use Rattle.life_codes.proofs.LengthsLemmas.Framed.{Framed, framed_turned, range_ordered, width_framed}
+use Rattle.life_codes.proofs.LengthsLemmas.Written.{one_more}
+use Rattle.life_codes.proofs.LengthsLemmas.Rows.{at_last, not_at_last}
 
 -- ---- one cell after another
 

@@ -23,7 +23,7 @@ turned_bodies-normal G =
     let each : (m : Orientation) → body (image_under (normal G) m) ≡ body (image_under G m) = λ m. body_by_shape _ _ (normal-turned (normal G) G m (normal_normal G)) in
     λ i. map (λ m. each m i) orientations
 
--- a set that is turned, and its mirror image
+-- a turned set, and its mirror image
 pub fold-two_bodies : (G : Generation) (m : Orientation) (least : Option (List ℕ)) → fold with_text least (two_bodies G m) ≡ with_text (with_text least (body (image_under G m))) (body (image_under G (then_turned m FlipX)))
 fold-two_bodies G m least = ap (λ H. with_text (with_text least (body (image_under G m))) (body H)) (turned-turned G m FlipX)
 
@@ -35,7 +35,7 @@ turn_last x m a b (inr (inl e)) = inr (inr (inl e))
 turn_last x m a b (inr (inr (inl e))) = inr (inl e)
 turn_last x m a b (inr (inr (inr none))) = absurd none
 
--- it is all one in which order two are taken
+-- two texts may be taken in either order
 pub either_first : (least : Option (List ℕ)) (a b : List ℕ) → with_text (with_text least a) b ≡ with_text (with_text least b) a
 either_first None a b =
     let all = least_text-least (b ∷ a ∷ []) in
@@ -49,11 +49,11 @@ either_first (Some m) a b =
     let all = least_text-least (m ∷ b ∷ a ∷ []) in
     ap (λ (t : List ℕ). Some t) (least_text_is x m (a ∷ b ∷ []) (turn_last x m a b (least_text-among m (b ∷ a ∷ []))) (all.0, (all.1.1.0, (all.1.0, tt))))
 
--- a set that is turned, and its mirror image first
+-- a turned set, and its mirror image first
 pub fold-two_turned : (G : Generation) (m : Orientation) (least : Option (List ℕ)) → fold with_text least (two_bodies G m) ≡ with_text (with_text least (body (image_under G (then_turned m FlipX)))) (body (image_under G m))
 fold-two_turned G m least = fold-two_bodies G m least ∙ either_first least (body (image_under G m)) (body (image_under G (then_turned m FlipX)))
 
--- one that was taken changes nothing any more
+-- a text that was taken changes nothing any more
 taken_again : (least : Option (List ℕ)) (a : List ℕ) → with_text (with_text least a) a ≡ with_text least a
 taken_again None a =
     let itself = least_text-least (a ∷ []) in
@@ -66,14 +66,14 @@ taken_again (Some m) a =
     ] in
     ap (λ (t : List ℕ). Some t) (least_text_is (lesser_text m a) m (a ∷ a ∷ []) one (all.0, (all.1.0, (all.1.0, tt))))
 
--- nor do two
+-- two texts that were taken change nothing any more
 pub two_again : (least : Option (List ℕ)) (a b : List ℕ) → with_text (with_text (with_text (with_text least a) b) a) b ≡ with_text (with_text least a) b
 two_again least a b =
     let one = with_text least a in
     ap (λ l. with_text l b) (either_first one b a ∙ ap (λ l. with_text l b) (taken_again least a))
     ∙ taken_again one b
 
--- it is all one which two are taken first
+-- of four texts, either two may be taken first
 pub either_two : (least : Option (List ℕ)) (a b c d : List ℕ) → with_text (with_text (with_text (with_text least a) b) c) d ≡ with_text (with_text (with_text (with_text least c) d) a) b
 either_two least a b c d =
     ap (λ l. with_text l d) (either_first (with_text least a) b c)
@@ -81,7 +81,7 @@ either_two least a b c d =
     ∙ ap (λ l. with_text (with_text l d) b) (either_first least a c)
     ∙ ap (λ l. with_text l b) (either_first (with_text least c) a d)
 
--- nor which lists of them
+-- a text may be taken before a list or after it
 after_all : (least : Option (List ℕ)) (ts : List (List ℕ)) (t : List ℕ) → with_text (fold with_text least ts) t ≡ fold with_text (with_text least t) ts
 after_all least [] t = refl
 after_all least (u ∷ us) t = after_all (with_text least u) us t ∙ ap (λ l. fold with_text l us) (either_first least u t)
@@ -90,7 +90,7 @@ pub either_list : (least : Option (List ℕ)) (ts us : List (List ℕ)) → fold
 either_list least ts [] = refl
 either_list least ts (u ∷ us) = ap (λ l. fold with_text l us) (after_all least ts u) ∙ either_list (with_text least u) ts us
 
--- those of four maps and of their mirror images are those of all eight
+-- the texts of four maps and of their mirror images are those of all eight
 pub all_bodies : (G : Generation) (least : Option (List ℕ)) → fold with_text (fold with_text (fold with_text (fold with_text least (two_bodies G Same)) (two_bodies G Half)) (two_bodies G SwapHalf)) (two_bodies G Swap) ≡ fold with_text least (turned_bodies G)
 all_bodies G least =
     let first = fold-two_bodies G Same least in

@@ -3,3 +3,4 @@ pub mod Phases
 pub mod Firsts
 pub mod Keyed
 pub mod Ordered
+pub mod LengthsLemmas

@@ -1,4 +1,4 @@
--- Of two keys of as many columns the lesser has the lesser text.
+-- Of two keys with equally many columns the lesser has the lesser text.
 use Rattle.std.proofs.Common.{◌≡◌, ℕ, zero, suc, ◌+◌, ◌-◌, ◌*◌, ◌%◌, ◌^◌, ◌<◌, ◌≤◌, min, cond, List, [], ◌∷◌, drop, length, map, Option, Some, None, Ordering, Less, Equal, inl, inr, sym, refl, ap, subst, ◌∙◌, arith, mod-lt}
 use Rattle.std.specs.Prelude.{IsSomeAnd}
 use Rattle.std.specs.List.{fold}
@@ -17,9 +17,9 @@ use Rattle.life_cells.proofs.TextOrders.{Among, least_text-among, least_text-lea
 use Rattle.life_answer.specs.Apgcode.{orientations, turned_bodies}
 use Rattle.life_codes.specs.declared.keys.Keys.{Keys}
 use Rattle.life_codes.specs.Keys.{AreBelow, column_of, key_text, key_texts}
-use Rattle.life_lengths.specs.declared.measure.Lengths.{Lengths}
+use Rattle.life_codes.specs.declared.lengths.measure.Lengths.{Lengths}
 use Rattle.life_codes.specs.Least.{two_bodies, with_text}
-use Rattle.life_lengths.specs.Words.{AreLengths}
+use Rattle.life_codes.specs.Lengths.Words.{AreLengths}
 use Rattle.life_codes.proofs.Leasts.{all_bodies}
 
 digit_rises : (a b : ℕ) → a < b → digit a < digit b
@@ -105,7 +105,7 @@ lesser_key n a b h l =
           yields _ _ (shorter_key n b a (omega arith) h) ∙ ap (key_text n) (sym least)
     ]
 
--- of keys of fewer columns the text is less
+-- a key of fewer columns has the lesser text
 pub fewer_columns : (n m a b : ℕ) → n < m → shorter_cmp (key_text n a) (key_text m b) ≡ Less
 fewer_columns n m a b h =
     let one = length-key_text n a in

@@ -4,21 +4,21 @@ use Rattle.std.specs.Int.{bit_at}
 use Rattle.life_model.specs.Cell.{Cell}
 use Rattle.life_model.specs.Symmetry.{Orientation, Same, FlipX, FlipY, Half, Swap, SwapFlipX, SwapFlipY, SwapHalf}
 use Rattle.life_cells.specs.Wechsler.{digit}
-use Rattle.life_lengths.specs.declared.frame.Frame.{Frame}
+use Rattle.life_codes.specs.declared.lengths.frame.Frame.{Frame}
 use Rattle.life_codes.specs.declared.keys.Keys.{Keys}
-use Rattle.life_lengths.specs.Frames.{cell_in_frame, turned_frame, wide_of}
-use Rattle.life_lengths.specs.Words.{is_at}
+use Rattle.life_codes.specs.Lengths.Frames.{cell_in_frame, turned_frame, wide_of}
+use Rattle.life_codes.specs.Lengths.Words.{is_at}
 
 -- column i of a key, from its lowest bits
 abbrev pub column_of : ℕ → ℕ → ℕ
 column_of key i = key / 2 ^ (5 * i) % 32
 
--- the text of so many columns of a key, from the last, as it were if none held 0
+-- the text of the first `n` columns of a key, from the last, as it were if none held 0
 abbrev pub key_text : ℕ → ℕ → List ℕ
 key_text zero key = []
 key_text (suc n) key = digit (column_of key n) ∷ key_text n key
 
--- Bit y of column x is 1 where a cell stands in row y of column x, and 0 where none does. There are so many columns.
+-- Bit y of column x is 1 where a cell is in row y of column x, and 0 where none is. There are `wide` columns.
 pub record IsKey (key wide : ℕ) (cells : List Cell) : Type 0 where
   pub bits : (s : ℕ) → bit_at key s ≡ (if is_at cells (s / 5) (pos (s % 5)) then 1 else 0)
   pub below : key < 2 ^ (5 * wide)
@@ -38,7 +38,7 @@ pub record AreKeys (keys : Keys) (f : Frame) (cells : List Cell) : Type 0 where
   pub swap_flip_y : IsTurnedKey keys.swap_flip_y SwapHalf f cells
   pub swap_half : IsTurnedKey keys.swap_half SwapFlipY f cells
 
--- No column of so many is 0.
+-- None of the first `wide` columns is 0.
 abbrev pub IsPlain : ℕ → ℕ → Type 0
 IsPlain key wide = (i : ℕ) → i < wide → 0 < column_of key i
 
@@ -59,7 +59,7 @@ pub record AreBelow (keys : Keys) (wide high : ℕ) : Type 0 where
   pub swap_flip_y : keys.swap_flip_y < 2 ^ (5 * high)
   pub swap_half : keys.swap_half < 2 ^ (5 * high)
 
--- the texts of the keys, those of the maps that swap last
+-- the texts of the keys, with those of the maps that swap last
 abbrev pub key_texts : Keys → ℕ → ℕ → List (List ℕ)
 key_texts keys wide high =
     key_text wide keys.same ∷ key_text wide keys.flip_x ∷ key_text wide keys.flip_y ∷ key_text wide keys.half

@@ -5,7 +5,7 @@ use Rattle.life_model.specs.Generation.{Generation}
 use Rattle.life_model.specs.Symmetry.{Orientation, FlipX, image_under}
 use Rattle.life_cells.specs.TextOrder.{lesser_text}
 use Rattle.life_cells.specs.Wechsler.{body}
-use Rattle.life_lengths.specs.Grids.{both_texts}
+use Rattle.life_codes.specs.Lengths.Grids.{both_texts}
 
 -- the least so far, with one more text
 abbrev pub with_text : Option (List ℕ) → List ℕ → Option (List ℕ)
@@ -16,7 +16,7 @@ with_text (Some least) text = Some (lesser_text least text)
 abbrev pub text_if : Bool → List ℕ → Option (List ℕ)
 text_if some text = if some then Some text else None
 
--- the text of a set that is turned, and that of its mirror image
+-- the text of a turned set, and that of its mirror image
 abbrev pub two_bodies : Generation → Orientation → List (List ℕ)
 two_bodies G m = body (image_under G m) ∷ body (image_under (image_under G m) FlipX) ∷ []
 

@@ -2,8 +2,8 @@
 ghost use Rattle.std.specs.Prelude.{◌≡◌, ◌++◌, ◌<◌, ◌∷◌, IsSomeAnd, IsTrue, List, None, OnOk, [], length, unwrap_or, ℕ};
 ghost use Rattle.life_codes.specs.Least.{with_text};
 
+use crate::lengths::Lengths;
 use life_cells::shorter;
-use life_lengths::Lengths;
 use std::alloc::{AllocError, Global};
 use std::cmp::Ordering;
 use std::marker::Model;
@@ -29,7 +29,7 @@ impl Model for Choice {
 }
 
 impl Choice {
-    /// That of no text. Takes no memory.
+    /// The choice among no texts. Takes no memory.
     pub fn new(alloc: Global) -> Choice
         ensures { result ≡ None }
     {
@@ -39,7 +39,7 @@ impl Choice {
         }
     }
 
-    /// Becomes what the other is.
+    /// Becomes a copy of the other.
     pub fn copy(&mut self, other: &Choice) -> Result<(), AllocError>
         ensures { OnOk result (self.new ≡ other.now) }
     {
@@ -70,7 +70,7 @@ impl Choice {
             && self.is_shorter(other.backward)
     }
 
-    /// Whether there is a text that is less than each of so many bytes of which this is the first.
+    /// Whether there is a text that is less than each text of `bytes` bytes with this first one.
     pub fn is_before(&self, bytes: usize, first: u8) -> bool
         ensures { IsTrue result → (rest : List ℕ) → length (first ∷ rest) ≡ bytes →
             with_text self.now (first ∷ rest) ≡ self.now }
@@ -81,7 +81,7 @@ impl Choice {
         self.text[0] < first
     }
 
-    /// Whether there is a text that is less than each of so many bytes that begins so.
+    /// Whether there is a text that is less than each text of `bytes` bytes with this start.
     pub fn is_begun_before(&self, bytes: usize, start: &[u8]) -> bool
         ensures { IsTrue result → (rest : List ℕ) → length (start.now ++ rest) ≡ bytes →
             with_text self.now (start.now ++ rest) ≡ self.now }

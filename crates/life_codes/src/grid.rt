@@ -4,11 +4,11 @@ ghost use Rattle.life_model.specs.Symmetry.{turn};
 ghost use Rattle.life_cells.specs.Limits.{IsPlace};
 ghost use Rattle.life_cells.specs.Dots.{weights};
 ghost use Rattle.life_cells.specs.Orients.{orientation};
-ghost use Rattle.life_lengths.specs.Frames.{IsBounded, IsInFrame, cell_in_frame, strips_of, wide_of};
-ghost use Rattle.life_lengths.specs.Grids.{HoldsWeights, both_texts};
+ghost use Rattle.life_codes.specs.Lengths.Frames.{IsBounded, IsInFrame, cell_in_frame, strips_of, wide_of};
+ghost use Rattle.life_codes.specs.Lengths.Grids.{HoldsWeights, both_texts};
 
+use crate::lengths::{Frame, place_in};
 use life_cells::Orient;
-use life_lengths::{Frame, place_in};
 use std::alloc::{AllocError, Global};
 
 /// The values of columns of five rows, strip by strip.
@@ -21,7 +21,7 @@ pub struct Grid {
 }
 
 impl Grid {
-    /// One without columns. Takes no memory.
+    /// A grid without columns. Takes no memory.
     pub fn new(alloc: Global) -> Grid {
         Grid {
             values: Vec::new(alloc),
@@ -48,8 +48,8 @@ impl Grid {
     }
 }
 
-/// Adds to each column what the cells weigh there that the map takes these cells to. They stand in the frame, which has
-/// as many columns in each of its strips.
+/// Adds to each column what these cells, turned by the map, weigh there. Turned, they are in the frame, which has as many columns
+/// in each of its strips.
 fn fill(values: &mut [u8], cells: &[(i32, i32)], orient: Orient, frame: Frame)
     requires room { length values.old ≡ strips_of frame * wide_of frame }
     requires empty { All (λ v. v ≡ 0) values.old }
@@ -69,7 +69,7 @@ fn fill(values: &mut [u8], cells: &[(i32, i32)], orient: Orient, frame: Frame)
     }
 }
 
-/// Makes a grid of what the cells weigh that the map takes these cells to. They stand in the frame.
+/// Makes a grid of what these cells, turned by the map, weigh. Turned, they are in the frame.
 pub fn make_grid(
     values: &mut Vec<u8>,
     cells: &[(i32, i32)],

@@ -5,15 +5,15 @@ ghost use Rattle.life_model.specs.Generation.{from_list};
 ghost use Rattle.life_cells.specs.Limits.{IsPlace};
 ghost use Rattle.life_cells.specs.TextOrder.{least_text};
 ghost use Rattle.life_answer.specs.Apgcode.{turned_bodies};
-ghost use Rattle.life_lengths.specs.Frames.{IsBounded, IsInFrame, IsTinyFrame, frame_of};
+ghost use Rattle.life_codes.specs.Lengths.Frames.{IsBounded, IsInFrame, IsTinyFrame, frame_of};
 ghost use Rattle.life_codes.specs.Keys.{AreBelow, AreKeys, ArePlain, IsKey, IsPlain, key_text, key_texts};
 
+use crate::lengths::{Frame, place_in};
 use crate::writing::digit;
 use life_cells::Orient;
-use life_lengths::{Frame, place_in};
 use std::alloc::AllocError;
 
-/// The columns of cells, turned by each of the eight maps. The last column stands in the lowest bits.
+/// The columns of cells, turned by each of the eight maps. The last column is in the lowest bits.
 #[derive(Clone, Copy)]
 pub struct Keys {
     pub same: u32,
@@ -26,7 +26,7 @@ pub struct Keys {
     pub swap_half: u32,
 }
 
-/// A key with one more cell. The first column stands in the lowest bits.
+/// A key with one more cell. The first column is in the lowest bits.
 #[inline(always)]
 fn with_cell(key: u32, column: usize, row: usize) -> u32
     requires column { column < 5 }
@@ -73,7 +73,7 @@ fn keys_of(cells: &[(i32, i32)], frame: Frame) -> Keys
     keys
 }
 
-/// Whether none of so many columns of a key is 0.
+/// Whether none of the first `wide` columns of a key is 0.
 #[inline(always)]
 fn is_plain(key: u32, wide: usize) -> bool
     requires { wide ≤ 5 }
@@ -87,7 +87,7 @@ fn is_plain(key: u32, wide: usize) -> bool
     true
 }
 
-/// Whether none of the columns of the keys is 0. Those of mirror images are the same.
+/// Whether none of the columns of the keys is 0. The keys of mirror images have the same columns.
 fn are_plain(keys: Keys, wide: usize, high: usize) -> bool
     requires wide { wide ≤ 5 }
     requires high { high ≤ 5 }
@@ -126,7 +126,7 @@ fn least_key(keys: Keys, wide: usize, high: usize) -> (u32, usize)
     }
 }
 
-/// The key whose text is the least of those of cells, turned by each of the eight maps, and how many columns it has: none
+/// The key whose text is the least of those of cells, turned by each of the eight maps, and how many columns it has; or nothing
 /// where a column of one of them is 0.
 fn tiny_key(cells: &[(i32, i32)], frame: Frame) -> Option<(u32, usize)>
     requires some { 0 < length cells.now }
@@ -147,7 +147,8 @@ fn tiny_key(cells: &[(i32, i32)], frame: Frame) -> Option<(u32, usize)>
     }
 }
 
-/// The same where the frame of the cells is tiny.
+/// The key whose text is the least of those of cells, turned by each of the eight maps, and how many columns it has, if the frame
+/// of the cells is tiny and no column of one of them is 0.
 pub fn key_of(cells: &[(i32, i32)], frame: Option<Frame>) -> Option<(u32, usize)>
     requires some { IfSome frame (λ f. 0 < length cells.now) }
     requires placed { All IsPlace cells.now }
@@ -163,7 +164,7 @@ pub fn key_of(cells: &[(i32, i32)], frame: Option<Frame>) -> Option<(u32, usize)
     }
 }
 
-/// Adds the text of so many columns of a key.
+/// Adds the text of the first `wide` columns of a key.
 pub fn push_key(text: &mut Vec<u8>, key: u32, wide: usize) -> Result<(), AllocError>
     requires { wide ≤ 5 }
     ensures { OnOk result (text.new.items ≡ text.old.items ++ key_text wide key) }

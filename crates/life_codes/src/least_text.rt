@@ -7,18 +7,20 @@ ghost use Rattle.life_model.specs.Symmetry.{Half, Same, Swap, SwapHalf};
 ghost use Rattle.life_cells.specs.Limits.{IsPlace, extent_limit};
 ghost use Rattle.life_cells.specs.Orients.{orientation};
 ghost use Rattle.life_answer.specs.Apgcode.{turned_bodies};
-ghost use Rattle.life_lengths.specs.Frames.{IsBounded, frame_of};
-ghost use Rattle.life_lengths.specs.Grids.{both_texts, grid_text};
+ghost use Rattle.life_codes.specs.Lengths.Frames.{IsBounded, frame_of};
+ghost use Rattle.life_codes.specs.Lengths.Grids.{both_texts, grid_text};
 ghost use Rattle.life_codes.specs.Keys.{key_text};
 ghost use Rattle.life_codes.specs.Least.{IsTaken, two_bodies, with_text};
-ghost use Rattle.life_lengths.specs.Words.{AreLengths};
+ghost use Rattle.life_codes.specs.Lengths.Words.{AreLengths};
 
 use crate::choice::Choice;
 use crate::grid::{Grid, make_grid};
 use crate::keys::{key_of, push_key};
+use crate::lengths::{
+    FourLengths, Frame, Lengths, WideMarks, four_lengths, frame_of, wide_lengths,
+};
 use crate::writing::{begin_text, digit, end_text, strip_of, value_at};
 use life_cells::{CellList, Orient, Shape};
-use life_lengths::{FourLengths, Frame, Lengths, WideMarks, four_lengths, frame_of, wide_lengths};
 use std::alloc::{AllocError, Global};
 use std::marker::Model;
 use std::mem::swap;
@@ -58,7 +60,7 @@ impl Room {
     }
 }
 
-/// Whether the least text is less than that of a grid, which has so many bytes, by its length or by its first byte alone.
+/// Whether the least text is less than that of a grid, which has `bytes` bytes, by its length or by its first byte alone.
 fn is_beyond(
     least: &Choice,
     values: &[u8],
@@ -82,7 +84,7 @@ fn is_beyond(
     first != 0 && least.is_before(bytes, digit(first))
 }
 
-/// Takes the text of a grid, which has so many bytes. It is written only as far as the least text may not be less.
+/// Takes the text of a grid, which has `bytes` bytes. It is written only as far as the least text may not be less.
 fn add_text(
     least: &mut Choice,
     text: &mut Vec<u8>,
@@ -113,7 +115,7 @@ fn add_text(
     Ok(())
 }
 
-/// Takes the text of so many columns of a key, unless the least text is shorter.
+/// Takes the text of the first `wide` columns of a key, unless the least text is shorter.
 fn add_key(least: &mut Choice, text: &mut Vec<u8>, key: u32, wide: usize) -> Result<(), AllocError>
     requires { wide ≤ 5 }
     ensures ok { OnOk result (least.new ≡ with_text least.old (key_text wide key)) }
@@ -189,8 +191,8 @@ fn add_second(least: &mut Choice, room: &mut Room, lengths: Lengths) -> Result<(
     Ok(())
 }
 
-/// Takes the texts of cells, turned by a map, and of their mirror image, which have these lengths. A grid is made only where
-/// the least text may not be shorter than both; the first is the last whose texts were taken.
+/// Takes the texts of cells, turned by a map, and of their mirror image, which have these lengths. A grid is made only where the
+/// least text may not be shorter than both. The first grid is the last one whose texts were taken.
 #[inline(always)]
 fn add_turned(
     least: &mut Choice,
@@ -250,7 +252,7 @@ fn add_upright(
     add_turned(least, room, cells, frame, Orient::Half, lengths.half)
 }
 
-/// The same with x and y swapped.
+/// Takes the texts of cells with x and y swapped and of their half turn, and of the mirror images of both.
 fn add_swapped(
     least: &mut Choice,
     room: &mut Room,
@@ -280,7 +282,7 @@ fn add_swapped(
     add_turned(least, room, cells, frame, Orient::Swap, lengths.swap)
 }
 
-/// Takes the texts of cells, turned by each of the eight maps, the shortest of them among the first.
+/// Takes the texts of cells, turned by each of the eight maps, with the shortest of them among the first.
 fn add_eight(
     least: &mut Choice,
     room: &mut Room,
@@ -322,7 +324,7 @@ fn add_shape(least: &mut Choice, shape: &Shape) -> Result<(), AllocError>
 }
 
 impl LeastText {
-    /// That of no set. Takes no memory.
+    /// The least text of no set. Takes no memory.
     pub fn new(alloc: Global) -> LeastText
         ensures { result ≡ None }
     {
@@ -384,7 +386,8 @@ impl LeastText {
         Ok(())
     }
 
-    /// Adds the texts of a set of this frame: from words and grids, unless those were mostly empty, and else from shapes.
+    /// Adds the texts of a set with this frame: from words and grids, unless those would be mostly empty, and otherwise from
+    /// shapes.
     fn add_framed(&mut self, list: &CellList, frame: Option<Frame>) -> Result<(), AllocError>
         requires wide { width list.now ≤ extent_limit }
         requires high { height list.now ≤ extent_limit }
@@ -408,9 +411,9 @@ impl LeastText {
         }
     }
 
-    /// Adds the texts of a set. After an `Err` it is what it was.
+    /// Adds the texts of a set. After an `Err` all is unchanged.
     ///
-    /// Their box is at most 16,777,216 wide and high.
+    /// The bounding box of the set is at most 16,777,216 wide and high.
     pub fn add(&mut self, list: &CellList) -> Result<(), AllocError>
         requires wide { width list.now ≤ extent_limit }
         requires high { height list.now ≤ extent_limit }

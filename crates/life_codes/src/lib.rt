@@ -1,4 +1,4 @@
-//! The least Wechsler text of sets of cells in all eight orientations.
+//! The least Wechsler text of sets of cells in all eight orientations, chosen by the lengths of all texts.
 //!
 //! Tested in `tests_patterns`.
 #![tactic(auto)]
@@ -7,6 +7,7 @@ mod choice;
 mod grid;
 mod keys;
 mod least_text;
+mod lengths;
 mod prefixes;
 mod writing;
 

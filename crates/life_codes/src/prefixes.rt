@@ -1,4 +1,4 @@
-//! What stands before the text of an object in its code.
+//! What is before the text of an object in its code.
 ghost use Rattle.std.specs.Prelude.{◌≡◌, ◌++◌, IfOk, codes};
 ghost use Rattle.life_answer.specs.Apgcode.{prefix};
 

@@ -2,7 +2,7 @@
 ghost use Rattle.std.specs.Prelude.{◌≡◌, ◌*◌, ◌<◌, ◌++◌, ◌+◌, ◌≤◌, All, OnOk, [], length, slice_index};
 ghost use Rattle.life_cells.specs.Dots.{strip_mark};
 ghost use Rattle.life_cells.specs.Wechsler.{columns_text, digit, short_zeros, zeros};
-ghost use Rattle.life_lengths.specs.Grids.{columns_from, grid_text, strip_of};
+ghost use Rattle.life_codes.specs.Lengths.Grids.{columns_from, grid_text, strip_of};
 
 use std::alloc::AllocError;
 
@@ -32,7 +32,7 @@ fn push_short(text: &mut Vec<u8>, count: usize) -> Result<(), AllocError>
     Ok(())
 }
 
-/// Adds a run of so many zeros, however many.
+/// Adds a run of `count` zeros, however many.
 fn push_run(text: &mut Vec<u8>, count: usize) -> Result<(), AllocError>
     ensures { OnOk result (text.new.items ≡ text.old.items ++ zeros count) }
 {
@@ -45,7 +45,7 @@ fn push_run(text: &mut Vec<u8>, count: usize) -> Result<(), AllocError>
     push_short(text, left)
 }
 
-/// Adds a run of so many zeros. Most columns have none before them.
+/// Adds a run of `count` zeros. Most columns have none before them.
 #[inline(always)]
 fn push_zeros(text: &mut Vec<u8>, count: usize) -> Result<(), AllocError>
     ensures { OnOk result (text.new.items ≡ text.old.items ++ zeros count) }
@@ -97,7 +97,7 @@ pub fn strip_of(values: &[u8], wide: usize, strip: usize) -> &[u8]
     &values[strip * wide..strip * wide + wide]
 }
 
-/// Adds what stands before a strip.
+/// Adds the mark before a strip.
 fn begin_strip(text: &mut Vec<u8>, strip: usize) -> Result<(), AllocError>
     ensures { OnOk result (text.new.items ≡ text.old.items ++ strip_mark strip) }
 {

@@ -1,4 +1,4 @@
--- A generation, and those after it: of the first so many none is it again, moved.
+-- A generation, and those after it: none of the first `a` of them is it again, moved.
 use Rattle.std.proofs.Common.{◌≡◌, ℕ, ◌+◌, ◌≤◌, inl, inr, sym, ap, ◌∙◌, arith}
 use Rattle.std.proofs.lemmas.Bool.{cases_lt}
 use Rattle.life_model.specs.Cell.{Cell}
@@ -28,7 +28,7 @@ module _ (R : Rule) (G : Generation) where
           ];
     }
 
-    -- where the next one is the first again, the first comes again after so many steps and not sooner
+    -- where the next one is the first again, the first recurs after `a + 1` steps and not sooner
     pub IsReturn-found : (d : Cell) → IsOffset G (generation R G (a + 1)) d → IsReturn R G (a + 1) d
     IsReturn-found d offset = record {
       recurs = record { later = omega arith; again = offset.move };

@@ -1,4 +1,4 @@
--- What the first generations of a set tell of all those after them.
+-- What the first generations of a set say about all those after them.
 use Rattle.std.proofs.Common.{◌≡◌, ℕ, zero, suc, ◌+◌, ◌-◌, ◌<◌, ◌≤◌, inl, inr, Option, None, Some, refl, sym, ap, subst, ◌∙◌, arith}
 use Rattle.std.proofs.lemmas.Bool.{cases_lt}
 use Rattle.life_model.specs.Rule.{Rule}
@@ -16,7 +16,7 @@ use Rattle.life_answer.proofs.Limits.{first_past-is, limited-else, limited-same}
 use Rattle.life_answer.proofs.Sizes.{size_by_shape}
 
 module _ (R : Rule) (G : Generation) where
-  -- the first generation past the limit is the same whatever later ones are looked at
+  -- the first generation past the limit is the same, whatever later ones are looked at
   pub past_beyond : (limit : Option ℕ) (last bound n : ℕ) → last ≤ bound
       → first_past limit R G last ≡ Some n → first_past limit R G bound ≡ Some n
   past_beyond None last bound n h past = absurd cc
@@ -25,7 +25,7 @@ module _ (R : Rule) (G : Generation) where
       let within : n ≤ last = first.0 in
       (first_past-is R G bound most n).1 (omega arith, first.1, first.2)
 
-  -- a set that is too large within some bound is so within any greater one
+  -- a set that is too large within some bound is too large within any greater one
   pub large_beyond : (limit : Option ℕ) (last bound : ℕ) (large found : Outcome) → last ≤ bound
       → ((other : Outcome) → outcome_unless_large limit R G last other ≡ large) → outcome_unless_large limit R G bound found ≡ large
   large_beyond limit last bound large found h all = by_first (first_past limit R G last) refl
@@ -38,7 +38,7 @@ module _ (R : Rule) (G : Generation) where
       by_first (Some n) e =
           ap (unless_large found) (past_beyond limit last bound n h e ∙ sym e) ∙ all found
 
-  -- a set of which nothing is found in place of what is found without a limit stays within it
+  -- a set stays within a limit where what is found with the limit is what is found without it
   pub stays : (limit : Option ℕ) (last : ℕ) → ((other : Outcome) → outcome_unless_large limit R G last other ≡ other)
       → StaysWithin limit R G last
   stays limit last all =
@@ -74,7 +74,7 @@ module _ (R : Rule) (G : Generation) where
             | inr late ↦ subst (IsAllowed limit) (size-before n late) (allowed_before count (n - p) (omega arith))
           ]
 
-      -- where a set that settles stays within its limit until then, it does for ever
+      -- a set that settles, and stays within its limit until then, stays within it for ever
       stays_beyond : (c : ℕ) → StaysWithin limit R G c
       stays_beyond c n h = allowed_before (n + 1) n (omega arith)
 

@@ -1,4 +1,4 @@
--- The first generation that has more cells than so many, looked for one generation after another.
+-- The first generation that has more than `most` cells, looked for one generation after another.
 use Rattle.std.proofs.Common.{◌≡◌, ℕ, suc, ◌+◌, ◌-◌, ◌<◌, ◌≤◌, Bool, true, false, nat_lt, None, Some, cond, sym, ap, ◌∙◌, arith}
 use Rattle.life_model.specs.Rule.{Rule}
 use Rattle.life_model.specs.Generation.{Generation, size}

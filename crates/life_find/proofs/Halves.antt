@@ -38,7 +38,7 @@ alike_from_texts G H e =
       shape = (same_bodies _ _).0 (sym one.1 ∙ e ∙ other.1);
     }
 
--- each way to turn the first looks as some way to turn the second
+-- each way to turn the first looks like some way to turn the second
 turned_alike : (G H : Generation) (one : AreAlike G H) (m : Orientation) →
     (n : Orientation) × (normal (image_under G m) ≡ normal (image_under H n))
 turned_alike G H one m =
@@ -47,7 +47,7 @@ turned_alike G H one m =
     ap (λ K. image_under K m) (sym (turned-undone G one.first)) ∙ turned-turned (image_under G one.first) (undone one.first) m in
     (then_turned one.second n, ap normal back ∙ normal-turned _ _ n one.shape ∙ ap normal (turned-turned H one.second n))
 
--- and has its texts
+-- a set that is alike has the same texts
 texts_alike : (G H : Generation) → AreAlike G H → (t : List ℕ) → Member t (turned_bodies G) → Member t (turned_bodies H)
 texts_alike G H one t h =
     let at = member_of_map (λ m. body (image_under G m)) t orientations h in

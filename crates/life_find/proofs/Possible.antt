@@ -98,7 +98,7 @@ AreFingerprints-none R G list e = record { each = λ k below. absurd (let none :
 
 -- ---- possible periods
 
--- Each generation from b on is that p generations before it, moved. So it is where a set settles within b.
+-- Each generation from b on is that p generations before it, moved. This is the case where a set settles within b.
 pub record IsPossible (R : Rule) (G : Generation) (b p : ℕ) : Type 0 where
   pub least : 1 ≤ p
   pub most : p ≤ b
@@ -168,7 +168,7 @@ module _ (R : Rule) (G : Generation) (b : ℕ) where
 -- ---- the onset
 
 module _ (R : Rule) (G : Generation) (list : List Fingerprint) (are : AreFingerprints R G list) (p first : ℕ) (change : (i : ℕ) → first ≡ i + 1 → changes_at list p i ≡ true) where
-  -- no generation before the first that the fingerprints leave comes again after p steps
+  -- no generation before the first that the fingerprints leave recurs after p steps
   pub none_before : (h : ℕ) → h < first → shape R G (h + p) ≡ shape R G h → ⊥
   none_before h below e =
       let i : ℕ = first - 1 in

@@ -87,7 +87,7 @@ module _ (A H : Generation) (list others : List Cell) (e : list ≡ cells A) (f 
       of_member (λ b. IsReachedBy r (plus c (plus one.0 (opposite first))) b → ⊥) H others f missed.far other.0 other.1
       (reached_there k m r first c d one.0 other.0 small twice one.2 other.2)
 
--- ---- so many generations that are quiet
+-- ---- quiet generations
 
 pub quiet_none : (R : Rule) (A H : Generation) (n : ℕ) → n ≡ 0 → IsQuiet R A H n
 quiet_none R A H n e = record { none = λ k h same. omega arith }

@@ -1,4 +1,4 @@
--- Equal codes tell one object.
+-- Sets with equal codes are one object.
 use Rattle.std.proofs.Common.{◌≡◌, ℕ, ℤ, inl, inr, List, Bool, Decides, sym, ◌∙◌}
 use Rattle.life_model.specs.Rule.{Rule}
 use Rattle.life_model.specs.Generation.{Generation}

@@ -27,6 +27,6 @@ counts_agree (Some a) (Some b) = eqb a b
 abbrev pub may_match : Fingerprint → Fingerprint → Bool
 may_match a b = counts_agree a.population b.population && spans_agree a.span b.span
 
--- that of a generation that wasn't looked at
+-- the fingerprint of a generation that wasn't looked at
 abbrev pub no_fingerprint : Fingerprint
 no_fingerprint = record { population = None; span = None }

@@ -5,11 +5,11 @@ use Rattle.life_answer.specs.declared.finding.Answer.TheVariants.{Found, Refused
 use Rattle.life_answer.specs.declared.finding.Outcome.{Outcome}
 use Rattle.life_answer.specs.declared.finding.Outcome.TheVariants.{Unresolved}
 
--- the bound within which is looked at most, where what is found is to be known soon
+-- the greatest bound that is searched, where the answer is to come soon
 abbrev pub soon_reach : ℕ
 soon_reach = 128
 
--- whether more generations may tell what these did not
+-- whether more generations may decide what these did not
 abbrev pub leaves_open : Outcome → Bool
 leaves_open Unresolved = true
 leaves_open _ = false

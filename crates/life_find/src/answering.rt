@@ -40,7 +40,7 @@ fn answer_on<P: Plane, W: Observer>(
 /// What is found of an RLE text within the bound: the rule and the finding of the pattern that it means, or the number of
 /// its fault. With a limit no generation from 0 to the bound may have more cells.
 ///
-/// It may look at generations past the bound, up to twice the bound, and an observer is told those that are looked at.
+/// It may look at generations past the bound, up to twice the bound. Those that are looked at are reported to an observer.
 pub fn answer<W: Observer>(
     alloc: Global,
     observer: &W,

@@ -40,9 +40,9 @@ fn has_text(alloc: Global, phase: &CellList, text: &[u8]) -> Result<bool, AllocE
     Ok(own.text() == text)
 }
 
-/// Adds the texts of all phases of one period, in all eight orientations; the list has the cells of the first, wherever
-/// they stand, and all later ones are listed in one memory. Where the phase after half the period is the first one, turned
-/// and moved, the second half of the phases has no other texts than the first.
+/// Adds the texts of all phases of one period, in all eight orientations. The list has the cells of the first phase, wherever
+/// they stand; all later ones are listed in one memory. Where the phase after half the period is the first one, turned and moved,
+/// the second half of the phases has no other texts than the first.
 fn add_phases<P: Plane>(
     alloc: Global,
     least: &mut LeastText,
@@ -78,7 +78,7 @@ fn add_phases<P: Plane>(
     Ok(())
 }
 
-/// The code of what a plane holds, which comes again as the recurrence says; the list has its cells, wherever they stand.
+/// The code of what a plane holds, which recurs as the recurrence says. The list has its cells, wherever they stand.
 fn code_from<P: Plane>(
     alloc: Global,
     listed: &CellList,
@@ -108,8 +108,8 @@ fn code_from<P: Plane>(
     Code::of(alloc, &text)
 }
 
-/// The code of what a plane holds, which comes again as the recurrence says. Where a pattern comes again from its first
-/// generation on, its own list has the cells of the first phase.
+/// The code of what a plane holds, which recurs as the recurrence says. Where a pattern recurs from its first generation on, its
+/// own list has the cells of the first phase.
 pub fn code_of<P: Plane>(
     alloc: Global,
     cells: &CellList,

@@ -20,10 +20,10 @@ use std::alloc::{AllocError, Global};
 /// How many generations are compared with the first one: most known oscillators and spaceships have no longer period.
 const FIRST_LEAD: u32 = 64;
 
-/// Once in so many generations the span is looked at whatever the population is.
+/// The span is looked at once in this many generations, whatever the population is.
 const SPAN_STEP: u32 = 16;
 
-/// For so many fingerprints there is room from the first one on.
+/// There is room for this many fingerprints from the first one on.
 const FINGERPRINT_ROOM: usize = 16;
 
 /// Notes one more fingerprint.
@@ -38,9 +38,9 @@ fn note(fingerprints: &mut Vec<Fingerprint>, fingerprint: Fingerprint) -> Result
     Ok(())
 }
 
-/// Steps on, at most so many times, until the cells stand again that the plane began with, which are listed: after how many
-/// steps, and how far away. Notes the fingerprints of the generations before the last two, or before the last where they
-/// don't stand again. So a pattern that comes again at once takes no room for them.
+/// Makes at most `steps` steps, until the cells that the plane began with, which are listed, stand again: after how many steps,
+/// and how far away. Notes the fingerprints of the generations before the last two, or before the last where they don't stand
+/// again. So a pattern that recurs at once takes no room for them.
 fn run_to_return<P: Plane, W: Observer>(
     observer: &W,
     runner: &mut P,
@@ -91,9 +91,9 @@ fn run_to_return<P: Plane, W: Observer>(
     Ok(None)
 }
 
-/// What is known of a generation that comes again, where the generations up to the bound tell it: one that does, or that within
-/// the bound none does, as the cells grow too far apart. Each generation stands beside the one that is the greatest power of two
-/// before it, and the first few beside the first.
+/// What is known of a generation that recurs, where the generations up to the bound decide it: one that does, or that none does
+/// within the bound, as the cells grow too far apart. Each generation is compared with the one at the greatest power of two
+/// before it, and the first few with the first.
 fn find_return_within<P: Plane, W: Observer>(
     alloc: Global,
     observer: &W,
@@ -170,9 +170,8 @@ fn find_return_within<P: Plane, W: Observer>(
     Ok(None)
 }
 
-/// A generation that comes again, where one does within the bound at all. It may be found where none does. Goes past the
-/// bound only while the fingerprints leave a period possible, and notes the fingerprint of each generation. An observer is
-/// told each.
+/// A generation that recurs, where one does within the bound at all. It may be found where none does. Goes past the bound only
+/// while the fingerprints leave a period possible, and notes the fingerprint of each generation. Each is reported to an observer.
 pub fn find_return<P: Plane, W: Observer>(
     alloc: Global,
     observer: &W,

@@ -6,7 +6,7 @@ ghost use Rattle.life_find.specs.Search.{changes_at, ends_alike, from_first};
 use crate::fingerprint::{Fingerprint, may_match};
 use std::alloc::{AllocError, Global};
 
-/// Whether the last fingerprint agrees with the one so many places before it.
+/// Whether the last fingerprint agrees with the one `places` places before it.
 fn ends_alike(fingerprints: &[Fingerprint], places: u32) -> bool
     ensures { result ≡ ends_alike fingerprints.now places }
 {
@@ -18,7 +18,8 @@ fn ends_alike(fingerprints: &[Fingerprint], places: u32) -> bool
     may_match(fingerprints[count - 1 - places], fingerprints[count - 1])
 }
 
-/// The periods from 1 to the bound that the last fingerprint leaves possible: so many generations before, it was none that disagrees.
+/// The periods from 1 to the bound that the last fingerprint leaves possible: the fingerprint that many places before it agrees
+/// with it.
 pub fn candidates(
     alloc: Global,
     fingerprints: &[Fingerprint],
@@ -37,9 +38,9 @@ pub fn candidates(
     Ok(periods)
 }
 
-/// Strikes the periods before the first that the last fingerprint leaves possible. Those after it are not looked at: as the walk
-/// goes on, each period is struck at most once and one look a generation tells that none was, so that all looks together
-/// are no more than the generations and the periods.
+/// Strikes the periods before the first that the last fingerprint leaves possible. Those after it are not looked at. As the walk
+/// goes on, each period is struck at most once, and one look a generation shows that none was. So all looks together are no more
+/// than the generations and the periods.
 pub fn strike_periods<'a>(periods: &'a [u32], fingerprints: &[Fingerprint]) -> &'a [u32]
     ensures { result.now ≡ from_first (ends_alike fingerprints.now) periods.now }
 {
@@ -53,7 +54,7 @@ pub fn strike_periods<'a>(periods: &'a [u32], fingerprints: &[Fingerprint]) -> &
     left
 }
 
-/// Whether the fingerprint so many places further on disagrees.
+/// Whether the fingerprint `places` places further on disagrees.
 fn changes(fingerprints: &[Fingerprint], places: u32, at: u32) -> bool
     ensures { result ≡ changes_at fingerprints.now places at }
 {
@@ -65,7 +66,7 @@ fn changes(fingerprints: &[Fingerprint], places: u32, at: u32) -> bool
     !may_match(fingerprints[here], fingerprints[there])
 }
 
-/// One past the last of the places at which the fingerprint so many places further on disagrees, or 0.
+/// One more than the last place at which the fingerprint `places` places further on disagrees, or 0.
 pub fn first_alike(fingerprints: &[Fingerprint], places: u32, last: u32) -> u32
     requires { last < u32.MAX }
     ensures end { result ≤ last + 1 }

@@ -99,8 +99,8 @@ pub fn find_cells<P: Plane>(
     })
 }
 
-/// What is found of a pattern within the bound, over planes of any kind: its population, and where some generation up to
-/// the bound stands again later, moved as a whole, also its onset, period, displacement and apgcode, as on LifeWiki.
+/// What is found of a pattern within the bound, over planes of any kind: its population, and where some generation up to the
+/// bound stands again later, moved as a whole, also its onset, period, displacement and apgcode, as on LifeWiki.
 ///
 /// It may look at generations past the bound, up to twice the bound.
 pub fn find<P: Plane>(alloc: Global, pattern: &Pattern, bound: u32) -> Result<Finding, AllocError>
@@ -133,9 +133,9 @@ fn outcome_limited<P: Plane, W: Observer>(
     outcome_of::<P, W>(alloc, observer, rule, cells, bound)
 }
 
-/// The same as `find`, unless some generation from 0 to the bound has more cells than it may have. Where there is such a
-/// limit, the generations are looked at in rounds, the first few alone in the first one, and all those up to the bound
-/// only where no round before tells what is found. An observer is told the generations that are looked at.
+/// What `find` finds, unless some generation from 0 to the bound has more cells than it may have. Where there is such a limit,
+/// the generations are looked at in rounds. The first round looks at the first few alone, and all those up to the bound are
+/// looked at only where no round before decides what is found. The generations that are looked at are reported to an observer.
 pub fn find_limited<P: Plane, W: Observer>(
     alloc: Global,
     observer: &W,

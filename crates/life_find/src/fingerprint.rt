@@ -15,7 +15,7 @@ pub struct Fingerprint {
 }
 
 impl Fingerprint {
-    /// That of a generation that wasn't looked at.
+    /// The fingerprint of a generation that wasn't looked at.
     pub const UNKNOWN: Fingerprint = Fingerprint {
         population: None,
         span: None,
@@ -65,7 +65,7 @@ pub fn fingerprint_of(list: &CellList) -> Fingerprint
     }
 }
 
-/// The fingerprint of what a plane holds, of which there are so many cells, with its span where that is wanted.
+/// The fingerprint of what a plane holds, which has `population` cells, with its span where that is wanted.
 pub fn fingerprint_on<P: Plane>(
     plane: &P,
     population: u64,

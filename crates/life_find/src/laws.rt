@@ -6,8 +6,8 @@ ghost use Rattle.life_model.specs.Symmetry.{translate_of, normal};
 ghost use Rattle.life_find.specs.declared.fingerprint.Fingerprint.{Fingerprint};
 ghost use Rattle.life_find.specs.Fingerprint.{IsFingerprint, may_match};
 
-/// Sets that are equal up to a move have fingerprints that agree, so a set and its image under a move have. Generations whose
-/// fingerprints disagree are thus told apart without their cells. And where both have a span, it is the same one.
+/// Sets that are equal up to a move have fingerprints that agree, and so have a set and its image under a move. Generations whose
+/// fingerprints disagree are thus told apart without their cells. Where both have a span, it is the same one.
 pub fn fingerprints_follow_moves()
     ensures shape { (G H : Generation) (a b : Fingerprint) → normal G ≡ normal H →
         IsFingerprint G a → IsFingerprint H b → may_match a b ≡ true }

@@ -1,4 +1,4 @@
-//! When a pattern comes again: its onset, period, displacement and code.
+//! When a pattern recurs: its onset, period, displacement and code.
 //!
 //! Tested in `tests_patterns`.
 #![tactic(auto)]

@@ -15,10 +15,11 @@ use life_cells::CellList;
 use life_plane::Plane;
 use std::alloc::AllocError;
 
-/// So many cells are few enough that each may be compared with each.
+/// A set with at most this many cells is small enough to compare each with each.
 const FEW: usize = 64;
 
-/// So many generations in a row may have as many cells as the set that is to stand again before it is looked how far they are.
+/// After this many consecutive generations with as many cells as the set that is to stand again, the lookout checks how far away
+/// they are.
 const PATIENCE: u32 = 64;
 
 /// The part of the generations so far for which the lookout may rest at once.
@@ -27,21 +28,21 @@ const REST: u32 = 10;
 /// What is known of the coming generations.
 #[derive(Clone, Copy)]
 pub struct Lookout {
-    /// So many generations that come are known to be others.
+    /// This many of the coming generations are known to be others.
     pub quiet: u32,
-    /// So many generations in a row had as many cells.
+    /// This many consecutive generations had as many cells as the set that is to stand again.
     pub alike: u32,
 }
 
-/// What was seen of a generation: its fingerprint, and how far it is from the set that is to stand again, where it is that set.
+/// What was seen of a generation: its fingerprint, and how far it is from the set that is to stand again, if it is that set.
 #[derive(Clone, Copy)]
 pub struct Sight {
     pub fingerprint: Fingerprint,
     pub offset: Option<(i32, i32)>,
 }
 
-/// Of so many generations that come, all or none: all if a listed cell is missed so far that it can't come sooner, wherever
-/// the listed ones are moved to.
+/// How many of the coming generations are known to be others: `wanted`, or 0. It is `wanted` if a listed cell is missed so far
+/// away that it can't come sooner, wherever the listed ones are moved to.
 fn quiet_for<P: Plane>(listed: &CellList, plane: &P, wanted: u32) -> Result<u32, AllocError>
     requires { wanted ≤ BOUND_LIMIT }
     ensures { IfOk result (λ quiet. (R : Rule) (k : ℕ) → 0 < k → k ≤ quiet →
@@ -66,7 +67,7 @@ impl Lookout {
         Lookout { quiet: 0, alike: 0 }
     }
 
-    /// Looks how long the coming generations are others, where many in a row had as many cells.
+    /// Finds out how long the coming generations are others, where many consecutive ones had as many cells as the listed set.
     fn rest<P: Plane>(
         &mut self,
         listed: &CellList,
@@ -92,7 +93,7 @@ impl Lookout {
         Ok(())
     }
 
-    /// What is seen of a generation that came so many steps after the listed set, of which the span is wanted or not. It isn't
+    /// What is seen of a generation that came `taken` steps after the listed set, with its span where that is wanted. It isn't
     /// looked at where it is known to be another.
     pub fn look<P: Plane>(
         &mut self,

@@ -4,7 +4,7 @@ ghost use Rattle.life_model.specs.Cell.{opposite, plus};
 ghost use Rattle.life_cells.specs.Limits.{IsPlace, extent_limit};
 ghost use Rattle.life_find.specs.Quiet.{IsAway, IsFar, IsMissed, IsReachedBy};
 
-/// Whether a cell, moved as one place is from another, is more than so far from a cell, counted in columns.
+/// Whether a cell, moved as one place is from another, is more than `reach` columns from another cell.
 fn is_far_across(
     cell: (i32, i32),
     from: (i32, i32),
@@ -31,7 +31,7 @@ fn is_far_across(
     false
 }
 
-/// Whether a cell, moved as one place is from another, is more than so far from a cell, counted in rows.
+/// Whether a cell, moved as one place is from another, is more than `reach` rows from another cell.
 fn is_far_down(
     cell: (i32, i32),
     from: (i32, i32),
@@ -58,7 +58,7 @@ fn is_far_down(
     false
 }
 
-/// Whether a cell, moved as one place is from another, is more than so far from a cell, in columns or in rows.
+/// Whether a cell, moved as one place is from another, is more than `reach` from another cell, in columns or in rows.
 fn is_far(cell: (i32, i32), from: (i32, i32), to: (i32, i32), other: (i32, i32), reach: u32) -> bool
     requires cell { IsPlace cell }
     requires from { IsPlace from }
@@ -74,7 +74,7 @@ fn is_far(cell: (i32, i32), from: (i32, i32), to: (i32, i32), other: (i32, i32),
     is_far_down(cell, from, to, other, reach)
 }
 
-/// Whether a cell, moved as one place is from another, is more than so far from each of some cells.
+/// Whether a cell, moved as one place is from another, is more than `reach` from each of some cells.
 fn is_far_from_all(
     cell: (i32, i32),
     from: (i32, i32),
@@ -97,7 +97,7 @@ fn is_far_from_all(
     true
 }
 
-/// Whether one of the listed cells, moved as one place is from another, is more than so far from each of some cells.
+/// Whether one of the listed cells, moved as one place is from another, is more than `reach` from each of some cells.
 fn one_is_missed(
     listed: &[(i32, i32)],
     from: (i32, i32),
@@ -120,7 +120,7 @@ fn one_is_missed(
     false
 }
 
-/// Whether one of the listed cells is more than so far from each of some cells, whichever of these is where the first one is
+/// Whether one of the listed cells is more than `reach` from each of some cells, whichever of these is where the first one is
 /// moved to.
 pub fn are_away(listed: &[(i32, i32)], cells: &[(i32, i32)], reach: u32) -> bool
     requires some { 0 < length listed.now }

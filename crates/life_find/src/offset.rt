@@ -9,8 +9,8 @@ use life_cells::CellList;
 use life_plane::Plane;
 use std::alloc::AllocError;
 
-/// How far the cells of the plane are from the listed ones, where they are those moved as a whole. They are looked at where
-/// the fingerprints agree.
+/// How far the cells of the plane are from the listed ones, if they are those moved as a whole. They are looked at where the
+/// fingerprints agree.
 pub fn offset_to<P: Plane>(
     from: &CellList,
     marked: Fingerprint,
@@ -30,7 +30,7 @@ pub fn offset_to<P: Plane>(
     Ok(None)
 }
 
-/// How far the second plane's cells are from the first's, where they are those moved as a whole.
+/// How far the second plane's cells are from the first's, if they are those moved as a whole.
 pub fn plane_offset<P: Plane>(from: &P, to: &P) -> Result<Option<(i32, i32)>, AllocError>
     ensures offset { IfOk result
         (λ found. IfSome found (λ d. IsOffset (P.members from.now) (P.members to.now) d)) }

@@ -1,6 +1,6 @@
-//! A generation that comes again.
+//! A generation that recurs.
 
-/// A generation that comes again, after how many steps it first does, and how far away.
+/// A generation that recurs, after how many steps it first does, and how far away.
 #[derive(Clone, Copy)]
 pub struct Recurrence {
     pub onset: u32,

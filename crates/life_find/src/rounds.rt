@@ -1,4 +1,4 @@
-//! What the first generations of a pattern tell of all those after them.
+//! What the first generations of a pattern say about all those after them.
 ghost use Rattle.std.specs.Prelude.{◌≡◌, ℕ, ◌≤◌, All, IfNone, IfOk, IfSome};
 ghost use Rattle.life_model.specs.Generation as generations;
 ghost use Rattle.life_cells.specs.Limits.{IsWithin};
@@ -17,12 +17,11 @@ use std::alloc::{AllocError, Global};
 /// Up to which generation the first round goes.
 const FIRST_REACH: u32 = 16;
 
-/// How many times as far as the one before it a round goes.
+/// How many times as far each round goes as the one before it.
 const REACH_GROWTH: u32 = 4;
 
-/// What becomes of cells, whose generations may have no more cells than the limit, within every bound from the reach
-/// on: that a generation up to the reach is too large, or where none is, how they come again within the reach. `None`
-/// where they do neither.
+/// What becomes of cells, whose generations may have no more cells than the limit, within every bound from the reach on: a
+/// generation up to the reach is too large, or, where none is, they recur within the reach. `None` where they do neither.
 fn found_to<P: Plane, W: Observer>(
     alloc: Global,
     observer: &W,
@@ -47,10 +46,9 @@ fn found_to<P: Plane, W: Observer>(
     }
 }
 
-/// What becomes of cells within the bound, where there is a limit and their first generations tell it. They are looked
-/// at in rounds, each of which begins again and goes four times as far as the one before it, and none further than a
-/// fourth of the bound: so all rounds together look at no more than a third as many generations as a search up to the
-/// bound may.
+/// What becomes of cells within the bound, where there is a limit and their first generations decide it. They are looked at in
+/// rounds. Each begins again and goes four times as far as the one before it, and none goes further than a fourth of the bound.
+/// So all rounds together look at no more than a third as many generations as a search up to the bound may.
 pub fn found_early<P: Plane, W: Observer>(
     alloc: Global,
     observer: &W,

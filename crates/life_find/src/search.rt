@@ -1,4 +1,4 @@
-//! The search for the first generation that comes again.
+//! The search for the first generation that recurs.
 ghost use Rattle.std.specs.Prelude.{◌≡◌, ℕ, ◌+◌, ◌*◌, ◌<◌, ◌≤◌, All, IfNone, IfOk, IfSome, OnOk};
 ghost use Rattle.life_model.specs.Evolution.{generation};
 ghost use Rattle.life_model.specs.Generation as generations;
@@ -15,7 +15,7 @@ use life_cells::{CellList, Rule};
 use life_plane::{AGE_LIMIT, Observer, Plane};
 use std::alloc::{AllocError, Global};
 
-/// Makes so many steps.
+/// Makes `steps` steps.
 fn advance<P: Plane>(plane: &mut P, rule: &Rule, steps: u32) -> Result<(), AllocError>
     requires { P.steps_made plane.old + steps ≤ AGE_LIMIT }
     ensures cells { OnOk result
@@ -28,8 +28,8 @@ fn advance<P: Plane>(plane: &mut P, rule: &Rule, steps: u32) -> Result<(), Alloc
     Ok(())
 }
 
-/// The first generation that comes again within the bound, after how many steps, and how far away. The plane of the cells
-/// then has those of that generation, wherever they stand.
+/// The first generation that recurs within the bound, after how many steps, and how far away. The plane of the cells then has
+/// those of that generation, wherever they stand.
 pub fn settling<P: Plane, W: Observer>(
     alloc: Global,
     observer: &W,
@@ -77,7 +77,7 @@ pub fn settling<P: Plane, W: Observer>(
     settling_from(alloc, runner, cells, rule, bound, seen.period, first)
 }
 
-/// The same, where the period and a generation before which none comes again are known.
+/// The first generation that recurs within the bound, where the period and a generation before which none recurs are known.
 ///
 /// It stands apart in the program too: within `settling` each search would first make room for its planes.
 #[inline(never)]

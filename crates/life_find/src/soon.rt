@@ -1,4 +1,4 @@
-//! What the first generations of a pattern tell of a text.
+//! What the first generations of a pattern say about a text.
 ghost use Rattle.std.specs.Prelude.{◌≡◌, ◌<◌, ◌≤◌, true, IfNone, IfOk, IfSome};
 ghost use Rattle.life_answer.specs.declared.question.Question.TheVariants.{Settles};
 ghost use Rattle.life_answer.specs.Questions.{answer_to_question};
@@ -13,7 +13,7 @@ use std::alloc::{AllocError, Global};
 /// The greatest bound within which no generation past 256 is looked at, as a search goes up to twice its bound.
 const SOON_REACH: u32 = 128;
 
-/// Whether more generations may tell what these did not.
+/// Whether more generations may decide what these did not.
 fn is_open(answer: &Answer) -> bool
     ensures { result ≡ is_open answer.now }
 {
@@ -26,8 +26,8 @@ fn is_open(answer: &Answer) -> bool
     }
 }
 
-/// What is found of an RLE text within the bound, where the first 256 generations of its pattern tell it, or no pattern is
-/// there; no later one is looked at. The bound is 1 to 1,000,000 generations, and the limit is that of `answer`. `None`
+/// What is found of an RLE text within the bound, where the first 256 generations of its pattern decide it, or there is no
+/// pattern. No later generation is looked at. The bound is 1 to 1,000,000 generations, and the limit is that of `answer`. `None`
 /// says that the bound is greater than 128, and that nothing is found within 128 generations.
 pub fn answer_soon(
     alloc: Global,

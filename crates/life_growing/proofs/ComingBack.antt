@@ -18,17 +18,17 @@ use Rattle.life_apart.specs.Alone.{others_of}
 use Rattle.life_apart.proofs.Loners.{in_others, in_set_or_others}
 use Rattle.life_islands.proofs.Labelled.{listed_cell, place_in_list}
 use Rattle.life_plane.proofs.Offsets.{plus_back}
-use Rattle.life_growth.specs.Engine.{FallsApart, IsEngine, Way}
-use Rattle.life_growth.specs.Onward.{debris_after, endless}
-use Rattle.life_growth.proofs.Endless.{core_first}
-use Rattle.life_growth.proofs.Lasting.{core_from_debris, debris_falls_apart, engine_becomes}
-use Rattle.life_growth.proofs.Outgrowing.{outgrows_itself}
-use Rattle.life_growth.proofs.Parts.{disjoint_now}
+use Rattle.life_objects.specs.Growth.Engine.{FallsApart, IsEngine, Way}
+use Rattle.life_objects.specs.Growth.Onward.{debris_after, endless}
+use Rattle.life_objects.proofs.GrowthLemmas.Endless.{core_first}
+use Rattle.life_objects.proofs.GrowthLemmas.Lasting.{core_from_debris, debris_falls_apart, engine_becomes}
+use Rattle.life_objects.proofs.GrowthLemmas.Outgrowing.{outgrows_itself}
+use Rattle.life_objects.proofs.GrowthLemmas.Parts.{disjoint_now}
 use Rattle.life_growing.specs.Populations.{ArePopulations, FallsBack}
 use Rattle.life_cells.specs.Limits.{IsPlace}
 use Rattle.life_growing.specs.Returning.{ComesBackBy, IsMove}
 
--- what one set adds to another, with which it shares no cell, is what is left beside that
+-- what a set adds to another, with which it shares no cell, is what is left without that one
 left_is : (M X G : Generation) → union M X ≡ G → AreDisjoint M X → others_of G M ≡ X
 left_is M X G together apart =
     let sub : IsSubsetOf M G = λ c h. ap (λ H. contains H c) (sym together) ∙ in_first M X c h in
@@ -71,7 +71,7 @@ module _ (R : Rule) (b : ℕ) (E : Generation) (way : Way) (engine : IsEngine R 
         (debris_falls_apart R b way.period E way engine);
   }
 
-  -- some generation would have no fewer cells than a period later
+  -- some generation would have no fewer cells than the one a period later
   pub never_falls_back : (counts : List ℕ) → ArePopulations R E (length counts) counts → FallsBack counts way.period → ⊥
   never_falls_back counts are falls =
       let within = falls.within in
@@ -81,13 +81,13 @@ module _ (R : Rule) (b : ℕ) (E : Generation) (way : Way) (engine : IsEngine R 
       let more = outgrows_itself R b E way engine falls.place in
       absurd (omega arith)
 
--- a cell of a set stands in each set that has all of it, moved
+-- a cell of a set is in each set that has all of it, moved
 pub moved_stands : (E G : Generation) (d c : Cell) → IsSubsetOf (translate_of E d) G → contains E c ≡ true →
     contains G (plus c d) ≡ true
 moved_stands E G d c among h =
     among (plus c d) (contains-moved E d (plus c d) ∙ ap (contains E) (plus-opposite c d) ∙ h)
 
--- the move leads a listed cell to one of those of the later generation
+-- the move leads a listed cell to a cell of the later generation
 pub move_to_one : (E G : Generation) (items all : List Cell) (i : ℕ) (d : Cell) → items ≡ cells E → all ≡ cells G →
     i < length items → IsSubsetOf (translate_of E d) G →
     (n : ℕ) × (n < length all) × (plus (get_or all n origin) (opposite (get_or items i origin)) ≡ d)
@@ -97,7 +97,7 @@ move_to_one E G items all i d of all_of inside among =
     (moved_stands E G d c among (listed_cell E items i of inside)) in
     (at.0, at.1, ap (λ q. plus q (opposite c)) at.2 ∙ plus_back c d)
 
--- the cells of a list that pass a test, with the next one
+-- the cells of a list that pass a test, and the next one if it does
 module _ (test : Cell → Bool) (all : List Cell) (n : ℕ) (inside : n < length all) where
   next_is : (b : Bool) → test (get_or all n origin) ≡ b →
       filter test (take (n + 1) all) ≡ filter test (take n all) ++ cond b (get_or all n origin ∷ []) []

@@ -1,33 +1,33 @@
--- What comes back along a track is an engine's exactly where its cores are unsplit, what leaves falls apart and never comes
--- near again, and something of it is left.
+-- What comes back along a track is the way of an engine exactly if its cores are unsplit, what leaves falls apart and
+-- never comes near again, and something of it is left.
 use Rattle.std.proofs.Common.{◌≡◌, ◌≢◌, ℕ, suc, ◌-◌, ◌<◌, ◌≤◌, List, [], ◌∷◌, length, inl, inr, sym, refl, ap, subst, ◌∙◌, arith}
 use Rattle.life_model.specs.Generation.{Generation, contains}
 use Rattle.life_model.specs.Rule.{Rule}
 use Rattle.life_model.proofs.Moves.{nothing_or_some}
 use Rattle.life_objects.specs.Ash.{HasFallenApart, IsAsh}
 use Rattle.life_objects.proofs.Unions.{in_first}
-use Rattle.life_settled.proofs.FitWays.{fit_by_steps}
-use Rattle.life_steps.specs.Short.{way_limit}
+use Rattle.life_growing.proofs.SettlingLemmas.FitWays.{fit_by_steps}
+use Rattle.life_things.specs.Lattice.Short.{way_limit}
 use Rattle.life_things.specs.Ways.{IsFit}
 use Rattle.life_objects.specs.Piece.{LivesThrough}
 use Rattle.life_objects.proofs.Ashes.{parts_of_empty}
 use Rattle.life_objects.specs.Union.{generations, union_of}
 use Rattle.life_model.specs.Symmetry.{translate_of}
-use Rattle.life_growth.specs.Engine.{FallsApart, IsEngine, Way}
-use Rattle.life_growth.specs.Things.{AreThingsOfLefts, IsMadeOf, NeverMeetAgain, listed}
-use Rattle.life_growth.specs.Unsplit.{IsUnsplit}
-use Rattle.life_growth.proofs.Endless.{IsUnsplit-wider}
-use Rattle.life_growth.proofs.Pieces.{engine_leaves_cores, engine_leaves_lefts, leaves_for_ever}
-use Rattle.life_growth.proofs.Things.{engine_is_made, leaves_cores_by_things, leaves_lefts_by_things, things_by_leaving}
-use Rattle.life_settled.specs.Settling.{IsSettling, Settling}
-use Rattle.life_settled.proofs.Making.{is_made_of_its_things}
-use Rattle.life_settled.proofs.Parting.{parts_by_then}
+use Rattle.life_objects.specs.Growth.Engine.{FallsApart, IsEngine, Way}
+use Rattle.life_objects.specs.Growth.Things.{AreThingsOfLefts, IsMadeOf, NeverMeetAgain, listed}
+use Rattle.life_objects.specs.Growth.Unsplit.{IsUnsplit}
+use Rattle.life_objects.proofs.GrowthLemmas.Endless.{IsUnsplit-wider}
+use Rattle.life_objects.proofs.GrowthLemmas.Pieces.{engine_leaves_cores, engine_leaves_lefts, leaves_for_ever}
+use Rattle.life_objects.proofs.GrowthLemmas.Things.{engine_is_made, leaves_cores_by_things, leaves_lefts_by_things, things_by_leaving}
+use Rattle.life_growing.specs.Settled.Settling.{IsSettling, Settling}
+use Rattle.life_growing.proofs.SettlingLemmas.Making.{is_made_of_its_things}
+use Rattle.life_growing.proofs.SettlingLemmas.Parting.{parts_by_then}
 use Rattle.life_apart.specs.Sets.{sets_of}
 use Rattle.life_orbit.specs.Course.{Course}
 use Rattle.life_tracks.specs.Tracks.{ComesBack, way_of}
 use Rattle.life_growing.specs.Emissions.{AreLefts, Emission, IsEmission, IsEmissionThing, left_at, things_left}
 
--- a list of which nothing becomes of is none
+-- a list that becomes nothing is empty
 none_later : (R : Rule) (k : ℕ) (parts : List Course) → generations R (sets_of parts) k ≡ [] → parts ≡ []
 none_later R k [] e = refl
 none_later R k (o ∷ parts) e =
@@ -40,7 +40,7 @@ module _ (R : Rule) (b : ℕ) (P : Generation) (s : Settling) (settles : IsSettl
   fallen : HasFallenApart R b P later
   fallen = parts_by_then R b P s settles
 
-  -- what settles lives on exactly where it has parts
+  -- what settles lives on exactly if it has parts
   parts_by_life : LivesThrough R b P → s.parts ≢ []
   parts_by_life lives none =
       lives (sym fallen.together ∙ ap (λ xs. union_of (generations R (sets_of xs) (b - length s.early))) none)
@@ -89,7 +89,7 @@ module _ (R : Rule) (b : ℕ) (way : Way) (lefts : List Settling) (are : AreLeft
         let h = engine.emitting.1 in
         (n, h, parts_by_life R b (way.left n) (left_at lefts n) (are.each n h) engine.emitting.2)
 
--- a core that is unsplit up to the end of a film is so within each bound that is no sooner
+-- a core that is unsplit up to the end of a film is so within each bound that is no less
 pub whole_in_film : (R : Rule) (T b n : ℕ) (P : Generation) → T ≤ b → IsUnsplit R (T - n) P → IsUnsplit R b P
 whole_in_film R T b n P le whole = IsUnsplit-wider R (T - n) b P (omega arith) whole
 
@@ -100,7 +100,7 @@ emission_is_made R b E e is =
     (lefts_are_made R b (way_of e.path) e.lefts is.lefts)
 
 module _ (R : Rule) (T : ℕ) (E : Generation) (way : Way) (back : ComesBack R T E way) where
-  -- what comes back has moved no further along each axis than that took generations
+  -- what comes back has moved no further along each axis than the number of generations that took
   pub fit_way : way.period ≤ way_limit → IsFit (way.period, way.displacement)
   fit_way few =
       elim (nothing_or_some E) [

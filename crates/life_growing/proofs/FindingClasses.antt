@@ -1,4 +1,4 @@
--- What lists of cells tell of sets, and what the classes of films tell of the cores of a track.
+-- What lists of cells say about sets, and what the classes of films say about the cores of a track.
 use Rattle.std.proofs.Common.{◌≡◌, ℕ, ◌-◌, ◌<◌, ◌≤◌, Bool, true, List, [], ◌∷◌, get_or, length, sym, ap, subst, ◌∙◌, arith}
 use Rattle.std.specs.Cmp.Lexicographic.{pointwise, pointwise_decides}
 use Rattle.std.specs.List.{Contains}
@@ -11,15 +11,15 @@ use Rattle.life_model.proofs.Generations.{from_list-cells}
 use Rattle.life_model.proofs.Recurrences.{generation-zero}
 use Rattle.life_objects.proofs.Lists.{Contains-head}
 use Rattle.life_objects.proofs.Unions.{union-empty}
-use Rattle.life_growth.specs.Unsplit.{AreClasses, IsUnsplit}
-use Rattle.life_growth.proofs.Classes.{one_class_by_unsplit}
-use Rattle.life_growth.proofs.Endless.{IsUnsplit-wider}
+use Rattle.life_objects.specs.Growth.Unsplit.{AreClasses, IsUnsplit}
+use Rattle.life_objects.proofs.GrowthLemmas.Classes.{one_class_by_unsplit}
+use Rattle.life_objects.proofs.GrowthLemmas.Endless.{IsUnsplit-wider}
 use Rattle.life_tracks.specs.declared.frames.film.Film.{Film}
 use Rattle.life_tracks.specs.Frames.Frames.{IsFilm, classes_at}
 use Rattle.life_tracks.proofs.Classes.{class_is_unsplit}
 use Rattle.life_apart.proofs.Together.{same_places, same_places-is}
 
--- sets whose cells are told alike are one
+-- sets with equal lists of cells are one
 pub same_by_cells : (r : Bool) (cs ds : List Cell) (G H : Generation) → r ≡ pointwise same_places cs ds → r ≡ true →
     cs ≡ cells G → ds ≡ cells H → G ≡ H
 same_by_cells r cs ds G H is alike first other =
@@ -31,7 +31,7 @@ same_by_cells r cs ds G H is alike first other =
 pub there : (Ps : List Generation) (k : ℕ) (P G : Generation) → k < length Ps → P ≡ get_or Ps k P → P ≡ G → Contains Ps G
 there Ps k P G h is same = subst (Contains Ps) (sym is ∙ same) (Contains-get_or Ps k P h)
 
--- a set is unsplit exactly where it is its own only class
+-- a set is unsplit exactly if it is its own only class
 pub unsplit_alone : (R : Rule) (b : ℕ) (G : Generation) (Ps : List Generation) → AreClasses R b G Ps → length Ps ≡ 1 →
     IsUnsplit R b G
 unsplit_alone R b G [] classes long = absurd (omega arith)

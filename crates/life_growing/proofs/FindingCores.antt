@@ -1,4 +1,4 @@
--- The cores of a track that are found unsplit so far.
+-- The cores of a track that are found to be unsplit so far.
 use Rattle.std.proofs.Common.{◌≡◌, ℕ, ◌+◌, ◌-◌, ◌<◌, ◌≤◌, Option, Some, None, Bool, true, IfSome, below_more, sym, subst, arith}
 use Rattle.std.specs.Bool.{OnTrue}
 use Rattle.std.specs.List.{Contains}
@@ -6,7 +6,7 @@ use Rattle.std.proofs.lemmas.Bool.{OnTrue_at}
 use Rattle.life_model.specs.Generation.{Generation}
 use Rattle.life_model.specs.Rule.{Rule}
 use Rattle.life_ash.proofs.Finding.{of_some}
-use Rattle.life_growth.specs.Unsplit.{IsUnsplit}
+use Rattle.life_objects.specs.Growth.Unsplit.{IsUnsplit}
 use Rattle.life_tracks.specs.Frames.Frames.{IsFilm, classes_at}
 use Rattle.life_growing.specs.declared.whole.Seen.{Seen}
 use Rattle.life_growing.proofs.FindingClasses.{told_by_film}
@@ -25,7 +25,7 @@ module _ (R : Rule) (b : ℕ) (core : ℕ → Generation) where
   seen_later n None is = is
   seen_later n (Some s) is = let less = is.0 in (omega arith, is.1)
 
-  -- one core more, that a film seen before tells
+  -- one more core, for which a film seen before answers
   pub one_told : (n : ℕ) (seen : Option Seen) (s : Seen) (told : Bool) (P : Generation) → AreWholeSoFar n seen →
       seen ≡ Some s → P ≡ core n → OnTrue told ((R' : Rule) (G : Generation) (T : ℕ) → IsFilm R' G T s.film →
       (n - s.from ≤ T) × Contains (classes_at s.film (n - s.from)) P) → told ≡ true → AreWholeSoFar (n + 1) seen
@@ -38,7 +38,7 @@ module _ (R : Rule) (b : ℕ) (core : ℕ → Generation) where
             (subst (IsUnsplit R b) here (told_by_film R (core s.from) b s.film film (n - s.from) q.0 P q.1));
       }
 
-  -- one core more, of which there is a film
+  -- one more core, of which there is a film
   pub one_filmed : (n : ℕ) (before after : Option Seen) (s : Seen) → AreWholeSoFar n before → after ≡ Some s →
       s.from ≡ n → IsFilm R (core n) b s.film → IsUnsplit R b (core n) → AreWholeSoFar (n + 1) after
   one_filmed n before after s at is from film whole = record {

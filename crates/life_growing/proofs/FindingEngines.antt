@@ -4,10 +4,10 @@ use Rattle.std.specs.List.{All}
 use Rattle.std.proofs.lemmas.List.Elements.{All-contains}
 use Rattle.life_model.specs.Generation.{Generation, empty}
 use Rattle.life_model.specs.Rule.{Rule}
-use Rattle.life_growth.specs.Engine.{IsEngine, IsEngineWithin, Way}
-use Rattle.life_growth.specs.Unsplit.{IsUnsplit}
-use Rattle.life_growth.proofs.Classes.{one_class_by_unsplit}
-use Rattle.life_growth.proofs.Endless.{IsUnsplit-wider}
+use Rattle.life_objects.specs.Growth.Engine.{IsEngine, IsEngineWithin, Way}
+use Rattle.life_objects.specs.Growth.Unsplit.{IsUnsplit}
+use Rattle.life_objects.proofs.GrowthLemmas.Classes.{one_class_by_unsplit}
+use Rattle.life_objects.proofs.GrowthLemmas.Endless.{IsUnsplit-wider}
 use Rattle.life_tracks.specs.declared.frames.film.Film.{Film}
 use Rattle.life_tracks.specs.Frames.Frames.{IsFilm, classes_at}
 use Rattle.life_tracks.specs.Films.{IsTrackOf}
@@ -33,7 +33,7 @@ module _ (R : Rule) (T : ℕ) (film : Film) (E : Generation) (is : IsFilm R E T 
   pub track_start : (p : Path) → IsTrackOf R T film p → p.start ≡ E
   track_start p track = track.start ∙ in_first p.place track.place
 
--- where no track is an engine's the set is none
+-- if no track is an engine's, the set is no engine
 pub no_engine : (R : Rule) (T : ℕ) (film : Film) (E : Generation) → IsFilm R E T film → (b : ℕ) (tracks : List Path) →
     All (IsTrackOf R T film) tracks → All (λ p. IsEngine R b p.start (way_of p) → ⊥) tracks →
     ((place : ℕ) (way : Way) → place < length (classes_at film 0) →

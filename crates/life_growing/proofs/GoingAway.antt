@@ -4,12 +4,12 @@ use Rattle.std.specs.List.{Contains}
 use Rattle.std.proofs.lemmas.Bool.{cases_lt}
 use Rattle.life_objects.proofs.DecidedLemmas.Kept.{Contains-map}
 use Rattle.life_objects.proofs.IndependentLemmas.Found.{of_map}
-use Rattle.life_growth.specs.Engine.{Way}
-use Rattle.life_growth.specs.Things.{NeverMeet, NeverMeetAgain, Thing, a_period_later, core_thing, left_once, left_thing, listed}
+use Rattle.life_objects.specs.Growth.Engine.{Way}
+use Rattle.life_objects.specs.Growth.Things.{NeverMeet, NeverMeetAgain, Thing, a_period_later, core_thing, left_once, left_thing, listed}
 use Rattle.life_model.specs.Cell.{origin}
-use Rattle.life_settled.specs.Settling.{Settling}
-use Rattle.life_settled.specs.Things.{first_things, placed, things_of}
-use Rattle.life_settled.proofs.Listing.{Contains-first, of_first}
+use Rattle.life_growing.specs.Settled.Settling.{Settling}
+use Rattle.life_growing.specs.Settled.Things.{first_things, placed, things_of}
+use Rattle.life_growing.proofs.SettlingLemmas.Listing.{Contains-first, of_first}
 use Rattle.life_growing.specs.Emissions.{GoesAway, NoneMeets, things_left}
 use Rattle.life_growing.proofs.GoingPlaced.{placed_once, things_at}
 
@@ -115,7 +115,7 @@ module _ (way : Way) (lefts : List Settling) (n : ℕ) where
         again = λ k it other late one two. away.again k it other late (omega arith) one two;
       }
 
--- each goes away exactly where none ever meets the others again
+-- each goes away exactly if none ever meets the others again
 module _ (way : Way) (lefts : List Settling) where
   pub never_meet_again : ((n : ℕ) → n < way.period → GoesAway way lefts n) →
       NeverMeetAgain way (listed (things_left lefts))

@@ -1,10 +1,10 @@
 -- The cores of a track, each before a step, as things.
 use Rattle.std.proofs.Common.{◌≡◌, ◌≢◌, ℕ, zero, suc, ◌+◌, ◌-◌, ◌<◌, ◌≤◌, List, [], ◌∷◌, ◌++◌, length, get_or, refl, sym, ap, ◌∙◌, arith}
 use Rattle.life_model.specs.Generation.{Generation}
-use Rattle.life_growth.specs.Engines.Tracks.{Step, core_along, left_along}
-use Rattle.life_growth.specs.Engine.{Way}
-use Rattle.life_growth.specs.Things.{Thing, core_thing}
-use Rattle.life_settled.specs.Things.{first_things}
+use Rattle.life_objects.specs.Growth.Engines.Tracks.{Step, core_along, left_along}
+use Rattle.life_objects.specs.Growth.Engine.{Way}
+use Rattle.life_objects.specs.Growth.Things.{Thing, core_thing}
+use Rattle.life_growing.specs.Settled.Things.{first_things}
 use Rattle.life_tracks.specs.Tracks.{Path, way_of}
 
 core_along_step : (P : Generation) (steps : List Step) (d : Step) (m : ℕ) → m < length steps →
@@ -18,7 +18,7 @@ left_along_step [] d m h = absurd (omega arith)
 left_along_step (s ∷ steps) d zero h = refl
 left_along_step (s ∷ steps) d (suc m) h = left_along_step steps d m (omega arith)
 
--- a later core is that of the step before it, and what leaves in a step is that of the step
+-- a later core is that of the step before it, and what leaves in a step is what that step lists
 module _ (path : Path) (steps : List Step) (same : steps ≡ path.steps) (s : Step) where
   pub core_of_step : (n : ℕ) → n ≢ 0 → n ≤ (way_of path).period → s ≡ get_or steps (n - 1) s → s.0 ≡ (way_of path).core n
   core_of_step n some le is =
@@ -36,7 +36,7 @@ pub same_core : (way : Way) (n : ℕ) (it : Thing) → it.time ≡ n → it.set 
     it.ways ≡ (way.period, way.displacement) ∷ [] → it ≡ core_thing way n
 same_core way n it time set ways i = record { time = time i; set = set i; ways = ways i }
 
--- one thing more
+-- one more thing
 pub first_more : (f : ℕ → Thing) (items more : List Thing) (it : Thing) (n : ℕ) → items ≡ first_things f n →
     more ≡ items ++ it ∷ [] → it ≡ f n → more ≡ first_things f (n + 1)
 first_more f items more it n so_far is last =

@@ -4,7 +4,7 @@ use Rattle.std.specs.List.{All}
 use Rattle.life_model.specs.Generation.{Generation, cells}
 use Rattle.life_cells.specs.Limits.{IsWithin}
 
--- what is so where there is nothing
+-- what holds if there is nothing
 pub of_none : {X : Type 0} {o : Option X} (P : Type 0) → o ≡ None → IfNone o P → P
 of_none P e h = subst (λ q. IfNone q P) e h
 

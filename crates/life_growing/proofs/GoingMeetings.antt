@@ -4,10 +4,10 @@ use Rattle.std.specs.List.{Contains}
 use Rattle.std.proofs.lemmas.List.{take_more}
 use Rattle.std.proofs.lemmas.List.Elements.{Contains-push_cases}
 use Rattle.life_objects.proofs.Lists.{Contains-head}
-use Rattle.life_growth.specs.Things.{NeverMeet, Thing}
+use Rattle.life_objects.specs.Growth.Things.{NeverMeet, Thing}
 use Rattle.life_growing.specs.Emissions.{NoneMeets}
 
--- one thing more that meets none
+-- one more thing that meets none
 pub more_meet_none : (As Bs : List Thing) (A : Thing) (i : ℕ) → i < length As → A ≡ get_or As i A →
     NoneMeets (take i As) Bs → NoneMeets (A ∷ []) Bs → NoneMeets (take (i + 1) As) Bs
 more_meet_none As Bs A i h is before here C B one two =

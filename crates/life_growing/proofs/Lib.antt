@@ -18,3 +18,4 @@ pub mod Refusing
 pub mod ComingBack
 pub mod Yielded
 pub mod Loosening
+pub mod SettlingLemmas

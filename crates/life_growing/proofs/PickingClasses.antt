@@ -14,12 +14,12 @@ use Rattle.life_objects.proofs.DecidedLemmas.Orders.{pairs_to_front}
 use Rattle.life_objects.proofs.Dividing.{AreApartFor-swap}
 use Rattle.life_objects.proofs.Lists.{AllPairs-append, AllPairs-head, AllPairs-nil, Contains-head, head_or_later}
 use Rattle.life_objects.proofs.Sides.{split_disjoint}
-use Rattle.life_growth.specs.Engine.{IsEngineWithin}
+use Rattle.life_objects.specs.Growth.Engine.{IsEngineWithin}
 use Rattle.life_growing.specs.Emissions.{Emission}
 use Rattle.life_growing.specs.Growths.{IsEngineFound, start_of, starts_of}
 use Rattle.life_growing.specs.Picking.{ArePicks}
 
--- nothing is in no list
+-- nothing is in an empty list
 in_none : {X : Type 0} (x : X) → Contains [] x → ⊥
 in_none x one = let less : one.0 < 0 = one.1 in absurd (omega arith)
 
@@ -54,7 +54,7 @@ before_differs R far Ps P later apart some Q one same =
           }) cell.0 cell.1 (ap (λ H. contains H cell.0) same ∙ cell.1)
     ]
 
--- the sets of the classes, with one between
+-- the sets of the classes, with one in between
 pub first_sets_then : (seen : List Class) (class : Class) (rest : List Class) →
     first_sets (seen ++ class ∷ rest) ≡ first_sets seen ++ class.first ∷ first_sets rest
 first_sets_then seen class rest = map-append (λ c. c.first) seen (class ∷ rest)
@@ -84,7 +84,7 @@ module _ (R : Rule) (b far : ℕ) where
 
   module _ (Ps : List Generation) (P : Generation) (engines : List Emission) (others : List Generation)
       (are : ArePicks R b far Ps engines others) where
-    -- one class more, which is an engine
+    -- one more class, which is an engine
     pub engine_picked : (e : Emission) (more : List Emission) → more ≡ engines ++ e ∷ [] → IsEngineFound R b e →
         start_of e ≡ P → (later : List Generation) → AllPairs (AreApartFor R far) (Ps ++ P ∷ later) →
         ArePicks R b far (Ps ++ P ∷ []) more others
@@ -115,7 +115,7 @@ module _ (R : Rule) (b far : ℕ) where
           none = are.none;
         }
 
-    -- one class more, which is none
+    -- one more class, which is no engine
     pub other_picked : (more : List Generation) → more ≡ others ++ P ∷ [] →
         (2 * b ≤ far → IsEngineWithin R b P → ⊥) → ArePicks R b far (Ps ++ P ∷ []) engines more
     other_picked more is none = subst (ArePicks R b far (Ps ++ P ∷ []) engines) (sym is) (record {

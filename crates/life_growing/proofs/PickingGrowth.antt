@@ -1,4 +1,4 @@
--- What is found is a growth, and where nothing is found there is none.
+-- What is found is a growth, and if nothing is found there is none.
 use Rattle.std.proofs.Common.{◌≡◌, ◌≢◌, ℕ, zero, suc, ◌*◌, ◌<◌, ◌≤◌, true, List, [], ◌∷◌, get_or, length, inl, inr, sym, refl, ap, subst, ◌∙◌, arith}
 use Rattle.std.specs.List.{All, AllPairs, Contains}
 use Rattle.std.proofs.lemmas.Bool.{cases_Bool}
@@ -15,20 +15,20 @@ use Rattle.life_objects.proofs.Members.{found_now, in_list_now}
 use Rattle.life_objects.proofs.Sides.{within_each_other}
 use Rattle.life_objects.proofs.DecidedLemmas.Kept.{Contains-filter, of_filter}
 use Rattle.life_objects.proofs.IndependentLemmas.Found.{of_map}
-use Rattle.life_growth.specs.Engine.{IsEngineWithin}
-use Rattle.life_growth.specs.Growth.{IsGrowth}
-use Rattle.life_growth.specs.Things.{IsMadeOf}
-use Rattle.life_growth.specs.Unsplit.{AreClasses}
-use Rattle.life_growth.proofs.Things.{apart_by_things, things_by_apart}
+use Rattle.life_objects.specs.Growth.Engine.{IsEngineWithin}
+use Rattle.life_objects.specs.Growth.Growth.{IsGrowth}
+use Rattle.life_objects.specs.Growth.Things.{IsMadeOf}
+use Rattle.life_objects.specs.Growth.Unsplit.{AreClasses}
+use Rattle.life_objects.proofs.GrowthLemmas.Things.{apart_by_things, things_by_apart}
 use Rattle.life_cells.specs.Limits.{IsWithin}
 use Rattle.life_ash.proofs.Places.{subset_within}
 use Rattle.life_tracks.specs.Frames.Frames.{with_cells}
 use Rattle.life_tracks.proofs.FramesLemmas.Near.{has_cell, no_cell, some_cell, union-with_cells}
-use Rattle.life_growth.specs.Fates.Picked.{ArePicked}
-use Rattle.life_growth.proofs.FatesLemmas.Classes.{picked_growth}
-use Rattle.life_settled.specs.Settling.{IsSettling, Settling}
-use Rattle.life_settled.proofs.Making.{is_made_of_its_things}
-use Rattle.life_settled.proofs.Parting.{parts_by_then}
+use Rattle.life_objects.specs.Growth.Fates.Picked.{ArePicked}
+use Rattle.life_objects.proofs.GrowthLemmas.FatesLemmas.Classes.{picked_growth}
+use Rattle.life_growing.specs.Settled.Settling.{IsSettling, Settling}
+use Rattle.life_growing.proofs.SettlingLemmas.Making.{is_made_of_its_things}
+use Rattle.life_growing.proofs.SettlingLemmas.Parting.{parts_by_then}
 use Rattle.life_growing.specs.Meeting.{GoApart, IsThingAt}
 use Rattle.life_growing.specs.Emissions.{Emission, IsEmissionThing}
 use Rattle.life_growing.specs.Growths.{IsEngineFound, start_of, starts_of}
@@ -44,7 +44,7 @@ cell_in P some = elim (cases_Bool (some_cell P)) [
   | inr none ↦ absurd (some (no_cell P none))
 ]
 
--- sets that no split tears, and that stay apart, are classes where they have a cell
+-- sets that no split tears, and that stay apart, are classes if they have a cell
 pub classes_with_cells : (R : Rule) (far : ℕ) (G : Generation) (Ps : List Generation) → union_of Ps ≡ G →
     All (StaysWhole R far G) Ps → AllPairs (AreApartFor R far) Ps → AreClasses R far G (with_cells Ps)
 classes_with_cells R far G Ps together whole apart = record {
@@ -59,7 +59,7 @@ none_mapped : (engines : List Emission) → starts_of engines ≡ [] → engines
 none_mapped [] e = refl
 none_mapped (x ∷ engines) e = let long : suc (length (starts_of engines)) ≡ 0 = ap length e in absurd (omega arith)
 
--- the sets of a union stand where it does
+-- the sets of a union are within its reach
 pub sets_within : (R : Rule) (a : ℕ) (G : Generation) (Ps : List Generation) → union_of Ps ≡ G →
     All (IsWithin a) (cells G) → All (λ P. All (IsWithin a) (cells P)) Ps
 sets_within R a G Ps together young =
@@ -78,7 +78,7 @@ module _ (R : Rule) (b far : ℕ) (G : Generation) (Ps : List Generation) (toget
   abbrev rest : Generation
   rest = union_of Os
 
-  -- the others stand where the set does
+  -- the others are within the reach of the set
   pub others_within : (a : ℕ) → All (IsWithin a) (cells G) → All (IsWithin a) (cells rest)
   others_within a young =
       subset_within a a (omega arith) rest G
@@ -116,7 +116,7 @@ module _ (R : Rule) (b far : ℕ) (G : Generation) (Ps : List Generation) (toget
       ])
 
   module _ (debris : Settling) (settles : IsSettling R b rest debris) where
-    -- what stands in a place: the debris, and after it each engine
+    -- what is in a place: the debris, and after it each engine
     abbrev sets : List Generation
     sets = rest ∷ Fs
 
@@ -167,7 +167,7 @@ module _ (R : Rule) (b far : ℕ) (G : Generation) (Ps : List Generation) (toget
       settles = (_, parts_by_then R b rest debris settles);
     }
 
-  -- where there is a growth these are its engines and its debris
+  -- if there is a growth, these are its engines and its debris
   module _ (whole : All (StaysWhole R far G) Ps) (apart : AllPairs (AreApartFor R far) Ps) where
     kept : (Xs : List Generation) (P : Generation) → Contains Xs P → P ≢ empty → Contains (with_cells Xs) P
     kept Xs P one some = Contains-filter some_cell Xs P one (cell_in P some)

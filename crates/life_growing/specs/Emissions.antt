@@ -4,13 +4,13 @@ use Rattle.std.specs.List.{Contains}
 use Rattle.std.specs.Coded.{Coded, code_by, coded×, coded_list}
 use Rattle.life_model.specs.Generation.{Generation}
 use Rattle.life_model.specs.Rule.{Rule}
-use Rattle.life_growth.specs.Engine.{IsEngine, Way}
-use Rattle.life_growth.specs.Things.{IsEngineThing, NeverMeet, Thing, a_period_later, core_thing, left_once, left_thing, listed}
-use Rattle.life_settled.specs.Settling.{IsSettling, Settling, coded_settling}
-use Rattle.life_settled.specs.Things.{things_of}
+use Rattle.life_objects.specs.Growth.Engine.{IsEngine, Way}
+use Rattle.life_objects.specs.Growth.Things.{IsEngineThing, NeverMeet, Thing, a_period_later, core_thing, left_once, left_thing, listed}
+use Rattle.life_growing.specs.Settled.Settling.{IsSettling, Settling, coded_settling}
+use Rattle.life_growing.specs.Settled.Things.{things_of}
 use Rattle.life_tracks.specs.Tracks.{Path, coded_path, way_of}
 
--- the track along which an engine comes back, and what becomes of what leaves in each step
+-- the track along which an engine comes back, and what becomes of the cells that leave in each step
 pub record Emission : Type 0 where
   pub path : Path
   pub lefts : List Settling
@@ -21,7 +21,7 @@ coded_emission =
     code_by (Path × List Settling) (coded× coded_path (coded_list coded_settling)) (λ e. (e.path, e.lefts))
     (λ p. record { path = p.0; lefts = p.1 }) (λ _. refl)
 
--- what becomes of what leaves in a step
+-- what becomes of what leaves in a step, and nothing after the last step
 abbrev pub nothing_left : Settling
 nothing_left = record { early = []; parts = [] }
 
@@ -32,12 +32,12 @@ left_at lefts n = get_or lefts n nothing_left
 abbrev pub things_left : List Settling → ℕ → List Thing
 things_left lefts n = things_of (left_at lefts n)
 
--- What leaves in each step of the way settles so within b.
+-- What leaves in each step of the way settles as listed, within b.
 pub record AreLefts (R : Rule) (b : ℕ) (way : Way) (lefts : List Settling) : Type 0 where
   pub count : length lefts ≡ way.period
   pub each : (n : ℕ) → n < way.period → IsSettling R b (way.left n) (left_at lefts n)
 
--- E is an engine within b along the track, and what leaves settles so.
+-- E is an engine within b along the track, and what leaves settles as listed.
 pub record IsEmission (R : Rule) (b : ℕ) (E : Generation) (e : Emission) : Type 0 where
   pub engine : IsEngine R b E (way_of e.path)
   pub lefts : AreLefts R b (way_of e.path) e.lefts
@@ -51,11 +51,11 @@ pub record GoesAway (way : Way) (lefts : List Settling) (n : ℕ) : Type 0 where
   pub again : (k : ℕ) (it other : Thing) → k ≤ n → Contains (things_left lefts n) it →
       Contains (things_left lefts k) other → NeverMeet (left_once n it) (a_period_later way (left_thing way k other))
 
--- no thing of the one list meets one of the other
+-- no thing of one list meets one of the other
 abbrev pub NoneMeets : List Thing → List Thing → Type 0
 NoneMeets As Bs = (A B : Thing) → Contains As A → Contains Bs B → NeverMeet A B
 
--- the list has all such things, and no other
+-- the list has all such things, and no others
 pub record AreAll (things : List Thing) (IsOne : Thing → Type 0) : Type 0 where
   pub each : (it : Thing) → Contains things it → IsOne it
   pub all : (it : Thing) → IsOne it → Contains things it

@@ -4,8 +4,8 @@ use Rattle.std.specs.Coded.{Coded, code_by, coded×, coded_list}
 use Rattle.std.specs.List.{All}
 use Rattle.life_model.specs.Generation.{Generation}
 use Rattle.life_model.specs.Rule.{Rule}
-use Rattle.life_growth.specs.Growth.{IsGrowth}
-use Rattle.life_settled.specs.Settling.{IsSettling, Settling, coded_settling}
+use Rattle.life_objects.specs.Growth.Growth.{IsGrowth}
+use Rattle.life_growing.specs.Settled.Settling.{IsSettling, Settling, coded_settling}
 use Rattle.life_growing.specs.Emissions.{Emission, IsEmission, coded_emission}
 
 -- the engines, and what becomes of the debris
@@ -30,7 +30,7 @@ starts_of engines = map start_of engines
 abbrev pub IsEngineFound : Rule → ℕ → Emission → Type 0
 IsEngineFound R b e = IsEmission R b (start_of e) e
 
--- G grows by these engines within b, and its debris becomes that.
+-- G grows by these engines within b, and `debris` is what its debris becomes.
 pub record IsGrowthOf (R : Rule) (b : ℕ) (G : Generation) (g : Growth) : Type 0 where
   pub set : Generation
   pub growth : IsGrowth R b G (starts_of g.engines) set

@@ -6,3 +6,4 @@ pub mod Meeting
 pub mod Populations
 pub mod Returning
 pub mod Loose
+pub mod Settled

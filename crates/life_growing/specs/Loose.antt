@@ -3,13 +3,13 @@ use Rattle.std.specs.Prelude.{ℕ, ◌*◌, List}
 use Rattle.std.specs.List.{Contains}
 use Rattle.life_model.specs.Generation.{Generation}
 use Rattle.life_model.specs.Rule.{Rule}
-use Rattle.life_growth.specs.Engine.{FallsApart, IsEngineWithin}
+use Rattle.life_objects.specs.Growth.Engine.{FallsApart, IsEngineWithin}
 
--- C is no engine within b, and within twice b it doesn't fall apart.
+-- C is no engine within b, and doesn't fall apart within twice b.
 pub record IsLoose (R : Rule) (b : ℕ) (C : Generation) : Type 0 where
   pub no_engine : IsEngineWithin R b C → ⊥
   pub stays : FallsApart R (2 * b) C → ⊥
 
--- one of the classes is so
+-- one of the classes is loose
 abbrev pub HasLoose : Rule → ℕ → List Generation → Type 0
 HasLoose R b classes = (C : Generation) × Contains classes C × IsLoose R b C

@@ -1,12 +1,12 @@
 -- Whether engines and debris ever meet.
 use Rattle.std.specs.Prelude.{◌≡◌, ℕ, zero, suc, ◌<◌, List, [], get_or, length}
 use Rattle.std.specs.List.{Contains}
-use Rattle.life_growth.specs.Things.{NeverMeet, Thing}
-use Rattle.life_settled.specs.Settling.{Settling}
-use Rattle.life_settled.specs.Things.{things_of}
+use Rattle.life_objects.specs.Growth.Things.{NeverMeet, Thing}
+use Rattle.life_growing.specs.Settled.Settling.{Settling}
+use Rattle.life_growing.specs.Settled.Things.{things_of}
 use Rattle.life_growing.specs.Emissions.{AreAll, Emission, IsEmissionThing}
 
--- a thing of what stands in a place: the debris, and after it each engine
+-- a thing of what is in a place: the debris, and after it each engine
 abbrev pub IsThingAt : List Emission → Settling → ℕ → Thing → Type 0
 IsThingAt engines debris zero it = Contains (things_of debris) it
 IsThingAt engines debris (suc n) it =
@@ -17,7 +17,7 @@ pub record AreThingsOfEach (engines : List Emission) (debris : Settling) (lists 
   pub count : length lists ≡ suc (length engines)
   pub each : (n : ℕ) → n < length lists → AreAll (get_or lists n []) (IsThingAt engines debris n)
 
--- no thing of the one place meets one of the other
+-- no thing of one place meets one of the other
 abbrev pub GoApartAt : List Emission → Settling → ℕ → ℕ → Type 0
 GoApartAt engines debris m n =
     (A B : Thing) → IsThingAt engines debris m A → IsThingAt engines debris n B → NeverMeet A B

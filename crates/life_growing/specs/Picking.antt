@@ -3,12 +3,12 @@ use Rattle.std.specs.Prelude.{◌≢◌, ◌⊎◌, ℕ, ◌*◌, ◌≤◌, Lis
 use Rattle.std.specs.List.{All, AllPairs, Contains}
 use Rattle.life_model.specs.Generation.{Generation}
 use Rattle.life_model.specs.Rule.{Rule}
-use Rattle.life_growth.specs.Engine.{IsEngineWithin}
+use Rattle.life_objects.specs.Growth.Engine.{IsEngineWithin}
 use Rattle.life_growing.specs.Emissions.{Emission}
 use Rattle.life_growing.specs.Growths.{IsEngineFound, starts_of}
 
--- Of the classes these are found as engines within b, each once, and those are the others. None of those is an engine,
--- where far is twice b at least.
+-- Of the classes, `engines` are found as engines within b, each once, and `others` are the rest. None of the rest is an
+-- engine, if far is at least twice b.
 pub record ArePicks (R : Rule) (b far : ℕ) (classes : List Generation) (engines : List Emission)
     (others : List Generation) : Type 0 where
   pub found : All (IsEngineFound R b) engines

@@ -1,4 +1,4 @@
--- Whether a set comes back in a later generation, and what is left of that falls apart.
+-- Whether a set comes back in a later generation, and whether what is left of that falls apart.
 use Rattle.std.specs.Prelude.{ℕ, neg_ℤ, pos, ◌≤ℤ◌}
 use Rattle.life_model.specs.Cell.{Cell}
 use Rattle.life_model.specs.Generation.{Generation}
@@ -6,9 +6,9 @@ use Rattle.life_model.specs.Rule.{Rule}
 use Rattle.life_model.specs.Symmetry.{translate_of}
 use Rattle.life_objects.specs.Union.{IsSubsetOf}
 use Rattle.life_apart.specs.Alone.{others_of}
-use Rattle.life_growth.specs.Engine.{FallsApart}
+use Rattle.life_objects.specs.Growth.Engine.{FallsApart}
 
--- what is left of G beside E, moved by d
+-- what is left of G without E, moved by d
 abbrev pub left_by : Generation → Generation → Cell → Generation
 left_by G E d = others_of G (translate_of E d)
 
@@ -17,7 +17,7 @@ pub record ComesBackBy (R : Rule) (b : ℕ) (E G : Generation) (d : Cell) : Type
   pub among : IsSubsetOf (translate_of E d) G
   pub settles : FallsApart R b (left_by G E d)
 
--- the move from one place of a list of cells to another is no longer, along each axis
+-- the most that a move from one place of a list of cells to another goes along each axis
 abbrev pub move_limit : ℕ
 move_limit = 33554431
 

@@ -5,7 +5,7 @@ ghost use Rattle.life_growing.specs.Meeting.{AreThingsOfEach, GoApart, list_in};
 
 use crate::emission::Engine;
 use crate::going::none_meets;
-use life_settled::Settled;
+use crate::settling::Settled;
 use life_things::Thing;
 use std::alloc::{AllocError, Global};
 
@@ -25,7 +25,7 @@ fn things_of_each(
     Ok(lists)
 }
 
-/// Whether the things of a list never meet those of the lists before it.
+/// Whether the things of the list in a place never meet those of the lists before it.
 fn meet_none_before(lists: &[Vec<Thing>], n: usize) -> bool
     requires { n < length lists.now }
     ensures { IsTrue result ↔ ((m : ℕ) → m < n → NoneMeets (list_in (map (λ l. l.items) lists.now) m)

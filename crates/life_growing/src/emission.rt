@@ -1,18 +1,18 @@
 //! Engines.
 ghost use Rattle.std.specs.Prelude.{◌≡◌, ◌≤◌, IfOk, length};
 ghost use Rattle.life_things.specs.Ways.{IsFit};
-ghost use Rattle.life_steps.specs.Short.{way_limit};
+ghost use Rattle.life_things.specs.Lattice.Short.{way_limit};
 ghost use Rattle.life_tracks.specs.Tracks.{way_of};
 ghost use Rattle.life_growing.specs.Emissions.{AreAll, IsEmissionThing};
 
 use crate::lefts::{core_things, way_along};
-use life_settled::Settled;
+use crate::settling::Settled;
 use life_things::Thing;
 use life_tracks::Track;
 use std::alloc::{AllocError, Global};
 use std::marker::Model;
 
-/// An engine: the track along which it comes back, and what becomes of what leaves in each step.
+/// An engine: the track along which it comes back, and what becomes of the cells that leave in each step.
 #[derive(Drop)]
 pub struct Engine {
     track: Track,
@@ -21,7 +21,7 @@ pub struct Engine {
 
 impl Model for Engine {
     ghost use Rattle.std.specs.Prelude.{◌≡◌, ◌≤◌, length};
-    ghost use Rattle.life_steps.specs.Short.{way_limit};
+    ghost use Rattle.life_things.specs.Lattice.Short.{way_limit};
     ghost use Rattle.life_things.specs.Ways.{IsFit};
     ghost use Rattle.life_tracks.specs.Tracks.{way_of};
     ghost use Rattle.life_growing.specs.Emissions.{Emission, coded_emission};
@@ -37,7 +37,7 @@ impl Model for Engine {
 }
 
 impl Engine {
-    /// An engine that comes back along a track, where what leaves in each step settles so.
+    /// An engine that comes back along a track. `lefts` says what becomes of the cells that leave in each step.
     pub fn of(track: Track, lefts: Vec<Settled>) -> Engine
         requires count { length lefts.items ≡ (way_of track).period }
         requires fit { IsFit ((way_of track).period, (way_of track).displacement) }
@@ -54,14 +54,14 @@ impl Engine {
         &self.track
     }
 
-    /// What becomes of what leaves in each step.
+    /// What becomes of the cells that leave in each step.
     pub fn lefts(&self) -> &[Settled]
         ensures { result.now ≡ self.now.lefts }
     {
         self.lefts.as_slice()
     }
 
-    /// Its things: the cores, and those of what leaves in each step.
+    /// Its things: the cores, and the things that the cells leaving in each step become.
     pub fn things(&self, alloc: Global) -> Result<Vec<Thing>, AllocError>
         ensures { IfOk result (λ things. AreAll things.items (IsEmissionThing self.now)) }
     {

@@ -5,8 +5,8 @@ ghost use Rattle.life_model.specs.Generation as generations;
 ghost use Rattle.life_cells.specs.Limits.{IsWithin};
 ghost use Rattle.life_ash.specs.Parts.{ash_age_limit};
 ghost use Rattle.life_tracks.specs.Frames.Frames.{IsFilm};
-ghost use Rattle.life_growth.specs.Engine.{IsEngineWithin};
-ghost use Rattle.life_growth.specs.Unsplit.{IsUnsplit};
+ghost use Rattle.life_objects.specs.Growth.Engine.{IsEngineWithin};
+ghost use Rattle.life_objects.specs.Growth.Unsplit.{IsUnsplit};
 ghost use Rattle.life_growing.specs.Growths.{IsEngineFound, start_of};
 
 use crate::emission::Engine;
@@ -19,7 +19,7 @@ use life_things::WAY_LIMIT;
 use life_tracks::{Film, tracks};
 use std::alloc::{AllocError, Global};
 
-/// The engine within the bound that goes along a track of a film of a set of this age, if there is one. Where the set is
+/// The engine within the bound that goes along a track of a film of a set of this age, if there is one. If the set is
 /// unsplit for the whole film, it is that engine.
 fn engine_in<P: Plane>(
     alloc: Global,
@@ -46,10 +46,10 @@ fn engine_in<P: Plane>(
     Ok(None)
 }
 
-/// The engine within the bound that a set of this age is, as a film of it alone of so many generations tells it. Where the
-/// film is at least twice as long as the bound, the set is none where none is found.
+/// The engine within the bound that a set of this age is, found in a film of `length` generations of the set alone. If
+/// the film is at least twice as long as the bound and none is found, the set is no engine.
 ///
-/// The film is made only of what may be an engine by its populations, and holds each cell of each of its generations.
+/// The film is made only if the populations allow an engine. It holds each cell of each of its generations.
 pub fn engine_of<P: Plane>(
     alloc: Global,
     rule: &Rule,

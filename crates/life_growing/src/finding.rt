@@ -1,7 +1,7 @@
 //! Whether a class of a film that comes back is an engine.
 ghost use Rattle.std.specs.Prelude.{◌≡◌, ◌≢◌, ◌↔◌, ℕ, ◌+◌, ◌<◌, ◌≤◌, [], IfNone, IfOk, IfSome, IsTrue, length};
 ghost use Rattle.life_ash.specs.Parts.{ash_age_limit};
-ghost use Rattle.life_growth.specs.Engine.{IsEngine};
+ghost use Rattle.life_objects.specs.Growth.Engine.{IsEngine};
 ghost use Rattle.life_tracks.specs.Tracks.{ComesBack, way_of};
 ghost use Rattle.life_growing.specs.Emissions.{IsEmission, left_at};
 ghost use Rattle.life_growing.specs.Places.{AreWithinAlong};
@@ -9,15 +9,15 @@ ghost use Rattle.life_growing.specs.Places.{AreWithinAlong};
 use crate::emission::Engine;
 use crate::going::leave_for_ever;
 use crate::lefts::lefts_along;
+use crate::settling::Settled;
 use crate::whole::are_whole;
 use life_cells::Rule;
 use life_plane::Plane;
-use life_settled::Settled;
 use life_things::WAY_LIMIT;
 use life_tracks::Track;
 use std::alloc::{AllocError, Global};
 
-/// Whether something is left for ever of what leaves.
+/// Whether something that leaves lasts for ever.
 fn emit(lefts: &[Settled]) -> bool
     ensures { IsTrue result ↔ ((n : ℕ) × (n < length lefts.now) × ((left_at lefts.now n).parts ≢ [])) }
 {
@@ -29,8 +29,8 @@ fn emit(lefts: &[Settled]) -> bool
     false
 }
 
-/// The engine within the bound that goes along a track, if it is one: the track's class comes back in a film of this length,
-/// and is of this age.
+/// The engine within the bound that goes along a track, if there is one. The track's class comes back in a film of this
+/// length, and is of this age.
 pub fn engine_along<P: Plane>(
     alloc: Global,
     rule: &Rule,

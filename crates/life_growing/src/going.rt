@@ -1,13 +1,13 @@
-//! Whether what leaves a track does so for ever.
+//! Whether what leaves a track stays away for ever.
 ghost use Rattle.std.specs.Prelude.{◌≡◌, ◌↔◌, ◌<◌, ◌≤◌, [], ◌∷◌, IfOk, IsTrue, length, map};
-ghost use Rattle.life_growth.specs.Things.{NeverMeetAgain, a_period_later, core_thing, left_thing, listed};
-ghost use Rattle.life_settled.specs.Things.{first_things};
+ghost use Rattle.life_objects.specs.Growth.Things.{NeverMeetAgain, a_period_later, core_thing, left_thing, listed};
+ghost use Rattle.life_growing.specs.Settled.Things.{first_things};
 ghost use Rattle.life_things.specs.Ways.{IsFit};
 ghost use Rattle.life_tracks.specs.Tracks.{way_of};
 ghost use Rattle.life_growing.specs.Emissions.{GoesAway, NoneMeets, things_left};
 
 use crate::lefts::{core_things, way_along};
-use life_settled::Settled;
+use crate::settling::Settled;
 use life_things::Thing;
 use life_tracks::Track;
 use std::alloc::{AllocError, Global};
@@ -36,8 +36,8 @@ pub fn none_meets(things: &[Thing], others: &[Thing]) -> bool
     true
 }
 
-/// What leaves in step K, as things that come again after each period: from the period of step N on, if it leaves later in
-/// it, and else from the next one on.
+/// What leaves in step K, as things that recur after each period: from the period of step N on, if K is later than N,
+/// and else from the next period on.
 fn later_things(
     alloc: Global,
     track: &Track,

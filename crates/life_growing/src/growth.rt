@@ -2,18 +2,18 @@
 ghost use Rattle.std.specs.Prelude.{◌≡◌, ◌↔◌, ℕ, ◌+◌, ◌*◌, ◌<◌, ◌≤◌, All, AllPairs, IfNone, IfOk, IfSome, IsTrue, List, ◌∷◌, length};
 ghost use Rattle.life_model.specs.Generation.{Generation};
 ghost use Rattle.life_ash.specs.Parts.{ash_age_limit};
-ghost use Rattle.life_growth.specs.Growth.{IsGrowth};
-ghost use Rattle.life_settled.specs.Settling as settling;
+ghost use Rattle.life_objects.specs.Growth.Growth.{IsGrowth};
+ghost use Rattle.life_growing.specs.Settled.Settling as settling;
 ghost use Rattle.life_growing.specs.Growths.{IsGrowthOf};
 
 use crate::apart::stay_apart;
 use crate::emission::Engine;
 use crate::loose::one_is_loose;
 use crate::picking::{all_cells, picks};
+use crate::settling::{Settled, settled};
 use life_cells::Rule;
 use life_classes::classes_of;
 use life_plane::Plane;
-use life_settled::{Settled, settled};
 use life_things::WAY_LIMIT;
 use std::alloc::{AllocError, Global};
 use std::marker::Model;
@@ -52,12 +52,12 @@ impl Growth {
     }
 }
 
-/// The growth of a plane's cells within the bound, as what becomes of them in so many generations tells it. What is found is
-/// one. Where these generations are at least twice as many as the bound, there is none where none is found.
+/// The growth of a plane's cells within the bound, found from `length` generations of them. What is found is a
+/// growth. If `length` is at least twice the bound and none is found, there is none.
 ///
-/// The cells are taken apart into classes, and each class that may be an engine is followed alone. So it holds one generation
-/// of all cells at a time, and all generations of one class. Before that the largest classes are looked at, of which one may
-/// show alone that there is no growth.
+/// The cells are split into classes, and each class that may be an engine is followed alone. So at any time one
+/// generation of all cells is held, and all generations of one class. Before that the largest classes are checked: one
+/// of them alone may show that there is no growth.
 pub fn growth_of<P: Plane>(
     alloc: Global,
     plane: &P,

@@ -2,10 +2,10 @@
 ghost use Rattle.std.specs.Prelude.{ℕ};
 ghost use Rattle.life_model.specs.Generation.{Generation};
 ghost use Rattle.life_model.specs.Rule.{Rule};
-ghost use Rattle.life_growth.specs.Things.{IsMadeOf};
+ghost use Rattle.life_objects.specs.Growth.Things.{IsMadeOf};
 ghost use Rattle.life_growing.specs.Emissions.{Emission, IsEmission, IsEmissionThing};
 
-/// An engine is at each time all that its things have there: its cores, and what leaves.
+/// At each time an engine is all that its things have then: its cores, and what leaves.
 pub fn an_engine_is_made_of_its_things()
     ensures { (R : Rule) (b : ℕ) (E : Generation) (e : Emission) → IsEmission R b E e →
         IsMadeOf R E (IsEmissionThing e) }

@@ -1,26 +1,26 @@
-//! The cores of a track as things, and what becomes of what leaves along it.
+//! The cores of a track as things, and what becomes of the cells that leave along it.
 ghost use Rattle.std.specs.Prelude.{◌≡◌, ℕ, ◌+◌, ◌<◌, ◌≤◌, All, IfNone, IfOk, IfSome, length};
 ghost use Rattle.life_model.specs.Generation as generations;
 ghost use Rattle.life_model.specs.Generation.{Generation};
 ghost use Rattle.life_cells.specs.Limits.{IsWithin};
 ghost use Rattle.life_ash.specs.Parts.{ash_age_limit};
-ghost use Rattle.life_growth.specs.Engine.{FallsApart};
-ghost use Rattle.life_growth.specs.Things.{core_thing};
-ghost use Rattle.life_settled.specs.Things.{first_things};
-ghost use Rattle.life_steps.specs.Short.{way_limit};
+ghost use Rattle.life_objects.specs.Growth.Engine.{FallsApart};
+ghost use Rattle.life_objects.specs.Growth.Things.{core_thing};
+ghost use Rattle.life_growing.specs.Settled.Things.{first_things};
+ghost use Rattle.life_things.specs.Lattice.Short.{way_limit};
 ghost use Rattle.life_things.specs.Ways.{IsFit, way_of as fit_way_of};
 ghost use Rattle.life_tracks.specs.Tracks.{way_of};
 ghost use Rattle.life_growing.specs.Emissions.{AreLefts};
 ghost use Rattle.life_growing.specs.Places.{AreWithinAlong};
 
+use crate::settling::{Settled, settled};
 use life_cells::{CellList, Rule};
 use life_plane::Plane;
-use life_settled::{Settled, settled};
 use life_things::{Thing, WAY_LIMIT, Way, Ways};
 use life_tracks::Track;
 use std::alloc::{AllocError, Global};
 
-/// How a track's class comes back: after how many generations, and how far it has moved then.
+/// How a track's class comes back: its period in generations, and its displacement.
 pub fn way_along(track: &Track) -> Way
     requires { IsFit ((way_of track.now).period, (way_of track.now).displacement) }
     ensures { fit_way_of result ≡ ((way_of track.now).period, (way_of track.now).displacement) }
@@ -42,7 +42,7 @@ pub fn core_before(track: &Track, n: usize) -> &CellList
     track.steps()[n - 1].core()
 }
 
-/// The cores of a track, each before a step, as things that come again after each period.
+/// The cores of a track, each before a step, as things that recur after each period.
 pub fn core_things(alloc: Global, track: &Track) -> Result<Vec<Thing>, AllocError>
     requires { IsFit ((way_of track.now).period, (way_of track.now).displacement) }
     ensures { IfOk result (λ things. things.items
@@ -58,8 +58,8 @@ pub fn core_things(alloc: Global, track: &Track) -> Result<Vec<Thing>, AllocErro
     Ok(things)
 }
 
-/// What becomes of what leaves in each step of a track, where all of it falls apart within the bound. The track's first
-/// core is of this age.
+/// What becomes of the cells that leave in each step of a track, if all of them fall apart within the bound. The
+/// track's first core is of this age.
 pub fn lefts_along<P: Plane>(
     alloc: Global,
     rule: &Rule,

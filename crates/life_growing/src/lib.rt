@@ -1,7 +1,9 @@
-//! The growth of a generation: the engines among its classes, what becomes of what they emit, and of the debris beside
-//! them.
+//! What a set falls apart into within a bound, as things in space and time, and the growth of a generation.
 //!
-//! Tested in `tests_growth`.
+//! `settling` has the first. The second has the engines among the classes of a generation, what becomes of what they emit,
+//! and of the debris beside them.
+//!
+//! Tested in `tests_objects`.
 #![tactic(auto)]
 
 mod apart;
@@ -16,9 +18,11 @@ mod loose;
 mod picking;
 mod refusal;
 mod returning;
+mod settling;
 mod whole;
 
 pub use emission::Engine;
 pub use growth::{Growth, growth_of};
 pub use laws::an_engine_is_made_of_its_things;
 pub use refusal::are_no_engine;
+pub use settling::{Settled, settled, what_settles_falls_apart, what_settles_is_made_of_things};

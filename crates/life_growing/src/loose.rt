@@ -8,18 +8,18 @@ ghost use Rattle.life_classes.specs.Tracking.{first_sets};
 ghost use Rattle.life_growing.specs.Loose.{HasLoose, IsLoose};
 
 use crate::refusal::are_no_engine;
+use crate::settling::falls_apart;
 use life_cells::{CellList, Rule};
 use life_classes::Class;
 use life_plane::Plane;
-use life_settled::falls_apart;
 use life_things::WAY_LIMIT;
 use std::alloc::{AllocError, Global};
 
-/// So many of the classes are looked at, of those with the most cells: what never falls apart is mostly among them.
+/// Of the classes with the most cells, `FEW` are looked at: what never falls apart is mostly among them.
 const FEW: u32 = 4;
 
-/// Whether it is seen that the cells, of this age, are no engine within the bound, and don't fall apart in twice as many
-/// generations either. Where that is past `WAY_LIMIT` nothing is told.
+/// Whether the cells, of this age, are seen to be no engine within the bound and not to fall apart in twice as many
+/// generations. If twice the bound is more than `WAY_LIMIT`, the answer is false.
 fn is_loose<P: Plane>(
     alloc: Global,
     rule: &Rule,
@@ -42,7 +42,7 @@ fn is_loose<P: Plane>(
     Ok(!falls)
 }
 
-/// The place of a class with the most cells, among those that have fewer than so many.
+/// The place of a class with the most cells, among those that have fewer than `count`.
 fn largest_below(classes: &[Class], count: usize) -> Option<usize>
     ensures { IfSome result (λ place. place < length classes.now) }
 {
@@ -58,8 +58,9 @@ fn largest_below(classes: &[Class], count: usize) -> Option<usize>
     largest
 }
 
-/// Whether one of the largest classes of a set of this age shows that the set doesn't grow within the bound: were there a
-/// growth, the class would be an engine or fall apart beside the engines. Of classes with equally many cells one is looked at.
+/// Whether one of the largest classes of a set of this age shows that the set doesn't grow within the bound: in a
+/// growth, the class would be an engine or fall apart beside the engines. Of classes with equally many cells one is
+/// looked at.
 pub fn one_is_loose<P: Plane>(
     alloc: Global,
     rule: &Rule,

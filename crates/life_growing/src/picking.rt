@@ -16,14 +16,15 @@ use life_plane::Plane;
 use life_things::WAY_LIMIT;
 use std::alloc::{AllocError, Global};
 
-/// Those of some classes that are engines, and the others.
+/// The engines among some classes, and the other classes.
 #[derive(Drop)]
 pub struct Picked {
     pub engines: Vec<Engine>,
     pub others: Vec<CellList>,
 }
 
-/// Which of the classes of a set of this age are engines within the bound. Each is looked at alone, for so many generations.
+/// Which of the classes of a set of this age are engines within the bound. Each is looked at alone, for `length`
+/// generations.
 pub fn picks<P: Plane>(
     alloc: Global,
     rule: &Rule,

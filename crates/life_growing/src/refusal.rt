@@ -1,4 +1,4 @@
-//! What cells show by which they are no engine.
+//! How cells show that they are no engine.
 ghost use Rattle.std.specs.Prelude.{◌≡◌, ℕ, ◌+◌, ◌<◌, ◌≤◌, All, IfOk};
 ghost use Rattle.std.specs.Bool.{OnTrue};
 ghost use Rattle.life_model.specs.Cell.{Cell};
@@ -6,7 +6,7 @@ ghost use Rattle.life_model.specs.Generation as generations;
 ghost use Rattle.life_model.specs.Recurrence.{RecursBy};
 ghost use Rattle.life_cells.specs.Limits.{IsWithin};
 ghost use Rattle.life_ash.specs.Parts.{ash_age_limit};
-ghost use Rattle.life_growth.specs.Engine.{IsEngineWithin};
+ghost use Rattle.life_objects.specs.Growth.Engine.{IsEngineWithin};
 ghost use Rattle.life_orbit.specs.Kept.{orbit_age_limit};
 ghost use Rattle.life_growing.specs.Populations.{ArePopulations, FallsBack};
 
@@ -17,10 +17,10 @@ use life_plane::Plane;
 use life_things::WAY_LIMIT;
 use std::alloc::{AllocError, Global};
 
-/// What comes again within so many generations is found first, since much of what doesn't grow does so.
+/// A recurrence within `SOON` generations is found first, since much of what doesn't grow recurs that soon.
 const SOON: u32 = 64;
 
-/// The population of some cells of this age, and those of so many later generations.
+/// The population of some cells of this age, and those of the next `length` generations.
 fn populations<P: Plane>(
     alloc: Global,
     rule: &Rule,
@@ -42,7 +42,7 @@ fn populations<P: Plane>(
     Ok(counts)
 }
 
-/// Whether some of the numbers is no less than the one so many places later.
+/// Whether one of the numbers is no less than the one `places` places later.
 pub fn falls_back(counts: &[u64], places: usize) -> bool
     ensures { OnTrue result (FallsBack counts.now places) }
 {
@@ -54,7 +54,8 @@ pub fn falls_back(counts: &[u64], places: usize) -> bool
     false
 }
 
-/// Whether for each number of places up to the bound some of the numbers is no less than the one so many places later.
+/// Whether, for each number of places from 1 to the bound, one of the counts is no less than the one that many places
+/// later.
 fn keep_falling_back(counts: &[u64], bound: usize) -> bool
     ensures { OnTrue result ((places : ℕ) → 1 ≤ places → places ≤ bound → FallsBack counts.now places) }
 {
@@ -66,7 +67,7 @@ fn keep_falling_back(counts: &[u64], bound: usize) -> bool
     true
 }
 
-/// Whether cells are seen to come again soon.
+/// Whether the cells are seen to recur soon.
 fn come_again_soon(alloc: Global, rule: &Rule, cells: &CellList) -> Result<bool, AllocError>
     requires { All (IsWithin orbit_age_limit) (generations.cells cells.now) }
     ensures { IfOk result (λ do_so. OnTrue do_so
@@ -78,9 +79,9 @@ fn come_again_soon(alloc: Global, rule: &Rule, cells: &CellList) -> Result<bool,
     }
 }
 
-/// Whether cells of this age show that they are no engine within the bound: they come again soon; or, whatever the period
-/// were, there is a generation in which they have no fewer cells than a period later; or they don't come back a period later
-/// and leave what falls apart.
+/// Whether cells of this age are seen to be no engine within the bound: they recur soon; or, for every period, some
+/// generation has no fewer cells than the one a period later; or the cells don't come back a period later and leave
+/// what falls apart.
 pub fn are_no_engine<P: Plane>(
     alloc: Global,
     rule: &Rule,

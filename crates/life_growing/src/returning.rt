@@ -1,4 +1,4 @@
-//! Whether cells come back in a later generation, and what is left of that falls apart.
+//! Whether cells come back in a later generation, and whether what is left of that falls apart.
 ghost use Rattle.std.specs.Prelude.{◌≡◌, ℕ, ◌+◌, ◌<◌, ◌≤◌, ◌+ℤ◌, ◌≤ℤ◌, neg_ℤ, pos, All, IfOk, false, length};
 ghost use Rattle.std.specs.Bool.{OnTrue};
 ghost use Rattle.life_model.specs.Cell.{Cell, opposite, plus};
@@ -8,19 +8,20 @@ ghost use Rattle.life_model.specs.Symmetry.{translate_of};
 ghost use Rattle.life_objects.specs.Union.{IsSubsetOf};
 ghost use Rattle.life_cells.specs.Limits.{IsPlace, IsWithin};
 ghost use Rattle.life_ash.specs.Parts.{ash_age_limit};
-ghost use Rattle.life_growth.specs.Engine.{FallsApart, IsEngineWithin};
+ghost use Rattle.life_objects.specs.Growth.Engine.{FallsApart, IsEngineWithin};
 ghost use Rattle.life_growing.specs.Populations.{ArePopulations};
 ghost use Rattle.life_growing.specs.Returning.{ComesBackBy, IsMove, left_by};
 
 use crate::refusal::falls_back;
+use crate::settling::falls_apart;
 use life_cells::{CellList, Rule, put_in_order};
 use life_islands::index_near;
 use life_plane::{Plane, move_between};
-use life_settled::falls_apart;
 use life_things::WAY_LIMIT;
 use std::alloc::{AllocError, Global};
 
-/// Of how many sets that are left one looks whether they fall apart, for all periods together. Past that nothing is told.
+/// How many sets that are left are tested for falling apart, for all periods together. After that the answer is left
+/// open.
 const TRIES: u32 = 16;
 
 /// The places of two cells of a list.
@@ -30,7 +31,7 @@ struct Ends {
     last: usize,
 }
 
-/// The ends of the longest run of cells side by side. Few other cells stand like these two.
+/// The ends of the longest run of cells side by side. Few other pairs of cells have their displacement.
 fn longest_run(cells: &[(i32, i32)]) -> Ends
     requires some { 0 < length cells.now }
     requires placed { All IsPlace cells.now }
@@ -59,7 +60,7 @@ fn moved(cell: (i32, i32), by: (i32, i32)) -> (i32, i32)
     (cell.0 + by.0, cell.1 + by.1)
 }
 
-/// Whether all the cells, moved, are among those of a later generation. Each is looked up near the one before it.
+/// Whether all the cells, moved, are among those of a later generation. Each is looked up near the cell before it.
 fn are_among(cells: &CellList, by: (i32, i32), later: &CellList) -> bool
     requires by { IsMove by }
     ensures no { result ≡ false → IsSubsetOf (translate_of cells.now by) later.now → ⊥ }
@@ -74,7 +75,7 @@ fn are_among(cells: &CellList, by: (i32, i32), later: &CellList) -> bool
     true
 }
 
-/// The move back.
+/// The opposite move.
 fn back(by: (i32, i32)) -> (i32, i32)
     requires { IsMove by }
     ensures fits { IsMove result }
@@ -83,7 +84,7 @@ fn back(by: (i32, i32)) -> (i32, i32)
     (-by.0, -by.1)
 }
 
-/// Whether a place is that of one of the cells, moved. It is looked up near the last one.
+/// Whether a place is that of one of the cells, moved. The search starts near the last one.
 fn is_moved_cell(cells: &CellList, by: (i32, i32), place: (i32, i32), guess: &mut usize) -> bool
     requires by { IsMove by }
     requires placed { IsPlace place }
@@ -116,7 +117,7 @@ fn left_beside(
     Ok(CellList::from_ordered(items))
 }
 
-/// Whether all the cells, moved, may be among those of a later generation of this age, and what is left then fall apart.
+/// Whether all the cells, moved, may be among those of a later generation of this age, with the rest falling apart.
 fn may_come_back_by<P: Plane>(
     alloc: Global,
     rule: &Rule,
@@ -144,7 +145,8 @@ fn may_come_back_by<P: Plane>(
     falls_apart::<P>(alloc, rule, &left, age, bound)
 }
 
-/// The same for any move. Only such moves are looked at as lead two of the cells to cells of the later generation.
+/// Whether, for some move, all the cells may be among those of a later generation of this age, with the rest falling
+/// apart. Only moves that lead two of the cells to cells of the later generation are tried.
 fn may_come_back<P: Plane>(
     alloc: Global,
     rule: &Rule,
@@ -178,8 +180,8 @@ fn may_come_back<P: Plane>(
     Ok(false)
 }
 
-/// Whether it is seen that cells of this age, which have these populations, never come back within the bound so that what
-/// is left then falls apart. An engine does so after a period. Of each generation each cell is looked at.
+/// Whether cells of this age, with these populations, are seen never to come back within the bound with the rest then
+/// falling apart. An engine does so after a period. Each cell of each generation is looked at.
 pub fn never_come_back<P: Plane>(
     alloc: Global,
     rule: &Rule,

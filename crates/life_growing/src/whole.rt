@@ -8,7 +8,7 @@ ghost use Rattle.life_model.specs.Rule.{Rule as ModelRule};
 ghost use Rattle.life_cells.specs.Limits.{IsWithin};
 ghost use Rattle.life_ash.specs.Parts.{ash_age_limit};
 ghost use Rattle.life_tracks.specs.Frames.Frames.{IsFilm, classes_at};
-ghost use Rattle.life_growth.specs.Unsplit.{IsUnsplit};
+ghost use Rattle.life_objects.specs.Growth.Unsplit.{IsUnsplit};
 ghost use Rattle.life_tracks.specs.Tracks.{way_of};
 ghost use Rattle.life_growing.specs.Places.{AreWithinAlong};
 
@@ -18,7 +18,7 @@ use life_plane::{AGE_LIMIT, Plane};
 use life_tracks::{Film, Track};
 use std::alloc::{AllocError, Global};
 
-/// Whether some class of a film's generation has these cells.
+/// Whether one of the classes of a film's generation has exactly these cells.
 fn has_class(film: &Film, n: usize, cells: &CellList) -> bool
     requires { (R : ModelRule) × (G : Generation) × (T : ℕ) × IsFilm R G T film.now }
     ensures { OnTrue result ((R : ModelRule) (G : Generation) (T : ℕ) → IsFilm R G T film.now →
@@ -35,7 +35,7 @@ fn has_class(film: &Film, n: usize, cells: &CellList) -> bool
     false
 }
 
-/// The film of some cells of this age up to the bound, where they are unsplit within it.
+/// The film of some cells of this age up to the bound, if they are unsplit within it.
 pub fn film_if_whole<P: Plane>(
     alloc: Global,
     rule: &Rule,
@@ -57,15 +57,15 @@ pub fn film_if_whole<P: Plane>(
     Ok(Some(film))
 }
 
-/// A film of a core up to the bound, which tells as much of later cores as it has them among its classes.
+/// A film of a core up to the bound. It also answers for each later core that is among its classes.
 #[derive(Drop)]
 struct Seen {
     from: usize,
     film: Film,
 }
 
-/// Whether each core of a track is unsplit within the bound. The first core is of this age. A film that tells one core tells
-/// later ones too, as long as they are classes of it, and so one film does mostly.
+/// Whether each core of a track is unsplit within the bound. The first core is of this age. The film of a core also
+/// answers for later cores, as long as they are classes of it, so one film is mostly enough.
 pub fn are_whole<P: Plane>(
     alloc: Global,
     rule: &Rule,

@@ -1,4 +1,4 @@
--- Colours that agree, and what they tell.
+-- Colours that agree, and what they show.
 use Rattle.std.proofs.Common.{Option, None, Some, IfNone, IfSome, get_or-set_same, get_or-set_other}
 use Rattle.std.proofs.Common.{◌≡◌, ◌≢◌, ℕ, zero, suc, ◌+◌, ◌<◌, ◌==◌, Bool, true, false, ◌&&◌, cond, List, length, set, inl, inr, sym, refl, ap, subst, ◌∙◌, arith}
 use Rattle.std.proofs.lemmas.Bool.{and_parts, both_ways, cases_Bool, cases_lt}

@@ -18,7 +18,7 @@ use Rattle.life_islands.proofs.Further.{further_by_join, further_through, joined
 
 -- ---- what is tied
 
--- what is joined so far is tied, if what has labels with one root is so
+-- what is joined so far is tied if what has labels with one root is tied
 abbrev pub KeepsEndsTied : List ℕ → List ℕ → List ℕ → Type 0
 KeepsEndsTied labels old now =
     (R : Rule) (P : Generation) (firsts : List Cell) →

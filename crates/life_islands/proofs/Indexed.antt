@@ -55,7 +55,7 @@ parted_at G c cs i is rising placed before after has =
           )
     ]
 
--- a place whose neighbours stand on its two sides parts the list
+-- a place whose neighbours are on its two sides parts the list
 pub parting_here : (cs : List Cell) (number : ℤ) (at : ℕ) → T (is_rising cs) → All IsPlace cs → at ≤ length cs →
     ((d : Cell) → 0 < at → int_lt (place_number (get_or cs (at - 1) d)) number ≡ true) →
     ((d : Cell) → at < length cs → int_lt (place_number (get_or cs at d)) number ≡ false) → IsParting cs number at

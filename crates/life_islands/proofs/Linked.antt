@@ -1,4 +1,4 @@
--- What a flaw of colours tells of the cells around a place.
+-- What a flaw of colours shows about the cells around a place.
 use Rattle.std.proofs.Common.{◌≡◌, ◌⊎◌, ℕ, suc, ◌<◌, ◌==◌, Bool, true, false, ◌&&◌, List, length, get_or, inl, inr, sym, refl, ap, subst, ◌∙◌, arith, eqb-true, eq-eqb}
 use Rattle.std.specs.Cmp as cmp
 use Rattle.std.proofs.lemmas.Bool.{and_from, and_parts, both_ways, cases_lt}

@@ -1,4 +1,4 @@
--- What a flaw of colours tells of the sets of the seats.
+-- What a flaw of colours shows about the sets of the seats.
 use Rattle.std.proofs.Common.{◌≡◌, ◌≢◌, ℕ, ◌<◌, Bool, true, List, inl, inr, sym, subst, ◌∙◌, arith}
 use Rattle.life_model.specs.Rule.{Rule}
 use Rattle.life_islands.specs.declared.colours.Seat.{Seat}

@@ -32,7 +32,7 @@ placed Hs G c together h =
     let one = Any-from_list_any (λ H. contains H c) Hs (sym (contains-union_of Hs c) ∙ ap (λ H. contains H c) together ∙ h) in
     (one.0, one.2, ap (λ H. contains H c) (sym (get_or_default Hs one.0 one.1 empty one.2) ∙ one.3) ∙ one.4)
 
--- sets that share a cell stand in one place
+-- sets that share a cell are in one place of the list
 pub one_place : (Hs : List Generation) → AllPairs AreDisjoint Hs → (c : Cell) (i j : ℕ) → i < length Hs → j < length Hs →
     contains (get_or Hs i empty) c ≡ true → contains (get_or Hs j empty) c ≡ true → i ≡ j
 one_place Hs once c i j h k a b =

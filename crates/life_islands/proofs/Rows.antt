@@ -1,4 +1,4 @@
--- The rows in which cells stand that are at most two from a cell.
+-- The rows of the cells that are at most two from a cell.
 use Rattle.std.proofs.Common.{◌≡◌, ◌⊎◌, zero, suc, ℤ, pos, negsuc, neg_ℤ, ◌-ℤ◌, ◌+ℤ◌, ◌≤ℤ◌, inl, inr, refl, arith}
 use Rattle.std.proofs.lemmas.Int.{ints}
 use Rattle.life_model.specs.Cell.{Cell}
@@ -19,7 +19,7 @@ small (negsuc zero) h k = inr (inl refl)
 small (negsuc (suc zero)) h k = inl refl
 small (negsuc (suc (suc n))) h k = absurd (omega (arith, ints))
 
--- in one of the five rows about a cell
+-- in one of the five rows around a cell
 pub row_of : (e c : Cell) → IsWithinTwo e c →
     IsInRow e (place_number c -ℤ pos 2 -ℤ pos 4294967296)
     ⊎ (IsInRow e (place_number c -ℤ pos 2 -ℤ pos 2147483648)

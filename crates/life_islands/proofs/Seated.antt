@@ -1,4 +1,4 @@
--- What the seats around a place tell of the cells there.
+-- What the seats around a place show about the cells there.
 use Rattle.std.proofs.Common.{◌≡◌, ℕ, zero, suc, pred, ◌+◌, ◌<◌, ◌≤◌, ◌==◌, Bool, true, false, ◌&&◌, cond, List, length, get_or, inl, inr, sym, refl, ap, subst, ◌∙◌, arith, eqb-true, eq-eqb}
 use Rattle.std.specs.Cmp as cmp
 use Rattle.std.specs.List.{Contains}

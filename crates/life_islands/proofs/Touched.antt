@@ -87,7 +87,7 @@ by_touch_through G L M N a b f g = record {
   joined = λ h. g.joined (f.joined h);
 }
 
--- where it was told of one more that it is new, and where it wasn't
+-- where one more join is new, and where it is not
 either_new : (a : Bool) → (a || true) ≡ true
 either_new true = refl
 either_new false = refl

@@ -10,7 +10,7 @@ use Rattle.life_islands.specs.Labels.{label_of}
 abbrev pub of_root : List Cell → List ℕ → ℕ → List Cell → List Cell
 of_root cs forest k ds = filter (λ c. root forest (label_of cs (range_with_len 0 (length cs)) c) == k) ds
 
--- such a list for each number
+-- for each number k the list of those whose places have the root k
 abbrev pub by_roots : List Cell → List ℕ → List Cell → List (List Cell)
 by_roots cs forest ds = map (λ k. of_root cs forest k ds) (range_with_len 0 (length cs))
 

@@ -16,7 +16,7 @@ pub record IsBorneBy (R : Rule) (G : Generation) (H : Generation) (P : Generatio
   pub has : contains H cell ≡ true
   pub tied : AreTied R P n cell (suc n) x
 
--- By the label's set alone the cell would be live too, and wherever the cells of each set are tied, it is tied to some of
+-- The cell would be live too if the label's set were alone, and wherever the cells of each set are tied, it is tied to one of
 -- the label's set.
 pub record IsHeir (R : Rule) (G : Generation) (L : Labels) (x : Cell) (label : ℕ) : Type 0 where
   pub within : label < length L.forest.items
@@ -24,7 +24,7 @@ pub record IsHeir (R : Rule) (G : Generation) (L : Labels) (x : Cell) (label : �
   pub tied : (P : Generation) (n : ℕ) → generation R P n ≡ G → AreTiedWithin R P n (sets_of G L) →
       IsBorneBy R G (get_or (sets_of G L) (root L.forest.items label) empty) P n x
 
--- each of the cells, moved, has such a label
+-- each of the cells, moved, is an heir with its label
 abbrev pub AreHeirs : Rule → Generation → Labels → Cell → Generation → Labels → Type 0
 AreHeirs R G L by H M =
     (m : ℕ) → m < length (cells H) →

@@ -1,4 +1,4 @@
--- Cells with labels, of which some are joined, and the sets of cells whose labels are joined.
+-- Cells with labels, some of which are joined, and the sets of cells whose labels are joined.
 use Rattle.std.specs.Prelude.{◌≡◌, ◌≢◌, ℕ, ◌<◌, ◌≤◌, ◌==◌, ℤ, int_lt, Bool, true, false, cond, List, [], ◌∷◌, length, get_or, map}
 use Rattle.std.specs.List.{All, AllPairs, Contains, range_with_len, sum}
 use Rattle.life_model.specs.Cell.{Cell, origin, same_cell}
@@ -51,7 +51,7 @@ pub record AreNumbered (G : Generation) (L : Labels) : Type 0 where
   pub labels : L.labels.items ≡ range_with_len 0 (length (cells G))
   pub long : length L.forest.items ≡ length (cells G)
 
--- Of the same labels more are joined, at least one where that is said.
+-- The labels are unchanged, and more of them are joined: at least one where `is_new` says so.
 pub record AreJoinedFurther (old new : Labels) (is_new : Bool) : Type 0 where
   pub labels : new.labels.items ≡ old.labels.items
   pub long : length new.forest.items ≡ length old.forest.items
@@ -85,7 +85,7 @@ AreJoinedWithin G L =
     root L.forest.items (get_or L.labels.items m 0) ≡ root L.forest.items (get_or L.labels.items k 0) →
     AreJoined G (get_or (cells G) m origin) (get_or (cells G) k origin)
 
--- Labels of cells that touching joins are joined further, and no others.
+-- More labels of cells that touching joins are joined, and no others.
 pub record AreJoinedByTouch (G : Generation) (old new : Labels) (is_new : Bool) : Type 0 where
   pub further : AreJoinedFurther old new is_new
   pub tied : (R : Rule) → KeepsTied R G old new
@@ -95,7 +95,7 @@ pub record AreJoinedByTouch (G : Generation) (old new : Labels) (is_new : Bool) 
 abbrev pub AreOne : Labels → ℕ → ℕ → Type 0
 AreOne L m k = root L.forest.items (get_or L.labels.items m 0) ≡ root L.forest.items (get_or L.labels.items k 0)
 
--- the cell in a place has one label with the one that has this number around it, wherever that is
+-- the label of the cell in place n is joined with that of the cell with this number around it, wherever that is
 abbrev pub HasMet : Generation → Labels → ℕ → ℕ → Type 0
 HasMet G L n number =
     (m : ℕ) → m < length (cells G) → get_or (cells G) m origin ≡ cell_at (get_or (cells G) n origin) number → AreOne L n m

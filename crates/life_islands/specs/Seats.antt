@@ -24,7 +24,7 @@ count_colour seats colour k = count_to 8 (λ n. (seat seats n).live && (colour n
 abbrev pub bears_at : Rule → List Seat → (ℕ → ℕ) → ℕ → Bool
 bears_at R seats colour n = (seat seats n).live && born R (count_colour seats colour (colour n))
 
--- two seats have their colours rightly
+-- two seats are coloured rightly
 pub record Agree (seats : List Seat) (m n k l : ℕ) : Type 0 where
   pub islands : (seat seats m).island ≡ (seat seats n).island → k ≡ l
   pub sets : k ≡ l → (seat seats m).set ≡ (seat seats n).set
@@ -66,7 +66,7 @@ pub record AreTried (seats : List Seat) (colour : ℕ → ℕ) : Type 0 where
 abbrev pub BeginWith : List ℕ → ℕ → (ℕ → ℕ) → Type 0
 BeginWith colours at colour = (n : ℕ) → n < at → listed colours n ≡ colour n
 
--- the first seats have their colours rightly
+-- the first seats are coloured rightly
 abbrev pub IsBegun : List Seat → List ℕ → ℕ → Type 0
 IsBegun seats colours at =
     (m n : ℕ) → m < n → n < at → (seat seats m).live ≡ true → (seat seats n).live ≡ true →

@@ -60,7 +60,7 @@ pub record AreOfTwo (Hs : List Generation) (i j : ℕ) (c e : Cell) : Type 0 whe
   pub in_first : contains (get_or Hs i empty) c ≡ true
   pub in_second : contains (get_or Hs j empty) e ≡ true
 
--- Of two of the sets of which a generation consists, some cells are tied wherever each set is tied within.
+-- Two of the sets that make up a generation have cells that are tied wherever the cells of each set are tied.
 pub record IsLink (R : Rule) (G : Generation) (Hs : List Generation) (link : ℕ × ℕ) : Type 0 where
   pub cell : Cell
   pub other : Cell

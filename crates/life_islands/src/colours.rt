@@ -17,8 +17,8 @@ pub struct Seat {
     pub set: usize,
 }
 
-/// Whether two cells, of which one has this colour and the other that one, have them rightly if both are live: cells of
-/// one island have one colour, and cells of one colour are of one set.
+/// Whether two cells, with these two colours, are coloured rightly if both are live: cells of one island have one colour, and
+/// cells of one colour are of one set.
 fn agree(seats: &[Seat], m: usize, n: usize, colour: usize, other: usize) -> bool
     requires { (m < length seats.now) × (n < length seats.now) }
     ensures { IsTrue result ↔ ((seat seats.now m).live ≡ true → (seat seats.now n).live ≡ true →
@@ -36,7 +36,7 @@ fn agree(seats: &[Seat], m: usize, n: usize, colour: usize, other: usize) -> boo
     colour != other || seats[m].set == seats[n].set
 }
 
-/// Whether a cell may have a colour beside the cells before it.
+/// Whether a cell may have a colour, given the colours of the cells before it.
 fn fits(seats: &[Seat], colours: &[usize], at: usize, colour: usize) -> bool
     requires { (length seats.now ≡ 8) × (length colours.now ≡ 8) × (at < 8) }
     ensures { IsTrue result ↔ ((m : ℕ) → m < at → (seat seats.now m).live ≡ true →
@@ -89,7 +89,7 @@ pub fn first_bearing(rule: &Rule, seats: &[Seat], colours: &[usize]) -> usize
     AROUND
 }
 
-/// Whether a live cell's group bears that has another colour than the first.
+/// Whether a live cell whose colour is not that of the cell `first` is in a group that bears.
 fn is_borne_twice(rule: &Rule, seats: &[Seat], colours: &[usize], first: usize) -> bool
     requires { (length seats.now ≡ 8) × (length colours.now ≡ 8) × (first < 8) }
     ensures once { result ≡ false → (n : ℕ) → n < 8 →
@@ -107,7 +107,7 @@ fn is_borne_twice(rule: &Rule, seats: &[Seat], colours: &[usize], first: usize) 
     false
 }
 
-/// The set that belongs with the bearer where another set bears, or this one where the groups are not fair.
+/// The set that belongs with the bearer: one that bears in its place, or `other` where the groups are not fair.
 pub fn flaw(
     rule: &Rule,
     seats: &[Seat],
@@ -142,7 +142,7 @@ pub fn flaw(
     None
 }
 
-/// How many colours are tried of a cell by its number: of a live one as many as there are cells up to it.
+/// How many colours are tried for the cell with number `at`: `at + 1` for a live one, otherwise one.
 fn choices(seat: &Seat, at: usize) -> usize
     requires { at < 8 }
     ensures live { seat.now.live ≡ true → result ≡ at + 1 }
@@ -154,7 +154,7 @@ fn choices(seat: &Seat, at: usize) -> usize
     1
 }
 
-/// The set that belongs with the bearer by some way to colour the cells from one on.
+/// The set that belongs with the bearer by some way to colour the cells from `at` on.
 pub fn explore(
     rule: &Rule,
     seats: &[Seat],
@@ -203,7 +203,7 @@ pub fn count_live(seats: &[Seat]) -> u32
     count
 }
 
-/// Whether no number of live cells up to this one has a cell born.
+/// Whether no cell is born of `count` live cells, nor of fewer.
 pub fn bears_none(rule: &Rule, count: u32) -> bool
     requires { count ≤ 8 }
     ensures { IsTrue result → (k : ℕ) → k ≤ count → born rule.now k ≡ false }

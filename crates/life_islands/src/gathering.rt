@@ -10,7 +10,7 @@ use life_cells::CellList;
 use life_classes::root;
 use std::alloc::{AllocError, Global};
 
-/// So many lists without a cell.
+/// `count` lists without a cell.
 fn empty_lists(alloc: Global, count: usize) -> Result<Vec<Vec<(i32, i32)>>, AllocError>
     ensures { IfOk result (λ lists. lists_of lists.items ≡ replicate count []) }
 {
@@ -21,7 +21,7 @@ fn empty_lists(alloc: Global, count: usize) -> Result<Vec<Vec<(i32, i32)>>, Allo
     Ok(lists)
 }
 
-/// Puts a cell into the list in some place.
+/// Appends a cell to the list in a place.
 fn put(lists: &mut Vec<Vec<(i32, i32)>>, place: usize, cell: (i32, i32)) -> Result<(), AllocError>
     requires { place < vec_len lists.old }
     ensures { OnOk result (lists_of lists.new.items ≡

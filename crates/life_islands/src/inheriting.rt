@@ -14,8 +14,8 @@ use crate::seating::{ROWS, colours_of, seats_around};
 use life_cells::{CellList, Rule};
 use std::alloc::{AllocError, Global};
 
-/// The label of a cell of the next generation: its own, where it stays, and else that of a cell of the set that bears it.
-/// It is looked up near where the one before it was.
+/// The label of a cell of the next generation: its own, where it stays, and otherwise that of a cell of the set that bears it.
+/// The cell is looked up near where the one before it was.
 fn heir(rule: &Rule, list: &CellList, sets: &Labels, place: (i32, i32), guess: &mut usize) -> usize
     requires fits { Fits list.now sets.now }
     requires held { AreHeldApart rule.now list.now (sets_of list.now sets.now) }

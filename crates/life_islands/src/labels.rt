@@ -1,4 +1,4 @@
-//! Cells with labels, of which some are joined.
+//! Cells with labels, some of which are joined.
 ghost use Rattle.std.specs.Prelude.{◌≡◌, ◌-◌, ◌≤◌, int_lt, true, ◌<◌, All, IfNone, IfOk, IfSome, IsTrue, T, false, get_or, length};
 ghost use Rattle.std.specs.List.{range_with_len};
 ghost use Rattle.life_model.specs.Cell.{Cell, origin};
@@ -19,7 +19,7 @@ pub struct Labels {
     pub forest: Vec<usize>,
 }
 
-/// So many numbers, from 0 on.
+/// The first `count` numbers, from 0 on.
 pub fn numbers(alloc: Global, count: usize) -> Result<Vec<usize>, AllocError>
     ensures { IfOk result (λ all. all.items ≡ range_with_len 0 count) }
 {
@@ -71,8 +71,8 @@ fn parts_at(all: &[(i32, i32)], cell: (i32, i32), at: usize) -> bool
     is_past(all, cell, at)
 }
 
-/// Before which place the cells have lesser numbers than this one. It is soon found where it is the guessed place or one
-/// of the next, and else by halving.
+/// The place before which the cells have lesser numbers than this one. It is found soon where it is the guessed place or one of
+/// the next, and otherwise by halving.
 fn parting(all: &[(i32, i32)], cell: (i32, i32), guess: usize) -> usize
     requires rising { T (is_rising all.now) }
     requires placed { All IsPlace all.now }
@@ -88,7 +88,7 @@ fn parting(all: &[(i32, i32)], cell: (i32, i32), guess: usize) -> usize
     all.partition_point(|one| place_number(*one) < number)
 }
 
-/// The place of a cell in a list of cells, which is soon found near a guessed one; where it was looked for is the next guess.
+/// The place of a cell in a list of cells. It is found soon near the guessed place. Where it was looked for is the next guess.
 pub fn index_near(list: &CellList, cell: (i32, i32), guess: &mut usize) -> Option<usize>
     ensures some { IfSome result
         (λ n. n < length (cells list.now) × get_or (cells list.now) n origin ≡ cell) }
@@ -103,7 +103,8 @@ pub fn index_near(list: &CellList, cell: (i32, i32), guess: &mut usize) -> Optio
     None
 }
 
-/// The place of a cell in a list of cells, which is looked up near where one was looked for in its row, by the row's number.
+/// The place of a cell in a list of cells. It is looked up near where a cell was last looked for in its row, which has this
+/// number.
 pub fn index_in_row(
     list: &CellList,
     cell: (i32, i32),
@@ -130,7 +131,7 @@ pub fn index_of(list: &CellList, cell: (i32, i32)) -> Option<usize>
     index_near(list, cell, &mut guess)
 }
 
-/// Whether a set has a cell, which is looked up near where one was looked for in its row, by the row's number.
+/// Whether a set has a cell, which is looked up near where one was last looked for in its row, which has this number.
 pub fn has_in_row(list: &CellList, cell: (i32, i32), near: &mut [usize], row: usize) -> bool
     ensures { result ≡ contains list.now cell }
 {

@@ -1,7 +1,8 @@
-//! Which sets that make up a generation are joined there: its islands, and its places with the ways to put what is around
+//! Which of the sets that make up a generation are joined in it: its islands, and its places with the ways to put what is around
 //! them into groups.
 //!
-//! Each cell has a label, and sets are joined by joining labels. `split` tells so the independent parts of a set that recurs.
+//! Each cell has a label, and sets are joined by joining labels. This is how `split` finds the independent parts of a set that
+//! recurs.
 #![tactic(auto)]
 
 mod around;

@@ -20,7 +20,7 @@ use life_cells::{CellList, Rule};
 use life_classes::{ROW, join, place_number};
 use std::alloc::{AllocError, Global};
 
-/// Joins two sets that a place in a row by this number joins, if it is none of the cells.
+/// Joins two sets that a place, in the row with this number, joins, if the place is none of the cells.
 fn join_place(
     rule: &Rule,
     list: &CellList,
@@ -49,7 +49,7 @@ fn join_place(
     }
 }
 
-/// Whether the cells whose numbers are from one to four more all have a mark.
+/// Whether all cells whose numbers are from `low` to `low + 4` have a mark.
 fn row_has(list: &CellList, sets: &Labels, low: i64, mark: usize) -> bool
     requires fits { Fits list.now sets.now }
     requires low { low ≤ℤ pos (2 ^ 63 - 5) }
@@ -71,7 +71,7 @@ fn row_has(list: &CellList, sets: &Labels, low: i64, mark: usize) -> bool
     true
 }
 
-/// Whether the cells at most two away from the one in a place all have its mark.
+/// Whether all cells at most two away from the one in a place have its mark.
 fn is_of_one(list: &CellList, sets: &Labels, n: usize) -> bool
     requires fits { Fits list.now sets.now }
     requires within { n < length (generations.cells list.now) }
@@ -131,7 +131,7 @@ fn join_around(
     joined
 }
 
-/// Joins sets that places join, each of which is looked at once around each cell.
+/// Joins sets that places join. Each place is looked at once around each cell.
 fn join_places(rule: &Rule, list: &CellList, isles: &Labels, sets: &mut Labels) -> bool
     requires isles { Fits list.now isles.now }
     requires sets { Fits list.now sets.old }
@@ -164,8 +164,8 @@ fn is_one(sets: &Labels) -> bool
     true
 }
 
-/// Joins the sets that a generation joins, of which these are all cells, until all are held apart. False where they are
-/// held apart already.
+/// Joins the sets that a generation, whose cells are all listed, joins, until all sets are held apart. Returns false where they
+/// are held apart already.
 pub fn join_in(
     alloc: Global,
     rule: &Rule,

@@ -17,10 +17,10 @@ const NOBODY: Seat = Seat {
     set: 0,
 };
 
-/// How many rows the cells around the places around a cell stand in.
+/// How many rows the cells around the places around a cell are in.
 pub const ROWS: usize = 5;
 
-/// The number of the row of one of the cells around a place that stands in a row by this number.
+/// The number of the row of one of the cells around a place that is in the row with this number.
 pub fn row_of(row: usize, number: usize) -> usize {
     match number {
         0 | 1 | 2 => row.saturating_sub(1),
@@ -29,7 +29,8 @@ pub fn row_of(row: usize, number: usize) -> usize {
     }
 }
 
-/// The seat of one of the cells around a place in a row by this number, near where one was looked for in its own row.
+/// The seat of one of the cells around a place in the row with this number. The cell is looked up near where one was last looked
+/// for in its own row.
 fn seat_at(
     list: &CellList,
     isles: &Labels,
@@ -55,7 +56,8 @@ fn seat_at(
     }
 }
 
-/// The seats of the eight cells around a place in a row by this number, near where cells were looked for in each row.
+/// The seats of the eight cells around a place in the row with this number. They are looked up near where cells were last looked
+/// for in each row.
 pub fn seats_around(
     list: &CellList,
     isles: &Labels,
@@ -103,7 +105,7 @@ pub fn colours_of(seats: &[Seat]) -> [usize; 8]
     sets
 }
 
-/// The set of a seat whose group bears, where there is one, or else of this live seat.
+/// The set of a seat whose group bears, where there is one, otherwise that of the live seat `first`.
 fn bearer_of(rule: &Rule, seats: &[Seat], colours: &[usize], first: usize) -> usize
     requires long { length seats.now ≡ 8 × length colours.now ≡ 8 }
     requires first { first < 8 × (seat seats.now first).live ≡ true }

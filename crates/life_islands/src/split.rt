@@ -1,6 +1,6 @@
 //! The independent parts of a set that recurs.
 //!
-//! Tested in `tests_parts`.
+//! Tested in `tests_objects`.
 
 mod orbits;
 mod rounds;

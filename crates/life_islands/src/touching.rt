@@ -77,7 +77,7 @@ fn join_before(list: &CellList, all: &mut Labels, n: usize, above: &mut usize) -
     joined
 }
 
-/// Joins cells that touch. False where they are joined already.
+/// Joins cells that touch. Returns false where they are joined already.
 pub fn join_touching(list: &CellList, all: &mut Labels) -> bool
     requires { Fits list.now all.old }
     ensures further { AreJoinedFurther all.old all.new result }

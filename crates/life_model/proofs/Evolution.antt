@@ -11,7 +11,7 @@ use Rattle.life_model.proofs.Cells.{same_cell-is, plus-opposite, plus-opposite_f
 use Rattle.life_model.proofs.Generations.{contains-keep, contains-from_list, contains-cells}
 use Rattle.life_model.proofs.Tests.{and_absorbed, list_any-alike, list_any-flat_map, list_any-map, list_any-exchange, list_any-reverse, count_by-none}
 
--- one cell is a step from another where this is the opposite step back
+-- one cell is a step from another exactly if that one is the opposite step from it
 same_cell-plus : (c n d : Cell) → same_cell c (plus n d) ≡ same_cell n (plus c (opposite d))
 same_cell-plus c n d =
     same_from_decides _ _ (same_cell-is c (plus n d))
@@ -58,7 +58,7 @@ lives_near R live c e =
       ] refl
     ] e
 
--- A cell of the plane is live next where the rule says so of its neighbours.
+-- A cell of the plane is live next if the rule says so of its neighbours.
 pub contains-next : (R : Rule) (G : Generation) (c : Cell) → contains (next R G) c ≡ lives R (contains G) c
 unfolding next
 contains-next R G c =

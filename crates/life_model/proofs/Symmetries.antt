@@ -1,4 +1,4 @@
--- Moves and the eight maps keep neighbours, so the next generation goes along with them.
+-- Moves and the eight maps keep neighbours, so the next generation commutes with them.
 use Rattle.std.proofs.Common.{◌≡◌, ℕ, zero, suc, ℤ, neg_ℤ, Bool, cond, map, count_by, sym, refl, ap, ◌∙◌, arith}
 use Rattle.std.proofs.lemmas.Int.{ints}
 use Rattle.std.proofs.lemmas.Bool.Decides.{same_from_decides, Decides-like}
@@ -17,7 +17,7 @@ pub record AreInverse (forth back : Cell → Cell) : Type 0 where
   pub there : (c : Cell) → back (forth c) ≡ c
   pub here : (c : Cell) → forth (back c) ≡ c
 
--- and they keep neighbours
+-- forth and back also keep neighbours
 pub record KeepNeighbours (forth back : Cell → Cell) : Type 0 where
   pub inverse : AreInverse forth back
   pub neighbours : (live : Cell → Bool) (c : Cell) → count_at (λ q. live (back q)) (forth c) ≡ count_at live c
@@ -136,7 +136,7 @@ turn_keeps m = record {
   neighbours = λ live c. count_at-back (turn m) (turn (undone m)) (turn (undone m)) (turn_step m) live c ∙ turned_steps (undone m) live c;
 }
 
--- the next generation goes along with a move, and with each of the eight maps
+-- the next generation commutes with a move, and with each of the eight maps
 pub next-moved : (R : Rule) (G : Generation) (d : Cell) → next R (translate_of G d) ≡ translate_of (next R G) d
 next-moved R G d = next-image _ _ (plus_keeps d) R G
 

@@ -26,7 +26,7 @@ pub fn members_tell_generations()
     ensures { (G H : Generation) → ((c : Cell) → contains G c ≡ contains H c) → G ≡ H }
 {}
 
-/// The members stand in one order, each once, and any list in that order is the members of a generation.
+/// The members are in one order, each once, and any list in that order is the members of a generation.
 pub fn members_in_order()
     ensures listed { (G : Generation) (c : Cell) → contains G c ≡ list_any (same_cell c) (cells G) }
     ensures rising { (G : Generation) → T (is_rising (cells G)) }
@@ -35,8 +35,8 @@ pub fn members_in_order()
     ensures again { (cs : List Cell) → T (is_rising cs) → cells (from_list cs) ≡ cs }
 {}
 
-/// A cell of the plane is live next where its count of live neighbours says so: a live one stays, a dead one is born.
-/// None is born without a neighbour.
+/// A cell of the plane is live next if its count of live neighbours says so: a live one stays, a dead one is born. None is born
+/// without a neighbour.
 pub fn next_by_members()
     ensures next { (R : Rule) (G : Generation) (c : Cell) →
         contains (next R G) c ≡ cond (contains G c) (stays R (count G c)) (born R (count G c)) }
@@ -69,14 +69,14 @@ pub fn moves_keep_order()
         cells (translate_of G d) ≡ map (λ c. plus c d) (cells G) }
 {}
 
-/// The least x and the least y of a normal form are 0, and the empty set stays.
+/// The least x and the least y of a normal form are 0, and the empty set is unchanged.
 pub fn normal_form_stands_at_the_origin()
     ensures corner { (G : Generation) (c : Cell) → contains G c ≡ true →
         IsCorner (normal G) origin }
     ensures empty { normal empty ≡ empty }
 {}
 
-/// Two sets have one normal form exactly where one is the other, moved.
+/// Two sets have one normal form exactly if one is the other, moved.
 pub fn normal_forms_tell_moves()
     ensures { (G H : Generation) → (normal G ≡ normal H) ↔ ((d : Cell) × (H ≡ translate_of G d)) }
 {}
@@ -87,7 +87,7 @@ pub fn one_settling()
         Settles R G b r → Settles R G c s → r ≡ s }
 {}
 
-/// A set settles within exactly those bounds that its onset and its period together don't pass.
+/// A set settles within exactly those bounds that are not less than its onset and its period together.
 pub fn settles_within()
     ensures within { (R : Rule) (G : Generation) (b : ℕ) (r : Recurrence) →
         Settles R G b r → r.onset + r.period ≤ b }
@@ -97,8 +97,8 @@ pub fn settles_within()
         Settles R G b r → SettlesAt R G c g → r.onset + r.period ≤ c }
 {}
 
-/// Sets that recur are one object exactly where some phase of the one, turned, has the shape of some phase of the
-/// other, turned; and then each phase of the one, turned in any way, has.
+/// Sets that recur are one object exactly if some phase of one, turned, has the shape of some phase of the other, turned. Then
+/// each phase of one, turned in any way, has the shape of some phase of the other, turned.
 pub fn one_object()
     ensures made { (R : Rule) (G H : Generation) (k l : ℕ) (m n : Orientation) →
         normal (image_under (generation R G k) m) ≡ normal (image_under (generation R H l) n) →

@@ -38,7 +38,7 @@ count_by-or {X} p q (x ∷ xs) none =
     ∙ sym (sum_by-cons (λ (y : X). cond (p y) 1 0) x xs)
 
 module _ (R : Rule) where
-  -- what doesn't come close to c has no say there
+  -- what doesn't come close to c has no effect there
   lives-or : (p q : Cell → Bool) (c : Cell) → is_close q c ≡ false → lives R (λ x. p x || q x) c ≡ lives R p c
   unfolding lives
   lives-or p q c none =

@@ -26,7 +26,7 @@ use Rattle.life_objects.proofs.OneList.{part_of_both, parts_differ, union_of-IsP
 use Rattle.life_objects.proofs.Recurring.{RecursBy-later, RecursBy-moved, RecursBy-sooner, moved_back, n-le, same_unmoved}
 use Rattle.life_objects.proofs.Times.{AreApartForEver-swap, generation-empty}
 
--- an element of what is mapped is that of some element
+-- an element of a mapped list is what some element is mapped to
 mapped_from : {X Y : Type 0} (f : X → Y) (xs : List X) (y : Y) → Contains (map f xs) y →
     (x : X) × Contains xs x × (f x ≡ y)
 mapped_from f [] y one = let none : one.0 < 0 = one.1 in absurd (omega arith)
@@ -48,7 +48,7 @@ module _ (R : Rule) where
   -- ---- one set
 
   module _ (P : Generation) (p : ℕ) (d : Cell) (r : RecursBy R P p d) where
-    -- so many periods later
+    -- k periods later
     rounds_on : (k m : ℕ) → generation R P (k * p + m) ≡ translate_of (generation R P m) (multiple_of k d)
     rounds_on k m =
         sym (generation-add R P (k * p) m) ∙ ap (λ H. generation R H m) (generation-times R P p d r k)
@@ -66,7 +66,7 @@ module _ (R : Rule) where
         ∙ ap (generation R P) (let z : n + ((n * p - n) + m) ≡ n * p + m = omega arith in z) ∙ rounds_on n m)
         (whole ((n * p - n) + m))))
 
-  -- what recurs is told by what it becomes
+  -- what recurs is determined by what it becomes
   pub one_before : (P Q : Generation) (n : ℕ) → Recurs R P → Recurs R Q → generation R P n ≡ generation R Q n → P ≡ Q
   one_before P Q n one other same =
       let p = one.steps in
@@ -94,7 +94,7 @@ module _ (R : Rule) where
     whole = one_piece_before P again.steps again.by again.recurs b n object.whole;
   }
 
-  -- what a set was that comes again
+  -- what a set that recurs was before
   module _ (Q : Generation) (again : Recurs R Q) (n : ℕ) where
     abbrev pub set_before : Generation
     set_before =
@@ -236,7 +236,7 @@ module _ (R : Rule) where
       HasAsh R b (generation R G n)
   ash_from_onset b t n G le has = (generations R has.0 (n - t), IsAsh-until R b t n G has.0 le has.1)
 
-  -- what is ash within a greater bound is within this one, where it becomes ash within this one
+  -- what is ash within a greater bound is ash within this one, where it becomes ash within this one
   narrower : (b c n g : ℕ) (G : Generation) → b ≤ c → n ≤ g → HasAsh R b (generation R G g) →
       HasAsh R c (generation R G n) → HasAsh R b (generation R G n)
   narrower b c n g G le before has wide =

@@ -1,4 +1,4 @@
--- Of the sets that a pattern is made up of, no split tearing any, each part of its ash has one that lives on.
+-- If a pattern is made up of sets that no split tears, each part of its ash has one of them that lives on.
 use Rattle.std.proofs.Common.{◌≡◌, ℕ, ◌+◌, ◌-◌, ◌≤◌, true, List, inl, inr, sym, ap, subst, ◌∙◌, arith}
 use Rattle.std.specs.List.{All, AllPairs, Contains}
 use Rattle.std.proofs.lemmas.List.Elements.{All-contains}

@@ -104,7 +104,7 @@ module _ (A B C D P P_rest Q Q_rest : Generation) (cross : AreCrossings A B C D 
     second_rest = ap (next R) cross.second_rest ∙ next-union R B D (rests_apart_second p_far);
   }
 
--- the same, n generations later
+-- generations n of these sets are such crossings
 abbrev pub AreCrossingsAt : Rule → ℕ → (A B C D P P_rest Q Q_rest : Generation) → Type 0
 AreCrossingsAt R n A B C D P P_rest Q Q_rest =
     AreCrossings (generation R A n) (generation R B n) (generation R C n) (generation R D n)

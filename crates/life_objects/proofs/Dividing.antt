@@ -1,4 +1,4 @@
--- Of an undivided pattern, no two sets that stay apart from each other and from the rest live on.
+-- No two sets of an undivided pattern that stay apart from each other and from the rest both live on.
 use Rattle.std.proofs.Common.{◌≡◌, ◌≢◌, ℕ, List, ◌∷◌, get_or, inl, inr, sym, ap, subst, ◌∙◌, arith}
 use Rattle.std.specs.List.{All, AllPairs, Contains}
 use Rattle.std.proofs.lemmas.List.Elements.{All-map, All-weaker, Contains-get_or}

@@ -22,3 +22,4 @@ pub mod Phases
 pub mod DecidedLemmas
 pub mod PartsLemmas
 pub mod IndependentLemmas
+pub mod GrowthLemmas

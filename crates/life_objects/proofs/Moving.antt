@@ -85,7 +85,7 @@ module _ (R : Rule) where
         ∙ ap (translate_of P) (let e : plus d (multiple_of k d) ≡ plus (multiple_of k d) d = pair (omega (arith, ints))
         (omega (arith, ints)) in e)
 
-    -- so many times p generations later
+    -- k * p generations later
     pub rounds_later : (k m : ℕ) → generation R P (k * p + m) ≡ translate_of (generation R P m) (multiple_of k d)
     rounds_later k m =
         sym (generation-add R P (k * p) m) ∙ ap (λ H. generation R H m) (generation-times k)

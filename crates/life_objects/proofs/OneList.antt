@@ -23,7 +23,7 @@ use Rattle.life_objects.proofs.Sharing.{one_if_shared}
 use Rattle.life_objects.proofs.Times.{AreApartForEver-swap, disjoint_ever, generation-union_ever}
 use Rattle.life_objects.proofs.Unions.{contains-union_of, in_first}
 
--- the order of a list has no say in its union
+-- the union of a list does not depend on its order
 pub union_of-IsPermutation : (Ps Qs : List Generation) → IsPermutation Ps Qs → union_of Ps ≡ union_of Qs
 union_of-IsPermutation Ps Qs order = same_members _ _ (λ c.
     contains-union_of Ps c ∙ list_any-IsPermutation (λ P. contains P c) Ps Qs order ∙ sym (contains-union_of Qs c))

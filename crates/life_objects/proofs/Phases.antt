@@ -1,4 +1,4 @@
--- Which object a set is does not hang on its phase.
+-- Which object a set is does not depend on its phase.
 use Rattle.std.proofs.Common.{◌≡◌, ℕ, ◌+◌, Bool, cond, List, [], ◌∷◌, count_by, sym, refl, ap, ◌∙◌}
 use Rattle.std.specs.List.{All}
 use Rattle.std.proofs.lemmas.List.Elements.{All-head, All-tail}
@@ -22,7 +22,7 @@ use Rattle.life_objects.proofs.Recurring.{RecursBy-later}
 pub turned-same : (P : Generation) → image_under P Same ≡ P
 turned-same P = same_members _ _ (λ c. contains-turned P Same c)
 
--- an object comes again
+-- an object recurs
 pub object_recurs : (R : Rule) (b : ℕ) (P : Generation) → IsObject R b P → Recurs R P
 object_recurs R b P object = record {
   steps = object.recurs.steps;

@@ -64,21 +64,21 @@ module _ (R : Rule) where
           ∙ sym (generation-add R P p n) ∙ ap (λ H. generation R H n) r.again ∙ generation-moved R P d n;
     }
 
-  -- where it is moved, a set comes again as it does
+  -- a moved set recurs as the set itself does
   pub RecursBy-moved : (P : Generation) (n : ℕ) (d e : Cell) → RecursBy R P n d → RecursBy R (translate_of P e) n d
   RecursBy-moved P n d e r = record {
     later = r.later;
     again = generation-moved R P e n ∙ ap (λ H. translate_of H e) r.again ∙ moves_swap P d e;
   }
 
-  -- how a moved set comes again, the set itself does
+  -- a set recurs as the moved set does
   pub RecursBy-unmoved : (P : Generation) (n : ℕ) (d e : Cell) → RecursBy R (translate_of P e) n d → RecursBy R P n d
   RecursBy-unmoved P n d e r = record {
     later = r.later;
     again = same_unmoved (generation R P n) (translate_of P d) e (sym (generation-moved R P e n) ∙ r.again ∙ moves_swap P e d);
   }
 
-  -- how a later generation of what comes again does so, the set itself does
+  -- a set that recurs also recurs as its later generations do
   pub RecursBy-sooner : (P : Generation) (p : ℕ) (e : Cell) → RecursBy R P p e → (k n : ℕ) (d : Cell) →
       RecursBy R (generation R P k) n d → RecursBy R P n d
   RecursBy-sooner P p e r k n d s =

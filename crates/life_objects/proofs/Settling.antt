@@ -1,4 +1,4 @@
--- A pattern that settles and falls apart is ash from the generation on that comes again.
+-- A pattern that settles and falls apart is ash from the generation on that recurs.
 use Rattle.std.proofs.Common.{◌≡◌, ℕ, zero, suc, ℤ, pos, negsuc, neg_ℤ, ◌+ℤ◌, ◌≤ℤ◌, ◌+◌, ◌-◌, ◌*◌, ◌<◌, ◌≤◌}
 use Rattle.std.proofs.Common.{true, true≢false, List, [], ◌∷◌, map, inl, inr, sym, ap, subst, ◌∙◌, mul-le-mul_left, arith}
 use Rattle.std.specs.List.{All, Contains, list_any}
@@ -204,7 +204,7 @@ common R b (Q ∷ Qs) objects =
     )
 
 module _ (R : Rule) where
-  -- ash that comes again as a whole: each part comes again so
+  -- ash that recurs as a whole: each part recurs too
   module _ (b : ℕ) (G : Generation) (parts : List Generation) (ash : IsAsh R b G parts) (n : ℕ) (d : Cell)
       (r : RecursBy R G n d) where
     part_moves : (Q : Generation) → Contains parts Q → RecursAfter R n Q → RecursBy R Q n d
@@ -228,7 +228,7 @@ module _ (R : Rule) where
       ∙ sym (union-moved P (union_of Ps) d)
 
   module _ (G : Generation) (c t : ℕ) (onset : IsAshOnset R c G t) (b : ℕ) (r : Recurrence) (settles : Settles R G b r) where
-    -- what comes again is a later generation, moved back
+    -- what recurs is a later generation, moved back
     not_sooner : t ≤ r.onset
     not_sooner =
         let o = r.onset in

@@ -5,7 +5,7 @@ use Rattle.life_model.specs.Generation.{Generation}
 use Rattle.life_model.specs.Rule.{Rule}
 use Rattle.life_model.specs.Recurrence.{AreOneObject, RecursBy}
 
--- sets that come again are of this kind or not by which object they are, as where the kind is to have some code
+-- whether sets that recur are of this kind depends only on which object they are, as where the kind is to have some code
 abbrev pub IsKind : Rule → (Generation → Bool) → Type 0
 IsKind R kind =
     (P Q : Generation) (m n : ℕ) (d e : Cell) → RecursBy R P m d → RecursBy R Q n e → AreOneObject R P Q → kind P ≡ kind Q

@@ -10,3 +10,4 @@ pub mod Kinds
 pub mod Decided
 pub mod Parts
 pub mod Independent
+pub mod Growth

@@ -1,5 +1,5 @@
-//! Whether a set is ash within a bound, and of which parts: a definition that computes, in `specs/`, and as the
-//! contracts of functions that do nothing the laws that it decides this and that what it finds lasts.
+//! Whether a set is ash within a bound, and of which parts: a definition that computes, in `specs/`, and its laws as the
+//! contracts of functions that do nothing. They say that the definition decides this, and that what it finds lasts.
 //!
 //! Tested in `tests_objects`, by `life_census`.
 
@@ -22,7 +22,7 @@ pub fn ash_is_decided()
         IsAsh R b G parts → ⊥ }
 {}
 
-/// Of ash its parts are found, in some order, of what is no ash none, and of the empty set the empty list.
+/// For ash its parts are found, in some order. For what is no ash nothing is found, and for the empty set the empty list.
 pub fn parts_are_found()
     ensures parts { (R : Rule) (b : ℕ) (G : Generation) (parts : List Generation) →
         IsAsh R b G parts →
@@ -33,8 +33,8 @@ pub fn parts_are_found()
     ensures nothing { (R : Rule) (b : ℕ) → ash_of R b empty ≡ Some [] }
 {}
 
-/// What was found is found of each later generation too, within each bound that is no smaller: what the parts have
-/// become by then, in some order. Within a smaller bound nothing else is found.
+/// What was found is found of each later generation too, within each bound that is no smaller: what the parts have become by
+/// then, in some order. Within a smaller bound nothing else is found.
 pub fn what_was_found_lasts()
     ensures later { (R : Rule) (b c n : ℕ) (G : Generation) (parts : List Generation) → b ≤ c →
         ash_of R b G ≡ Some parts → (found : List Generation) ×

@@ -1,5 +1,5 @@
-//! The independent parts of a set of cells that comes again under a Life-like rule, as a function of the set: a
-//! definition that computes, in `specs/`, and its laws as the contracts of functions that do nothing.
+//! The independent parts of a set of cells that recurs under a Life-like rule, as a function of the set: a definition that
+//! computes, in `specs/`, and its laws as the contracts of functions that do nothing.
 
 ghost use Rattle.std.specs.Prelude.{◌≡◌, ◌≢◌, ◌↔◌, ℕ, true, List};
 ghost use Rattle.std.specs.Prelude.{All, AllPairs, Contains};
@@ -17,7 +17,7 @@ ghost use Rattle.life_objects.specs.Independent.Groupings.{splittings};
 ghost use Rattle.life_objects.specs.Independent.Held.{are_held_apart};
 ghost use Rattle.life_objects.specs.Independent.Independent.{independent_parts_of};
 
-/// Each set that comes again within the bound has independent parts: those that are found.
+/// Each set that recurs within the bound has independent parts: those that are found.
 pub fn each_set_that_recurs_has_independent_parts()
     ensures { (R : Rule) (b : ℕ) (P : Generation) → RecursWithin R b P →
         AreIndependentParts R P (independent_parts_of R b P) }
@@ -30,7 +30,7 @@ pub fn the_finest_grouping_is_the_independent_parts()
         IsPermutation (independent_parts_of R b P) Qs }
 {}
 
-/// What is found hangs on no bound within which the set comes again.
+/// What is found does not depend on the bound, if the set recurs within it.
 pub fn the_bound_does_not_matter()
     ensures { (R : Rule) (b c : ℕ) (P : Generation) → RecursWithin R b P → RecursWithin R c P →
         independent_parts_of R b P ≡ independent_parts_of R c P }
@@ -51,7 +51,7 @@ pub fn splittings_are_all_ways()
         (Gs : List Generation) × Contains (splittings G) Gs × IsPermutation Gs Hs }
 {}
 
-/// The test of disjoint sets that make up a generation tells whether they are held apart in it.
+/// The test of disjoint sets that make up a generation decides whether they are held apart in it.
 pub fn the_test_decides_what_is_held_apart()
     ensures { (R : Rule) (G : Generation) (Hs : List Generation) →
         union_of Hs ≡ G → AllPairs AreDisjoint Hs →

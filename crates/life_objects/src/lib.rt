@@ -1,11 +1,12 @@
-//! The objects that a pattern of a Life-like rule falls apart into: definitions in `specs/`, and their laws as the
-//! contracts of functions that do nothing. `decided` computes whether a set is ash, `parts` says what independent parts are,
-//! and `independent` computes these.
+//! The objects that a pattern of a Life-like rule falls apart into, and steady growth, as of guns and puffers: definitions
+//! in `specs/`, and their laws as the contracts of functions that do nothing. `decided` computes whether a set is ash,
+//! `parts` says what independent parts are, and `independent` computes these. `growth` has what is said of growth.
 //!
 //! Tested in `checks/laws`.
 #![tactic(auto)]
 
 mod decided;
+pub mod growth;
 mod independent;
 mod parts;
 
@@ -207,8 +208,8 @@ pub fn what_lives_on_tells_the_parts()
         LivesThrough R b L → (P : Generation) × Contains parts P × IsCore R b L P }
 {}
 
-/// What comes again and again has always been there: for each number of generations there are sets that come again and
-/// become these after so many, and each set that comes again is told by what it becomes.
+/// What recurs has always been there: for each number of generations there are sets that recur and become these after that many,
+/// and each set that recurs is determined by what it becomes.
 pub fn what_recurs_has_a_past()
     ensures some { (R : Rule) (n : ℕ) (laters : List Generation) → All (Recurs R) laters →
         (sets : List Generation) × AreBefore R n laters sets }
@@ -241,7 +242,7 @@ pub fn ash_has_one_onset()
         IsAshOnset R c G t }
 {}
 
-/// Where a pattern settles and has fallen apart, the first generation that comes again is the first that is ash.
+/// Where a pattern settles and has fallen apart, the first generation that recurs is the first that is ash.
 pub fn settling_and_ash_have_one_onset()
     ensures { (R : Rule) (b c t : ℕ) (G : Generation) (r : Recurrence) → Settles R G b r →
         IsAshOnset R c G t → r.onset ≡ t }

@@ -34,8 +34,8 @@ pub fn each_part_evolves_alone()
         (contains (generation R Q n) x ≡ true) ↔ AreTied R P 0 c n x }
 {}
 
-/// Each independent part of a set that comes again comes again too, with the same velocity, after no more of the set's
-/// periods than there are parts.
+/// Each independent part of a set that recurs recurs too, with the same velocity, after no more of the set's periods than there
+/// are parts.
 pub fn each_part_comes_again()
     ensures { (R : Rule) (P Q : Generation) (Qs : List Generation) (p : ℕ) (d : Cell) →
         RecursBy R P p d → AreIndependentParts R P Qs → Contains Qs Q →
@@ -123,8 +123,8 @@ pub fn parts_of_ash_last()
         IsPermutation (generations R (joined lists) n) (joined laters) }
 {}
 
-/// Each independent part of a set that comes again is one object with each of its phases, so of each kind the ash of a
-/// later generation has as many parts, whatever the bounds.
+/// Each independent part of a set that recurs is one object with each of its phases. So the ash of a later generation has as many
+/// parts of each kind, whatever the bounds.
 pub fn phases_of_parts_are_of_one_kind()
     ensures phase { (R : Rule) (P Q : Generation) (Qs : List Generation) (p n : ℕ) (d : Cell) →
         RecursBy R P p d → AreIndependentParts R P Qs → Contains Qs Q →
@@ -136,8 +136,8 @@ pub fn phases_of_parts_are_of_one_kind()
         AreAlike R (joined lists) (joined laters) }
 {}
 
-/// Sets that are held apart in each generation of a set's first period, of which what is one a period later was one at
-/// first, split no independent part: they are made of whole ones.
+/// Sets split no independent part, but are made of whole ones, where they are held apart in each generation of a set's first
+/// period and what is one of them a period later was one at first.
 pub fn what_is_held_apart_splits_no_part()
     ensures { (R : Rule) (P Q : Generation) (Qs others : List Generation) (p : ℕ) (d c e : Cell) →
         RecursBy R P p d → ((n : ℕ) (f : Cell) → RecursBy R P n f → p ≤ n) →
@@ -149,12 +149,12 @@ pub fn what_is_held_apart_splits_no_part()
         contains Q c ≡ true → contains Q e ≡ true → HaveBoth others c e }
 {}
 
-/// Where 3 alone is among the births, each splitting of a set that comes again into sets that evolve alone and never touch is
-/// made of whole independent parts, if the set has no fork in any generation, or if each fork's islands are tied without it:
-/// what is tied is of one set of the splitting. It must be a splitting of the earlier generations too, which the set has been
-/// through before, as it is where each of its sets comes again: else a spark that dies at once, as a lightweight spaceship has
-/// one, could be split off, though a part throws it in each period. Of a splitting from now on alone it is so after a time: what
-/// is tied, so much later, is of one set. (Bit 3 of a rule's births, whose value is 8, stands for 3.)
+/// Where 3 alone is among the births, each splitting of a set that recurs into sets that evolve alone and never touch is made of
+/// whole independent parts, if the set has no fork in any generation, or if each fork's islands are tied without it: what is tied
+/// is of one set of the splitting. It must be a splitting of the earlier generations too, through which the set has been before.
+/// It is one where each of its sets recurs. Otherwise a spark that dies at once, as a lightweight spaceship has one, could be
+/// split off, though a part throws it in each period. For a splitting only from now on, this holds after a time: what is tied,
+/// that much later, is of one set. (Bit 3 of a rule's births, whose value is 8, stands for 3.)
 pub fn no_splitting_is_finer()
     ensures ties { (R : Rule) (P A : Generation) (others : List Generation) (p n m : ℕ) (d c e : Cell) →
         HasBirthsAtThreeAlone R → RecursBy R P p d → AreForksTied R P →
@@ -180,7 +180,7 @@ pub fn independent_parts_are_a_splitting()
         AreIndependentParts R P Qs → AreSplitThroughout R P Qs }
 {}
 
-/// A splitting of a set into sets that evolve alone, never touch and each come again is one of the earlier generations too.
+/// A splitting of a set into sets that evolve alone, never touch and each recur is one of the earlier generations too.
 pub fn sets_that_come_again_split_throughout()
     ensures { (R : Rule) (P : Generation) (Qs : List Generation) →
         AreSplit R P Qs → All (Recurs R) Qs → AreSplitThroughout R P Qs }

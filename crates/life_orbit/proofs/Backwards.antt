@@ -42,7 +42,7 @@ moved_to_before R P p d r b k m set e one end =
     (generation-add R P b k ∙ ap (generation R P) e ∙ (RecursBy-times R P p d r m one).again)
     ∙ moved_back P (multiple_of m d)
 
--- how many whole periods reach back so far, and how far on it then is
+-- how many whole periods reach back n generations, and how far on it is then
 pub rounds_back : (n p : ℕ) → 1 ≤ n → 1 ≤ p → n + ((p - 1) - (n - 1) % p) ≡ ((n - 1) / p + 1) * p
 rounds_back n p one some =
     let parts = div-add-mod' (n - 1) p in
@@ -432,7 +432,7 @@ module _ (o w : Course) (rule : o.rule ≡ w.rule) (apart : AreApartForEver o.ru
       ∙ generation-add o.rule Q age (t - age) ∙ ap (generation o.rule Q) e)
       (apart (t - age)))
 
--- what was so many generations ago, told of what was at first
+-- what was `ago` generations ago, by what was at first
 pub past_then : (o : Course) (age ago : ℕ) (P : Generation) → ago ≤ age → IsPast age o P →
     IsPast ago o (generation o.rule P (age - ago))
 past_then o age ago P le past = record {
@@ -442,7 +442,7 @@ past_then o age ago P le past = record {
       ∙ ap (generation o.rule P) (let e : (age - ago) + ago ≡ age = omega arith in e) ∙ past.becomes;
 }
 
--- apart from some time on, as stretches of time tell
+-- apart from some time on, by two stretches of time
 pub apart_on : (R : Rule) (P Q : Generation) (start middle age : ℕ) → AreApartBetween R start middle P Q →
     AreApartBetween R middle age P Q → ((t : ℕ) → age ≤ t → AreApart (generation R P t) (generation R Q t)) →
     (n : ℕ) → start ≤ n → AreApart (generation R P n) (generation R Q n)

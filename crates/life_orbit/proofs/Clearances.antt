@@ -94,7 +94,7 @@ module _ (R : Rule) (P Q : Generation) (p q : ℕ) (d e : Cell) (r : RecursBy R 
       (subst (λ H. AreApart (translate_of first (multiple_of (t / p) d)) H) (generation-wrapped R Q q e s t)
       (subst (λ H. AreApart H (generation R Q t)) (generation-wrapped R P p d r t) apart))
 
--- what the phases tell of a time
+-- what the phases say about a time
 module _ (o w : Course) (rule : o.rule ≡ w.rule) (is_o : IsCourse o) (is_w : IsCourse w) (t : ℕ) (by : Cell)
     (by_is : by ≡ plus (multiple_of (t / o.period) o.displacement) (opposite (multiple_of (t / w.period) w.displacement))) where
   again : RecursBy o.rule w.set w.period w.displacement

@@ -23,7 +23,7 @@ some_parts g n divides some =
     let less : g ≤ n = le_of_dvd some divides in
     le-div 1 n g (some_divisor g n divides some) (let z : 1 * g ≤ n = omega arith in z)
 
--- each number so often as the divisor goes into the other is the same
+-- each number, as many times as the divisor goes into the other, gives the same
 pub parts_together : (g a b : ℕ) → g ∣ a → g ∣ b → (b / g) * a ≡ (a / g) * b
 parts_together g a b first second =
     ap (λ n. (b / g) * n) (sym (div-mul_cancel g first)) ∙ mul_left_comm (b / g) (a / g) g

@@ -14,7 +14,7 @@ use Rattle.life_objects.specs.Drift.{multiple_of}
 use Rattle.life_objects.proofs.Moving.{generation-wrapped, RecursBy-times, in_unmoved, rounds_later}
 use Rattle.life_orbit.proofs.Shifts.{IsAxis, not_left, not_right, widens}
 
--- c is what stands after a move by x, and before the move it stood at b
+-- a cell that is moved by x to c lies at c less x on the axis
 before_move : (f : Cell → ℤ) → IsAxis f → (c x : Cell) → f c ≡ f (plus c (opposite x)) +ℤ f x
 before_move f axis c x = ap f (sym (plus-opposite_first c x)) ∙ axis.adds (plus c (opposite x)) x
 

@@ -4,7 +4,7 @@ use Rattle.std.proofs.Common.{length, get_or, inl, inr, subst, arith}
 use Rattle.std.proofs.lemmas.Bool.{cases_lt}
 use Rattle.std.proofs.lemmas.List.{get_or_default}
 
--- of each before one, and of that one
+-- what holds of each element before one, and of that one, holds of each before the next
 pub all_more : {A : Type 0} (P : A → Type 0) (xs : List A) (i : ℕ) (e : A) → i < length xs →
     ((k : ℕ) (d : A) → k < i → P (get_or xs k d)) → P (get_or xs i e) →
     (k : ℕ) (d : A) → k < i + 1 → P (get_or xs k d)

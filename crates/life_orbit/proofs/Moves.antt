@@ -27,7 +27,7 @@ module _ (R : Rule) (G : Generation) (by : Cell) where
     again = generation-moved R G by n ∙ ap (λ H. translate_of H by) r.again ∙ moves_turned d;
   }
 
-  -- what recurs so does so where it is moved, and its generations are moved
+  -- a moved set recurs as the set itself does, and its generations are moved
   pub kept_moved : (list : List Generation) (d : Cell) → ArePhasesOfOrbit R G list d →
       ArePhasesOfOrbit R (translate_of G by) (map (λ P. translate_of P by) list) d
   kept_moved list d kept =

@@ -1,4 +1,4 @@
--- How far moves go that are made again and again.
+-- How far repeated moves go.
 use mir.Syntax.{w32, w128}
 use mir.Val.{SFits, of_z, to_z}
 use Rattle.std.proofs.Common.{◌≡◌, ℕ, zero, suc, ℤ, neg_ℤ, pos, ◌+ℤ◌, ◌≤ℤ◌, ◌+◌, ◌*◌, ◌^◌, ◌<◌, ◌≤◌, refl, ◌∙◌, arith}
@@ -58,7 +58,7 @@ reach_wider m n d h k = record {
   below = high_wider m n d.1 h k.below;
 }
 
--- ---- the same, as numbers of 128 bits
+-- ---- how far repeated moves go, as numbers of 128 bits
 
 product_fits : (k : ℕ) (z : ℤ) → k < 2 ^ 94 → SFits w32 z → SFits w128 (pos k *ℤ z)
 product_fits k z h f =

@@ -184,7 +184,7 @@ module _ (cs : List Cell) (rising : T (is_rising cs)) (row left right : ℤ) (s 
 
 -- ---- the five rows about a cell
 
--- so many of them are free, from two columns before it to two after it
+-- the first n of them are free, from two columns before it to two after it
 abbrev pub AreFree : Cell → ℕ → List Cell → Type 0
 AreFree c n ds = (k : ℕ) → k < n → IsFree ((c.1 -ℤ pos 2) +ℤ pos k) (c.0 -ℤ pos 2) (c.0 +ℤ pos 2) ds
 

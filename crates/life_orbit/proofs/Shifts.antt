@@ -74,7 +74,7 @@ module _ (f : Cell → ℤ) (axis : IsAxis f) where
       (falls (a - j) j d (let l : f d ≤ℤ pos 0 = omega (arith, ints) in l))))
       (λ more. min_first (pos 0) (f (multiple_of j d)) (f (multiple_of a d)) (from_start j d more))
 
-  -- nor to the right of both
+  -- and none is to the right of both
   pub not_right : (j a : ℕ) (d : Cell) → j ≤ a → f (multiple_of j d) ≤ℤ int_max (pos 0) (f (multiple_of a d))
   not_right j a d h =
       by_lt_z (f d) (pos 0)

@@ -72,7 +72,7 @@ pub hull_holds : (o : Course) (h : Hull) (R : Rule) (p : ℕ) → R ≡ o.rule �
 hull_holds o h R p rule period held =
     subst (λ n. Holds h R o.set n) (sym period) (subst (λ S. Holds h S o.set o.period) (sym rule) held)
 
--- ---- lanes, and moments at which what is in them is past or still ahead
+-- ---- lanes, and rounds at which what is in them is past or still ahead
 
 -- the places from l to r, which move by x in a round
 abbrev pub lane_of : ℤ → ℤ → ℤ → Lane
@@ -103,7 +103,7 @@ ahead_same a b a' b' k first second ahead =
 abbrev pub watch_of : Hull → Cell → Hull → Cell → Watch
 watch_of g x h y = record { hull = g; by = x; other_hull = h; other_by = y }
 
--- the sooner of two moments at which the boxes have passed each other, along the one axis and along the other
+-- the sooner of two rounds after which the boxes have passed each other, along the one axis and along the other
 pub sooner : (w : Watch) (m n k : ℕ) → k ≡ min m n → IsOnePast (columns w.hull w.by) (columns w.other_hull w.other_by) m →
     IsOnePast (rows w.hull w.by) (rows w.other_hull w.other_by) n → IsPastAfter w k
 sooner w m n k least across down =
@@ -114,7 +114,7 @@ sooner w m n k least across down =
           (let z : m ≡ k = omega arith in z) across)
     ]
 
--- the later of two moments until which the one is ahead of the other
+-- the later of two rounds until which the one is ahead of the other
 pub later : (w : Watch) (m n k : ℕ) → k ≡ max m n → IsOneAhead (columns w.hull w.by) (columns w.other_hull w.other_by) m →
     IsOneAhead (rows w.hull w.by) (rows w.other_hull w.other_by) n → IsAheadBefore w k
 later w m n k greatest across down =
@@ -125,7 +125,7 @@ later w m n k greatest across down =
           (let z : n ≡ k = omega arith in z) down))
     ]
 
--- two sets that recur, and after so many periods of each stand as they began
+-- two sets that recur, and after a and b periods stand as they began
 pub record IsPair (R : Rule) (P Q : Generation) (p q a b : ℕ) (d e : Cell) : Type 0 where
   pub first : RecursBy R P p d
   pub second : RecursBy R Q q e

@@ -9,7 +9,7 @@ use Rattle.life_model.specs.Rule.{Rule}
 use Rattle.life_cells.specs.Limits.{IsWithin}
 use Rattle.life_objects.specs.Limits.{objects_bound_limit}
 
--- the greatest age at whose places a set may stand whose orbit is made
+-- the greatest age at whose places a set may be for its orbit to be made
 abbrev pub orbit_age_limit : ℕ
 orbit_age_limit = 4000000
 
@@ -17,14 +17,14 @@ orbit_age_limit = 4000000
 abbrev pub ArePhases : Rule → Generation → List Generation → Type 0
 ArePhases R G list = (k : ℕ) → k < length list → slice_index_or list k empty ≡ generation R G k
 
--- the list is the generations of G until it comes again, moved by d
+-- the list is the generations of G until it recurs, moved by d
 pub record ArePhasesOfOrbit (R : Rule) (G : Generation) (list : List Generation) (d : Cell) : Type 0 where
   pub phases : ArePhases R G list
   pub recurs : RecursBy R G (length list) d
   pub least : (n : ℕ) (e : Cell) → RecursBy R G n e → length list ≤ n
   pub short : length list ≤ objects_bound_limit
 
--- the list is the generations of G before this one, and G has not come again so far
+-- the list is the generations of G before this one, and G has not recurred so far
 pub record IsOrbitWalk (R : Rule) (G : Generation) (taken : ℕ) (list : List Generation) (here : Generation) : Type 0 where
   pub count : length list ≡ taken
   pub phases : ArePhases R G list

@@ -1,4 +1,4 @@
--- When what moves further on has passed what stands before it, and until when it has not come near it.
+-- When what moves further on has passed what is before it, and until when it has not come near it.
 use Rattle.std.specs.Prelude.{◌≡◌, ◌⊎◌, ℕ, ◌*◌, ◌<◌, ◌≤◌, ℤ, pos, ◌+ℤ◌, ◌≤ℤ◌}
 use Rattle.std.specs.Int.{int_max, int_min}
 use Rattle.life_model.specs.Cell.{Cell}
@@ -29,18 +29,18 @@ pub record IsPassed (p : Passing) : Type 0 where
   pub passes : (gain : ℕ) → p.by ≡ p.other_by +ℤ pos gain →
       ((p.other_last +ℤ int_max (pos 0) p.other_by) +ℤ pos 3) ≤ℤ ((p.first +ℤ int_min (pos 0) p.by) +ℤ pos (p.rounds * gain))
 
--- The same, where `other_by` is no less. In each round before that number the one is at least three places further on
--- than the other.
+-- What is at `first` or further on moves by `by` in a round, and what is at `other_last` or before it by `other_by`, which is no
+-- less. In each round before that number the one is at least three places further on than the other.
 pub record IsYetAhead (p : Passing) : Type 0 where
   pub order : p.by ≤ℤ p.other_by
   pub ahead : (loss k : ℕ) → p.other_by ≡ p.by +ℤ pos loss → k < p.rounds →
       (((p.other_last +ℤ int_max (pos 0) p.other_by) +ℤ pos 3) +ℤ pos (k * loss)) ≤ℤ (p.first +ℤ int_min (pos 0) p.by)
 
--- after so many rounds one of the two has passed the other
+-- after k rounds one of the two has passed the other
 abbrev pub IsOnePast : Lane → Lane → ℕ → Type 0
 IsOnePast a b k = IsPassed (passing a b k) ⊎ IsPassed (passing b a k)
 
--- for so many rounds one of the two is still ahead of the other
+-- for k rounds one of the two is still ahead of the other
 abbrev pub IsOneAhead : Lane → Lane → ℕ → Type 0
 IsOneAhead a b k = IsYetAhead (passing a b k) ⊎ IsYetAhead (passing b a k)
 
@@ -51,21 +51,21 @@ pub record Watch : Type 0 where
   pub other_hull : Hull
   pub other_by : Cell
 
--- a box that moves so, from left to right
+-- the lane of a box that moves by d in a round, from left to right
 abbrev pub columns : Hull → Cell → Lane
 columns h d = record { first = h.left; last = h.right; by = d.0 }
 
--- and downwards
+-- the lane of a box that moves by d in a round, downwards
 abbrev pub rows : Hull → Cell → Lane
 rows h d = record { first = h.top; last = h.bottom; by = d.1 }
 
--- After the rounds one of the two has passed the other along an axis, or both move as far, and it is one round.
+-- After the rounds one of the two has passed the other along an axis, or both move equally far, and it is one round.
 abbrev pub IsPastAfter : Watch → ℕ → Type 0
 IsPastAfter w k =
     IsOnePast (columns w.hull w.by) (columns w.other_hull w.other_by) k
     ⊎ (IsOnePast (rows w.hull w.by) (rows w.other_hull w.other_by) k ⊎ ((w.by ≡ w.other_by) × (k ≡ 1)))
 
--- In each of the rounds one of the two is still ahead of the other along an axis, or it is none.
+-- In each of the rounds one of the two is still ahead of the other along an axis, or there is no round.
 abbrev pub IsAheadBefore : Watch → ℕ → Type 0
 IsAheadBefore w k =
     IsOneAhead (columns w.hull w.by) (columns w.other_hull w.other_by) k

@@ -1,4 +1,4 @@
--- What sets were that recur, and since when two of them are apart.
+-- What sets that recur were, and since when two of them have been apart.
 use Rattle.std.specs.Prelude.{◌≡◌, ℕ, ◌≤◌}
 use Rattle.life_model.specs.Evolution.{generation}
 use Rattle.life_model.specs.Generation.{Generation}
@@ -7,7 +7,7 @@ use Rattle.life_model.specs.Rule.{Rule}
 use Rattle.life_objects.specs.Apart.{AreApartForEver}
 use Rattle.life_orbit.specs.Course.{Course}
 
--- P comes again as the set does, and is the set n generations later
+-- P recurs as the set does, and is the set n generations later
 pub record IsPast (n : ℕ) (o : Course) (P : Generation) : Type 0 where
   pub recurs : RecursBy o.rule P o.period o.displacement
   pub becomes : generation o.rule P n ≡ o.set

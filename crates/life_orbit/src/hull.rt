@@ -80,7 +80,7 @@ fn is_before(place: i32, by: i128, other: i32) -> bool
     false
 }
 
-/// Whether the boxes tell that no cell of the first, moved, is near one of the second.
+/// Whether the boxes show that no cell of the first, moved, is near one of the second.
 pub fn are_far(hull: Hull, by: (i128, i128), other: Hull) -> bool
     requires { IsReach (2 ^ 126) by }
     ensures { OnTrue result (AreFar hull by other) }

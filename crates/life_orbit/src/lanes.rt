@@ -12,14 +12,14 @@ pub struct Lane {
     pub by: i128,
 }
 
-/// What comes from one number on and before another, of rounds or of generations. There may be none.
+/// The numbers from one on and before another, of rounds or of generations. There may be none.
 #[derive(Clone, Copy)]
 pub struct Span {
     pub from: u128,
     pub until: u128,
 }
 
-/// After how many rounds more than so many places are used up, where each round uses some.
+/// After how many rounds more than `places` places are used up, where each round uses `each` of them.
 fn rounds_over(places: u128, each: u128) -> u128
     requires each { 1 ≤ each }
     requires places { places < 2 ^ 52 }
@@ -115,7 +115,7 @@ fn rounds_between(lane: Lane, other: Lane) -> Span
     }
 }
 
-/// Whether what moves at least as fast as the other stands past it over a whole round, and so stays past it.
+/// Whether what moves at least as fast as the other is past it over a whole round, and so stays past it.
 fn stays_past(lane: Lane, other: Lane) -> bool
     requires order { other.by ≤ℤ lane.by }
     requires low { neg_ℤ (pos (2 ^ 49)) ≤ℤ lane.by }
@@ -128,7 +128,7 @@ fn stays_past(lane: Lane, other: Lane) -> bool
     false
 }
 
-/// In which rounds the two can be near along an axis; or nothing, where both move as fast and their places are near.
+/// In which rounds the two can be near along an axis, or nothing if both move equally fast and their places are near.
 pub fn rounds_along(lane: Lane, other: Lane) -> Option<Span>
     requires low { neg_ℤ (pos (2 ^ 49)) ≤ℤ lane.by }
     requires high { lane.by ≤ℤ pos (2 ^ 49) }

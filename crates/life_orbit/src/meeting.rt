@@ -11,14 +11,14 @@ use crate::shift::offset_at;
 use crate::watch::watch;
 use life_cells::CellList;
 
-/// The phase that a set has after so many generations.
+/// The phase that a set has after `time` generations.
 fn phase_at(orbit: &Orbit, time: u128) -> &CellList
     ensures { result.now ≡ generation orbit.now.rule orbit.now.set (time % orbit.now.period) }
 {
     orbit.phase((time % orbit.period() as u128) as u32)
 }
 
-/// Whether two sets are apart after so many generations.
+/// Whether two sets are apart after `time` generations.
 fn is_apart_at(orbit: &Orbit, hull: Hull, other: &Orbit, other_hull: Hull, time: u128) -> bool
     requires rule { orbit.now.rule ≡ other.now.rule }
     requires hull { IsHullOf hull orbit.now }

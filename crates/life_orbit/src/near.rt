@@ -5,7 +5,7 @@ ghost use Rattle.life_model.specs.Generation.{is_rising};
 ghost use Rattle.life_orbit.specs.Clear.{AreClear, IsClearOf, IsFree, comes_before};
 ghost use Rattle.life_orbit.specs.Reach.{IsReach};
 
-/// Whether a cell stands in a row before that one, or in that row and before the column.
+/// Whether a cell is in a row before that one, or in that row and before the column.
 fn comes_before(cell: (i32, i32), row: i128, column: i128) -> bool
     ensures { result ≡ comes_before row column cell }
 {
@@ -15,7 +15,7 @@ fn comes_before(cell: (i32, i32), row: i128, column: i128) -> bool
     (cell.1 as i128) < row
 }
 
-/// Whether none of the cells, which are in order, stands in a row from one column to another.
+/// Whether none of the cells, which are in order, is in a row from one column to another.
 fn is_free(cells: &[(i32, i32)], row: i128, left: i128, right: i128) -> bool
     requires { T (is_rising cells.now) }
     ensures { IsTrue result ↔ IsFree row left right cells.now }

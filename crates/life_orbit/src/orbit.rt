@@ -15,7 +15,7 @@ use life_cells::{CellList, Rule, corner};
 use std::alloc::{AllocError, Global};
 use std::marker::Model;
 
-/// The greatest number of generations within which a set is looked for again.
+/// The greatest number of generations within which sets are checked for recurrence.
 pub const BOUND_LIMIT: u32 = 100_000;
 
 /// A set of cells that recurs: its generations over one period, how far it has moved then, and a box around them.
@@ -86,7 +86,7 @@ impl Orbit {
         Ok(None)
     }
 
-    /// The orbit of some cells, where they are the set, moved as a whole, and all its generations have places so moved.
+    /// The orbit of some cells, if they are the set, moved as a whole, and all its generations, moved likewise, have places.
     pub fn moved_to(&self, alloc: Global, cells: &CellList) -> Result<Option<Orbit>, AllocError>
         ensures rule { IfOk result (λ found. IfSome found (λ orbit. orbit.rule ≡ self.now.rule)) }
         ensures set { IfOk result (λ found. IfSome found (λ orbit. orbit.set ≡ cells.now)) }
@@ -123,7 +123,7 @@ impl Orbit {
         &self.phases[0]
     }
 
-    /// After how many generations it first comes again.
+    /// After how many generations it first recurs.
     pub fn period(&self) -> u32
         ensures value { result ≡ self.now.period }
         ensures recurs { IsCourse self.now }
@@ -139,7 +139,7 @@ impl Orbit {
         self.displacement
     }
 
-    /// A box that has all cells of its generations until it comes again.
+    /// A box that has all cells of its generations until it recurs.
     pub fn hull(&self) -> Hull
         ensures hull { IsHullOf result self.now }
         ensures recurs { IsCourse self.now }
@@ -147,7 +147,7 @@ impl Orbit {
         self.hull
     }
 
-    /// One of its generations before it comes again.
+    /// One of its generations before it recurs.
     pub fn phase(&self, n: u32) -> &CellList
         requires { n < self.now.period }
         ensures { result.now ≡ generation self.now.rule self.now.set n }

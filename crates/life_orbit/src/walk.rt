@@ -10,7 +10,7 @@ use life_cells::{CellList, Rule};
 use life_plane::{AGE_LIMIT, Plane, offset_between};
 use std::alloc::{AllocError, Global};
 
-/// The same set again.
+/// Another list of the same cells.
 pub fn copied(alloc: Global, cells: &CellList) -> Result<CellList, AllocError>
     ensures { IfOk result (λ copy. copy ≡ cells.now) }
 {
@@ -31,7 +31,7 @@ pub fn next_list(alloc: Global, rule: &Rule, cells: &CellList) -> Result<CellLis
     Ok(later)
 }
 
-/// How far the second set is from the first, where it is the first moved as a whole. No cell is moved by nothing.
+/// How far the second set is from the first, if it is the first moved as a whole. The empty set isn't moved.
 pub fn offset(from: &CellList, to: &CellList) -> Option<(i32, i32)>
     ensures offset { IfSome result (λ d. IsOffset from.now to.now d) }
     ensures apart { IfNone result (AreNotTranslates from.now to.now) }

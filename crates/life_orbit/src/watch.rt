@@ -11,8 +11,8 @@ use crate::orbit::Orbit;
 use crate::periods::rounds_together;
 use crate::shift::repeated;
 
-/// In which rounds two boxes can be near, where they move so far in each: when they can be along both axes. Where both
-/// move as far and are near along both, one round tells of all.
+/// In which rounds two boxes can be near, where they move by these steps in each: when they can be near along both axes. Where
+/// both move equally far and are near along both, one round decides for all.
 pub fn rounds_near(hull: Hull, by: (i128, i128), other_hull: Hull, other_by: (i128, i128)) -> Span
     requires reach { IsReach (2 ^ 49) by }
     requires other_reach { IsReach (2 ^ 49) other_by }

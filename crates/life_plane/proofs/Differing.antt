@@ -9,7 +9,7 @@ differ old new p q is = omega arith
 agree : (old new : ℕ) → old < 2 → new ≡ old → (old + new) % 2 ≡ 0
 agree old new p is = omega arith
 
--- the exclusive or of two words is clear where they are the same
+-- the exclusive or of two words is clear exactly at the bits where they agree
 pub same_where_clear : (old new x : ℕ) → (bit_at (bit_xor old new) x ≡ 0) ↔ (bit_at new x ≡ bit_at old x)
 same_where_clear old new x = (
   λ is. differ _ _ (bit_at-lt old x) (bit_at-lt new x) (sym (bit_at_xor old new x) ∙ is),
@@ -25,7 +25,7 @@ right_none a b is = omega arith
 both_none : (a b : ℕ) → a ≡ 0 → b ≡ 0 → max a b ≡ 0
 both_none a b p q = omega arith
 
--- one row more
+-- one more row
 pub same_so_far : (old new : ℕ → ℕ) (all row y x : ℕ) → row ≡ old y →
     (bit_at all x ≡ 0) ↔ ((n : ℕ) → n < y → bit_at (new n) x ≡ bit_at (old n) x) →
     (bit_at (bit_or all (bit_xor row (new y))) x ≡ 0) ↔ ((n : ℕ) → n < y + 1 → bit_at (new n) x ≡ bit_at (old n) x)

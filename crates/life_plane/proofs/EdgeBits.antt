@@ -1,4 +1,4 @@
--- The cells beside each cell of a row: the row moved by one both ways, and the cells beyond both edges.
+-- The cells beside each cell of a row: the row shifted by one to either side, and the cells beyond both edges.
 use Rattle.std.proofs.Common.{◌≡◌, ℕ, ◌+◌, ◌*◌, ◌<◌, ◌≤◌, ◌%◌, ◌/◌, ◌^◌, bit_and, bit_or, bit_xor, min, max, sym, ap, ◌∙◌, ⊎_elim, arith}
 use Rattle.std.specs.Int.{bit_at}
 use Rattle.std.proofs.lemmas.Bool.{cases_lt}
@@ -6,14 +6,14 @@ use Rattle.std.proofs.lemmas.Nat.Bits.{bit_at_and, bit_at_or, bit_at_xor, bit_at
 use Rattle.life_plane.specs.Bits.{wide_row}
 use Rattle.life_plane.proofs.Strips.{bit_at_mod, west_at, east_at}
 
--- the cell beyond the western edge is in column 0 alone
+-- the cell beyond the western edge affects only column 0
 one_bit : (west : ℕ) → west < 2 ^ 64 → west / 2 ^ 63 < 2 ^ 1
 one_bit west fits = omega arith
 
 no_west : (west x : ℕ) → west < 2 ^ 64 → 0 < x → bit_at (west / 2 ^ 63) x ≡ 0
 no_west west x fits later = bit_at_above (west / 2 ^ 63) 1 x (one_bit west fits) later
 
--- the one beyond the eastern edge is in column 63 alone
+-- the cell beyond the eastern edge affects only column 63
 no_east : (east x : ℕ) → x < 63 → bit_at (east * 2 ^ 63 % 2 ^ 64) x ≡ 0
 no_east east x below =
     bit_at_mod (east * 2 ^ 63) 64 x (omega arith)
@@ -21,7 +21,7 @@ no_east east x below =
     ∙ bit_at_cat_low east 63 0 x below
     ∙ bit_at-zero x
 
--- there the moved rows have none
+-- there the shifted rows have no bit
 no_left : (row : ℕ) → bit_at (row * 2 % 2 ^ 64) 0 ≡ 0
 no_left row = omega arith
 

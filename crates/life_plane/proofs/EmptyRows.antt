@@ -12,7 +12,7 @@ or_none_right a b none = omega (arith, le_or_r a b, none)
 pub or_none : (a b : ℕ) → a ≡ 0 → b ≡ 0 → bit_or a b ≡ 0
 or_none a b left right = (λ i. bit_or (left i) (right i)) ∙ refl
 
--- eight rows more without a live cell, from the north and from the south
+-- eight more rows without a live cell, from the north and from the south
 pub void_before : (rows : List ℕ) (band : ℕ) → ((y : ℕ) → y < 8 * band → slice_index rows y ≡ 0) → ((y : ℕ) → y < 8 → slice_index rows (8 * band + y) ≡ 0) →
     (y : ℕ) → y < 8 * (band + 1) → slice_index rows y ≡ 0
 void_before rows band before here y less =

@@ -48,7 +48,7 @@ next_by_filter R cs all h same = same_members _ _ (λ c.
 pub rising-filter : (p : Cell → Bool) (cs : List Cell) → T (is_rising cs) → T (is_rising (filter p cs))
 rising-filter p cs h = rising_from_sorted _ (IsStrictlySortedBy-filter cell_cmp p cs (sorted_from_rising cs h))
 
--- ---- where the cells stand
+-- ---- where the cells are
 
 within_step : (a : ℕ) (c s : Cell) → IsWithin a c → IsStep s → IsWithin (a + 1) (plus c s)
 within_step a c s h k = record { left = omega (arith, ints); right = omega (arith, ints); above = omega (arith, ints); below = omega (arith, ints) }

@@ -1,4 +1,4 @@
--- Conway's Life: a cell is live next where exactly one of four twos is set and a one, or the cell, is.
+-- Conway's Life: a cell is live next if exactly one of four twos is set, and the one or the cell is.
 use Rattle.std.proofs.Common.{◌≡◌, ℕ, zero, suc, ◌+◌, ◌-◌, ◌*◌, ◌<◌, ◌%◌, ◌^◌, ◌==◌, if◌then◌else◌, bit_and, bit_or, bit_xor, min, max, refl, ap, ◌∙◌, arith, w64}
 use Rattle.std.specs.Int.{bit_at, bit_not}
 use Rattle.std.proofs.lemmas.Nat.{or_lt}

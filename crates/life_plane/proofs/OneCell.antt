@@ -1,4 +1,4 @@
--- One cell of a tile or a leaf made live or dead, and one without a live cell, of rows of any width.
+-- One cell of a tile or a leaf made live or dead, and a tile or a leaf without a live cell, for rows of any width.
 use Rattle.std.proofs.Common.{◌≡◌, ◌≢◌, ℕ, ◌^◌, ◌<◌, ◌⊎◌, List, length, get_or, set, replicate, slice_index, slice_set, get_or-set_other, get_or-set_same, refl, sym, ap, ◌∙◌, ⊎_elim, arith}
 use Rattle.std.specs.Int.{bit_at}
 use Rattle.std.proofs.lemmas.Nat.Bits.{same_from_bits_below, bit_at-zero}

@@ -1,4 +1,4 @@
--- Sums without carries, of which each number takes some terms.
+-- Sums without carries in which each number picks some of the terms.
 use Rattle.std.proofs.Common.{◌≡◌, ℕ, zero, suc, ◌+◌, ◌*◌, ◌/◌, ◌%◌, ◌<◌, ◌≤◌, List, [], ◌∷◌, slice_index, bit_and, bit_xor, min, refl, ◌∙◌, arith}
 use Rattle.std.specs.Int.{bit_at}
 use Rattle.std.proofs.lemmas.Nat.Bits.{bit_at_and, bit_at_xor, bit_at-lt}
@@ -15,7 +15,7 @@ turned_at b w m j =
 back : (a b : ℕ) → a < 2 → b < 2 → (a + (a + b) % 2) % 2 ≡ b
 back a b p q = omega arith
 
--- what two words differ in, added to one of them, gives the other
+-- the exclusive or of two words, added to one of them, gives the other
 pub over : (a b j : ℕ) → (bit_at a j + bit_at (bit_xor a b) j) % 2 ≡ bit_at b j
 over a b j = rw (bit_at_xor a b j) (back _ _ (bit_at-lt a j) (bit_at-lt b j))
 
@@ -58,7 +58,8 @@ four_summed ws j (suc (suc a)) b p q = absurd (omega arith)
 four_summed ws j zero (suc (suc b)) p q = absurd (omega arith)
 four_summed ws j (suc zero) (suc (suc b)) p q = absurd (omega arith)
 
--- the terms of the first four words and of what the others differ in from these, and the ninth, add up to each
+-- three kinds of terms add up to each: those of the first four words, those of what the others differ in from these,
+-- and the ninth
 summed_by : (term : ℕ → ℕ) (ws : List ℕ) (j number : ℕ) → number ≤ 8 →
     ((a b : ℕ) → a < 2 → b < 2 → sum_of_four term a b ≡
     bit_at (slice_index (slice_index ws 0 ∷ slice_index ws 1 ∷ slice_index ws 2 ∷ slice_index ws 3 ∷ []) (a + 2 * b)) j) →

@@ -54,7 +54,7 @@ module _ (cs : List Cell) (c : Cell) (i : ℕ) (h : T (is_rising cs)) (behind : 
       other_cell c (get_or cs k d) Less refl
       (least _ (subst (λ n. ordering_index (cell_cmp (get_or cs k d) c) ≤ n) (ap ordering_index (is_less _ (behind (i - 1) d (omega arith)))) (rise k (i - 1) d (omega arith) (omega arith))))
 
-  -- past the end
+  -- beyond the end
   pub walked_past : i ≡ length cs → has cs c ≡ false
   walked_past e = list_any_none (same_cell c) cs (λ k d l. none_before k d (omega (arith, e)) (omega (arith, e)))
 

@@ -6,7 +6,7 @@ use Rattle.life_model.specs.Rule.{Rule}
 use Rattle.life_plane.specs.declared.tile.Tile.{Tile}
 use Rattle.life_plane.specs.declared.tile.Around.{Around}
 
--- the cell of a tile in column x and row y: 1 where it is live, else 0
+-- the cell of a tile in column x and row y: 1 if it is live, and 0 if not
 abbrev pub tile_cell : Tile → ℕ → ℕ → ℕ
 tile_cell tile x y = bit_at (slice_index tile.rows y) x
 

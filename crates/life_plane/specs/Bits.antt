@@ -10,7 +10,7 @@ use Rattle.life_plane.specs.declared.strand.Strand.{Strand}
 abbrev pub wide_row : ℕ → ℕ → ℕ → ℕ
 wide_row left row right = (right % 2 ^ 64 * 2 ^ 64 + row % 2 ^ 64) * 2 ^ 64 + left % 2 ^ 64
 
--- a strand holds the middle 64 bits of a strip, and the same moved by one both ways
+-- a strand holds the middle 64 bits of a strip, and the same bits shifted by one to either side
 pub record IsStrandOf (strand : Strand) (bits : ℕ) : Type 0 where
   pub west : (j : ℕ) → j < 64 → bit_at strand.west j ≡ bit_at bits (j + 63)
   pub here : (j : ℕ) → j < 64 → bit_at strand.here j ≡ bit_at bits (j + 64)
@@ -23,8 +23,8 @@ neighbour_count up mid down j =
     + bit_at mid.west j + bit_at mid.east j
     + bit_at down.west j + bit_at down.here j + bit_at down.east j
 
--- The next state of a cell with a state and a count of live neighbours, 1 for live and 0 for dead: a live cell stays
--- where its count says so, and a dead one is born where its count does.
+-- The next state of a cell with a state and a count of live neighbours, 1 for live and 0 for dead: the rule decides by
+-- the count whether a live cell stays and whether a dead one is born.
 abbrev pub next_state : Rule → ℕ → ℕ → ℕ
 next_state rule state count = if state == 1 then as_bit (stays rule count) else as_bit (born rule count)
 

@@ -1,4 +1,4 @@
--- What eight rows of a tile differ in from what stood there before.
+-- How eight rows of a tile differ from what was there before.
 use Rattle.std.specs.Prelude.{◌≡◌, ℕ, ◌+◌, ◌<◌, ◌↔◌}
 use Rattle.std.specs.Int.{bit_at}
 use Rattle.life_plane.specs.declared.tile.Tile.{Tile}
@@ -9,8 +9,8 @@ use Rattle.life_plane.specs.declared.kernel.Change.{Change}
 abbrev pub IsSameCell : Tile → Tile → ℕ → ℕ → Type 0
 IsSameCell old new x y = tile_cell new x y ≡ tile_cell old x y
 
--- The bit of a column is clear exactly where no cell of the column changed: of rows `top` to `top + 7`, of the first of these,
--- and of the last.
+-- The bit of a column is clear exactly if no cell of the column changed: in rows `top` to `top + 7`, in the first of
+-- these, and in the last.
 pub record IsChange (change : Change) (old new : Tile) (top : ℕ) : Type 0 where
   pub all : (x : ℕ) → x < 64 → (bit_at change.all x ≡ 0) ↔ ((y : ℕ) → y < 8 → IsSameCell old new x (top + y))
   pub first : (x : ℕ) → x < 64 → (bit_at change.first x ≡ 0) ↔ IsSameCell old new x top

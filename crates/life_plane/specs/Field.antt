@@ -19,10 +19,10 @@ pub record IsStep (s : Cell) : Type 0 where
 abbrev pub candidates_of : List Cell → List Cell
 candidates_of cs = cs ++ flat_map around cs
 
--- the cell before index i, where there is one, comes before this cell
+-- the cell before index i, if there is one, comes before this cell
 abbrev pub IsBehind : List Cell → ℕ → Cell → Type 0
 IsBehind cs i c = (k : ℕ) (d : Cell) → k + 1 ≡ i → is_lt (cell_cmp (slice_index_or cs k d) c) ≡ true
 
--- the cell at index i, where there is one, does not
+-- the cell at index i, if there is one, does not
 abbrev pub HasReached : List Cell → ℕ → Cell → Type 0
 HasReached cs i c = (d : Cell) → i < length cs → is_lt (cell_cmp (slice_index_or cs i d) c) ≡ false

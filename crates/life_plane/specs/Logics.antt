@@ -8,15 +8,16 @@ use Rattle.life_plane.specs.declared.logic.RulePolynomial.{RulePolynomial}
 use Rattle.life_plane.specs.declared.logic.Logic.{Logic}
 use Rattle.life_plane.specs.declared.logic.Logic.TheVariants.{Life, General}
 
--- a bit, turned round where two others are set: the exclusive or with their product
+-- a bit, flipped if two others are set: the exclusive or with their product
 abbrev pub xor_if : ℕ → ℕ → ℕ → ℕ
 xor_if bit word more = if bit == 1 then (word + more) % 2 else word
 
--- the sum without carries of those of four terms whose places have no bit set but of a and b
+-- the sum without carries of those of four terms whose places have only bits that are set in a and b
 abbrev pub sum_of_four : (ℕ → ℕ) → ℕ → ℕ → ℕ
 sum_of_four term a b = xor_if b (xor_if a (term 0) (term 1)) (xor_if a (term 2) (term 3))
 
--- the same of eight terms, by a, b and c, and where d is set of the ninth too
+-- the sum without carries of those of eight terms whose places have only bits of a, b and c, and also of the ninth term
+-- if d is set
 abbrev pub sum_of : (ℕ → ℕ) → ℕ → ℕ → ℕ → ℕ → ℕ
 sum_of term a b c d = xor_if d (xor_if c (sum_of_four term a b) (sum_of_four (λ n. term (4 + n)) a b)) (term 8)
 

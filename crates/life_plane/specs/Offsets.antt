@@ -1,10 +1,10 @@
--- How far one set is from another that is the same, moved as a whole.
+-- How far one set is from another that is its translate.
 use Rattle.std.specs.Prelude.{◌≡◌, ℕ, neg_ℤ, pos, ◌≤ℤ◌, true}
 use Rattle.life_model.specs.Cell.{Cell, origin, plus}
 use Rattle.life_model.specs.Generation.{Generation, contains, empty}
 use Rattle.life_model.specs.Symmetry.{translate_of}
 
--- The second set is the first, moved by d. No cell is moved by nothing.
+-- The second set is the first, moved by d. For empty sets d is the origin.
 pub record IsOffset (G H : Generation) (d : Cell) : Type 0 where
   pub move : H ≡ translate_of G d
   pub unmoved : G ≡ empty → d ≡ origin

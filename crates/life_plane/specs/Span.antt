@@ -3,7 +3,7 @@ use Rattle.std.specs.Prelude.{◌-◌, List, length, slice_index_or}
 use Rattle.life_model.specs.Cell.{Cell, origin, plus, opposite}
 use Rattle.life_model.specs.Generation.{Generation, cells}
 
--- the origin where there is none
+-- the origin if there is none
 abbrev pub list_span : List Cell → Cell
 list_span cs = plus (slice_index_or cs (length cs - 1) origin) (opposite (slice_index_or cs 0 origin))
 

@@ -33,7 +33,7 @@ pub fn full_adder(a: u64, b: u64, c: u64) -> Sum
     }
 }
 
-/// At each place the bit of `high` where `bit` is set, else the bit of `low`.
+/// At each place the bit of `high` where `bit` is set, and otherwise the bit of `low`.
 #[inline(always)]
 pub fn choose(bit: u64, low: u64, high: u64) -> u64
     ensures { (j : ℕ) →

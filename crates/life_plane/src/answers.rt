@@ -9,7 +9,7 @@ use crate::adders::choose;
 use crate::strand::{Strand, count_planes};
 use life_cells::Rule;
 
-/// For each count from 0 to 8 a word of ones where the rule's answer is a live cell, else of zeros.
+/// For each count from 0 to 8 a word of ones if the rule's answer is a live cell, and of zeros if not.
 #[derive(Clone, Copy)]
 pub struct Answers {
     pub dead: [u64; 9],
@@ -31,7 +31,7 @@ impl Answers {
     }
 }
 
-/// A word of ones for true, of zeros for false.
+/// A word of ones for true, and of zeros for false.
 #[inline(always)]
 pub fn word_of(answer: bool) -> u64
     ensures { (j : ℕ) → j < 64 → bit_at result j ≡ as_bit answer }

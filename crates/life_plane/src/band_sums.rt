@@ -9,8 +9,8 @@ use crate::adders::full_adder;
 use crate::logic::Count;
 use crate::window::Window;
 
-/// Of each row of a window, in the middle 64 columns: how many of the two cells beside a cell are live in each of the eight
-/// rows, and how many of those and itself in each of the ten.
+/// Sums over the rows of a window, in the middle 64 columns: for the eight rows, how many of the two cells beside a
+/// cell are live, and for all ten rows, how many of those two and the cell itself.
 #[derive(Clone, Copy)]
 pub struct BandSums {
     pub two_ones: [u64; 8],
@@ -51,7 +51,7 @@ impl BandSums {
         }
     }
 
-    /// How many live neighbours each cell of row `y` of the eight has.
+    /// The number of live neighbours of each cell in row `y` of the eight.
     #[inline(always)]
     pub fn count(&self, y: usize) -> Count
         requires { y < 8 }

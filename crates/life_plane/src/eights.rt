@@ -17,7 +17,7 @@ pub fn has_cells(tile: &Tile, top: usize) -> bool
     all != 0
 }
 
-/// The first of the first eight rows of a tile that have a live cell, or 64 where no row has one.
+/// The first row of the first eight rows of a tile that have a live cell, or 64 if no row has one.
 pub fn first_eight(tile: &Tile) -> usize
     ensures small { result ≤ 64 }
     ensures eight { (band : ℕ) × (result ≡ 8 * band) }
@@ -32,7 +32,7 @@ pub fn first_eight(tile: &Tile) -> usize
     64
 }
 
-/// The row after the last eight rows of a tile that have a live cell, or 0 where no row has one.
+/// The row after the last eight rows of a tile that have a live cell, or 0 if no row has one.
 pub fn end_of_eights(tile: &Tile) -> usize
     ensures small { result ≤ 64 }
     ensures eight { (band : ℕ) × (result ≡ 8 * band) }

@@ -11,8 +11,8 @@ use life_cells::{Rule, put_in_order};
 use std::alloc::{AllocError, Global};
 use std::cmp::Ordering;
 
-/// Where the cells above, beside and below the last cell were found. A place is looked for from there on both sides,
-/// so that cells which are asked for in order cost few steps each.
+/// Where the cells above, beside and below the last cell were found. The next search goes from there to both sides, so
+/// that cells which are asked for in order cost few steps each.
 #[derive(Drop)]
 struct Cursors {
     above: usize,
@@ -20,7 +20,7 @@ struct Cursors {
     below: usize,
 }
 
-/// Whether one cell stands before another in the order of cells.
+/// Whether one cell comes before another in the order of cells.
 fn comes_before(cell: (i32, i32), other: (i32, i32)) -> bool
     ensures { result ≡ is_lt (cell_cmp cell other) }
 {
@@ -31,7 +31,7 @@ fn comes_before(cell: (i32, i32), other: (i32, i32)) -> bool
     }
 }
 
-/// Back to where the cell before, if there is one, comes before this one.
+/// Walks back until the cell before the place, if there is one, comes before this cell.
 fn walked_back(cells: &[(i32, i32)], from: usize, place: (i32, i32)) -> usize
     requires { from ≤ length cells.now }
     ensures bound { result ≤ length cells.now }
@@ -47,7 +47,7 @@ fn walked_back(cells: &[(i32, i32)], from: usize, place: (i32, i32)) -> usize
     at
 }
 
-/// On to the first cell that does not come before this one.
+/// Walks on to the first cell that does not come before this one.
 fn walked_on(cells: &[(i32, i32)], from: usize, place: (i32, i32)) -> usize
     requires bound { from ≤ length cells.now }
     requires behind { IsBehind cells.now from place }
@@ -65,7 +65,7 @@ fn walked_on(cells: &[(i32, i32)], from: usize, place: (i32, i32)) -> usize
     at
 }
 
-/// Whether the cells in order have this one.
+/// Whether the list in order has this cell.
 pub fn is_live(cells: &[(i32, i32)], cursor: &mut usize, place: (i32, i32)) -> bool
     requires { T (is_rising cells.now) }
     ensures { result ≡ has cells.now place }
@@ -88,7 +88,7 @@ fn beside(cell: (i32, i32), step: (i32, i32)) -> (i32, i32)
     (cell.0 + step.0, cell.1 + step.1)
 }
 
-/// 1 where the cell one step away is live, and else 0.
+/// 1 if the cell one step away is live, and 0 if not.
 fn live_at(cells: &[(i32, i32)], cursor: &mut usize, cell: (i32, i32), step: (i32, i32)) -> u32
     requires rising { T (is_rising cells.now) }
     requires within { IsWithin (age_limit + 1) cell }
@@ -99,7 +99,7 @@ fn live_at(cells: &[(i32, i32)], cursor: &mut usize, cell: (i32, i32), step: (i3
     u32::from(is_live(cells, cursor, beside(cell, step)))
 }
 
-/// How many of the eight cells around a cell are live.
+/// The number of live cells among the eight around a cell.
 fn count(cells: &[(i32, i32)], cursors: &mut Cursors, cell: (i32, i32)) -> u32
     requires rising { T (is_rising cells.now) }
     requires within { IsWithin (age_limit + 1) cell }

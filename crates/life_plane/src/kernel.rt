@@ -12,7 +12,7 @@ use crate::logic::{Branch, Life, Logic};
 use crate::tile::Tile;
 use crate::window::Window;
 
-/// What eight rows differ in from what stood there before. Bit `x` says whether the cell in column `x` changed: in some row in
+/// How eight rows differ from what was there before. Bit `x` says whether the cell in column `x` changed: in any row in
 /// `all`, in the first row in `first`, and in the last row in `last`.
 #[derive(Clone, Copy, PartialEq, Eq, Debug)]
 pub struct Change {
@@ -36,7 +36,7 @@ fn next_rows<B: Branch>(branch: &B, window: &Window) -> [u64; 8]
     rows
 }
 
-/// Writes eight rows over those from `top` on, and says what that changed. Every other row stays as it was.
+/// Writes eight rows over those from `top` on, and returns what changed. Every other row is unchanged.
 #[inline(always)]
 fn replace(tile: &mut Tile, top: usize, next: &[u64; 8]) -> Change
     requires { top ≤ 56 }
@@ -55,8 +55,8 @@ fn replace(tile: &mut Tile, top: usize, next: &[u64; 8]) -> Change
     Change { all, first, last }
 }
 
-/// Writes the next generation of the eight rows of a window over rows `window.top` to `window.top + 7` of `out`, and says what
-/// that changed there. Every other row of `out` stays as it was.
+/// Writes the next generation of the eight rows of a window over rows `window.top` to `window.top + 7` of `out`, and
+/// returns what changed there. Every other row of `out` is unchanged.
 #[inline(always)]
 pub fn band(logic: &Logic, window: &Window, out: &mut Tile) -> Change
     requires { window.now.top ≤ 56 }

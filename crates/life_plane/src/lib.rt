@@ -1,5 +1,5 @@
-//! Planes (sets of cells that evolve) and who looks on while they do, rows of 64 cells worked at a time, tiles of 64 by 64 cells,
-//! and the kernel that makes eight of their rows at a time. `Strand`, `count_planes`, `next_row` and `Tile::next` are the
+//! Planes (sets of cells that evolve) and their observers, rows of 64 cells that are computed at a time, tiles of 64 by 64
+//! cells, and the kernel that makes eight of their rows at a time. `Strand`, `count_planes`, `next_row` and `Tile::next` are the
 //! reference kernel: the plain way, by which tests judge `band`.
 //!
 //! Tested in `tests_patterns`.

@@ -67,7 +67,7 @@ impl Branch for Life {
 
     ghost is_of = { λ _ rule. rule ≡ life };
 
-    // The number is 3, or it is 2 and the cell is live, where exactly one of the four twos is set.
+    // The number is 3, or it is 2 and the cell is live, only if exactly one of the four twos is set.
     #[inline(always)]
     fn next(&self, here: u64, count: Count) -> u64 {
         let outer = half_adder(count.above, count.below);
@@ -76,7 +76,7 @@ impl Branch for Life {
     }
 }
 
-/// At each of 64 places the bit of `word`, turned round where `bit` and `more` are set.
+/// At each of 64 places the bit of `word`, flipped if `bit` and `more` are set.
 #[inline(always)]
 fn xor_where(bit: u64, word: u64, more: u64) -> u64
     ensures { (j : ℕ) → bit_at result j ≡ xor_if (bit_at bit j) (bit_at word j) (bit_at more j) }
@@ -100,8 +100,8 @@ fn four_coefficients(words: [u64; 4]) -> [u64; 4]
     ]
 }
 
-/// The coefficients of the polynomial that has these values at the numbers 0 to 8: eight by the Möbius transform of three bits,
-/// and the ninth where the number is 8.
+/// The coefficients of the polynomial that has these values at the numbers 0 to 8: eight by the Möbius transform of
+/// three bits, and the ninth for the number 8.
 fn coefficients(words: &[u64; 9]) -> [u64; 9]
     ensures { (j number : ℕ) → number ≤ 8 →
         polynomial_at (λ n. bit_at (slice_index result n) j) number ≡
@@ -127,9 +127,9 @@ fn coefficients(words: &[u64; 9]) -> [u64; 9]
     ]
 }
 
-/// Any rule, in its algebraic normal form: whether a cell lives next is a polynomial, over the field of two elements, of the bits
-/// of the number of its live neighbours. Such a sum, by exclusive or, is less work than choices. `dead` has each coefficient for a
-/// dead cell, as a word of ones or of zeros, and `turn` what a live cell adds to it.
+/// Any rule, in its algebraic normal form: whether a cell lives next is a polynomial, over the field of two elements,
+/// of the bits of the number of its live neighbours. Such a sum, by exclusive or, is less work than choices. `dead` has
+/// each coefficient for a dead cell, as a word of ones or of zeros, and `turn` has what a live cell adds to it.
 #[derive(Clone, Copy)]
 pub struct RulePolynomial {
     dead: [u64; 9],
@@ -214,8 +214,8 @@ impl Logic {
         }
     }
 
-    /// The next state of the cells of `here`, which have `count` live neighbours: at each bit whether a cell with that
-    /// state and that number lives in the next generation.
+    /// The next state of the cells of `here`, which have `count` live neighbours: each bit says whether a cell with
+    /// that state and that number of live neighbours lives in the next generation.
     pub fn next(&self, here: u64, count: Count) -> u64
         ensures { (rule : Rule) → IsLogicOf self.now rule → (j : ℕ) → j < 64 →
             number_at count j ≤ 8 →

@@ -7,7 +7,7 @@ ghost use Rattle.life_plane.specs.Field.{has};
 
 use crate::evolve::is_live;
 
-/// The cell, moved as one place is from another.
+/// The cell after the move from one place to another.
 fn moved(cell: (i32, i32), from: (i32, i32), to: (i32, i32)) -> (i32, i32)
     requires cell { IsPlace cell }
     requires from { IsPlace from }
@@ -17,7 +17,8 @@ fn moved(cell: (i32, i32), from: (i32, i32), to: (i32, i32)) -> (i32, i32)
     (cell.0 - from.0 + to.0, cell.1 - from.1 + to.1)
 }
 
-/// Whether some move may lead all of some cells to cells of a list in order: it leads the first and the last of them there.
+/// Whether some move may lead all of some cells to cells of a list in order. Only the first and the last of them are
+/// checked.
 pub fn may_have_moved(list: &[(i32, i32)], cells: &[(i32, i32)]) -> bool
     requires rising { T (is_rising list.now) }
     requires listed { All IsPlace list.now }

@@ -1,12 +1,12 @@
-//! Who is told how far a walk has come.
+//! Observers of how far a walk has come.
 
-/// Is told how far a walk along the generations of a pattern has come. No answer depends on it.
+/// Hears how far a walk along the generations of a pattern has come. No answer depends on it.
 pub trait Observer {
-    /// The walk has come to this generation. A walk may begin again, and then tells early generations again.
+    /// The walk has come to this generation. A walk may start again, and then reports early generations again.
     fn reached(&self, generation: u32);
 }
 
-/// Nobody looks on.
+/// The observer that ignores everything.
 #[derive(Drop)]
 pub struct Unobserved;
 

@@ -17,17 +17,17 @@ use std::alloc::{AllocError, Global};
 /// The greatest age that a plane may reach.
 pub const AGE_LIMIT: u32 = 4_194_304;
 
-/// A finite set of live cells on the unbounded plane, and its age: how many steps it has made.
+/// A finite set of live cells on the unbounded plane, and its age: the number of steps it has made.
 ///
-/// At age `a` every place is from `-a` to `1,048,575 + a`.
+/// At age `a` every coordinate is from `-a` to `1,048,575 + a`.
 pub trait Plane: Sized + Drop {
-    /// Its live cells, however they are kept.
+    /// Its live cells, in whatever form they are kept.
     ghost members: { Self → Generation };
 
-    /// How many steps it has made.
+    /// The number of steps it has made.
     ghost steps_made: { Self → ℕ };
 
-    /// The plane of these cells, whose places are from 0 to 1,048,575, at age 0.
+    /// The plane of these cells, whose coordinates are from 0 to 1,048,575, at age 0.
     fn from_cells(alloc: Global, list: &CellList) -> Result<Self, AllocError>
         requires { All (IsWithin 0) (generation.cells list.now) }
         ensures cells { IfOk result (λ plane. members plane ≡ list.now) }
@@ -35,7 +35,7 @@ pub trait Plane: Sized + Drop {
         ensures within { IfOk result
             (λ plane. All (IsWithin (steps_made plane)) (generation.cells (members plane))) };
 
-    /// The plane of these cells at some age, at which their places may be.
+    /// The plane of these cells at some age. Their coordinates are in the range of that age.
     fn at_age(alloc: Global, list: &CellList, age: u32) -> Result<Self, AllocError>
         requires age { age ≤ AGE_LIMIT }
         requires within { All (IsWithin age) (generation.cells list.now) }
@@ -44,7 +44,7 @@ pub trait Plane: Sized + Drop {
         ensures within { IfOk result
             (λ plane. All (IsWithin (steps_made plane)) (generation.cells (members plane))) };
 
-    /// Makes the next generation. After an `Err` the cells and the age are what they were.
+    /// Makes the next generation. After an `Err` the cells and the age are unchanged.
     fn step(&mut self, rule: &Rule) -> Result<(), AllocError>
         requires { steps_made self.old < AGE_LIMIT }
         ensures cells { OnOk result (members self.new ≡ next rule.now (members self.old)) }
@@ -54,24 +54,24 @@ pub trait Plane: Sized + Drop {
         ensures within { OnOk result
             (All (IsWithin (steps_made self.new)) (generation.cells (members self.new))) };
 
-    /// How many live cells there are.
+    /// The number of live cells.
     fn population(&self) -> u64
         ensures { result ≡ generation.size (members self.now) };
 
-    /// How many steps it has made. No cell is further from the places of age 0 than that.
+    /// The number of steps it has made. No cell is further than that from the range of age 0.
     fn age(&self) -> u32
         ensures age { result ≡ steps_made self.now }
         ensures within { All (IsWithin (steps_made self.now))
             (generation.cells (members self.now)) };
 
-    /// The cell and the 63 to the east of it, of which each is live where its bit is set: the first has bit 0.
+    /// The cell and the 63 to the east of it. Each is live if its bit is set: the first has bit 0.
     fn row(&self, cell: (i32, i32)) -> u64
         requires { IsPlace cell }
         ensures { (j : ℕ) → j < 64 →
             bit_at result j ≡ cond (contains (members self.now) (cell.0 +ℤ pos j, cell.1)) 1 0 };
 
-    /// Whether some move, of at most `reach` places to each side, may lead all cells of a list to live ones. That one may
-    /// tells nothing.
+    /// Whether some move, of at most `reach` places to each side, may lead all cells of a list to live ones. A positive
+    /// answer means nothing.
     fn may_have_moved(&self, list: &CellList, reach: u32) -> bool
         requires { reach ≤ age_limit }
         ensures { result ≡ false → HasNoneWithin reach list.now (members self.now) };
@@ -84,8 +84,8 @@ pub trait Plane: Sized + Drop {
     fn cells_in(&self, list: CellList) -> Result<CellList, AllocError>
         ensures cells { IfOk result (λ new. new ≡ members self.now) };
 
-    /// How far the last of its cells, by y and then by x, is from the first, or (0, 0) where there is none. Sets that are
-    /// equal up to a move have one span, and few others do.
+    /// How far the last of its cells, by y and then by x, is from the first, or (0, 0) if there is none. Sets that are
+    /// equal up to a move have the same span, and few others do.
     fn span(&self) -> Result<(i32, i32), AllocError>
         ensures { IfOk result (λ span. span ≡ set_span (members self.now)) }
     {
@@ -93,7 +93,8 @@ pub trait Plane: Sized + Drop {
         Ok(span_of(cells.as_slice()))
     }
 
-    /// How far its cells are from the listed ones, where they are those moved as a whole. No cell is moved by nothing.
+    /// How far its cells are from the listed ones, if they are those moved as a whole. Without cells the offset is (0,
+    /// 0).
     fn offset_from(&self, list: &CellList) -> Result<Option<(i32, i32)>, AllocError>
         ensures offset { IfOk result
             (λ offset. IfSome offset (λ d. IsOffset list.now (members self.now) d)) }
@@ -104,7 +105,7 @@ pub trait Plane: Sized + Drop {
         Ok(offset_between(list.as_slice(), cells.as_slice()))
     }
 
-    /// How far its cells are from those of another plane, where they are those moved as a whole.
+    /// How far its cells are from those of another plane, if they are those moved as a whole.
     fn offset_from_plane(&self, other: &Self) -> Result<Option<(i32, i32)>, AllocError>
         ensures offset { IfOk result
             (λ offset. IfSome offset (λ d. IsOffset (members other.now) (members self.now) d)) }

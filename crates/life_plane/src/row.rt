@@ -7,7 +7,7 @@ ghost use Rattle.life_plane.specs.Field.{has};
 
 use crate::evolve::is_live;
 
-/// The cell so many places to the east.
+/// The cell `places` places to the east.
 fn east_of(cell: (i32, i32), places: u32) -> (i32, i32)
     requires placed { IsPlace cell }
     requires few { places < 64 }
@@ -16,7 +16,7 @@ fn east_of(cell: (i32, i32), places: u32) -> (i32, i32)
     (cell.0 + places as i32, cell.1)
 }
 
-/// Of the cell and the 63 to the east of it, which ones the cells in order have.
+/// Which of the cell and the 63 to the east of it are in the list in order.
 pub fn row_of(cells: &[(i32, i32)], cell: (i32, i32)) -> u64
     requires rising { T (is_rising cells.now) }
     requires placed { IsPlace cell }

@@ -4,7 +4,7 @@ ghost use Rattle.life_plane.specs.Rows.{IsRowSumsOf};
 
 use crate::adders::{Sum, full_adder};
 
-/// Of each of 64 cells of a row how many of the two beside it are live, and how many of those and itself.
+/// For each of 64 cells of a row, how many of the two beside it are live, and how many of those two and itself.
 #[derive(Clone, Copy, PartialEq, Eq, Debug)]
 pub struct RowSums {
     /// 0 to 2: the cells to the west and to the east.
@@ -13,13 +13,14 @@ pub struct RowSums {
     pub three: Sum,
 }
 
-/// The sums of a row of 64 cells: bit `j` of `here` is the cell in column `j`. `west` and `east` are the same row of the
-/// tiles to the west and to the east: bit 63 of `west` stands beside bit 0 of `here`, and bit 0 of `east` beside bit 63.
+/// The sums of a row of 64 cells: bit `j` of `here` is the cell in column `j`. `west` and `east` are the same row of
+/// the tiles to the west and to the east: bit 63 of `west` is beside bit 0 of `here`, and bit 0 of `east` is beside bit
+/// 63.
 #[inline(always)]
 pub fn sums(west: u64, here: u64, east: u64) -> RowSums
     ensures { IsRowSumsOf result (wide_row west here east) }
 {
-    // The cells beyond both edges stand apart: in their columns one of the moved rows has none.
+    // The cells beyond both edges are kept apart: in their columns one of the shifted rows has no bit.
     let beyond = (west >> 63) | (east << 63);
     let two = full_adder(here << 1, here >> 1, beyond);
     let three = Sum {

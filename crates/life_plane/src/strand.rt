@@ -1,4 +1,4 @@
-//! Rows of 64 cells, and how many live neighbours each cell has, all 64 at once.
+//! Rows of 64 cells, and the number of live neighbours of each cell, all 64 at once.
 ghost use Rattle.std.specs.Prelude.{◌≡◌, ℕ, ◌+◌, ◌*◌, ◌<◌, slice_index};
 ghost use Rattle.std.specs.Int.{bit_at};
 ghost use Rattle.life_plane.specs.Bits.{wide_row, IsStrandOf, neighbour_count, number_in_planes};
@@ -27,9 +27,9 @@ impl Strand {
     }
 }
 
-/// For each column `j` how many of the eight cells around the middle one are live: of bit `j` of `up.west`, `up.here`, `up.east`,
-/// `mid.west`, `mid.east`, `down.west`, `down.here` and `down.east`. Bit `j` of plane `k` weighs `2^k`, and at each column the
-/// four planes add up to the number.
+/// For each column `j`, how many of the eight cells around the middle one are live: bit `j` of `up.west`, `up.here`,
+/// `up.east`, `mid.west`, `mid.east`, `down.west`, `down.here` and `down.east`. Bit `j` of plane `k` weighs `2^k`, and
+/// in each column the four planes add up to the number.
 pub fn count_planes(up: Strand, mid: Strand, down: Strand) -> [u64; 4]
     ensures { (j : ℕ) → number_in_planes result j ≡ neighbour_count up mid down j }
 {

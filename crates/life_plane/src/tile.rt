@@ -41,7 +41,7 @@ impl Tile {
         (self.rows[y] >> x) & 1 == 1
     }
 
-    /// Makes the cell in column `x` and row `y` live, or dead. Every other cell stays as it was.
+    /// Makes the cell in column `x` and row `y` live or dead. Every other cell is unchanged.
     pub fn set(&mut self, x: usize, y: usize, live: bool)
         requires column { x < 64 }
         requires row { y < 64 }
@@ -64,8 +64,9 @@ impl Tile {
         all_zero(&self.rows)
     }
 
-    /// The next generation of this tile's 64 by 64 cells, seen among the 192 by 192 cells that they make with the tiles
-    /// around: a live cell stays and a dead one is born where the rule says so of the number of its live neighbours.
+    /// The next generation of this tile's 64 by 64 cells, among the 192 by 192 cells that they form with the tiles
+    /// around. The rule decides by the number of live neighbours whether a live cell stays and whether a dead one is
+    /// born.
     pub fn next(&self, around: &Around, rule: &Rule) -> Tile
         ensures { (x y : ℕ) → x < 64 → y < 64 →
             tile_cell result x y ≡ next_in_area rule.now (nine_of self.now around.now) x y }

@@ -38,8 +38,8 @@ impl RowTriple {
     }
 }
 
-/// The cells that eight rows of a tile depend on: rows `top` to `top + 7` of the tile and of the tiles to its west and to
-/// its east, and of all three the row above these and the row below, which may be rows of other tiles.
+/// The cells that eight rows of a tile depend on: rows `top` to `top + 7` of the tile and of the tiles to its west and
+/// its east, and for all three the row above these and the row below, which may be rows of other tiles.
 #[derive(Clone, Copy)]
 pub struct Window<'a> {
     pub above: RowTriple,

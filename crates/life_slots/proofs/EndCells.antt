@@ -27,7 +27,7 @@ later_than a b c first second = record {
       omega (arith, ints);
 }
 
--- of a tile's cells by rows
+-- the cells of a tile by rows
 module _ (place : ℤ × ℤ) (x y p q : ℕ) where
   cells_rise : (y < q) ⊎ ((y ≡ q) × (x ≤ p)) → IsNoLater (start_at place.0 +ℤ pos x, start_at place.1 +ℤ pos y) (start_at place.0 +ℤ pos p, start_at place.1 +ℤ pos q)
   cells_rise order =

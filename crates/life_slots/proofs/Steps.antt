@@ -124,7 +124,7 @@ module _ (index : Index) (slots : List Slot) (whole : IsIndexed index slots) (cu
       ∙ ap (λ (p : ℤ × ℤ). state_at (next rule (generation_shown index current)) (start_at p.0 +ℤ pos x) (start_at p.1 +ℤ pos y)) there.place)
       (slot_cases index slots whole (column, row)))
 
-  -- so it will be again what it is now, where this is what becomes of the generation before
+  -- so it will be again what it is now, if that is what the generation before becomes
   pub settled_again : (j x y : ℕ) → 0 < j → j < length slots → x < 64 → y < 64 → band_mark marked j (y / 8) ≡ 0 →
       tile_cell (tile_of current j) x y ≡ state_at (next rule (generation_shown index previous)) (start_at (place_of slots j).0 +ℤ pos x) (start_at (place_of slots j).1 +ℤ pos y) →
       tile_cell (tile_of current j) x y ≡ state_at (next rule (generation_shown index after)) (start_at (place_of slots j).0 +ℤ pos x) (start_at (place_of slots j).1 +ℤ pos y)
@@ -138,7 +138,7 @@ module _ (index : Index) (slots : List Slot) (whole : IsIndexed index slots) (cu
       unchanged index slots whole previous after marked previous_none after_none worked.around j (y / 8) later inside (omega arith) clear a b
       (record { from = omega (arith, ints); to = omega (arith, ints) }) (omega (arith, ints)) (omega (arith, ints))))
 
-  -- and where no band is marked that places without a slot stand for, no live cell is next to one
+  -- and where no band of slot 0, which stands for all places without a slot, is marked, no live cell is next to such a place
   pub closed_again : IsCalm marked → ((k : ℕ) → 0 < k → k < length slots → IsClosed slots previous k) → (j : ℕ) → 0 < j → j < length slots → IsClosed slots after j
   closed_again calm closed j later inside = record {
     closed = λ m small link. record {

@@ -61,7 +61,7 @@ pub record HasEnds (kind : Cell → Type 0) (ends : Ends) : Type 0 where
   pub none_before : (c : Cell) → kind c → IsNoLater ends.first c
   pub none_behind : (c : Cell) → kind c → IsNoLater c ends.last
 
--- the same, where there may be none
+-- the first and the last of the cells of a kind, where there may be none
 abbrev pub AreEnds : (Cell → Type 0) → Option Ends → Type 0
 AreEnds kind None = (c : Cell) → kind c → ⊥
 AreEnds kind (Some ends) = HasEnds kind ends

@@ -9,7 +9,7 @@ use Rattle.life_slots.specs.Limits.{reach_limit}
 abbrev pub IsListed : List Cell → Cell → Type 0
 IsListed cells q = list_any (same_cell q) cells ≡ true
 
--- All cells of a set were added that stand in so many columns and rows from a place on, and no cell that is not in the set.
+-- All cells of a set in `wide` columns and `high` rows from a place on were added, and no cell that is not in the set.
 pub record AddsCells (wide high : ℕ) (place : Cell) (G : Generation) (old new : List Cell) : Type 0 where
   pub kept : (q : Cell) → IsListed old q → IsListed new q
   pub all : (x y : ℕ) → x < wide → y < high → contains G (plus place (pos x, pos y)) ≡ true →

@@ -15,7 +15,7 @@ pub record IsInside (place : ℤ × ℤ) : Type 0 where
   pub north : negsuc tile_limit ≤ℤ place.1
   pub south : place.1 ≤ℤ pos tile_limit
 
--- The first of the columns of the tiles in a column, or of the rows of those in a row. The tiles stand off by 26 to the north
+-- The first of the columns of the tiles in a column, or of the rows of those in a row. The tiles are shifted by 26 to the north
 -- west, so that a pattern of up to 38 cells a side that is read at (0, 0) lies in one tile.
 abbrev pub start_at : ℤ → ℤ
 start_at tile = pos 64 *ℤ tile -ℤ pos 26

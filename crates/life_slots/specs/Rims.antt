@@ -5,12 +5,12 @@ use Rattle.life_plane.specs.declared.tile.Tile.{Tile}
 use Rattle.life_plane.specs.Area.{tile_cell}
 use Rattle.life_slots.specs.declared.rim.Rim.{Rim}
 
--- of 64 columns or rows those that are next to the 64 before them (0), to themselves (1), or to the 64 after them (2)
+-- which of 64 columns or rows are next to the 64 before them (0), to themselves (1), or to the 64 after them (2)
 pub record IsEdge (side z : ℕ) : Type 0 where
   pub first : side ≡ 0 → z ≡ 0
   pub last : side ≡ 2 → z ≡ 63
 
--- none of those of 64 bits is set that are next to the 64 before them, to themselves, or to the 64 after them
+-- no bit is set of those of 64 bits that are next to the 64 before them, to themselves, or to the 64 after them
 abbrev pub IsSideClear : ℕ → ℕ → Type 0
 IsSideClear side bits = (x : ℕ) → x < 64 → IsEdge side x → bit_at bits x ≡ 0
 
@@ -26,8 +26,8 @@ pub record BandAndCell : Type 0 where
   pub column : ℕ
   pub row : ℕ
 
--- A cell of a tile is in or next to a band of the tile in a direction. Of three tiles one above the other, of which this is the
--- middle one, that band is the one with number 8 * (direction / 3) + band.
+-- A cell of a tile is in or next to a band of the tile in a direction. This tile is the middle one of three tiles, one above the
+-- other, and the band has number 8 * (direction / 3) + band in these.
 pub record IsNextToBand (at : BandAndCell) : Type 0 where
   pub column : IsEdge (at.direction % 3) at.column
   pub from : 8 * (8 * (at.direction / 3) + at.band) ≤ at.row + 65

@@ -8,7 +8,7 @@ use Rattle.life_slots.specs.Places.{start_at, IsInside}
 use Rattle.life_slots.specs.Slots.{tile_of}
 use Rattle.life_slots.specs.declared.seats.Seat.{Seat}
 
--- the place of a seat is one of a tile, and its slot one of so many
+-- the place of a seat is one of a tile, and its slot one of `count`
 pub record IsSeat (count : ℕ) (seat : Seat) : Type 0 where
   pub inside : IsInside (seat.column, seat.row)
   pub slot : seat.slot < count

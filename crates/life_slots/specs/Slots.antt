@@ -1,4 +1,4 @@
--- Slots: where the tile of each stands, and which slots are around it.
+-- Slots: where the tile of each is, and which slots are around it.
 use Rattle.std.specs.Prelude.{ℕ, ℤ, pos, ◌+ℤ◌, ◌-ℤ◌, ◌%◌, ◌/◌, ◌+◌, ◌≤ℤ◌, neg_ℤ, List, [], ◌∷◌, slice_index, slice_index_or, replicate}
 use Rattle.std.specs.Option.{unwrap_or}
 use Rattle.std.specs.BTreeMap.{BTreeMap, get}
@@ -62,11 +62,11 @@ abbrev pub placed_tiles : List ((ℤ × ℤ) × ℕ) → List Tile → List ((�
 placed_tiles [] tiles = []
 placed_tiles (e ∷ es) tiles = (e.0, tile_of tiles e.1) ∷ placed_tiles es tiles
 
--- the generation that the tiles at their places stand for
+-- the generation that the tiles at their places show
 unfoldable pub generation_shown : Index → List Tile → Generation
 generation_shown index tiles = from_list (tiles_cells (placed_tiles index.entries tiles))
 
--- where tiles may stand at age a: where a cell of that age may be, or next to it
+-- where tiles may be at age a: where a cell of that age may be, or next to it
 pub record IsReached (a : ℕ) (place : ℤ × ℤ) : Type 0 where
   pub west : neg_ℤ (pos (a + 64)) ≤ℤ start_at place.0
   pub east : start_at place.0 ≤ℤ pos (place_limit + a)

@@ -26,7 +26,7 @@ IsIdle marks k = (band : ℕ) → band < 8 → band_mark marks k band ≡ 0
 abbrev pub IsCalm : List Bands → Type 0
 IsCalm marks = IsIdle marks 0
 
--- each band is marked that a live cell of the tile of a slot from 1 to n is in or next to
+-- each band that a live cell of the tile of a slot from 1 to n is in or next to is marked
 pub record IsMarkedNear (slots : List Slot) (tiles : List Tile) (marks : List Bands) (n : ℕ) : Type 0 where
   pub near : (k m band x y : ℕ) → 0 < k → k < n → m < 9 → band < 8 → x < 64 → y < 64 →
       IsNextToBand (record { direction = m; band = band; column = x; row = y }) → band_mark marks (link_of slots k m) band ≡ 0 →
@@ -44,7 +44,8 @@ pub record SideOfChange : Type 0 where
   pub before : Tile
   pub after : Tile
 
--- of the tiles on one side each band has its bit set that a cell which changed is in or next to, of a band of the tile in the middle
+-- each band of the tiles on one side that a cell which changed, of a band of the tile in the middle, is in or next to has its bit
+-- set
 pub record IsTouchedBeside (change : SideOfChange) : Type 0 where
   pub same : (m band x y : ℕ) → m < 9 → m % 3 ≡ change.side → band < 8 → x < 64 → y < 8 →
       IsNextToBand (record { direction = m; band = band; column = x; row = 8 * change.index + y }) →
@@ -54,7 +55,7 @@ pub record IsTouchedBeside (change : SideOfChange) : Type 0 where
 abbrev pub touch_of : List ℕ → ℕ → ℕ → ℕ
 touch_of columns m band = bit_at (slice_index columns (m % 3)) (8 * (m / 3) + band)
 
--- the same of all nine tiles
+-- each band of all nine tiles that a cell which changed, of a band of the tile in the middle, is in or next to has its bit set
 pub record IsTouchedAround (columns : List ℕ) (index : ℕ) (old new : Tile) : Type 0 where
   pub same : (m band x y : ℕ) → m < 9 → band < 8 → x < 64 → y < 8 →
       IsNextToBand (record { direction = m; band = band; column = x; row = 8 * index + y }) → touch_of columns m band ≡ 0 →
@@ -71,8 +72,8 @@ pub record TileWork : Type 0 where
   pub columns : List ℕ
   pub done : ℕ
 
--- Of the bands of the tile in the middle that are done, those that had something to do are worked out, all others are what they
--- were, and each band has its bit set that a cell which changed is in or next to.
+-- Of the bands of the tile in the middle that are done, those that had something to do are worked out, and all others are
+-- unchanged. Each band that a cell which changed is in or next to has its bit set.
 pub record IsTileWorkedOut (work : TileWork) : Type 0 where
   pub next : (x y : ℕ) → x < 64 → y < 64 → y / 8 < work.done → bit_at work.active.bits (y / 8) ≡ 1 →
       tile_cell work.after x y ≡ next_in_area work.rule work.nine x y
@@ -94,8 +95,8 @@ pub record SlotsWork : Type 0 where
   pub marks_after : List Bands
   pub done : ℕ
 
--- Of the bands of the slots that are done, slot 0 apart, those that had something to do are worked out, all others are what they
--- were, and each band is marked that a cell which changed is in or next to.
+-- Of the bands of the slots that are done, except slot 0, those that had something to do are worked out, and all others are
+-- unchanged. Each band that a cell which changed is in or next to is marked.
 pub record IsWorkedOut (slots : List Slot) (work : SlotsWork) : Type 0 where
   pub length_after : length work.after ≡ length work.before
   pub length_marked : length work.marks_after ≡ length work.marks_before

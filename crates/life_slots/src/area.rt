@@ -30,7 +30,7 @@ fn middle_of(row: u64) -> u32
     ((row >> 16) & 0xffff_ffff) as u32
 }
 
-/// Writes two leaves side by side over 32 rows of an area. Every other row stays as it was.
+/// Writes two leaves side by side over 32 rows of an area. Every other row is unchanged.
 #[inline(always)]
 fn put_leaves(area: &mut Tile, top: usize, west: &Leaf, east: &Leaf)
     requires { top ≤ 32 }
@@ -87,7 +87,7 @@ fn is_quiet(area: &Tile, top: usize) -> bool
     !has_cells(area, top)
 }
 
-/// Leaves no live cell in eight rows. Every other row stays as it was.
+/// Leaves no live cell in eight rows. Every other row is unchanged.
 #[inline(always)]
 fn clear(area: &mut Tile, top: usize)
     requires { top ≤ 56 }
@@ -100,9 +100,9 @@ fn clear(area: &mut Tile, top: usize)
     }
 }
 
-/// Writes the next generation of an area of which so many rows and columns at each side may be wrong over another area, as if no
-/// cell beyond its edge were live. So one row and one column more at each side may be wrong then. Bands that have no other row
-/// stay as they were. Eight rows that have no live cell near them are cleared, and not worked out.
+/// Writes the next generation of an area over another area, as if no cell beyond its edge were live. `rim` rows and columns at
+/// each side of the area may be wrong, so one row and one column more at each side may be wrong then. Bands all of whose rows may
+/// be wrong then are unchanged. Eight rows that have no live cell near them are cleared, and not worked out.
 #[inline(always)]
 pub fn advance(logic: &Logic, rim: usize, here: &Tile, there: &mut Tile)
     requires { rim < 32 }

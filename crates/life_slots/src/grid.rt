@@ -3,11 +3,11 @@ ghost use Rattle.std.specs.Prelude.{◌≡◌, pos, ◌+ℤ◌, ◌<◌, ◌≤�
 ghost use Rattle.life_slots.specs.Limits.{reach_limit};
 ghost use Rattle.life_slots.specs.Places.{start_at, IsInside};
 
-/// By how much the tiles stand off to the north west, so that a pattern of up to 38 cells a side that is read at `(0, 0)` lies in
-/// one tile.
+/// By how much the tiles are shifted to the north west, so that a pattern of up to 38 cells a side that is read at `(0, 0)` lies
+/// in one tile.
 const STAND_OFF: i32 = 26;
 
-/// In which column of tiles a column of cells is, and which of its 64 it is. The same for rows.
+/// In which column of tiles a column of cells is, and which of its 64 it is. It is used for rows too.
 pub fn split(z: i32) -> (i32, usize)
     requires { z ≤ℤ pos reach_limit }
     ensures small { result.1 < 64 }

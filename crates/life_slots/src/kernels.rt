@@ -13,8 +13,8 @@ ghost use Rattle.life_plane.specs.declared.window.Window.{Window};
 ghost use Rattle.life_plane.specs.Windows.{IsWindowOf, next_in_window, window_cell};
 ghost use Rattle.life_slots.specs.Kernels.Rows.{AreRowsAt, IsNineAt, IsWindowAt, state};
 
-/// Strands of three rows of a set, one below another: the neighbours that are set at a column are as many as live neighbours
-/// of the cell there, and what a rule makes of the bit and of that number is the cell in the next generation.
+/// Strands of three rows of a set, one below another. As many neighbours are set at a column as the cell there has live
+/// neighbours, and what a rule makes of the bit and of that number is the cell in the next generation.
 pub fn strands_tell_the_next_generation()
     ensures count { (G : Generation) (left y : ℤ) (above here below : ℕ) (up mid down : Strand) →
         AreRowsAt G (record { left = left; y = y; above = above; here = here; below = below }) →
@@ -39,8 +39,9 @@ pub fn windows_tell_the_next_generation()
         next_in_window R window x y ≡ state (next R G) (left +ℤ pos x, top +ℤ pos y) }
 {}
 
-/// A tile of a set and the eight around it: the same of all 64 rows of the tile. And a window of eight of its rows is a window
-/// of the set.
+/// A tile of a set and the eight around it: for all 64 rows of the tile, the sum around a column of a row is the count of live
+/// neighbours of the cell there, and the next state there is the cell in the next generation. A window of eight of its rows is a
+/// window of the set.
 pub fn tiles_tell_the_next_generation()
     ensures count { (G : Generation) (left top : ℤ) (nine : Nine) → IsNineAt G left top nine →
         (x y : ℕ) → x < 64 → y < 64 →
@@ -53,7 +54,7 @@ pub fn tiles_tell_the_next_generation()
         IsWindowOf window nine from → IsWindowAt G left (top +ℤ pos from) window }
 {}
 
-/// Whatever bits three rows, a window or nine tiles have, some set has these cells, wherever it is to stand.
+/// Whatever bits three rows, a window or nine tiles have, some set has these cells, wherever it is.
 pub fn each_row_is_of_a_set()
     ensures rows { (left y : ℤ) (above here below : ℕ) → (G : Generation) ×
         AreRowsAt G (record { left = left; y = y; above = above; here = here; below = below }) }

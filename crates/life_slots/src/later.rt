@@ -11,8 +11,8 @@ use crate::area::{advance, area_of, middle};
 use crate::leaf::{FourLeaves, Leaf};
 use life_plane::{Logic, Tile};
 
-/// The middle of four leaves so many generations later, at most sixteen: the 32 by 32 cells from column 16 and row 16 on. It is
-/// that of every set that has these cells there, whatever cells it has elsewhere.
+/// The middle of four leaves `generations` generations later, at most sixteen: the 32 by 32 cells from column 16 and row 16 on.
+/// It is the same for every set that has these cells there, whatever cells it has elsewhere.
 pub fn middle_later(logic: &Logic, four: &FourLeaves, generations: u32) -> Leaf
     requires { generations ≤ 16 }
     ensures { (rule : Rule) → IsLogicOf logic.now rule → (G : Generation) → (place : Cell) →

@@ -27,7 +27,7 @@ impl Leaf {
         Leaf { rows: [0; 32] }
     }
 
-    /// Makes the cell in column `x` and row `y` live. Every other cell stays as it was.
+    /// Makes the cell in column `x` and row `y` live. Every other cell is unchanged.
     pub fn set(&mut self, x: u32, y: u32)
         requires column { x < 32 }
         requires row { y < 32 }

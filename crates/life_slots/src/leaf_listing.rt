@@ -9,7 +9,7 @@ use crate::leaf::Leaf;
 use crate::listing::push_row;
 use std::alloc::AllocError;
 
-/// Which of the 32 columns from a column on this one is. The same for rows.
+/// Which of the 32 columns from a column on this one is. It is used for rows too.
 fn column_in(place: i32, from: i32) -> Option<u32>
     ensures { MatchOption result ((x : ℕ) → x < 32 → place ≢ (from +ℤ pos x))
         (λ x. (x < 32) × (place ≡ (from +ℤ pos x))) }
@@ -23,7 +23,7 @@ fn column_in(place: i32, from: i32) -> Option<u32>
 }
 
 impl Leaf {
-    /// Makes a cell live, where it stands in the leaf whose first cell is at a place.
+    /// Makes a cell live, if it is in the leaf whose first cell is at a place.
     fn put(&mut self, cell: (i32, i32), place: (i32, i32))
         ensures here { (x y : ℕ) → x < 32 → y < 32 → cell ≡ plus place (pos x, pos y) →
             leaf_cell self.new x y ≡ 1 }
@@ -39,7 +39,7 @@ impl Leaf {
         self.set(x, y);
     }
 
-    /// The leaf whose first cell is at a place, with those of the cells that stand in it.
+    /// The leaf whose first cell is at a place, with those of the cells that are in it.
     pub fn of(cells: &[(i32, i32)], place: (i32, i32)) -> Leaf
         ensures { ShowsLeaf result (from_list cells.now) place }
     {

@@ -86,8 +86,8 @@ fn push_lines(cells: &mut Vec<(i32, i32)>, seats: &[Seat], tiles: &[Tile]) -> Re
     Ok(())
 }
 
-/// Appends the live cells of the tiles of some seats: those of seats that follow one another in one row of tiles together,
-/// row by row. So the cells come in order where the seats stand by rows.
+/// Appends the live cells of the tiles of some seats. Those of seats that follow one another in one row of tiles are appended
+/// together, row by row. So the cells come in order where the seats are ordered by rows.
 pub fn push_seats(
     cells: &mut Vec<(i32, i32)>,
     seats: &[Seat],

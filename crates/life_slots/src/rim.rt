@@ -1,4 +1,4 @@
-//! What of a tile is next to other tiles.
+//! The cells of a tile that are next to other tiles.
 ghost use Rattle.std.specs.Prelude.{◌≡◌, ℕ, ◌<◌, ◌↔◌, true, false};
 ghost use Rattle.std.specs.Int.{bit_at};
 ghost use Rattle.life_plane.specs.declared.tile.Tile.{Tile};
@@ -57,7 +57,7 @@ pub fn has_at_side(bits: u64, side: usize) -> bool
     }
 }
 
-/// At each column whether one of its cells is live.
+/// For each column, whether one of its cells is live.
 fn live_columns(tile: &Tile) -> u64
     ensures { (x : ℕ) → x < 64 →
         (bit_at result x ≡ 0) ↔ ((y : ℕ) → y < 64 → tile_cell tile.now x y ≡ 0) }

@@ -22,7 +22,7 @@ pub struct Seat {
     pub slot: u32,
 }
 
-/// The seats of an index whose tile has a live cell, as they stand there.
+/// The seats of an index whose tile has a live cell, in the order of the index.
 fn live_seats(
     alloc: Global,
     index: &BTreeMap<(i32, i32), u32>,
@@ -66,7 +66,7 @@ pub fn seats_by_rows(
     Ok(seats)
 }
 
-/// One past the last of the seats that follow one another from a seat on in its row of tiles.
+/// One more than the last of the seats that follow one another from a seat on in its row of tiles.
 pub fn end_of_row(seats: &[Seat], from: usize) -> usize
     requires { from < length seats.now }
     ensures later { from < result }

@@ -1,4 +1,4 @@
-//! Slots: where the tile of each stands, and which slots are around it.
+//! Slots: where the tile of each is, and which slots are around it.
 ghost use Rattle.std.specs.Prelude.{◌≡◌, ◌≢◌, ℕ, ◌+◌, ◌-◌, ◌<◌, length, slice_index};
 ghost use Rattle.life_slots.specs.Places.{IsInside};
 ghost use Rattle.life_slots.specs.Slots.{slot_at, neighbour_at, place_of, link_of};
@@ -60,7 +60,7 @@ pub fn with_link(mut links: [u32; 9], direction: usize, slot: u32) -> [u32; 9]
     links
 }
 
-/// Makes a slot the one that those around it have in the direction towards it.
+/// Makes those around a slot have it in the direction towards it.
 pub fn connect(slots: &mut [Slot], links: &[u32; 9], slot: u32)
     requires { (m : ℕ) → m < 9 → slice_index links.now m < length slots.old }
     ensures length { length slots.new ≡ length slots.old }

@@ -22,7 +22,7 @@ pub fn clear_all(tiles: &mut [Tile])
     }
 }
 
-/// What eight rows of a tile, from `top` on, differ in from those of the empty tile.
+/// How eight rows of a tile, from `top` on, differ from those of the empty tile.
 fn birth(tile: &Tile, top: usize) -> Change
     requires { top ≤ 56 }
     ensures { IsChange result empty_tile tile.now top }
@@ -38,7 +38,7 @@ fn birth(tile: &Tile, top: usize) -> Change
     }
 }
 
-/// Of nine tiles the bands that a live cell of the tile in the middle is in or next to.
+/// The bands of nine tiles that a live cell of the tile in the middle is in or next to.
 fn bands_near(tile: &Tile) -> Touched
     ensures { (m band x y : ℕ) → m < 9 → band < 8 → x < 64 → y < 64 →
         IsNextToBand (record { direction = m; band = band; column = x; row = y }) →

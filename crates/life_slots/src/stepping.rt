@@ -12,7 +12,7 @@ use crate::touched::Touched;
 use life_cells::Rule;
 use life_plane::{Around, Logic, RulePolynomial, Tile, Window, band};
 
-/// Makes each of the marks the same.
+/// Sets each of the marks to one value.
 pub fn mark_all(marks: &mut [Bands], value: Bands)
     ensures length { length marks.new ≡ length marks.old }
     ensures marks { (k band : ℕ) → k < length marks.old →
@@ -24,7 +24,7 @@ pub fn mark_all(marks: &mut [Bands], value: Bands)
 }
 
 /// Works out the bands of the tile in the middle of nine slots that have something to do, into the tile of the generation before.
-/// Answers which bands of the nine tiles a cell that changed is in or next to.
+/// Returns which bands of the nine tiles a cell that changed is in or next to.
 #[inline(always)]
 fn work_out(
     tile: &mut Tile,
@@ -67,10 +67,10 @@ fn work_out(
     touched
 }
 
-/// So many slots are passed over at once where none of them has something to do.
+/// This many slots are passed over at once where none of them has something to do.
 const STRIDE: usize = 32;
 
-/// Whether one of so many slots has something to do.
+/// Whether one of `STRIDE` slots has something to do.
 fn is_busy(active: &[Bands], from: usize) -> bool
     requires { from + STRIDE ≤ length active.now }
     ensures { result ≡ false → (k band : ℕ) → from ≤ k → k < from + STRIDE →
@@ -83,9 +83,9 @@ fn is_busy(active: &[Bands], from: usize) -> bool
     !all.is_empty()
 }
 
-/// The first slot from a slot on that has something to do, or one past the last where there is none.
+/// The first slot from a slot on that has something to do, or one more than the last if none has.
 ///
-/// It stands apart in the program too: within `next_tiles` compilers would count slots in memory.
+/// It is separate in the program too: within `next_tiles` compilers would count slots in memory.
 #[inline(never)]
 fn first_busy(active: &[Bands], from: usize) -> usize
     ensures from { from ≤ result }
@@ -163,7 +163,7 @@ pub fn next_tiles(
       done = length slots.now;
     }) }
 {
-    // Which logic it is, is found out here once for all bands, and for Conway's rule without making room for another.
+    // The logic is found out here once for all bands, and for Conway's rule without making room for another.
     if *rule == Rule::life() {
         next_tiles_by(&Logic::Life, slots, current, previous, active, marks);
     } else {

@@ -10,8 +10,8 @@ use crate::bands::Bands;
 use crate::rim::has_at_side;
 use life_plane::Change;
 
-/// Of nine tiles the bands that a cell of the middle tile which changed is in or next to. The tiles make a western, a middle and an
-/// eastern column, each of 24 bands, and bit `k` of its word is the mark of the band that is the `k`th from the north.
+/// The bands of nine tiles that a cell of the middle tile which changed is in or next to. The tiles make a western, a middle and
+/// an eastern column, each of 24 bands, and bit `k` of its word is the mark of the band that is the `k`th from the north.
 #[derive(Clone, Copy)]
 pub struct Touched {
     pub columns: [u32; 3],
@@ -33,7 +33,7 @@ fn rows_beside(change: &Change, side: usize) -> u32
     first + 2 * all + 4 * last
 }
 
-/// A word with three bits more, which stand from bit `at` on.
+/// A word with three more bits, from bit `at` on.
 #[inline(always)]
 fn with_bits(word: u32, at: usize, bits: u32) -> u32
     requires { at < 24 }
@@ -43,7 +43,7 @@ fn with_bits(word: u32, at: usize, bits: u32) -> u32
     word | (bits << at)
 }
 
-/// The bands of one column, and those of them besides that a cell which changed in band `index` of the middle tile is in or next to.
+/// The bands of one column, and also those of them that a cell which changed in band `index` of the middle tile is in or next to.
 #[inline(always)]
 fn with_change(column: u32, side: usize, index: usize, change: &Change) -> u32
     requires side { side < 3 }
@@ -92,7 +92,7 @@ impl Touched {
     /// No band.
     pub const NONE: Touched = Touched { columns: [0; 3] };
 
-    /// These bands, and those besides that a cell which changed in band `index` of the middle tile is in or next to.
+    /// These bands, and also those that a cell which changed in band `index` of the middle tile is in or next to.
     #[inline(always)]
     pub fn with_band(self, index: usize, change: &Change) -> Touched
         requires { index < 8 }

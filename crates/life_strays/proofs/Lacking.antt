@@ -15,7 +15,7 @@ use Rattle.life_objects.proofs.Members.{found_now}
 use Rattle.life_objects.proofs.Moving.{RecursBy-times}
 use Rattle.life_objects.proofs.OneList.{apart_from_rest, rest_of, with_rest}
 use Rattle.life_objects.proofs.Unions.{in_empty}
-use Rattle.life_growth.proofs.Parts.{IsPart, part_within, part_within_later}
+use Rattle.life_objects.proofs.GrowthLemmas.Parts.{IsPart, part_within, part_within_later}
 use Rattle.life_strays.specs.Strays.{ComesBackNowhere, HangsOn, IsIsland, LacksSome, LacksSomeUntil}
 use Rattle.life_strays.proofs.Belonging.{heirs_within, island_within, no_faster, part_itself, part_of_part}
 use Rattle.life_strays.proofs.Windows.{HaveMultiples}
@@ -32,7 +32,7 @@ module _ (R : Rule) where
       (empty, nothing_hangs G P m, λ d near there back. gone m (omega arith) within d near there)
 
   module _ (G P : Generation) (part : IsPart R P G) where
-    -- what comes again, moved, lacks nothing of what hangs on its islands
+    -- what recurs, moved, lacks nothing of what hangs on its islands
     nothing_lacks : (m : ℕ) (J L : Generation) (d c : Cell) → IsSubsetOf J P → contains J c ≡ true → HangsOn R G J m L →
         generation R P m ≡ translate_of P d → LacksSome m G (generation R G m) J L → ⊥
     nothing_lacks m J L d c inside h hangs again lacks =

@@ -1,4 +1,4 @@
--- Cells of lists, and what single tests tell of them.
+-- Cells of lists, and what single tests show about them.
 use Rattle.std.proofs.Common.{◌≡◌, ℕ, ◌%◌, ◌<◌, ◌+ℤ◌, ◌-ℤ◌, pos, Bool, true, false, cond, List, get_or, length, sym, refl, ap, subst, ◌∙◌, arith}
 use Rattle.std.specs.Int.{bit_at}
 use Rattle.std.specs.List.{All, list_any}
@@ -24,7 +24,7 @@ reached_itself P c h =
     let below = near.below in
     ap (contains P) (pair (omega (arith, ints)) (omega (arith, ints))) ∙ one.1
 
--- a set has what stands in the list of its cells
+-- a set has what is in the list of its cells
 pub listed_cell : (G : Generation) (cs : List Cell) (i : ℕ) (d : Cell) → cs ≡ cells G → i < length cs →
     contains G (get_or cs i d) ≡ true
 listed_cell G cs i d is within =
@@ -72,7 +72,7 @@ dead_by_row G cell by place row bits is even here =
     let set : bit_at row 0 ≡ 1 = bits 0 (omega arith) ∙ ap (λ t. cond t 1 0) (ap (contains G) e ∙ here) in
     absurd (omega arith)
 
--- where a set's cell stands in the list of its cells
+-- where a set's cell is in the list of its cells
 pub place_listed : (G : Generation) (cs : List Cell) (c : Cell) → cs ≡ cells G → contains G c ≡ true →
     (i : ℕ) × (i < length cs) × (get_or cs i origin ≡ c)
 place_listed G cs c is here = place_of cs c (ap (list_any (same_cell c)) is ∙ sym (contains-cells G c) ∙ here)

@@ -1,4 +1,4 @@
--- What comes again, moved, has moved no further along each axis than that took generations.
+-- What recurs, moved, has moved along each axis by no more cells than that took generations.
 use Rattle.std.proofs.Common.{◌≡◌, ℕ, zero, suc, ℤ, pos, neg_ℤ, ◌+ℤ◌, ◌≤ℤ◌, ◌<◌, int_lt, true, false, cond, ◌⊎◌, List, [], ◌∷◌, inl, inr, sym, refl, ap, subst, ◌∙◌, true≢false, arith}
 use Rattle.std.specs.Int.{int_min}
 use Rattle.std.specs.List.{list_any}

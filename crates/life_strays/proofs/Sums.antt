@@ -1,4 +1,4 @@
--- Sums of numbers that come again and again.
+-- Sums of numbers that recur.
 use Rattle.std.proofs.Common.{◌≡◌, ℕ, zero, suc, ◌+◌, ◌-◌, ◌*◌, ◌/◌, ◌%◌, ◌<◌, ◌≤◌, ap, ◌∙◌, mod-lt, div-add-mod', mul-le-mul_left, arith}
 use Rattle.std.proofs.Math.Nat.{le-div_iff_mul-le, mul-le-mul_right}
 use Rattle.life_strays.specs.Totals.{sum_to}
@@ -63,7 +63,7 @@ module _ (f : ℕ → ℕ) where
           ap (sum_to f) (let z : (s + l % p) + (p - l % p) ≡ s + p = omega arith in z) in
           omega arith
 
-  -- k times as many numbers as they come again after, or more, add at most (k + 1) / k times as much as elsewhere
+  -- k * b numbers, where b is at least their period p, add up to at most (k + 1) / k times as much as k * b others
   pub even : (p b k : ℕ) → ((n : ℕ) → f (n + p) ≡ f n) → 1 ≤ p → p ≤ b → (s t : ℕ) →
       k * (sum_to f (t + k * b) - sum_to f t) ≤ (k + 1) * (sum_to f (s + k * b) - sum_to f s)
   even p b k again some short s t =

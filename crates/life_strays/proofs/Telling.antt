@@ -11,13 +11,13 @@ use Rattle.life_objects.specs.Ash.{IsAsh}
 use Rattle.life_objects.specs.Drift.{multiple_of}
 use Rattle.life_objects.specs.Union.{IsSubsetOf}
 use Rattle.life_objects.proofs.Lists.{head_or_later}
-use Rattle.life_growth.specs.Engine.{FallsApart, IsEngineWithin}
-use Rattle.life_growth.specs.Growth.{IsGrowth}
-use Rattle.life_growth.specs.Onward.{endless}
-use Rattle.life_growth.proofs.Endless.{core_first, core_times, goes_on}
-use Rattle.life_growth.proofs.Lasting.{core_part}
-use Rattle.life_growth.proofs.OneGrowth.{IsPart-growth, cell_of, engine_of}
-use Rattle.life_growth.proofs.Parts.{IsPart, part_later, part_within, part_within_later}
+use Rattle.life_objects.specs.Growth.Engine.{FallsApart, IsEngineWithin}
+use Rattle.life_objects.specs.Growth.Growth.{IsGrowth}
+use Rattle.life_objects.specs.Growth.Onward.{endless}
+use Rattle.life_objects.proofs.GrowthLemmas.Endless.{core_first, core_times, goes_on}
+use Rattle.life_objects.proofs.GrowthLemmas.Lasting.{core_part}
+use Rattle.life_objects.proofs.GrowthLemmas.OneGrowth.{IsPart-growth, cell_of, engine_of}
+use Rattle.life_objects.proofs.GrowthLemmas.Parts.{IsPart, part_later, part_within, part_within_later}
 use Rattle.life_strays.specs.Strays.{ComesBackNowhere, IsIsland, IsStray, LeavesStrays}
 use Rattle.life_strays.proofs.Belonging.{heirs_within, island_within, no_faster}
 use Rattle.life_strays.proofs.Lacking.{gone_lacks, lacks_no_ash, no_ash_part}
@@ -25,7 +25,7 @@ use Rattle.life_strays.proofs.Windows.{late_multiple}
 
 module _ (R : Rule) where
   module _ (G P : Generation) (part : IsPart R P G) where
-    -- what comes again, moved, brings back its islands
+    -- what recurs, moved, brings back its islands
     comes_back : (b m : ℕ) (J : Generation) (d c : Cell) → IsSubsetOf J P → contains J c ≡ true → b < 2 * m → m ≤ b →
         IsSubsetOf (translate_of P d) (generation R P m) → ComesBackNowhere R b b G J → ⊥
     comes_back b m J d c inside h late within again gone =

@@ -1,4 +1,4 @@
--- Islands that are followed to tell that there is no ash.
+-- Islands that are followed to show that there is no ash.
 use Rattle.std.proofs.Common.{◌≡◌, ℕ, ◌+◌, ◌<◌, ◌≤◌, Bool, true, List, inl, inr, sym, ap, subst, ◌∙◌, arith}
 use Rattle.std.specs.Bool.{OnTrue}
 use Rattle.std.specs.List.{Contains}

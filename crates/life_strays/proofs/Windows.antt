@@ -1,16 +1,16 @@
--- Generations among which each period has a multiple: the later half of a bound, and those past twice the bound.
+-- Generations among which each period has a multiple: the later half of a bound, and those after twice the bound.
 use Rattle.std.proofs.Common.{◌≡◌, ℕ, zero, suc, ◌+◌, ◌*◌, ◌/◌, ◌%◌, ◌<◌, ◌≤◌, arith}
 use Rattle.std.proofs.Math.Nat.{mod-lt}
 use Rattle.std.proofs.lemmas.Nat.{div-add-mod'}
 
--- a multiple of p past the first of two numbers, and up to the other
+-- a multiple of p after `after`, up to `last`
 pub record IsMultipleIn (after last p : ℕ) : Type 0 where
   pub times : ℕ
   pub some : 1 ≤ times
   pub late : after < times * p
   pub within : times * p ≤ last
 
--- each period up to b has one
+-- each period up to b has such a multiple
 abbrev pub HaveMultiples : ℕ → ℕ → ℕ → Type 0
 HaveMultiples b after last = (p : ℕ) → 1 ≤ p → p ≤ b → IsMultipleIn after last p
 

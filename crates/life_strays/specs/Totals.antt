@@ -1,4 +1,4 @@
--- How many cells a set's generations have, counted over stretches of so many generations.
+-- How many cells a set's generations have, counted over stretches of equally many generations.
 use Rattle.std.specs.Prelude.{◌≡◌, ℕ, zero, suc, ◌+◌, ◌-◌, ◌*◌, ◌<◌, List, length, slice_index_or}
 use Rattle.life_model.specs.Evolution.{generation}
 use Rattle.life_model.specs.Generation.{Generation, size}
@@ -17,8 +17,8 @@ total R G n = sum_to (λ m. size (generation R G m)) n
 abbrev pub AreTotals : Rule → ℕ → Generation → List ℕ → Type 0
 AreTotals R b G totals = (j d : ℕ) → j < length totals → slice_index_or totals j d ≡ total R G (j * b)
 
--- Some stretches, so many in turn, have more cells than as many others and one more of their length could have, if what
--- they count came again within a stretch.
+-- Some `count` consecutive stretches have more than (count + 1) / count times as many cells as `count` others. They could not if
+-- what they count recurred within a stretch.
 pub record IsUneven (totals : List ℕ) : Type 0 where
   pub count : ℕ
   pub lesser : ℕ

@@ -9,17 +9,17 @@ use life_classes::Class;
 use life_plane::{AGE_LIMIT, Plane};
 use std::alloc::{AllocError, Global};
 
-/// For how many generations it is looked whether islands stand where they are, to tell that there is no ash, or of islands that
+/// For how many generations islands are checked for standing where they are: to show that there is no ash, and for islands that
 /// hang on others.
 pub const LOOK: u32 = 64;
 
-/// An island that stands where it is within so few generations is not followed.
+/// An island that stands where it is within `SOON` generations is not followed.
 const SOON: u32 = 2;
 
-/// How many islands of each of two kinds are followed to tell that there is no ash.
+/// How many islands of each of two kinds are followed to show that there is no ash.
 const FEW: u32 = 2;
 
-/// Whether all the cells stand in a plane, where they are.
+/// Whether all the cells are live in a plane.
 fn stand<P: Plane>(plane: &P, cells: &CellList) -> bool {
     for cell in cells.as_slice() {
         if plane.row(*cell) % 2 == 0 {
@@ -29,7 +29,7 @@ fn stand<P: Plane>(plane: &P, cells: &CellList) -> bool {
     true
 }
 
-/// The islands that do not stand in a plane, where they are. Those that do are put behind others.
+/// The islands whose cells are not all live in a plane. The others are appended to `standing`.
 fn absent<P: Plane>(
     alloc: Global,
     plane: &P,
@@ -52,8 +52,8 @@ fn absent<P: Plane>(
     Ok(left)
 }
 
-/// The islands that stand where they are in none of the next generations, up to the bound. Those that do are put behind
-/// others.
+/// The islands that stand where they are in none of the next generations, up to the bound. The others are appended to
+/// `standing`.
 fn unsettled<P: Plane>(
     alloc: Global,
     plane: &P,
@@ -94,7 +94,7 @@ fn largest(islands: &[Class]) -> usize
     best
 }
 
-/// Takes the largest of the islands, up to that count, and puts them behind others.
+/// Moves the largest islands, at most `count` of them, to the end of `some`.
 fn take_largest(
     islands: &mut Vec<Class>,
     count: u32,
@@ -115,8 +115,7 @@ fn take_largest(
     Ok(())
 }
 
-/// So many of the islands: the largest that stand where they are in none of the next generations. It is looked no further than
-/// to the bound.
+/// At most `count` of the islands: the largest that stand where they are in none of the next `bound` generations.
 pub fn chosen<P: Plane>(
     alloc: Global,
     plane: &P,
@@ -136,7 +135,7 @@ pub fn chosen<P: Plane>(
     Ok(some)
 }
 
-/// Takes the first of the islands, and puts it behind others.
+/// Moves the first of the islands to the end of `some`.
 pub fn take_first(islands: &mut Vec<Class>, some: &mut Vec<Class>) -> Result<(), AllocError>
     requires { 0 < length islands.now.items }
     ensures left { OnOk result ((R : ModelRule) (G : Generation) →
@@ -148,8 +147,8 @@ pub fn take_first(islands: &mut Vec<Class>, some: &mut Vec<Class>) -> Result<(),
     Ok(())
 }
 
-/// A few of the islands: the largest that stand where they are in none of the next generations, and the largest of the others.
-/// One that stands where it is very soon is left out. It is looked no further than to the bound.
+/// A few of the islands: the largest that stand where they are in none of the next `LOOK` generations, and the largest of the
+/// others. An island that stands where it is within `SOON` generations is left out. At most `bound` generations are looked at.
 pub fn chosen_for_ash<P: Plane>(
     alloc: Global,
     plane: &P,

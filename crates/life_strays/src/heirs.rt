@@ -9,7 +9,7 @@ use life_cells::{CellList, put_in_order};
 use life_plane::Plane;
 use std::alloc::{AllocError, Global};
 
-/// The greatest place of a cell of a list. The least is below zero by one more.
+/// The greatest coordinate of a cell of a list. The least is `-LAST_PLACE - 1`.
 const LAST_PLACE: i32 = 16_777_215;
 
 /// Whether a cell may be in a list.
@@ -19,7 +19,7 @@ pub fn is_place(cell: (i32, i32)) -> bool
     -LAST_PLACE <= cell.0 && cell.0 <= LAST_PLACE && -LAST_PLACE <= cell.1 && cell.1 <= LAST_PLACE
 }
 
-/// The cell to the west, in the row above, of a cell, or below that by so many rows.
+/// The cell to the north-west of a cell, or the one `rows` rows below that.
 fn corner(cell: (i32, i32), rows: u32) -> (i32, i32)
     requires placed { IsPlace cell }
     requires rows { rows < 3 }
@@ -28,7 +28,7 @@ fn corner(cell: (i32, i32), rows: u32) -> (i32, i32)
     (cell.0 - 1, cell.1 - 1 + rows as i32)
 }
 
-/// The cell so many places to the east.
+/// The cell `places` places to the east.
 fn east_of(cell: (i32, i32), places: u32) -> (i32, i32)
     requires placed { IsPlace cell }
     requires places { places < 3 }
@@ -37,7 +37,7 @@ fn east_of(cell: (i32, i32), places: u32) -> (i32, i32)
     (cell.0 + places as i32, cell.1)
 }
 
-/// Puts those of three cells side by side behind others that a word tells live, by its lowest bits.
+/// Appends those of three cells side by side, from `first` on, that are live by the lowest bits of a word.
 fn push_three(word: u64, first: (i32, i32), heirs: &mut Vec<(i32, i32)>) -> Result<(), AllocError>
     requires first { IsPlace first }
     requires before { All IsPlace heirs.old.items }
@@ -55,7 +55,7 @@ fn push_three(word: u64, first: (i32, i32), heirs: &mut Vec<(i32, i32)>) -> Resu
     Ok(())
 }
 
-/// Puts the live ones of a cell and the eight around it behind others.
+/// Appends the live ones of a cell and the eight around it.
 fn push_heirs<P: Plane>(
     plane: &P,
     cell: (i32, i32),
@@ -77,8 +77,8 @@ fn push_heirs<P: Plane>(
     Ok(())
 }
 
-/// Cells of a plane, each next to one of those of the generation before, or one of them itself. All that are so next to some
-/// of them, spread over the others. It is looked next to about so many of the cells.
+/// Cells of a plane, each next to one of `cells`, which are of the generation before, or one of them itself. About `many` of
+/// `cells`, spread over all of them, are looked at, and all such cells next to these are returned.
 pub fn heirs_of<P: Plane>(
     alloc: Global,
     plane: &P,

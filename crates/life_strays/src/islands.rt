@@ -1,4 +1,4 @@
-//! The islands of a plane: its cells, taken apart into sets that are near one another.
+//! The islands of a plane: its cells, taken apart into sets of cells that are near one another.
 ghost use Rattle.std.specs.Prelude.{All, IfOk};
 ghost use Rattle.life_strays.specs.Strays.{IsIslandNow};
 

@@ -1,28 +1,28 @@
 //! When it is worth looking whether a pattern has fallen apart.
 ghost use Rattle.std.specs.Prelude.{◌+◌, ◌≤◌};
 
-/// The populations of generations so far apart are counted. Most of what recurs has one population in all of these.
+/// The population of every `STRIDE`-th generation is counted. Most of what recurs has one population in all of these.
 pub const STRIDE: u32 = 4;
 
 /// How many populations are kept.
 const KEPT: usize = 128;
 
-/// How many populations in turn must repeat.
+/// How many consecutive populations must repeat.
 const SPELL: u32 = 12;
 
 /// The greatest period with which populations are seen to repeat, in strides.
 const LONGEST: u32 = 60;
 
-/// The moment at which a pattern may have been ash from the first: there fewer populations tell.
+/// The moment, which is an age in strides, at which a pattern may have been ash from the start: there fewer populations decide.
 const EARLY: u32 = 3;
 
 /// The age from which on looks are due.
 const FIRST_DUE: u32 = 4096;
 
-/// After so many looks, which found nothing, the next ones wait longer.
+/// After this many looks that found nothing, the next ones wait longer.
 const PATIENT: usize = 5;
 
-/// The populations at the last moments, the ages from which on a look is due and from which on one is allowed, and how
+/// The populations at the last `KEPT` moments, the ages from which on a look is due and from which on one is allowed, and how
 /// many looks were due.
 #[derive(Clone, Copy)]
 pub struct Pace {
@@ -91,8 +91,8 @@ impl Pace {
         age / 8
     }
 
-    /// Whether to look at the generation of this age, of which the population is noted if it is to be kept. Looks are due
-    /// each time that the age has doubled, from 4,096 on, and where populations repeat, if the last look is some time ago.
+    /// Whether to look at the generation of this age, whose population is noted already if it is to be kept. Looks are due each
+    /// time that the age has doubled, from 4,096 on, and also where populations repeat, if the last look is some time ago.
     pub fn is_due(&mut self, age: u32) -> bool {
         if age % STRIDE != 0 {
             return false;

@@ -1,11 +1,11 @@
-//! What strays tell of a plane's cells.
+//! What strays show about a plane's cells.
 ghost use Rattle.std.specs.Prelude.{◌≡◌, ℕ, ◌*◌, ◌+◌, ◌≤◌, All, IfOk, List, true};
 ghost use Rattle.std.specs.Bool.{OnTrue};
 ghost use Rattle.std.specs.List.{Contains};
 ghost use Rattle.life_model.specs.Cell.{Cell};
 ghost use Rattle.life_model.specs.Generation.{Generation, contains};
 ghost use Rattle.life_model.specs.Rule.{Rule as ModelRule};
-ghost use Rattle.life_growth.specs.Growth.{IsGrowth};
+ghost use Rattle.life_objects.specs.Growth.Growth.{IsGrowth};
 ghost use Rattle.life_objects.specs.Ash.{IsAsh};
 ghost use Rattle.life_strays.specs.Strays.{IsIslandNow, LeavesStrays};
 ghost use Rattle.life_strays.specs.declared.stray.Stray.{Stray};
@@ -20,22 +20,22 @@ use life_classes::{Class, reaches};
 use life_plane::{AGE_LIMIT, Plane};
 use std::alloc::{AllocError, Global};
 
-/// How many islands are followed to tell that there is no growth, where one does not tell it.
+/// How many islands are followed to show that there is no growth, where one does not show it.
 const SOME: u32 = 2;
 
-/// Next to how many of their cells it is looked for what hangs on them. What hangs on the others is left out.
+/// What hangs on islands is looked for next to about this many of their cells. What hangs on the other cells is left out.
 const MANY: u32 = 64;
 
-/// Next to how many cells of one island that is followed alone it is looked for what hangs on it.
+/// What hangs on an island that is followed alone is looked for next to about this many of its cells.
 const FEW: u32 = 32;
 
-/// For how many generations it is looked whether that one stands where it is.
+/// For how many generations an island that is followed alone is checked for standing where it is.
 const SHORT: u32 = 16;
 
-/// Whether it is seen that a plane's cells are no ash within the bound. Each time that an island of theirs comes back, moved,
-/// some of what hangs on it then is, moved back, not among these cells. That need not be so in all generations: only in those
-/// of the later half of the bound, or in those from twice the bound to three times. One island is followed first, and then
-/// some more.
+/// Whether it is shown that a plane's cells are no ash within the bound. Each time that an island of theirs comes back, moved,
+/// some of what then hangs on it is, moved back, not among these cells. That need not be so in all generations, only in those of
+/// the later half of the bound, or in those from twice the bound to three times. One island is followed first, and then a few
+/// more.
 pub fn are_no_ash<P: Plane>(
     alloc: Global,
     plane: &P,
@@ -113,7 +113,7 @@ fn hanging(alloc: Global, islands: Vec<Class>, strays: &[Stray]) -> Result<Vec<C
     Ok(left)
 }
 
-/// Whether one of some later strays hangs on one of the earlier.
+/// Whether one of the later strays hangs on one of the earlier ones.
 fn some_hang(strays: &[Stray], laters: &[Stray]) -> bool
     ensures { OnTrue result ((stray : Stray) × Contains strays.now stray × (later : Stray)
         × Contains laters.now later × (c : Cell) × (contains stray.heirs c ≡ true)
@@ -127,9 +127,10 @@ fn some_hang(strays: &[Stray], laters: &[Stray]) -> bool
     false
 }
 
-/// Whether it is seen that a plane's cells do not grow within the bound, nor are ash: an island of theirs comes back nowhere
-/// within it, and one that hangs on it so many generations later does so neither. So many islands are followed, none that
-/// stands where it is within `look` generations. What hangs on them is looked for next to about `many` cells.
+/// Whether it is shown that a plane's cells neither grow within the bound nor are ash: an island of theirs comes back nowhere
+/// within it, and neither does one that hangs on it `bound` generations later. At most `count` islands are followed each time,
+/// none that stands where it is within `look` generations, or `LOOK` for the later ones if that is less. What hangs on them is
+/// looked for next to about `many` cells.
 fn some_never_grow<P: Plane>(
     alloc: Global,
     plane: &P,
@@ -175,8 +176,8 @@ fn some_never_grow<P: Plane>(
     Ok(true)
 }
 
-/// Whether one island shows that a plane's cells do not grow within the bound, nor are ash. One island alone is followed, and
-/// the rest is stepped.
+/// Whether one island shows that a plane's cells neither grow within the bound nor are ash. Only one island is followed, and the
+/// rest is stepped.
 pub fn one_never_grows<P: Plane>(
     alloc: Global,
     plane: &P,
@@ -192,7 +193,7 @@ pub fn one_never_grows<P: Plane>(
     some_never_grow(alloc, plane, rule, bound, 1, SHORT, FEW)
 }
 
-/// Whether it is seen that a plane's cells do not grow within the bound, nor are ash: by one island, or by some.
+/// Whether it is shown that a plane's cells neither grow within the bound nor are ash: by one island, or by `SOME`.
 pub fn never_grow<P: Plane>(
     alloc: Global,
     plane: &P,

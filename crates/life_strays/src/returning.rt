@@ -14,7 +14,7 @@ use life_cells::CellList;
 use life_plane::{AGE_LIMIT, Plane, is_live, move_between};
 use std::alloc::AllocError;
 
-/// Whether a move goes no further to any side than this.
+/// Whether a move goes at most `reach` places to any side.
 fn is_move_within(by: (i32, i32), reach: u32) -> bool
     requires reach { reach ≤ AGE_LIMIT }
     ensures within { IsTrue result → IsMoveWithin reach by }
@@ -33,7 +33,7 @@ fn back(by: (i32, i32)) -> (i32, i32)
     (-by.0, -by.1)
 }
 
-/// Whether a move may lead all the cells to live ones of a plane. That it may tells nothing.
+/// Whether a move may lead all the cells to live ones of a plane. A positive answer means nothing.
 fn may_lead<P: Plane>(plane: &P, cells: &CellList, by: (i32, i32)) -> bool
     requires by { IsMoveWithin AGE_LIMIT by }
     ensures { result ≡ false → IsMovedInto cells.now (P.members plane.now) by → ⊥ }
@@ -47,8 +47,8 @@ fn may_lead<P: Plane>(plane: &P, cells: &CellList, by: (i32, i32)) -> bool
     true
 }
 
-/// Whether a move may lead a set to live cells of a later plane, and back its heirs to those of the first. The later plane has
-/// the generation of this number, so that no move goes further than that.
+/// Whether a move may lead a set to live cells of a later plane and, back, its heirs to live cells of the first. The later plane
+/// is at generation `number`, so no move goes further than that.
 fn may_return<P: Plane>(
     start: &P,
     later: &P,
@@ -70,8 +70,8 @@ fn may_return<P: Plane>(
     may_lead(start, heirs, back(by))
 }
 
-/// Whether a move may lead a set to live cells of a later plane, as `may_return` tells. It is looked first whether it leads one
-/// cell of the set to one of these, which are the later plane's, in order: the cursor says where one was found last.
+/// Whether a move may lead a set to live cells of a later plane, as in `may_return`. First it is checked whether the move leads
+/// one cell of the set to one of `cells`, the later plane's, in order. The cursor says where one was found last.
 fn may_return_by<P: Plane>(
     start: &P,
     later: &P,
@@ -100,7 +100,7 @@ fn may_return_by<P: Plane>(
     may_return(start, later, set, heirs, number, by)
 }
 
-/// Whether some move may lead a set to live cells of a later plane, and back its heirs to those of the first. The cells are
+/// Whether some move may lead a set to live cells of a later plane and, back, its heirs to live cells of the first. `cells` are
 /// those of the later plane.
 fn some_may_return<P: Plane>(
     start: &P,
@@ -142,7 +142,7 @@ fn some_may_return<P: Plane>(
     false
 }
 
-/// The cells of a plane. They are listed only where they have not been before.
+/// The cells of a plane. They are listed only if they have not been listed before.
 fn listed_once<P: Plane>(plane: &P, listed: Option<CellList>) -> Result<CellList, AllocError>
     requires { IfSome listed (λ list. list ≡ P.members plane.now) }
     ensures { IfOk result (λ list. list ≡ P.members plane.now) }
@@ -153,8 +153,8 @@ fn listed_once<P: Plane>(plane: &P, listed: Option<CellList>) -> Result<CellList
     }
 }
 
-/// Whether a trail still tells, where these are its heirs in a later generation: the one of this number. That is not tested
-/// up to another number. The later plane's cells are listed once they are needed.
+/// Whether a trail still tells, where these are its heirs in generation `number`, that of the later plane. Up to generation
+/// `after` this is not tested. The later plane's cells are listed once they are needed.
 pub fn still_tells<P: Plane>(
     start: &P,
     later: &P,

@@ -1,7 +1,7 @@
 //! Islands whose heirs are led back.
 use life_cells::CellList;
 
-/// The cells of an island, some that hang on it in a later generation, and whether it may still tell that there is no ash.
+/// The cells of an island, some that hang on it in a later generation, and whether it may still show that there is no ash.
 #[derive(Drop)]
 pub struct Trail {
     pub set: CellList,

@@ -1,4 +1,4 @@
-//! Islands that are followed to tell that there is no ash.
+//! Islands that are followed to show that there is no ash.
 ghost use Rattle.std.specs.Prelude.{◌≡◌, ℕ, ◌*◌, ◌+◌, ◌/◌, ◌≤◌, All, IfOk, IfSome, OnOk, true};
 ghost use Rattle.std.specs.Bool.{OnTrue};
 ghost use Rattle.std.specs.List.{Contains};
@@ -16,10 +16,10 @@ use life_classes::Class;
 use life_plane::{AGE_LIMIT, Plane};
 use std::alloc::{AllocError, Global};
 
-/// Next to how many cells it is looked for what hangs on them. What hangs on the others is left out.
+/// What hangs on islands is looked for next to about this many cells. What hangs on the other cells is left out.
 const MANY: u32 = 16;
 
-/// The islands as trails, on which their own cells hang. Each may tell yet.
+/// The islands as trails, on which their own cells hang. Each may still tell.
 fn first_trails(alloc: Global, islands: Vec<Class>) -> Result<Vec<Trail>, AllocError>
     ensures { IfOk result (λ trails. (R : ModelRule) (after : ℕ) (G : Generation) →
         All (IsIslandNow R G) islands.items → All (IsTrail R after 0 G) trails.items) }
@@ -35,7 +35,7 @@ fn first_trails(alloc: Global, islands: Vec<Class>) -> Result<Vec<Trail>, AllocE
     Ok(trails)
 }
 
-/// The trails, of which each may tell again.
+/// The trails, each of which may tell again.
 fn told_anew(alloc: Global, trails: Vec<Trail>) -> Result<Vec<Trail>, AllocError>
     ensures { IfOk result (λ anew. (R : ModelRule) (after later n : ℕ) (G : Generation) → n ≤ later →
         All (IsTrail R after n G) trails.items → All (IsTrail R later n G) anew.items) }
@@ -51,7 +51,7 @@ fn told_anew(alloc: Global, trails: Vec<Trail>) -> Result<Vec<Trail>, AllocError
     Ok(anew)
 }
 
-/// A trail a generation later, in which the plane is: the one of this number.
+/// A trail a generation later: in generation `number`, that of the later plane.
 fn next_trail<P: Plane>(
     alloc: Global,
     start: &P,
@@ -77,7 +77,7 @@ fn next_trail<P: Plane>(
     })
 }
 
-/// The trails a generation later, in which the plane is: the one of this number.
+/// The trails a generation later: in generation `number`, that of the later plane.
 fn next_trails<P: Plane>(
     alloc: Global,
     start: &P,
@@ -112,8 +112,8 @@ pub fn some_tell(trails: &[Trail]) -> bool
     false
 }
 
-/// The islands of a plane, followed to the bound. Those tell that lack some in each generation of its later half. The other
-/// plane has the same cells, and is at the bound then.
+/// The islands of a plane, followed to the bound. Those that lack some in each generation of its later half tell. The later
+/// plane has the same cells at first, and is `bound` generations later afterwards.
 pub fn first_told<P: Plane>(
     alloc: Global,
     start: &P,
@@ -141,7 +141,7 @@ pub fn first_told<P: Plane>(
 }
 
 /// Whether one of the trails, followed from the bound to three times the bound, tells then: whether it lacks some in each
-/// generation past twice the bound.
+/// generation after twice the bound.
 pub fn later_told<P: Plane>(
     alloc: Global,
     start: &P,

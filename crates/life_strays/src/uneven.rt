@@ -1,8 +1,8 @@
-//! Stretches of generations that have too many cells beside others for what comes again.
+//! Stretches of generations that have too many cells, compared with others, for what recurs.
 ghost use Rattle.std.specs.Prelude.{◌≡◌, ◌+◌, ◌-◌, ◌*◌, ◌<◌, ℕ, IfSome, IsTrue, length, slice_index_or};
 ghost use Rattle.life_strays.specs.Totals.{IsUneven};
 
-/// How many cells so many stretches have from a place on, where the totals do not fall.
+/// How many cells `count` stretches have from a place on, where the totals do not fall.
 fn cells_of(totals: &[u64], place: usize, count: usize) -> Option<u64>
     requires { place + count < length totals.now }
     ensures { IfSome result (λ cells. (d : ℕ) → cells ≡
@@ -11,7 +11,7 @@ fn cells_of(totals: &[u64], place: usize, count: usize) -> Option<u64>
     totals[place + count].checked_sub(totals[place])
 }
 
-/// Whether the one number times N is more than the other times N + 1. Where these are too large, nothing is told.
+/// Whether `greater` times `count` is more than `lesser` times `count + 1`. False where these are too large.
 fn is_more(count: u64, greater: u64, lesser: u64) -> bool
     ensures { IsTrue result → (count + 1) * lesser < count * greater }
 {
@@ -27,7 +27,7 @@ fn is_more(count: u64, greater: u64, lesser: u64) -> bool
     low < high
 }
 
-/// Whether so many stretches from one place on have too many cells beside as many from another on.
+/// Whether `count` stretches from the place `greater` on have too many cells, compared with `count` stretches from `lesser` on.
 fn are_uneven(totals: &[u64], count: usize, greater: usize, lesser: usize) -> bool
     requires greater { greater + count < length totals.now }
     requires lesser { lesser + count < length totals.now }
@@ -42,8 +42,9 @@ fn are_uneven(totals: &[u64], count: usize, greater: usize, lesser: usize) -> bo
     is_more(count as u64, more, less)
 }
 
-/// Whether the last stretches have too many cells beside as many of the first, or these beside them, for what comes again
-/// within a stretch. The totals before each stretch are given, and after the last. That they haven't tells nothing.
+/// Whether some of the last stretches have too many cells, compared with equally many of the first, for what recurs within a
+/// stretch, or the first compared with the last. The totals before each stretch and after the last are given. A negative answer
+/// means nothing.
 pub fn is_uneven(totals: &[u64]) -> bool
     ensures { IsTrue result → IsUneven totals.now }
 {

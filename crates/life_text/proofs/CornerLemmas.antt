@@ -25,7 +25,7 @@ module _ (f : Cell → ℤ) where
   least_at c (b ∷ bs) zero d h = min_left (f c) (least_by f b bs)
   least_at c (b ∷ bs) (suc i) d h = min_right (f c) _ _ (least_at b bs i d (omega arith))
 
-  -- what holds at each cell holds at the least
+  -- what holds of each cell holds of the least
   least_is : (P : ℤ → Type 0) (c : Cell) (cs : List Cell) → P (f c) → All (λ b. P (f b)) cs → P (least_by f c cs)
   least_is P c [] first others = first
   least_is P c (b ∷ bs) first others = min_is P (f c) (least_by f b bs) first (least_is P b bs (All-head (λ d. P (f d)) b bs others) (All-tail (λ d. P (f d)) b bs others))
@@ -38,7 +38,7 @@ pub corner_above : (cs : List Cell) (i : ℕ) (d : Cell) → i < length cs → (
 corner_above [] i d h = absurd (omega arith)
 corner_above (c ∷ cs) i d h = least_at (λ b. b.1) c cs i d h
 
--- the corner of cells that have places has one
+-- the corner of cells within the limits is within them too
 pub corner_place : (cs : List Cell) → All IsPlace cs → IsPlace (corner_of cs)
 corner_place [] all = record { left = omega (arith, ints); right = omega (arith, ints); above = omega (arith, ints); below = omega (arith, ints) }
 corner_place (c ∷ cs) all =

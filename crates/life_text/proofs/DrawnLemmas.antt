@@ -145,7 +145,7 @@ abbrev pub Fits : List (ℕ × ℕ) → Type 0
 Fits [] = Unit {0}
 Fits (c ∷ cells) = (c.0 < place_limit) × (c.1 < place_limit) × Fits cells
 
--- one live cell more
+-- one more live cell
 onto_more : (n : ℕ) (us : List (ℕ × ℕ)) → onto_run n (onto_run 1 us) ≡ onto_run (n + 1) us
 onto_more n us = by_first us
   where
@@ -208,7 +208,7 @@ draws_all [] y start n x live e order fits high wide few_cells =
 draws_all (c ∷ cs) y start n x live e order fits high wide few_cells =
     by_row (draws_all cs c.1 start (n + 1) (c.0 + 1) live) (draws_all cs c.1 c.0 1 (c.0 + 1) (live + n)) (c.1 == y) refl (c.0 == x) refl
   where
-    -- after live cells that the next cell doesn't follow
+    -- after live cells that the next cell doesn't follow directly
     gap : (us : List (ℕ × ℕ)) → Draws (pen y (start + n) (live + n)) us (c ∷ cs) → Draws (pen y start live) (with_token n 111 us) (live_row y start n ++ c ∷ cs)
     gap us h = draws_live y start live n us (c ∷ cs) high (omega arith) (omega arith) h
 

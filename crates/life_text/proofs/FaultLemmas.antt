@@ -6,7 +6,7 @@ use Rattle.life_text.specs.declared.rle.RleFault.{RleFault}
 use Rattle.life_text.specs.declared.rle.RleFault.TheVariants.{NoHeader, BadHeader, Rule, ManyStates, BadChar, BadRun, TooFar, TooMany, NoEnd, Memory}
 use Rattle.life_text.specs.Faults.{fault_number}
 
--- a fault of a header's rule has one of the numbers that reports have
+-- a fault of a header's rule has one of the numbers in reports
 pub header_rule-numbered : (fault : RuleFault) → (1 ≤ fault_number (Rule fault)) × (fault_number (Rule fault) ≤ 10)
 header_rule-numbered NotLifeLike = (omega arith, omega arith)
 header_rule-numbered HasB0 = (omega arith, omega arith)

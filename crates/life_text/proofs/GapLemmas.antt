@@ -10,7 +10,7 @@ use Rattle.life_text.proofs.PlaceLemmas.{IsBehind, BeginsAbove}
 
 -- # The runs of one row
 
--- so many dead cells before a live one
+-- n dead cells before a live one
 abbrev dead : ℕ → List (ℕ × Bool) → List (ℕ × Bool)
 dead zero runs = runs
 dead (suc n) runs = (suc n, false) ∷ runs
@@ -121,7 +121,7 @@ record Front (c : ℕ × ℕ) (cs : List (ℕ × ℕ)) : Type 0 where
   rises : Rises (c.0 + 1) columns
   tokens : onto_run 1 (tokens_from c.1 (c.0 + 1) cs) ≡ map run_token (run_onto true (gap_runs (c.0 + 1) columns)) ++ behind_row c.1 others
 
--- the tokens from a row on in which the next cell stands
+-- the tokens from a row on that has the next cell
 in_row : (y x : ℕ) (c : ℕ × ℕ) (cs : List (ℕ × ℕ)) (f : Front c cs) → c.1 ≡ y → tokens_from y x (c ∷ cs) ≡ map run_token (gap_runs x (c.0 ∷ f.columns)) ++ behind_row c.1 f.others
 in_row y x c cs f e =
     let none : c.1 - y ≡ 0 = omega arith in
@@ -131,7 +131,7 @@ in_row y x c cs f e =
     ∙ ap (with_token (c.0 - x) 98) f.tokens
     ∙ dead_token (c.0 - x) (run_onto true (gap_runs (c.0 + 1) f.columns)) (behind_row c.1 f.others)
 
--- the tokens from a row on below which the next cell stands
+-- the tokens from a row on above that of the next cell
 below_row : (y x : ℕ) (c : ℕ × ℕ) (cs : List (ℕ × ℕ)) (f : Front c cs) → y < c.1 → tokens_from y x (c ∷ cs) ≡ behind_row y ((c.1, c.0 ∷ f.columns) ∷ f.others)
 below_row y x c cs f lt =
     let some : (c.1 - y == 0) ≡ false = grind (arith, nat_tests) in

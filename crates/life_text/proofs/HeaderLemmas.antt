@@ -30,11 +30,11 @@ line_ends c rest h =
     let behind : prefix_len (λ b. not (is_line_feed b)) (c ∷ rest) + 1 ≡ suc 0 = omega arith in
     (ap (λ k. take k (c ∷ rest)) none, ap (λ k. drop k (c ∷ rest)) behind)
 
--- after a byte that ends no line stands no comment
+-- no comment follows a byte that ends no line
 pub plain_behind : (text : List ℕ) (at : ℕ) → (get_or text at 0 == 10) ≡ false → at + 1 < length text → plain_at text (at + 1) ≡ get_or text (at + 1) 0 ∷ plain_at text (at + 1 + 1)
 plain_behind text at h lt = blanked_plain false text (at + 1) lt (ap (λ n. is_in_comment false n (get_or text (at + 1) 0)) (previous_more text at) ∙ ap (λ b. if b then get_or text (at + 1) 0 == 35 else false) h)
 
--- a part of a text, with one byte more
+-- a part of a text, with one more byte
 pub part_more : (text : List ℕ) (from at : ℕ) → from ≤ at → at < length text → take (at + 1 - from) (drop from text) ≡ take (at - from) (drop from text) ++ get_or text at 0 ∷ []
 part_more text from at le lt =
     let n : at + 1 - from ≡ at - from + 1 = omega arith in
@@ -80,7 +80,7 @@ goes_on text start plain (suc n) le none =
     subst (λ (k : ℕ). GoesOn text start k) place
     (one_more text start (start + n) (omega arith) (omega arith) (none n (omega arith)) (goes_on text start plain n (omega arith) (λ k lt. none k (omega arith))))
 
--- as long as no LF comes in what stands behind a place
+-- as long as there is no LF in what follows a place
 pub goes_without : (text : List ℕ) (start : ℕ) → (start < length text → plain_at text start ≡ get_or text start 0 ∷ plain_at text (start + 1))
     → (n : ℕ) → start + n ≤ length text → ((k : ℕ) → k < n → (get_or (drop start text) k 0 == 10) ≡ true → ⊥) → GoesOn text start (start + n)
 goes_without text start plain n le none =
@@ -100,7 +100,7 @@ ends_at text start next lt end g =
       g.rest ∙ ap (after_first is_line_feed) (g.plain lt) ∙ ends.1,
     )
 
--- or with the text
+-- or at the end of the text
 pub ends_last : (text : List ℕ) (start next : ℕ) → length text ≤ next → GoesOn text start next
     → (before_first is_line_feed (plain_at text start) ≡ take (next - start) (drop start text)) × (after_first is_line_feed (plain_at text start) ≡ plain_at text next)
 ends_last text start next le g =
@@ -124,7 +124,7 @@ module _ (text : List ℕ) (start : ℕ) (within : start ≤ length text) (plain
       let ends = ends_at text start (start + len) lt end (goes_without text start plain len (omega arith) (λ k below. found.0.before k (omega arith) below)) in
       (lt, ends.0, ends.1)
 
-  -- and none
+  -- and there is none
   pub line_unfound : IsFirstByte (is_byte 10) (take (length text - start) (drop start text)) None
       → (before_first is_line_feed (plain_at text start) ≡ take (length text - start) (drop start text)) × (after_first is_line_feed (plain_at text start) ≡ plain_at text (length text))
   line_unfound h =
@@ -157,7 +157,7 @@ body_is text start from head within rest =
 first_of_is : (ts : List Token) → cells_drawn first_pen ts ≡ unless_refused (first_fault [] ts) (cells_after [] ts)
 first_of_is ts = drawn_is ts []
 
--- the drawing that a text means, by a rule of its header and by what is drawn of its tokens
+-- the drawing that a text means, given the rule of its header and what its tokens draw
 pub drawing_is : (text : List ℕ) (r : Result Rule RleFault) (cells : Result (List (ℤ × ℤ)) RleFault) → header_rule text ≡ r → placed_all (cells_drawn first_pen (body_tokens text)) ≡ cells → drawing_of (reading text) ≡ drawing_with r cells
 drawing_is text r cells rule body =
     ap (λ o. drawing_of (with_body o (body_tokens text))) rule ∙ by_rule r ∙ ap (drawing_with r) body

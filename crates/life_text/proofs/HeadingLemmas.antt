@@ -112,7 +112,7 @@ behind_digits (d ∷ ds) c rest h stop =
 digit_no_blank : (c : ℕ) → is_digit c ≡ true → is_blank c ≡ false
 digit_no_blank c h = grind (arith, nat_tests)
 
--- a size, and what stands after it
+-- a size, and what follows it
 size_found : (ds : List ℕ) (n c : ℕ) (rest : List ℕ) → Written ds n → is_digit c ≡ false → after_size (32 ∷ (ds ++ c ∷ rest)) ≡ Some (c ∷ rest)
 size_found ds n c rest w stop =
     let is = and_left (is_digit w.first) (list_all is_digit w.others) w.digits in

@@ -62,7 +62,7 @@ pass_over comment text at lt h =
     let front = front_more is_space (if is_in_comment comment (byte_before text at) (get_or text at 0) && not (get_or text at 0 == 10) then 32 else get_or text at 0) (comments_as_blanks (is_in_comment comment (byte_before text at) (get_or text at 0)) (byte_before text (at + 1)) (drop (at + 1) text)) yes in
     (ap (prefix_len is_space) more ∙ front.0, ap (without_front is_space) more ∙ front.1)
 
--- a byte that stands in no line of comment
+-- a byte that is in no comment line
 pub blanked_plain : (comment : Bool) (text : List ℕ) (at : ℕ) → at < length text → is_in_comment comment (byte_before text at) (get_or text at 0) ≡ false →
     comments_as_blanks comment (byte_before text at) (drop at text) ≡ get_or text at 0 ∷ plain_at text (at + 1)
 blanked_plain comment text at lt h =
@@ -95,7 +95,7 @@ stop_end comment before text at h = ap (comments_as_blanks comment before) (drop
 space_no_digit : (c : ℕ) → is_space c ≡ true → is_digit c ≡ false
 space_no_digit c h = grind (arith, nat_tests)
 
--- blanks in front leave the lexemes alone
+-- blanks in front don't change the lexemes
 pub lexemes-spaces : (s : List ℕ) (at : ℕ) → lexemes false at s ≡ lexemes false (at + prefix_len is_space s) (without_front is_space s)
 lexemes-spaces [] at = refl
 lexemes-spaces (c ∷ s) at = by_space (lexemes-spaces s (at + 1)) (is_space c) refl
@@ -114,7 +114,7 @@ lexemes-spaces (c ∷ s) at = by_space (lexemes-spaces s (at + 1)) (is_space c) 
         let place : at ≡ at + prefix_len is_space (c ∷ s) = omega (arith, none.0) in
         ap (λ n. lexemes false n (c ∷ s)) place ∙ ap (lexemes false (at + prefix_len is_space (c ∷ s))) (sym none.1)
 
--- a digit is in no line of comment, if none before it is
+-- a digit is in no comment line, if none before it is
 pub digit_plain : (text : List ℕ) (at : ℕ) → at < length text → is_digit (get_or text at 0) ≡ true → plain_at text at ≡ get_or text at 0 ∷ plain_at text (at + 1)
 digit_plain text at lt h = blanked_plain false text at lt (by_line (byte_before text at == 10))
   where
@@ -125,7 +125,7 @@ digit_plain text at lt h = blanked_plain false text at lt (by_line (byte_before 
     by_line true = no_sign (get_or text at 0) h
     by_line false = refl
 
--- a byte that is no digit stays none, blanked or not
+-- a byte that is no digit stays so, blanked or not
 no_digit : (b : Bool) (c : ℕ) → is_digit c ≡ false → is_digit (if b && not (c == 10) then 32 else c) ≡ false
 no_digit true c h = by_lf (c == 10)
   where

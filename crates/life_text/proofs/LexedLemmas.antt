@@ -37,7 +37,7 @@ written_number n h = let d = decimal_is_IsNumeral n h in by_digits (decimal n) d
     by_digits [] d e = absurd (omega (arith, d.0))
     by_digits (c ∷ cs) d e = record { first = c; others = cs; whole = refl; digits = all_digits (c ∷ cs) d.1; value = e }
 
--- digits before a byte that is none
+-- digits before a byte that is no digit
 front_digits : (ds : List ℕ) (c : ℕ) (rest : List ℕ) → list_all is_digit ds ≡ true → is_digit c ≡ false → take_while is_digit (ds ++ c ∷ rest) ≡ ds
 front_digits [] c rest h stop = ap (λ b. take (cond b (1 + prefix_len is_digit rest) 0) (c ∷ rest)) stop
 front_digits (d ∷ ds) c rest h stop =
@@ -81,7 +81,7 @@ count_found d ds at c rest h digit =
 abbrev pub token : ℕ → Option ℕ → ℕ → ℕ → Token
 token at count next tag = record { at = at; count = count; tag_at = next; tag = Some tag }
 
--- the token that stands first in a text, and those of the rest of it
+-- the first token of a text, and those of the rest of it
 pub record Lexed (n tag : ℕ) (ls : List Lexeme) (rest : List ℕ) : Type 0 where
   pub at : ℕ
   pub next : ℕ

@@ -131,7 +131,7 @@ places_at k cs i d lt = ap (places_from k) (from_place cs i d lt)
     from_place : (cs : List Cell) (i : ℕ) (d : Cell) → i < length cs → drop i cs ≡ get_or cs i d ∷ drop (i + 1) cs
     from_place cs i d lt = rw add-one (drop-cons cs i d lt)
 
--- # The box
+-- # The bounding box
 
 module _ (f : ℕ × ℕ → ℕ) (k : Cell) where
   pub extent_more : (cs : List Cell) (i : ℕ) (d : Cell) → i < length cs → extent (map f (places_from k (take (i + 1) cs))) ≡ max (extent (map f (places_from k (take i cs)))) (f (place (plus (get_or cs i d) (opposite k))) + 1)
@@ -149,7 +149,7 @@ places_are G cs k e f =
     ap (places_from k) e ∙ ap (λ l. places_from l (cells G)) corner_is ∙ sym (map-map place (λ c. plus c (opposite (corner G))) (cells G))
     ∙ ap (map place) (sym (cells-moved G (opposite (corner G))))
 
--- its box, by these places
+-- its bounding box, given these places
 pub width_by_places : (G : Generation) → width G ≡ extent (map (λ p. p.0) (places G))
 unfolding width
 width_by_places G = ap extent (sym (map-map (λ (p : ℕ × ℕ). p.0) place (cells (normal G))))
@@ -158,7 +158,7 @@ pub height_by_places : (G : Generation) → height G ≡ extent (map (λ p. p.1)
 unfolding height
 height_by_places G = ap extent (sym (map-map (λ (p : ℕ × ℕ). p.1) place (cells (normal G))))
 
--- the places of cells in order, and the box that they give
+-- the places of cells in order, and the bounding box that they give
 pub places_of_list : (cs : List Cell) (k : Cell) → T (is_rising cs) → k ≡ corner_of cs → places_from k cs ≡ places (from_list cs)
 places_of_list cs k rising e = places_are (from_list cs) cs k (sym (cells-from_list cs rising)) e
 

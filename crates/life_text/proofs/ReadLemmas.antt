@@ -1,4 +1,4 @@
--- What a reading says of the text's fault.
+-- What a reading says about the text's fault.
 use Rattle.std.proofs.Common.{◌≡◌, ◌≢◌, ℕ, Bool, true, false, if◌then◌else◌, is_some, codes, List, Option, Some, None, Result, Ok, Err, IfOk, IfErr, OnOk, refl}
 use Rattle.std.specs.List.{list_all}
 use Rattle.life_model.specs.Rule.{Rule}
@@ -32,7 +32,7 @@ pub refused : (text : List ℕ) (r : Result Plot RleFault) → Gives Memory draw
 refused text (Ok pattern) h = tt
 refused text (Err fault) h = λ known. fault_is (reading text) fault (h known)
 
--- # A header's fault is never that memory was refused
+-- # A header's fault is never out of memory
 
 neither : (b : Bool) (r s : Result Rule RleFault) → r ≢ Err Memory → s ≢ Err Memory → (if b then r else s) ≢ Err Memory
 neither true r s one other = one

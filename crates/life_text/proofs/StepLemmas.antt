@@ -1,4 +1,4 @@
--- One turn of the loop that draws tokens where they stand.
+-- One turn of the loop that draws tokens in place.
 use Rattle.std.proofs.Common.{◌≡◌, ℕ, ◌+◌, ◌<◌, ◌≤◌, min, Bool, true, false, not, List, ◌∷◌, ◌++◌, [], map, ℤ, Option, Some, None, Result, Ok, Err, codes, length, get_or, if◌then◌else◌, ◌==◌, subst, sym, ap, ◌∙◌, refl, arith}
 use Rattle.std.specs.List.{take_while}
 use Rattle.std.specs.Option.{option_map_or}
@@ -19,7 +19,7 @@ use Rattle.life_text.proofs.LexLemmas.{blanked_plain}
 use Rattle.life_text.proofs.TokenLemmas.{begins_tag, lexemes_tag}
 use Rattle.life_text.proofs.BodyLemmas.{finish, live_behind, next_pen, step}
 
--- a byte other than `#` begins no comment
+-- a byte other than `#` starts no comment
 pub plain_here : (text : List ℕ) (at : ℕ) → at < length text → (get_or text at 0 == 35) ≡ false → plain_at text at ≡ get_or text at 0 ∷ plain_at text (at + 1)
 plain_here text at lt other = blanked_plain false text at lt (by_line (byte_before text at == 10))
   where
@@ -31,7 +31,7 @@ plain_here text at lt other = blanked_plain false text at lt (by_line (byte_befo
 tag_is : (c : ℕ) → is_in (codes "b.oA$") c ≡ true → (is_space c ≡ false) × (is_digit c ≡ false) × ((c == 35) ≡ false)
 tag_is c h = (grind (arith, nat_tests), grind (arith, nat_tests), grind (arith, nat_tests))
 
--- a tag where the reader stands
+-- a tag at the reader's place
 pub begins_here : (text : List ℕ) (at : ℕ) → at < length text → is_in (codes "b.oA$") (get_or text at 0) ≡ true
     → BeginsWithToken text at (record { at = at; counted = false; times = 1; tag_at = at; tag = Some (get_or text at 0) })
 begins_here text at lt h =
@@ -46,7 +46,7 @@ space_first at c rest s h =
     ap (λ b. (if b then [] else (if not (is_digit c) then Tag at c ∷ [] else Count at (digits_value 10 (take_while is_digit (c ∷ rest))) ∷ [])) ++ lexemes (is_digit c) (at + 1) rest) s
     ∙ ap (λ b. lexemes b (at + 1) rest) h
 
--- a blank or LF where the reader stands
+-- a blank or LF at the reader's place
 pub blank_here : (text : List ℕ) (at : ℕ) → at < length text → is_space (get_or text at 0) ≡ true → tokens_at text at ≡ tokens_at text (at + 1)
 blank_here text at lt h =
     let is = space_is (get_or text at 0) h in
@@ -81,7 +81,7 @@ none_front : (r : Result (List (ℤ × ℤ)) RleFault) → with_prefix [] r ≡ 
 none_front (Ok cells) = refl
 none_front (Err fault) = refl
 
--- a dead cell where the reader stands
+-- a dead cell at the reader's place
 pub dead_here : (text : List ℕ) (at : ℕ) (pen : Pen) → at < length text → get_or text at 0 ≡ 98 → pen.y ≤ count_cap
     → drawn_from text pen at ≡ drawn_from text (record { y = pen.y; x = min (pen.x + 1) count_cap; live = pen.live }) (at + 1)
 dead_here text at pen lt dead high =
@@ -93,7 +93,7 @@ dead_here text at pen lt dead high =
     ∙ none_front (drawn_from text (next_pen pen (found 98)) (at + 1))
     ∙ (λ i. drawn_from text (record { y = row i; x = min (pen.x + 1) count_cap; live = live i }) (at + 1))
 
--- the end where the reader stands
+-- the end at the reader's place
 pub end_here : (text : List ℕ) (at : ℕ) (pen : Pen) → at < length text → get_or text at 0 ≡ 33 → drawn_from text pen at ≡ Ok []
 end_here text at pen lt end =
     let found : ℕ → Found = λ (c : ℕ). record { at = at; counted = false; times = 1; tag_at = at; tag = Some c } in

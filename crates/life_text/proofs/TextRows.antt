@@ -13,7 +13,7 @@ use Rattle.life_text.specs.RleText.{body_text, header, rle_text}
 use Rattle.life_text.specs.Writer.{places_from}
 use Rattle.life_text.proofs.PlaceLemmas.{places_of_list, width_of_list, height_of_list}
 
--- the text of cells, from where they stand
+-- the text of cells, given their places
 abbrev text_of : Rule → List (ℕ × ℕ) → List ℕ
 text_of R ps = header R (extent (map (λ p. p.0) ps)) (extent (map (λ p. p.1) ps)) ++ body_text ps
 

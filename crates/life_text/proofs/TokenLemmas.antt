@@ -1,4 +1,4 @@
--- The first token of a text, by what stands there.
+-- The first token of a text, given what is there.
 use Rattle.std.proofs.Common.{◌≡◌, ℕ, ◌+◌, ◌<◌, ◌≤◌, min, true, false, List, [], ◌∷◌, length, get_or, if◌then◌else◌, ◌==◌, Some, None, sym, ap, ◌∙◌, refl}
 use Rattle.std.specs.List.{prefix_len, take_while}
 use Rattle.std.specs.Str.Parse.{digits_value}
@@ -24,7 +24,7 @@ lexemes_end text at h = ap (lexemes false at) (stop_end false _ text at h)
 pub lexemes_tag : (text : List ℕ) (at : ℕ) → IsPlain text at → is_digit (get_or text at 0) ≡ false → lexemes_at text at ≡ Tag at (get_or text at 0) ∷ lexemes_at text (at + 1)
 lexemes_tag text at plain h = ap (lexemes false at) plain.1 ∙ tag_first text at (get_or text at 0) (plain_at text (at + 1)) plain.0 h
 
--- a count, and what stands after it
+-- a count, and what follows it
 pub lexemes_count : (text : List ℕ) (at behind : ℕ) → at < length text → is_digit (get_or text at 0) ≡ true → lexemes true at (plain_at text at) ≡ lexemes_at text behind
     → lexemes_at text at ≡ Count at (digits_value 10 (take_while is_digit (plain_at text at))) ∷ lexemes_at text behind
 lexemes_count text at behind lt h rest =

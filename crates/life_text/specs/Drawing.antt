@@ -12,7 +12,7 @@ pub record Drawing : Type 0 where
   pub rule : Rule
   pub cells : List (ℤ × ℤ)
 
--- what was read, without where it lies in memory
+-- what was read, without its layout in memory
 abbrev pub drawing : Plot → Drawing
 drawing p = record { rule = p.rule; cells = p.cells.items }
 
@@ -26,6 +26,6 @@ drawing_with (Err fault) cells = Err fault
 drawing_with (Ok r) (Ok cells) = Ok (record { rule = r; cells = cells })
 drawing_with (Ok r) (Err fault) = Err fault
 
--- what the tokens of a text from a place on draw, or their first fault, where the pen stands
+-- what the tokens of a text from a place on draw, or their first fault, starting from this pen
 abbrev pub drawn_from : List ℕ → Pen → ℕ → Result (List (ℤ × ℤ)) RleFault
 drawn_from text pen at = placed_all (cells_drawn pen (tokens_at text at))

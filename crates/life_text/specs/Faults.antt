@@ -1,4 +1,4 @@
--- The numbers of faults, and where they stand.
+-- The numbers of faults, and the bytes that they name.
 use Rattle.std.specs.Prelude.{ℕ, List, [], ◌∷◌, Option, Some, None, ◌==◌}
 use Rattle.std.specs.List.{find}
 use Rattle.life_cells.specs.declared.rule.RuleFault.{RuleFault}
@@ -11,7 +11,7 @@ abbrev pub rule_number : RuleFault → ℕ
 rule_number NotLifeLike = 1
 rule_number HasB0 = 2
 
--- the number of a fault of an RLE text: reports and the program's lines have it
+-- the number of a fault of an RLE text, as used by reports and the program's lines
 abbrev pub fault_number : RleFault → ℕ
 fault_number NoHeader = 1
 fault_number BadHeader = 2

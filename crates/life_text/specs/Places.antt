@@ -1,4 +1,4 @@
--- Where the cells of a normal form stand.
+-- Where the cells of a normal form are.
 use Rattle.std.specs.Prelude.{ℕ, List, map, nat_abs}
 use Rattle.life_model.specs.Cell.{Cell}
 use Rattle.life_model.specs.Generation.{Generation, cells}

@@ -12,11 +12,11 @@ abbrev pub byte_before : List ℕ → ℕ → ℕ
 byte_before text zero = 10
 byte_before text (suc at) = slice_index text at
 
--- whether a byte stands in a line of comment
+-- whether a byte is in a comment line
 abbrev pub is_in_comment : Bool → ℕ → ℕ → Bool
 is_in_comment comment before c = if before == 10 then c == 35 else comment
 
--- the text from a place on with its comments blanked, where the byte before stands in no comment
+-- the text from a place on with its comments blanked, if the byte before it is in no comment
 abbrev pub plain_at : List ℕ → ℕ → List ℕ
 plain_at text at = comments_as_blanks false (byte_before text at) (drop at text)
 
@@ -58,7 +58,7 @@ with_capped_count t = record t { count = option_map (λ n. min n count_cap) t.co
 abbrev pub capped_pen : Pen → Pen
 capped_pen pen = record pen { y = min pen.y count_cap; x = min pen.x count_cap }
 
--- no blank or byte of a comment stands there
+-- no blank or byte of a comment is there
 abbrev pub IsPlain : List ℕ → ℕ → Type 0
 IsPlain text at = (is_space (slice_index text at) ≡ false) × (plain_at text at ≡ slice_index text at ∷ plain_at text (at + 1))
 

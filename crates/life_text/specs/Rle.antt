@@ -1,4 +1,4 @@
--- RLE texts that are read: the header, the tokens of the body, what they mean, and the first fault.
+-- Reading RLE texts: the header, the tokens of the body, what they mean, and the first fault.
 use Rattle.std.specs.Prelude.{ℕ, ◌+◌, ◌-◌, Bool, false, not, ◌&&◌, ◌||◌, List, [], ◌∷◌, ◌++◌, length, Option, Some, None, Result, Ok, Err, codes, map, sum_by, nat_lt, ◌==◌, if◌then◌else◌, is_some, is_none, unwrap_or}
 use Rattle.std.specs.List.{list_all, prefix_len, take_while, before_first, after_first, after_last, range_with_len}
 use Rattle.std.specs.Option.{option_or, option_map_or}
@@ -16,9 +16,10 @@ use Rattle.life_cells.specs.Limits.{place_limit}
 abbrev pub cell_limit : ℕ
 cell_limit = 1048576
 
--- # Lines of comment
+-- # Comment lines
 
--- the text with blanks for the bytes of each line whose first byte is `#`, so that no byte moves. `comment` says whether the byte before stands in such a line, which `previous` is
+-- the text with blanks for the bytes of each line whose first byte is `#`, so that no byte moves. `previous` is the byte before,
+-- and `comment` says whether it is in such a line
 abbrev pub comments_as_blanks : Bool → ℕ → List ℕ → List ℕ
 comments_as_blanks comment previous [] = []
 comments_as_blanks comment previous (c ∷ rest) =
@@ -37,11 +38,11 @@ from_header text = without_front is_space (without_comments text)
 abbrev pub header_line : List ℕ → List ℕ
 header_line text = before_first (λ c. c == 10) (from_header text)
 
--- what follows one of these bytes, before which blanks may stand
+-- what follows one of these bytes, which may have blanks before it
 abbrev pub part : List ℕ → List ℕ → Option (List ℕ)
 part bytes text = after_one_of bytes (without_front is_blank text)
 
--- what follows one or more digits, before which blanks may stand
+-- what follows one or more digits, which may have blanks before them
 abbrev pub after_size : List ℕ → Option (List ℕ)
 after_size text = let digits = without_front is_blank text in if prefix_len is_digit digits == 0 then None else Some (without_front is_digit digits)
 
@@ -75,7 +76,7 @@ abbrev pub named_rule : Option (List ℕ) → Result Rule RleFault
 named_rule None = Err BadHeader
 named_rule (Some text) = rule_or_fault (rule_of (without_ends is_blank text))
 
--- the rule, by what stands after the sizes: none means Life
+-- the rule, given what follows the sizes: if that is only blanks, it is Life
 abbrev pub rule_behind : Option (List ℕ) → Result Rule RleFault
 rule_behind None = Err BadHeader
 rule_behind (Some text) = if list_all is_blank text then Ok life else named_rule (after_rule_name text)
@@ -114,7 +115,8 @@ abbrev pub lexemes : Bool → ℕ → List ℕ → List Lexeme
 lexemes within_count at [] = []
 lexemes within_count at (c ∷ rest) = lexeme_at within_count at c rest ++ lexemes (is_digit c) (at + 1) rest
 
--- A count, where there is one, and the byte in the place of the tag, where there is one: after a count another count or the end of the text may stand, and the end of the text may stand where a token would begin.
+-- A count, if there is one, and the byte in the place of the tag, if there is one. After a count there may be another count or
+-- the end of the text, and the text may end where a token should begin.
 pub record Token : Type 0 where
   pub at : ℕ
   pub count : Option ℕ
@@ -154,7 +156,7 @@ is_row_end t = has_tag (codes "$") t
 abbrev pub times_of : (Token → Bool) → List Token → ℕ
 times_of test ts = sum_by (λ t. if test t then run_length t else 0) ts
 
--- the row and the column of a token that these stand before, and how many live cells these have
+-- the row and the column of a token that comes after these, and how many live cells these have
 abbrev pub row : List Token → ℕ
 row before = times_of is_row_end before
 
@@ -168,14 +170,14 @@ live_cells before = times_of is_live before
 abbrev pub run_cells : ℕ → ℕ → Token → List (ℕ × ℕ)
 run_cells y x t = if is_live t then map (λ x. (x, y)) (range_with_len x (run_length t)) else []
 
--- the cells of tokens that these stand before
+-- the cells of tokens that come after these
 abbrev pub cells_after : List Token → List Token → List (ℕ × ℕ)
 cells_after before [] = []
 cells_after before (t ∷ ts) = run_cells (row before) (column before) t ++ cells_after (before ++ t ∷ []) ts
 
 -- # The first fault
 
--- a letter that names a state other than the two
+-- a letter that names a third state
 abbrev pub is_other_state : Token → Bool
 is_other_state t = option_map_or is_letter t.tag false && not (is_cells t)
 
@@ -187,11 +189,11 @@ is_no_tag t = is_some t.tag && not (has_tag (codes "b.oA$!") t)
 abbrev pub is_bad_run : Token → Bool
 is_bad_run t = is_some t.count && ((run_length t == 0) || (is_none t.tag || has_tag (codes "!") t))
 
--- a live cell past the limit of places
+-- a live cell beyond the limit of places
 abbrev pub is_too_far : ℕ → ℕ → Token → Bool
 is_too_far y x t = is_live t && (nat_lt place_limit (y + 1) || nat_lt place_limit (x + run_length t))
 
--- more live cells than the limit, with this token's
+-- more live cells than the limit allows, counting this token's
 abbrev pub is_too_many : ℕ → Token → Bool
 is_too_many live t = is_live t && nat_lt cell_limit (live + run_length t)
 
@@ -199,7 +201,7 @@ is_too_many live t = is_live t && nat_lt cell_limit (live + run_length t)
 abbrev pub is_missing : Token → Bool
 is_missing t = is_none t.count && is_none t.tag
 
--- the fault of a token at this row and column, with so many live cells before it: the first that there is
+-- the fault of a token at this row and column, with `live` live cells before it: the first that there is
 abbrev pub token_fault : ℕ → ℕ → ℕ → Token → Option RleFault
 token_fault y x live t =
     fault_if (is_other_state t) (ManyStates t.tag_at)
@@ -209,7 +211,7 @@ token_fault y x live t =
     (fault_if (is_too_many live t) (TooMany t.at)
     (fault_if (is_missing t) NoEnd None)))))
 
--- the first fault of tokens that these stand before
+-- the first fault of tokens that come after these
 abbrev pub first_fault : List Token → List Token → Option RleFault
 first_fault before [] = None
 first_fault before (t ∷ ts) = option_or (token_fault (row before) (column before) (live_cells before) t) (first_fault (before ++ t ∷ []) ts)
@@ -228,7 +230,7 @@ abbrev pub with_body : Result Rule RleFault → List Token → Result Meaning Rl
 with_body (Err fault) ts = Err fault
 with_body (Ok r) ts = unless_fault (first_fault [] ts) (record { rule = r; cells = cells_after [] ts })
 
--- the rule and the cells that a text means, or its fault: the header's, else that of the first token that has one
+-- the rule and the cells that a text means, or its fault: the header's, or else that of the first token that has one
 abbrev pub reading : List ℕ → Result Meaning RleFault
 reading text = with_body (header_rule text) (body_tokens text)
 
@@ -237,6 +239,6 @@ abbrev pub fault_of : Result Meaning RleFault → Option RleFault
 fault_of (Ok meaning) = None
 fault_of (Err fault) = Some fault
 
--- the fault alone
+-- only the fault
 abbrev pub refusal : List ℕ → Option RleFault
 refusal text = fault_of (reading text)

@@ -1,4 +1,4 @@
--- The one RLE text that is written of a rule and a generation.
+-- The one RLE text that is written for a rule and a generation.
 use Rattle.std.specs.Prelude.{ℕ, ◌+◌, ◌-◌, Bool, true, false, List, [], ◌∷◌, ◌++◌, codes, map, decimal, ◌==◌, if◌then◌else◌}
 use Rattle.std.specs.List.{range_with_len}
 use Rattle.life_model.specs.Box.{extent, width, height}
@@ -15,7 +15,7 @@ header R w h = codes "x = " ++ decimal w ++ codes ", y = " ++ decimal h ++ codes
 
 -- # Rows and runs
 
--- a cell and the rows of the cells after it: it stands in the first of these rows, or in one of its own
+-- a cell and the rows of the cells after it: it is in the first of these rows, or in a row of its own
 abbrev pub onto_rows : ℕ × ℕ → List (ℕ × List ℕ) → List (ℕ × List ℕ)
 onto_rows c [] = (c.1, c.0 ∷ []) ∷ []
 onto_rows c ((y, columns) ∷ rows) = if c.1 == y then (y, c.0 ∷ columns) ∷ rows else (c.1, c.0 ∷ []) ∷ (y, columns) ∷ rows
@@ -35,7 +35,7 @@ run_onto true ((n, true) ∷ runs) = (n + 1, true) ∷ runs
 run_onto false ((n, false) ∷ runs) = (n + 1, false) ∷ runs
 run_onto b runs = (1, b) ∷ runs
 
--- the longest runs of equal values: how long, and the value
+-- the longest runs of equal values: the length and the value
 abbrev pub runs_of : List Bool → List (ℕ × Bool)
 runs_of [] = []
 runs_of (b ∷ values) = run_onto b (runs_of values)
@@ -50,7 +50,7 @@ run_token (n, false) = (n, 98)
 abbrev pub row_tokens : List ℕ → List (ℕ × ℕ)
 row_tokens columns = map run_token (runs_of (row_values columns))
 
--- the tokens of these rows: `$` between two, by how far they are apart, and `!` after the last
+-- the tokens of these rows: `$` between two, with a count of how far they are apart, and `!` after the last
 abbrev pub tokens_of_rows : List (ℕ × List ℕ) → List (ℕ × ℕ)
 tokens_of_rows [] = (1, 33) ∷ []
 tokens_of_rows ((y, columns) ∷ []) = row_tokens columns ++ (1, 33) ∷ []

@@ -1,4 +1,4 @@
--- How the reader takes the sizes of a header.
+-- How the reader finds the sizes of a header.
 use Rattle.std.specs.Prelude.{ℕ, List, Option, Some, None, ◌==◌, if◌then◌else◌}
 use Rattle.std.specs.List.{prefix_len}
 use Rattle.texts.specs.Bytes.{is_digit, without_front}

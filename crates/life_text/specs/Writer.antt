@@ -1,4 +1,4 @@
--- What the writer keeps: the cells from a place on, as the tokens that are still to be written.
+-- What the writer keeps: the cells from a place on, as the tokens still to be written.
 use Rattle.std.specs.Prelude.{ℕ, ◌+◌, ◌-◌, List, [], ◌∷◌, map, ◌==◌, if◌then◌else◌}
 use Rattle.life_model.specs.Cell.{Cell, opposite, plus}
 use Rattle.life_text.specs.declared.write.Nib.{Nib}
@@ -6,15 +6,15 @@ use Rattle.life_text.specs.Filled.{filled_lines}
 use Rattle.life_text.specs.Places.{place}
 use Rattle.life_text.specs.RleText.{token_text}
 
--- where cells stand, counted from a corner
+-- the places of cells, counted from a corner
 abbrev pub places_from : Cell → List Cell → List (ℕ × ℕ)
 places_from corner cells = map (λ c. place (plus c (opposite corner))) cells
 
--- a token before others, where it counts anything
+-- a token before others, if it counts anything
 abbrev pub with_token : ℕ → ℕ → List (ℕ × ℕ) → List (ℕ × ℕ)
 with_token count tag tokens = if count == 0 then tokens else (count, tag) ∷ tokens
 
--- so many live cells right before what these tokens draw
+-- n live cells just before what these tokens draw
 abbrev pub onto_run : ℕ → List (ℕ × ℕ) → List (ℕ × ℕ)
 onto_run n [] = with_token n 111 []
 onto_run n ((m, tag) ∷ tokens) = if tag == 111 then (n + m, tag) ∷ tokens else with_token n 111 ((m, tag) ∷ tokens)

@@ -1,4 +1,4 @@
-//! Tokens without fault, drawn as they are found.
+//! Tokens without a fault, drawn as they are found.
 ghost use Rattle.std.specs.Prelude.{◌<◌, ◌≡◌, ◌≤◌, IfOk, MatchOption, false, length, slice_index};
 ghost use Rattle.life_cells.specs.Readings.{with_prefix};
 ghost use Rattle.life_text.specs.Drawing.{drawn_from};
@@ -11,7 +11,8 @@ use crate::pen::{Pen, is_past_cells, is_past_places, push_span};
 use crate::token::{CAP, Found, counted_token, is_cells, is_live, is_row_end, tag_alone};
 use std::alloc::AllocError;
 
-/// Draws a token and gives the pen behind it. `None`, and nothing is drawn, where it has a fault or is the end.
+/// Draws a token and returns the pen after it. If the token has a fault or is the end, nothing is drawn and the result
+/// is `None`.
 #[inline(always)]
 pub fn draw_found(
     cells: &mut Vec<(i32, i32)>,
@@ -58,7 +59,7 @@ pub fn draw_found(
     Ok(None)
 }
 
-// Passes over the tags `b` from a place on, where one stands, and gives the pen and the place behind them.
+// Passes over the tags `b` from a place on, which has one, and returns the pen and the place after them.
 #[inline(always)]
 fn pass_dead(text: &[u8], from: usize, start: Pen) -> (Pen, usize)
     requires within { from < length text.now }
@@ -84,8 +85,8 @@ fn pass_dead(text: &[u8], from: usize, start: Pen) -> (Pen, usize)
     (behind, at)
 }
 
-/// Draws tokens from a place on, and gives the pen and the place behind them. They end before the first that has a fault,
-/// that is the end, or before which a comment stands, if not earlier.
+/// Draws tokens from a place on, and returns the pen and the place after them. It stops before the first token that has
+/// a fault, that is the end, or that has a comment before it, if not earlier.
 #[inline(never)]
 pub fn draw_tokens(
     cells: &mut Vec<(i32, i32)>,

@@ -33,7 +33,7 @@ pub fn drop_blanks(text: &[u8]) -> &[u8]
     &text[..end]
 }
 
-// How many digits a text begins with.
+// How many digits are at the start of a text.
 fn count_digits(text: &[u8]) -> usize
     ensures value { result ≡ prefix_len is_digit text.now }
     ensures within { result ≤ length text.now }
@@ -46,14 +46,14 @@ fn count_digits(text: &[u8]) -> usize
     text.len()
 }
 
-// What follows one of two bytes, before which blanks may stand.
+// What follows one of two bytes, which may have blanks before it.
 fn part_either<'a>(text: &'a [u8], one: u8, other: u8) -> Option<&'a [u8]>
     ensures { option_copied result ≡ part (one ∷ other ∷ []) text.now }
 {
     after_either(skip_blanks(text), one, other)
 }
 
-// What follows a byte, before which blanks may stand.
+// What follows a byte, which may have blanks before it.
 fn part_byte<'a>(text: &'a [u8], byte: u8) -> Option<&'a [u8]>
     ensures { option_copied result ≡ part (byte ∷ []) text.now }
 {
@@ -71,14 +71,14 @@ fn after_number(text: &[u8]) -> Option<&[u8]>
     Some(&text[count..])
 }
 
-// What follows one or more digits, before which blanks may stand.
+// What follows one or more digits, which may have blanks before them.
 fn after_size(text: &[u8]) -> Option<&[u8]>
     ensures { option_copied result ≡ after_size text.now }
 {
     after_number(skip_blanks(text))
 }
 
-// What follows sizes that are written as this program writes them.
+// What follows sizes in the form that this program writes.
 fn after_written_sizes(line: &[u8]) -> Option<&[u8]>
     ensures { IfSome result (λ rest. after_sizes line.now ≡ Some rest.now) }
 {
@@ -88,7 +88,7 @@ fn after_written_sizes(line: &[u8]) -> Option<&[u8]>
     after_number(height)
 }
 
-/// What follows `x = W, y = H` at the start of a line. `None` where the line doesn't begin so.
+/// What follows `x = W, y = H` at the start of a line. `None` if the line has no such start.
 pub fn after_sizes(line: &[u8]) -> Option<&[u8]>
     ensures { option_copied result ≡ after_sizes line.now }
 {
@@ -104,7 +104,7 @@ pub fn after_sizes(line: &[u8]) -> Option<&[u8]>
     after_size(height_equals)
 }
 
-/// What follows `, rule =` at the start of what follows the sizes. `None` where it doesn't begin so.
+/// What follows `, rule =` at the start of what follows the sizes. `None` if there is no such start.
 pub fn after_rule_name(text: &[u8]) -> Option<&[u8]>
     ensures { option_copied result ≡ after_rule_name text.now }
 {
@@ -116,7 +116,7 @@ pub fn after_rule_name(text: &[u8]) -> Option<&[u8]>
     part_byte(e, b'=')
 }
 
-// The rule that a text names, or the fault that this is in a header.
+// The rule that a text names, or its fault as one of a header.
 fn named_rule(text: &[u8]) -> Result<Rule, RleFault>
     ensures { result ≡ named_rule (Some text.now) }
 {
@@ -126,14 +126,14 @@ fn named_rule(text: &[u8]) -> Result<Rule, RleFault>
     }
 }
 
-// Whether a text is blanks alone.
+// Whether a text is only blanks.
 fn is_blanks(text: &[u8]) -> bool
     ensures { result ≡ list_all is_blank text.now }
 {
     text.iter().all(|byte| is_blank(*byte))
 }
 
-// Whether what follows the sizes is what this program writes of Life.
+// Whether what follows the sizes is what this program writes for Life.
 fn is_written_life(rest: &[u8]) -> bool
     ensures { IsTrue result → rest.now ≡ codes ", rule = B3/S23" }
 {

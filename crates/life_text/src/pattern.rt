@@ -6,7 +6,7 @@ ghost use Rattle.life_cells.specs.Limits.{IsWithin};
 use life_cells::{CellList, Rule};
 use std::marker::Model;
 
-/// A Life-like rule and a finite set of live cells, whose places are from 0 to 1,048,575.
+/// A Life-like rule and a finite set of live cells, whose coordinates are from 0 to 1,048,575.
 #[derive(Drop)]
 pub struct Pattern {
     rule: Rule,
@@ -29,7 +29,7 @@ impl Model for Pattern {
 }
 
 impl Pattern {
-    /// The pattern of a rule and cells. A list that doesn't fit, because a place is below 0 or above 1,048,575, is
+    /// The pattern of a rule and cells. A list that doesn't fit, because a coordinate is below 0 or above 1,048,575, is
     /// handed back.
     pub fn new(rule: Rule, cells: CellList) -> Result<Pattern, CellList>
         ensures pattern { IfOk result (λ pattern. pattern ≡ record { rule = rule; cells = cells }) }

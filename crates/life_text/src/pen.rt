@@ -10,7 +10,7 @@ use crate::token::{Found, is_live};
 use life_cells::PLACE_LIMIT;
 use std::alloc::AllocError;
 
-/// The row and the column of the next token, both capped, and how many cells are live.
+/// The row and the column of the next token, both capped, and the number of live cells.
 #[derive(Clone, Copy)]
 pub struct Pen {
     pub y: u32,
@@ -21,7 +21,7 @@ pub struct Pen {
 // The most live cells.
 const CELL_LIMIT: u32 = 1_048_576;
 
-/// Whether a live cell of so many is past the limit of places.
+/// Whether the last of `times` live cells is beyond the limit of places.
 #[inline(always)]
 pub fn is_past_places(pen: Pen, times: u32) -> bool
     requires few { times ≤ count_cap }
@@ -32,7 +32,7 @@ pub fn is_past_places(pen: Pen, times: u32) -> bool
     pen.y + 1 > PLACE_LIMIT || pen.x + times > PLACE_LIMIT
 }
 
-/// Whether so many live cells are more than the limit, with those before them.
+/// Whether `times` more live cells exceed the limit of cells.
 #[inline(always)]
 pub fn is_past_cells(pen: Pen, times: u32) -> bool
     requires few { times ≤ count_cap }
@@ -42,7 +42,7 @@ pub fn is_past_cells(pen: Pen, times: u32) -> bool
     pen.live + times > CELL_LIMIT
 }
 
-/// Whether a token that was found draws a live cell past the limit of places.
+/// Whether a token that was found draws a live cell beyond the limit of places.
 pub fn is_too_far(found: &Found, pen: Pen) -> bool
     requires once { found.now.counted ≡ false → found.now.times ≡ 1 }
     requires few { found.now.times ≤ count_cap }
@@ -53,7 +53,7 @@ pub fn is_too_far(found: &Found, pen: Pen) -> bool
     is_live(found) && is_past_places(pen, found.times)
 }
 
-/// Whether a token that was found draws more live cells than the limit, with those before it.
+/// Whether a token that was found draws more live cells than the limit allows, counting those before it.
 pub fn is_too_many(found: &Found, pen: Pen) -> bool
     requires once { found.now.counted ≡ false → found.now.times ≡ 1 }
     requires few { found.now.times ≤ count_cap }
@@ -72,7 +72,7 @@ fn cell(x: u32, y: u32) -> (i32, i32)
     (x as i32, y as i32)
 }
 
-/// Draws the live cells of the token that was found, which has some, at this column and row.
+/// Draws the live cells of a token that was found, which has some, at this column and row.
 pub fn push_span(
     cells: &mut Vec<(i32, i32)>,
     x: u32,

@@ -1,4 +1,4 @@
-//! RLE texts that are read.
+//! Reading RLE texts.
 ghost use Rattle.std.specs.Prelude.{[], ◌+◌, ◌-◌, ◌<◌, ◌≡◌, ◌≢◌, ◌≤◌, IfErr, IfOk, IsOk, List, OnOk, Some, drop, false, length, take};
 ghost use Rattle.std.specs.List.{after_first, before_first};
 ghost use Rattle.life_cells.specs.Readings.{Gives};
@@ -29,27 +29,27 @@ use thiserror::Error;
 pub enum RleFault {
     /// There is no header line, or it doesn't begin with `x`.
     NoHeader,
-    /// The header line begins with `x` and hasn't the form of one.
+    /// The header line begins with `x` but doesn't have the form of a header.
     BadHeader,
     /// The header's rule text has this fault.
     Rule(RuleFault),
-    /// A letter that names another state than the two stands in the place of a tag.
+    /// A letter that names a third state is in the place of a tag.
     ManyStates { at: usize },
-    /// A byte that is no tag stands in the place of a tag.
+    /// A byte that is no tag is in the place of a tag.
     BadChar { at: usize },
-    /// A run count is 0, or stands before `!`, another count or the end of the text. `at` is the token's first byte.
+    /// A run count is 0, or comes before `!`, another count or the end of the text. `at` is the token's first byte.
     BadRun { at: usize },
     /// A live cell's x or y is above 1,048,575. `at` is the token's first byte.
     TooFar { at: usize },
     /// There are more than 1,048,576 live cells. `at` is the token's first byte.
     TooMany { at: usize },
-    /// The text ends where a token would begin.
+    /// The text ends where a token should begin.
     NoEnd,
-    /// Memory was refused.
+    /// Out of memory.
     Memory,
 }
 
-/// The number of a fault of a rule text that is given by itself, in no header.
+/// The number of a fault of a rule text that is given by itself, not in a header.
 pub fn rule_number(fault: RuleFault) -> u8
     ensures { result ≡ rule_number fault }
 {
@@ -60,7 +60,7 @@ pub fn rule_number(fault: RuleFault) -> u8
 }
 
 impl RleFault {
-    /// Each fault that a text can have, at its first byte where the fault names a byte.
+    /// Each fault that a text can have. If it names a byte, that is the first one.
     const ALL: [RleFault; 10] = [
         RleFault::NoHeader,
         RleFault::BadHeader,
@@ -74,10 +74,10 @@ impl RleFault {
         RleFault::NoEnd,
     ];
 
-    /// The number by which reports and the program's lines name it.
+    /// The number that reports and the program's lines use for it.
     pub fn number(self) -> u8
         ensures value { result ≡ fault_number self }
-        // The number tells the fault, but for its byte.
+        // The number determines the fault, except for its byte.
         ensures told { self ≢ Memory → fault_of_number result ≡ Some (without_place self) }
     {
         match self {
@@ -95,7 +95,7 @@ impl RleFault {
         }
     }
 
-    /// The byte of the text that it names.
+    /// The byte of the text that it names, if any.
     pub fn at(self) -> Option<usize>
         ensures { result ≡ fault_place self }
     {
@@ -113,7 +113,8 @@ impl RleFault {
         }
     }
 
-    /// The fault of a text that has a number, at the text's first byte where it names a byte. Out of memory is none.
+    /// The fault of a text that has this number. If it names a byte, that is the text's first one. Out of memory has no
+    /// number here.
     pub fn of_number(number: u64) -> Option<RleFault>
         ensures { result ≡ fault_of_number number }
     {
@@ -137,7 +138,7 @@ impl fmt::Display for RleFault {
     }
 }
 
-// The fault of the token that was found, where the pen stands.
+// The fault of the token that was found, with the pen in this place.
 fn found_fault(found: &Found, pen: Pen) -> Option<RleFault>
     requires once { found.now.counted ≡ false → found.now.times ≡ 1 }
     requires few { found.now.times ≤ count_cap }
@@ -178,7 +179,7 @@ impl From<AllocError> for RleFault {
     }
 }
 
-// There is room for so many live cells from the start.
+// There is room for `FIRST_CELLS` live cells from the start.
 const FIRST_CELLS: usize = 64;
 
 // The cells of the body that begins at a place, or its first fault.
@@ -222,8 +223,8 @@ struct Plot {
     cells: Vec<(i32, i32)>,
 }
 
-/// The place of the LF that ends the line from a place on, or the text's length. At the place no blank and no byte of a
-/// comment stands, where it is not the text's end.
+/// The place of the LF that ends the line from a place on, or the text's length. Unless the place is the text's end,
+/// its byte is no blank and not in a comment.
 pub fn line_end(text: &[u8], start: usize) -> usize
     requires within { start ≤ length text.now }
     requires plain { start < length text.now → IsPlain text.now start }
@@ -260,23 +261,23 @@ fn read_text(alloc: Global, text: &[u8]) -> Result<Plot, RleFault>
     }
 }
 
-/// What a text means rises by row and then column, each cell once and within the limits, where no fault is told.
+/// If no fault is reported, what a text means rises by row and then column, with each cell once and within the limits.
 pub fn rises()
     ensures { (ts : List Token) → first_fault [] ts ≡ None → RisesFrom 0 0 (cells_after [] ts) }
 {}
 
 /// Reads an RLE text: the pattern that it means, or its first fault.
 ///
-/// The rules are those of Golly's help on the extended RLE format, in a lenient profile for two states: each fault
-/// says which rule is broken, and at which byte. `Memory` may come at any growth before the place of the fault, and never
-/// where the header has a fault.
+/// The rules are those of Golly's help on the extended RLE format, in a lenient profile for two states. Each fault says
+/// which rule is broken, and at which byte. `Memory` may occur at any growth before the place of the fault, but never
+/// if the header has a fault.
 pub fn read_rle(alloc: Global, text: &[u8]) -> Result<Pattern, RleFault>
     // What is read is what the text means, and the text has no fault.
     ensures found { IfOk result (λ pattern. picture_of (reading text.now) ≡ Ok pattern) }
     ensures lawful { OnOk result (refusal text.now ≡ None) }
     // A fault is the text's.
     ensures refused { IfErr result (λ fault. fault ≢ Memory → refusal text.now ≡ Some fault) }
-    // Memory is refused to a text with a lawful header alone.
+    // Only a text with a lawful header can run out of memory.
     ensures memory { IfErr result (λ fault. fault ≡ Memory → IsOk (header_rule text.now)) }
 {
     match read_text(alloc, text) {

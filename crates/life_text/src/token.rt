@@ -9,8 +9,8 @@ ghost use Rattle.life_text.specs.Rle.{is_bad_run, is_cells, is_live, is_missing,
 
 use crate::bytes::{is_digit, is_letter, is_space};
 
-/// What is found of a token: where it begins, whether it has a count, that count or 1, capped, and the byte in the place
-/// of its tag, if there is one, and where that stands.
+/// What is found of a token: where it begins; whether it has a count; that count, capped, or 1; the byte in the place
+/// of its tag, if there is one; and where that byte is.
 #[derive(Clone, Copy)]
 pub struct Found {
     pub at: usize,
@@ -23,7 +23,7 @@ pub struct Found {
 /// More than any place and any number of live cells.
 pub const CAP: u32 = 2_097_152;
 
-// Whether a byte stands in a line of comment, by whether the byte before does.
+// Whether a byte is in a comment line, given whether the byte before it is.
 fn is_inside(comment: bool, before: u8, byte: u8) -> bool
     ensures { result ≡ is_in_comment comment before byte }
 {
@@ -34,14 +34,14 @@ fn is_inside(comment: bool, before: u8, byte: u8) -> bool
     }
 }
 
-// Whether a byte is none to pass over.
+// Whether a byte is not to be passed over.
 fn stops(inside: bool, byte: u8) -> bool
     ensures { result ≡ (not inside && not (is_space byte)) }
 {
     !inside && !is_space(byte)
 }
 
-// Whether a byte is neither blank nor LF and begins no comment.
+// Whether a byte is neither blank nor LF and starts no comment.
 #[inline(always)]
 fn is_word(byte: u8) -> bool
     ensures { result ≡ (not (is_space byte) && not (byte == 35)) }
@@ -49,7 +49,8 @@ fn is_word(byte: u8) -> bool
     !is_space(byte) && byte != b'#'
 }
 
-/// The place of the first byte, from one on that is in no line of comment, that is neither blank nor LF nor in such a line.
+/// The place of the first byte, from a place on that is in no comment line, that is neither blank nor LF nor in such a
+/// line.
 pub fn skip_spaces(text: &[u8], from: usize) -> usize
     requires { from ≤ length text.now }
     ensures from { from ≤ result }
@@ -204,7 +205,7 @@ pub fn is_row_end(found: &Found) -> bool
     }
 }
 
-/// Whether a letter of a third state stands in the place of its tag.
+/// Whether a letter of a third state is in the place of its tag.
 pub fn is_other_state(found: &Found) -> bool
     ensures { result ≡ is_other_state (token_found found.now) }
 {
@@ -214,7 +215,7 @@ pub fn is_other_state(found: &Found) -> bool
     }
 }
 
-/// Whether a byte that is no tag stands in the place of its tag.
+/// Whether a byte that is no tag is in the place of its tag.
 pub fn is_no_tag(found: &Found) -> bool
     ensures { result ≡ is_no_tag (token_found found.now) }
 {
@@ -229,7 +230,7 @@ pub fn is_no_tag(found: &Found) -> bool
     }
 }
 
-/// Whether its count is 0, or stands before `!`, another count or the end of the text.
+/// Whether its count is 0, or comes before `!`, another count or the end of the text.
 pub fn is_bad_run(found: &Found) -> bool
     ensures { result ≡ is_bad_run (token_found found.now) }
 {

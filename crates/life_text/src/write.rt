@@ -1,4 +1,4 @@
-//! RLE texts that are written.
+//! Writing RLE texts.
 ghost use Rattle.std.specs.Prelude.{◌≡◌, ℕ, ℤ, ◌+◌, ◌^◌, ◌%◌, Ok, ◌≤◌, ◌<◌, ◌≤ℤ◌, All, IfOk, OnErr, OnOk, List, [], ◌∷◌, ◌++◌, T, codes, decimal, length, map};
 ghost use Rattle.life_model.specs.Box.{height, width};
 ghost use Rattle.life_model.specs.Cell.{opposite, plus};
@@ -18,8 +18,8 @@ use itoa::Buffer;
 use life_cells::{CellList, Rule, corner};
 use std::alloc::AllocError;
 
-// Where the writer stands: how many characters its line has, the row and the column after the last cell, and how many
-// live cells right before that place have no token yet.
+// The state of the writer: the number of characters on its line, the row and the column after the last cell, and the
+// number of live cells just before that place that have no token yet.
 #[derive(Clone, Copy)]
 struct Nib {
     used: usize,
@@ -41,7 +41,7 @@ fn place(cell: (i32, i32), corner: (i32, i32)) -> (u32, u32)
     ((cell.0 - corner.0) as u32, (cell.1 - corner.1) as u32)
 }
 
-// How wide and how high the box of the cells is.
+// The width and the height of the bounding box of the cells.
 fn size(cells: &[(i32, i32)], corner: (i32, i32)) -> (u32, u32)
     requires placed { All IsPlace cells.now }
     requires rising { T (is_rising cells.now) }
@@ -80,7 +80,7 @@ fn push_header(text: &mut Vec<u8>, rule: &Rule, width: u32, height: u32) -> Resu
     Ok(())
 }
 
-// Takes one cell more: where it doesn't stand right after the last one, that one's run and the gap are written.
+// Takes one more cell. If it doesn't directly follow the last one, the run of that one and the gap are written.
 fn put_cell(text: &mut Vec<u8>, nib: Nib, cell: (u32, u32)) -> Result<Nib, AllocError>
     requires used { nib.used ≤ 70 }
     requires run { nib.run ≤ nib.x }
@@ -149,12 +149,13 @@ fn push_body(text: &mut Vec<u8>, cells: &[(i32, i32)], corner: (i32, i32)) -> Re
     put_end(text, nib)
 }
 
-/// Appends the RLE text of a rule and of the cells, moved so that the least x and the least y are 0. Where memory is
-/// refused, the text `out` is unchanged.
+/// Appends the RLE text of a rule and of the cells, moved so that the least x and the least y are 0. If memory runs out,
+/// the text `out` is unchanged.
 ///
-/// The header line gives the width and the height of the box, both 0 for no cell, and the printed rule. The body has
-/// the longest runs of equal cells, none of dead cells at a row's end, in lines of at most 70 characters, in which no
-/// token is broken. Every line ends with LF. This is the form of Golly's help on RLE and of LifeWiki's article on it.
+/// The header line has the width and the height of the bounding box, both 0 if there is no cell, and the printed rule.
+/// The body has the longest runs of equal cells, with no dead cells at the end of a row, in lines of at most 70
+/// characters, in which no token is broken. Every line ends with LF. This is the form of Golly's help on RLE and of
+/// LifeWiki's article on it.
 pub fn write_rle(rule: &Rule, cells: &CellList, out: &mut Vec<u8>) -> Result<(), AllocError>
     ensures written { OnOk result (out.new.items ≡ out.old.items ++ rle_text rule.now cells.now) }
     ensures refused { OnErr result (out.new.items ≡ out.old.items) }
@@ -169,8 +170,8 @@ pub fn write_rle(rule: &Rule, cells: &CellList, out: &mut Vec<u8>) -> Result<(),
     Ok(())
 }
 
-/// A written text means its rule and the normal form of its cells, where that has no place above 1,048,575 and at most
-/// 1,048,576 cells.
+/// A written text means its rule and the normal form of its cells, if that has no coordinate above 1,048,575 and at
+/// most 1,048,576 cells.
 pub fn written_texts_are_read()
     ensures { (rule : model.Rule) (G : Generation) → rule.birth < 512 → rule.survival < 512 →
         rule.birth % 2 ≡ 0

@@ -4,14 +4,14 @@ use Rattle.std.proofs.Math.IntN.{◌*ℤ◌}
 use Rattle.std.proofs.lemmas.Int.{ints}
 use Rattle.life_model.specs.Cell.{Cell}
 use Rattle.life_model.specs.Generation.{Generation}
-use Rattle.life_growth.specs.Meeting.Sums.{Step, and_then, times}
-use Rattle.life_growth.proofs.RelationsLemmas.Singles.{same_product}
+use Rattle.life_objects.specs.Growth.Meeting.Sums.{Step, and_then, times}
+use Rattle.life_objects.proofs.GrowthLemmas.RelationsLemmas.Singles.{same_product}
 use Rattle.life_things.specs.Clear.{IsClear, StaysClear}
 use Rattle.life_things.specs.Fields.{IsFieldOf}
-use Rattle.life_steps.specs.Short.{IsWithin}
+use Rattle.life_things.specs.Lattice.Short.{IsWithin}
 use Rattle.life_things.specs.declared.field.Field.{Field}
 use Rattle.life_things.proofs.Going.{at_another_time, at_no_step, by_numbers, each_number, no_step_at}
-use Rattle.life_steps.proofs.Within.{times_is}
+use Rattle.life_things.proofs.LatticeLemmas.Within.{times_is}
 
 same_rounds : (m n : ℕ) (z : ℤ) → z ≢ pos 0 → (pos m *ℤ z) ≡ (pos n *ℤ z) → m ≡ n
 same_rounds m n (pos zero) some e = absurd (some refl)
@@ -48,7 +48,7 @@ module _ (P Q : Generation) (s u : Step) where
     then_once clear =
         no_step_at P Q (and_then s (times n u)) (time_then s u n ∙ at) (each_number P Q s u [] clear n)
 
--- two steps that lead to no time together, one of them made so often
+-- two steps that lead to no time together, where one of them is made `n` times
 pub never_after : (P Q : Generation) (s u v : Step) (n : ℕ) →
     ((k : ℕ) → (s.0 +ℤ ((pos n *ℤ u.0) +ℤ (pos k *ℤ v.0))) ≢ pos 0) → StaysClear P Q (and_then s (times n u)) (v ∷ [])
 never_after P Q s u v n none =

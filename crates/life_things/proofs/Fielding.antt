@@ -7,12 +7,12 @@ use Rattle.std.proofs.Math.IntN.{◌*ℤ◌, *ℤ-zero, zero-*ℤ}
 use Rattle.std.proofs.lemmas.Int.{ints}
 use Rattle.life_model.specs.Cell.{Cell}
 use Rattle.life_model.specs.Generation.{Generation}
-use Rattle.life_growth.specs.Meeting.Sums.{Step, and_then, sum_of, times}
-use Rattle.life_growth.specs.Relations.Relations.{product}
-use Rattle.life_growth.proofs.RelationsLemmas.Products.{product-stay, product-then, product-times}
-use Rattle.life_steps.specs.Short.{IsWithin}
-use Rattle.life_steps.proofs.Within.{read_back}
-use Rattle.life_steps.proofs.Steady.{ahead}
+use Rattle.life_objects.specs.Growth.Meeting.Sums.{Step, and_then, sum_of, times}
+use Rattle.life_objects.specs.Growth.Relations.Relations.{product}
+use Rattle.life_objects.proofs.GrowthLemmas.RelationsLemmas.Products.{product-stay, product-then, product-times}
+use Rattle.life_things.specs.Lattice.Short.{IsWithin}
+use Rattle.life_things.proofs.LatticeLemmas.Within.{read_back}
+use Rattle.life_things.proofs.LatticeLemmas.Steady.{ahead}
 use Rattle.life_things.specs.Fields.{IsFieldOf, IsInField}
 use Rattle.life_things.specs.Tries.{AreClear, ClearTowards}
 use Rattle.life_things.specs.declared.field.Field.{Field}
@@ -42,7 +42,7 @@ in_field f m n right below = record {
   below = below;
 }
 
--- each place of the field is so many columns and rows from its corner
+-- each place of the field is some number of columns and rows from its corner
 pub each_place : (f : Field) (F : Cell → Type 0) →
     ((m n : ℕ) → (f.left +ℤ pos n) ≤ℤ f.right → (f.top +ℤ pos m) ≤ℤ f.bottom → F (f.left +ℤ pos n, f.top +ℤ pos m)) →
     (d : Cell) → IsInField f d → F d
@@ -55,7 +55,7 @@ each_place f F each d inside =
 made_level : (g u : Step) (n : ℕ) → product g u ≡ pos 0 → product g (times n u) ≡ pos 0
 made_level g u n none = product-times g u n ∙ ap (λ x. pos n *ℤ x) none ∙ *ℤ-zero (pos n)
 
--- a product that is 0 of all steps but the last tells how often that is made
+-- a product that is 0 for all steps but the last shows how often that is made
 last_count : (g u v w : Step) → product g u ≡ pos 0 → product g v ≡ pos 0 → (often : List ℕ) →
     (k : ℕ) × (product g (sum_of (u ∷ v ∷ w ∷ []) often) ≡ (pos k *ℤ product g w))
 last_count g u v w one two [] = (0, product-stay g ∙ sym (zero-*ℤ (product g w)))

@@ -4,14 +4,14 @@ use Rattle.std.specs.Prelude.{unsigned_abs}
 use Rattle.std.proofs.Math.IntN.{◌*ℤ◌, *ℤ_comm, *ℤ-zero}
 use Rattle.std.proofs.lemmas.Int.{ints, unsigned_abs-mul}
 use Rattle.life_model.specs.Generation.{Generation}
-use Rattle.life_growth.specs.Meeting.Sums.{Step, sum_of, times}
-use Rattle.life_growth.proofs.RelationsLemmas.Products.{spreads}
+use Rattle.life_objects.specs.Growth.Meeting.Sums.{Step, sum_of, times}
+use Rattle.life_objects.proofs.GrowthLemmas.RelationsLemmas.Products.{spreads}
 use Rattle.life_things.specs.Clear.{StaysClear}
 use Rattle.life_things.specs.Times.{DividesTimes}
-use Rattle.life_steps.proofs.Likeness.{Times, whole}
-use Rattle.life_steps.proofs.Lowering.{regrouped}
-use Rattle.life_steps.proofs.Rising.{no_rest}
-use Rattle.life_steps.proofs.Within.{times_is}
+use Rattle.life_things.proofs.LatticeLemmas.Likeness.{Times, whole}
+use Rattle.life_things.proofs.LatticeLemmas.Lowering.{regrouped}
+use Rattle.life_things.proofs.LatticeLemmas.Rising.{no_rest}
+use Rattle.life_things.proofs.LatticeLemmas.Within.{times_is}
 
 in_turn : (k g : ℕ) (z : ℤ) → (pos k *ℤ (pos g *ℤ z)) ≡ (pos g *ℤ (pos k *ℤ z))
 in_turn k g z = sym (regrouped (pos k) (pos g) z) ∙ ap (λ a. a *ℤ z) (*ℤ_comm (pos k) (pos g)) ∙ regrouped (pos g) (pos k) z

@@ -4,15 +4,15 @@ use Rattle.std.specs.Bool.{OnTrue}
 use Rattle.std.proofs.Math.IntN.{*ℤ-zero}
 use Rattle.std.proofs.lemmas.Int.{ints}
 use Rattle.life_model.specs.Cell.{Cell}
-use Rattle.life_growth.specs.Meeting.Sums.{Step, and_then, sum_of, times}
-use Rattle.life_growth.proofs.MeetingLemmas.Reach.{step_is}
-use Rattle.life_growth.specs.Relations.Relations.{product}
-use Rattle.life_growth.proofs.RelationsLemmas.Products.{product-stay, product-then, product-times}
+use Rattle.life_objects.specs.Growth.Meeting.Sums.{Step, and_then, sum_of, times}
+use Rattle.life_objects.proofs.GrowthLemmas.MeetingLemmas.Reach.{step_is}
+use Rattle.life_objects.specs.Growth.Relations.Relations.{product}
+use Rattle.life_objects.proofs.GrowthLemmas.RelationsLemmas.Products.{product-stay, product-then, product-times}
 use Rattle.life_things.specs.Clear.{IsClearOver, left_to}
 use Rattle.life_things.specs.Fields.{IsInField}
-use Rattle.life_steps.specs.Gauges.{NoneFalls}
+use Rattle.life_things.specs.Lattice.Gauges.{NoneFalls}
 use Rattle.life_things.specs.declared.field.Field.{Field}
-use Rattle.life_steps.proofs.Steady.{keeps_order}
+use Rattle.life_things.proofs.LatticeLemmas.Steady.{keeps_order}
 
 pub on_true_more : (b : Bool) (F G : Type 0) → (F → G) → OnTrue b F → OnTrue b G
 on_true_more true F G more h = more h

@@ -6,3 +6,4 @@ pub mod Meetings
 pub mod Leading
 pub mod InTime
 pub mod Fielding
+pub mod LatticeLemmas

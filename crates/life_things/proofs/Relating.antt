@@ -1,19 +1,19 @@
--- Where a relation between the steps tells how few are to be made.
+-- Where a relation between the steps shows how few are to be made.
 use mir.Syntax.{w128}
 use mir.Val.{of_z, to_z}
 use Rattle.std.proofs.Common.{◌≡◌, ℕ, zero, suc, ◌<◌, ◌≤◌, ℤ, pos, List, [], ◌∷◌, map, inl, inr, sym, ap, subst, ◌∙◌, arith}
 use Rattle.std.proofs.lemmas.Bool.{cases_lt}
 use Rattle.life_model.specs.Generation.{Generation}
-use Rattle.life_growth.specs.Meeting.Sums.{Step, times}
-use Rattle.life_growth.specs.Relations.Relations.{IsRelation, IsSumOf, above, below, left_out, number_at, step_at}
-use Rattle.life_growth.proofs.RelationsLemmas.Relations.{few_numbers, from_few}
-use Rattle.life_growth.proofs.RelationsLemmas.Signed.{is_relation}
+use Rattle.life_objects.specs.Growth.Meeting.Sums.{Step, times}
+use Rattle.life_objects.specs.Growth.Relations.Relations.{IsRelation, IsSumOf, above, below, left_out, number_at, step_at}
+use Rattle.life_objects.proofs.GrowthLemmas.RelationsLemmas.Relations.{few_numbers, from_few}
+use Rattle.life_objects.proofs.GrowthLemmas.RelationsLemmas.Signed.{is_relation}
 use Rattle.life_things.specs.Clear.{StaysClear, StaysClearBetween, left_to}
-use Rattle.life_steps.specs.Numbers.{StayBy, number_limit, numbers_of, total_above}
-use Rattle.life_steps.specs.Short.{IsWithin}
-use Rattle.life_steps.specs.declared.numbers.Numbers.{Numbers}
+use Rattle.life_things.specs.Lattice.Numbers.{StayBy, number_limit, numbers_of, total_above}
+use Rattle.life_things.specs.Lattice.Short.{IsWithin}
+use Rattle.life_things.specs.declared.lattice.numbers.Numbers.{Numbers}
 use Rattle.life_things.proofs.Going.{rest_is}
-use Rattle.life_steps.proofs.Within.{read_back}
+use Rattle.life_things.proofs.LatticeLemmas.Within.{read_back}
 
 module _ (P Q : Generation) (s : Step) (us : List Step) (ups downs : List ℕ) (relation : IsRelation us ups downs) where
   -- it is clear where the step in a place is made less often than the relation has it
@@ -43,7 +43,7 @@ downs n = map below (numbers_of n)
 pub above_is : (x : ℤ) (n : ℕ) → IsWithin number_limit x → n ≡ above (to_z w128 (of_z w128 x)) → n ≡ above x
 above_is x n h e = e ∙ ap above (read_back number_limit x (omega arith) h)
 
--- a place with a number above 0, before so many
+-- a place with a number above 0, before place k
 abbrev SomePlace : ℕ → Numbers → Type 0
 SomePlace k n = (i : ℕ) × (i < k) × (1 ≤ number_at (ups n) i)
 

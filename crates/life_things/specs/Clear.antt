@@ -3,8 +3,8 @@ use Rattle.std.specs.Prelude.{◌≡◌, ℕ, ◌<◌, ◌≤◌, true, pos, Lis
 use Rattle.life_model.specs.Cell.{Cell, plus}
 use Rattle.life_model.specs.Generation.{Generation, contains}
 use Rattle.life_objects.specs.Apart.{AreNear}
-use Rattle.life_growth.specs.Meeting.Sums.{Step, and_then, rest_after, times}
-use Rattle.life_growth.specs.Relations.Relations.{IsSumOf}
+use Rattle.life_objects.specs.Growth.Meeting.Sums.{Step, and_then, rest_after, times}
+use Rattle.life_objects.specs.Growth.Relations.Relations.{IsSumOf}
 use Rattle.life_things.specs.Fields.{IsFieldOf}
 use Rattle.life_things.specs.declared.field.Field.{Field}
 
@@ -16,20 +16,20 @@ IsClear P d Q = (c e : Cell) → contains P c ≡ true → contains Q e ≡ true
 abbrev pub left_to : Step → Cell → Step
 left_to s d = rest_after (pos 0, d) s
 
--- Wherever P is at the time of Q, moved by s and then by the steps, each made as often as may be, it is not near Q.
+-- Wherever P is at the time of Q, moved by s and then by the steps, each made any number of times, it is not near Q.
 abbrev pub StaysClear : Generation → Generation → Step → List Step → Type 0
 StaysClear P Q s us = (d : Cell) → IsSumOf us (left_to s d) → IsClear P d Q
 
--- the same, where a step is made first, so often as is from one number on and before another
+-- P stays clear of Q where a step is made first, each number of times from one on and before another
 abbrev pub StaysClearBetween : Generation → Generation → Step → Step → List Step → ℕ → ℕ → Type 0
 StaysClearBetween P Q s u us from until =
     (n : ℕ) → from ≤ n → n < until → StaysClear P Q (and_then s (times n u)) us
 
--- the same, where it is made less often or more often than these numbers
+-- P stays clear of Q where a step is made first, less often or more often than these numbers
 pub record StaysClearOutside (P Q : Generation) (s u : Step) (us : List Step) (from until : ℕ) : Type 0 where
   pub before : (n : ℕ) → n < from → StaysClear P Q (and_then s (times n u)) us
   pub after : (n : ℕ) → until ≤ n → StaysClear P Q (and_then s (times n u)) us
 
--- the same, of all sets that can be near each other in the field alone
+-- all sets that can be near each other only in the field stay clear
 abbrev pub IsClearOver : Field → Step → List Step → Type 0
 IsClearOver f s us = (P Q : Generation) → IsFieldOf f P Q → StaysClear P Q s us

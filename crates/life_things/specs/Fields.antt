@@ -4,7 +4,7 @@ use Rattle.life_model.specs.Cell.{Cell, plus}
 use Rattle.life_model.specs.Generation.{Generation, contains}
 use Rattle.life_objects.specs.Apart.{AreNear}
 use Rattle.life_things.specs.declared.field.Field.{Field}
-use Rattle.life_steps.specs.Short.{IsWithin}
+use Rattle.life_things.specs.Lattice.Short.{IsWithin}
 
 -- the place is in the field
 pub record IsInField (f : Field) (d : Cell) : Type 0 where

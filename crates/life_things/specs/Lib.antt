@@ -4,3 +4,4 @@ pub mod Tries
 pub mod Ways
 pub mod Steps
 pub mod Times
+pub mod Lattice

@@ -2,14 +2,14 @@
 ghost use Rattle.std.specs.Prelude.{◌≡◌, ◌≢◌, ℕ, ◌+◌, ◌<◌, ◌≤◌, ◌^◌, ◌↔◌, IfNone, IfSome, IsTrue, ℤ, pos, ◌*ℤ◌, ◌≤ℤ◌};
 ghost use Rattle.life_model.specs.Cell.{Cell};
 ghost use Rattle.life_model.specs.Generation.{Generation};
-ghost use Rattle.life_growth.specs.Meeting.Sums.{and_then, times};
+ghost use Rattle.life_objects.specs.Growth.Meeting.Sums.{and_then, times};
 ghost use Rattle.life_orbit.specs.Hulls.{HoldsAllCells};
-ghost use Rattle.life_growth.specs.Relations.Relations.{product};
+ghost use Rattle.life_objects.specs.Growth.Relations.Relations.{product};
 ghost use Rattle.life_things.specs.Fields.{IsFieldOf, IsInField, IsNarrow};
-ghost use Rattle.life_steps.specs.Short.{AreShort, IsShort, IsWithin};
+ghost use Rattle.life_things.specs.Lattice.Short.{AreShort, IsShort, IsWithin};
 
+use crate::lattice::{Span, Step, multiplied, product, span_to};
 use life_orbit::Hull;
-use life_steps::{Span, Step, multiplied, product, span_to};
 
 /// Places from one column to another, and from one row to another.
 #[derive(Clone, Copy)]
@@ -20,7 +20,7 @@ pub struct Field {
     pub bottom: i128,
 }
 
-/// Where a set can be moved to and then be near the other, by the boxes of both.
+/// Where a set can be moved to for it to be near the other, by the boxes of both.
 pub fn field_of(hull: Hull, other: Hull) -> Field
     ensures narrow { IsNarrow result }
     ensures field { (P Q : Generation) → HoldsAllCells hull P → HoldsAllCells other Q → IsFieldOf result P Q }
@@ -52,7 +52,7 @@ pub fn has_place(field: Field, place: (i128, i128)) -> bool
     true
 }
 
-/// The least that so many times a number from `first` to `last` can be.
+/// The least product of `factor` and a number from `first` to `last`.
 fn least_times(factor: i128, first: i128, last: i128) -> i128
     requires factor { IsWithin (2 ^ 28) factor }
     requires first { IsWithin (2 ^ 34) first }
@@ -66,7 +66,7 @@ fn least_times(factor: i128, first: i128, last: i128) -> i128
     multiplied(factor, first)
 }
 
-/// The most that so many times a number from `first` to `last` can be.
+/// The greatest product of `factor` and a number from `first` to `last`.
 fn most_times(factor: i128, first: i128, last: i128) -> i128
     requires factor { IsWithin (2 ^ 28) factor }
     requires first { IsWithin (2 ^ 34) first }

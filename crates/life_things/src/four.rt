@@ -1,17 +1,17 @@
-//! What is reached by four steps, each made as often as may be.
+//! What is reached by four steps, each made any number of times.
 ghost use Rattle.std.specs.Prelude.{◌↔◌, ◌≤◌, IsTrue, [], ◌∷◌};
 ghost use Rattle.life_things.specs.Clear.{StaysClear, StaysClearBetween};
 ghost use Rattle.life_things.specs.Fields.{IsFieldOf};
-ghost use Rattle.life_steps.specs.Numbers.{AreFew, StayBy, number_limit, total_above};
-ghost use Rattle.life_steps.specs.Short.{IsShort, IsStride, four_start};
+ghost use Rattle.life_things.specs.Lattice.Numbers.{AreFew, StayBy, number_limit, total_above};
+ghost use Rattle.life_things.specs.Lattice.Short.{IsShort, IsStride, four_start};
 
 use crate::field::Field;
+use crate::lattice::{Numbers, Span, Step, above, lightest, space_numbers};
 use crate::tries::{Tries, are_clear};
 use life_cells::CellList;
-use life_steps::{Numbers, Span, Step, above, lightest, space_numbers};
 
-/// Whether a set is never near the other, where one step is made so often from the start, and three others as often as
-/// may be.
+/// Whether a set is never near the other, where one step is made each number of times in a span from the start, and three others
+/// any number of times.
 fn tried(
     one: &CellList,
     other: &CellList,
@@ -41,7 +41,7 @@ fn tried(
     are_clear(one, other, field, tries)
 }
 
-/// Whether a set is never near the other, from the start on by four steps that stay by some numbers.
+/// Whether a set is never near the other, from the start on by four steps that are related by some numbers.
 fn related(
     one: &CellList,
     other: &CellList,

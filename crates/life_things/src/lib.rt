@@ -1,10 +1,11 @@
-//! Things in space and time that the machine holds, and whether two of them ever meet.
+//! Things in space and time that the machine holds, whether two of them ever meet, and the lattice of their steps.
 //!
-//! Tested in `tests_things`.
+//! Tested in `tests_objects`.
 #![tactic(auto)]
 
 mod field;
 mod four;
+mod lattice;
 mod meeting;
 mod places;
 mod refusal;

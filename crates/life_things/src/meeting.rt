@@ -1,13 +1,14 @@
 //! Whether two things ever meet.
 ghost use Rattle.std.specs.Prelude.{◌↔◌, IsTrue};
-ghost use Rattle.life_growth.specs.Things.{NeverMeet};
+ghost use Rattle.life_objects.specs.Growth.Things.{NeverMeet};
 ghost use Rattle.life_things.specs.Clear.{StaysClear};
 ghost use Rattle.life_things.specs.Fields.{IsFieldOf};
-ghost use Rattle.life_steps.specs.Short.{IsShort, four_start};
+ghost use Rattle.life_things.specs.Lattice.Short.{IsShort, four_start};
 ghost use Rattle.life_things.specs.Steps.{AreStrides, list_of};
 
 use crate::field::{Field, field_of};
 use crate::four::four_ways;
+use crate::lattice::Step;
 use crate::places::{no_way, one_way};
 use crate::refusal::leads_away;
 use crate::steps::{Steps, joined, steps_back, steps_forth};
@@ -16,7 +17,6 @@ use crate::three::three_ways;
 use crate::together::are_never_together;
 use crate::ways::two_ways;
 use life_cells::CellList;
-use life_steps::Step;
 
 /// Whether a set is never near the other, from the start on by some steps.
 fn stays_clear(one: &CellList, other: &CellList, field: Field, start: Step, steps: Steps) -> bool

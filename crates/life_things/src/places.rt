@@ -1,14 +1,14 @@
-//! What is reached by no step, and by one step made as often as may be.
+//! What is reached by no step, and by one step made any number of times.
 ghost use Rattle.std.specs.Prelude.{◌≡◌, ◌↔◌, ◌≤◌, ◌^◌, IsTrue, [], ◌∷◌};
-ghost use Rattle.life_growth.specs.Meeting.Sums.{and_then, times};
+ghost use Rattle.life_objects.specs.Growth.Meeting.Sums.{and_then, times};
 ghost use Rattle.life_things.specs.Clear.{IsClear, StaysClear};
 ghost use Rattle.life_things.specs.Fields.{IsFieldOf};
-ghost use Rattle.life_steps.specs.Short.{IsShort, IsStride, one_start};
+ghost use Rattle.life_things.specs.Lattice.Short.{IsShort, IsStride, one_start};
 
 use crate::field::{Field, has_place};
+use crate::lattice::{Step, moved, rounds_to_none};
 use life_cells::CellList;
 use life_orbit::are_clear;
-use life_steps::{Step, moved, rounds_to_none};
 
 /// Whether no cell of a set, moved, is near one of the other.
 fn is_clear(one: &CellList, by: (i128, i128), other: &CellList, field: Field) -> bool
@@ -32,7 +32,7 @@ pub fn no_way(one: &CellList, other: &CellList, field: Field, start: Step) -> bo
     is_clear(one, start.1, other, field)
 }
 
-/// Whether a set that has gone from a start by so many steps is not near the other.
+/// Whether a set that has gone from a start by `count` steps is not near the other.
 fn is_clear_after(
     one: &CellList,
     other: &CellList,

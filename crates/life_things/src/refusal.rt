@@ -1,16 +1,16 @@
-//! What is told at once: by times that never agree, and by steps that all lead further away.
+//! What is decided at once: by times that never agree, and by steps that all lead further away.
 ghost use Rattle.std.specs.Prelude.{◌≤ℤ◌, pos};
 ghost use Rattle.std.specs.Bool.{OnTrue};
-ghost use Rattle.life_growth.specs.Relations.Relations.{product};
+ghost use Rattle.life_objects.specs.Growth.Relations.Relations.{product};
 ghost use Rattle.life_things.specs.Clear.{IsClearOver};
 ghost use Rattle.life_things.specs.Fields.{IsNarrow};
-ghost use Rattle.life_steps.specs.Gauges.{NoneFalls};
-ghost use Rattle.life_steps.specs.Short.{IsShort, IsStride, cross_limit, four_start};
+ghost use Rattle.life_things.specs.Lattice.Gauges.{NoneFalls};
+ghost use Rattle.life_things.specs.Lattice.Short.{IsShort, IsStride, cross_limit, four_start};
 ghost use Rattle.life_things.specs.Steps.{AreStrides, list_of};
 
 use crate::field::{Field, most_product};
+use crate::lattice::{Step, across_gauge, along_gauge, cross, product, turned_gauge};
 use crate::steps::Steps;
-use life_steps::{Step, across_gauge, along_gauge, cross, product, turned_gauge};
 
 /// Whether a step does not lead back along a gauge.
 fn rises(gauge: Step, step: Step) -> bool
@@ -90,7 +90,7 @@ fn is_beyond(gauge: Step, start: Step, steps: Steps, field: Field) -> bool
     is_past(turned_gauge(gauge), start, steps, field)
 }
 
-/// The same along a gauge of one step.
+/// Whether the start is past the field on one side, along a gauge of one step, and no step leads back.
 fn is_beyond_one(step: Step, start: Step, steps: Steps, field: Field) -> bool
     requires step { IsStride step }
     requires start { IsShort four_start start }
@@ -104,7 +104,8 @@ fn is_beyond_one(step: Step, start: Step, steps: Steps, field: Field) -> bool
     is_beyond(along_gauge(step), start, steps, field)
 }
 
-/// The same along a gauge of one of three steps, or of two of them.
+/// Whether the start is past the field on one side, along a gauge of one of three steps or of two of them, and no step leads
+/// back.
 fn is_beyond_three(three: (Step, Step, Step), start: Step, steps: Steps, field: Field) -> bool
     requires three { IsStride three.0 × IsStride three.1 × IsStride three.2 }
     requires start { IsShort four_start start }
@@ -131,7 +132,7 @@ fn is_beyond_three(three: (Step, Step, Step), start: Step, steps: Steps, field: 
     is_beyond_one(c, start, steps, field)
 }
 
-/// Whether all steps lead further away from the field, as a gauge of one of them or of two tells.
+/// Whether all steps lead further away from the field, as a gauge of one of them or of two shows.
 pub fn leads_away(start: Step, steps: Steps, field: Field) -> bool
     requires start { IsShort four_start start }
     requires strides { AreStrides steps }

@@ -11,7 +11,7 @@ use std::marker::Model;
 /// The greatest time at which a thing may stand first.
 pub const TIME_LIMIT: u32 = 4_194_304;
 
-/// A set of cells that stands at a time, and again after each of its ways, made as often as may be.
+/// A set of cells that stands at a time, and again after each of its ways, made any number of times.
 #[derive(Drop)]
 pub struct Thing {
     time: u32,
@@ -22,9 +22,9 @@ pub struct Thing {
 
 impl Model for Thing {
     ghost use Rattle.std.specs.Prelude.{All, ◌≤◌};
-    ghost use Rattle.life_growth.specs.Things as things;
+    ghost use Rattle.life_objects.specs.Growth.Things as things;
     ghost use Rattle.life_orbit.specs.Hulls.{HoldsAllCells};
-    ghost use Rattle.life_steps.specs.Short.{four_start};
+    ghost use Rattle.life_things.specs.Lattice.Short.{four_start};
     ghost use Rattle.life_things.specs.Ways.{IsFit, coded_thing, ways_of};
 
     ghost Value = { things.Thing };

@@ -1,19 +1,19 @@
-//! What is reached by three steps, each made as often as may be.
+//! What is reached by three steps, each made any number of times.
 ghost use Rattle.std.specs.Prelude.{◌≡◌, ◌↔◌, ◌≤◌, IfNone, IfSome, IsTrue, [], ◌∷◌, pos};
 ghost use Rattle.life_model.specs.Generation.{Generation};
-ghost use Rattle.life_growth.specs.Relations.Relations.{spanned};
+ghost use Rattle.life_objects.specs.Growth.Relations.Relations.{spanned};
 ghost use Rattle.life_things.specs.Clear.{StaysClear, StaysClearBetween, StaysClearOutside};
 ghost use Rattle.life_things.specs.Fields.{IsFieldOf, IsNarrow};
-ghost use Rattle.life_steps.specs.Numbers.{AreFew, StayBy, total_above};
-ghost use Rattle.life_steps.specs.Short.{IsShort, IsStride, three_count, three_start};
+ghost use Rattle.life_things.specs.Lattice.Numbers.{AreFew, StayBy, total_above};
+ghost use Rattle.life_things.specs.Lattice.Short.{IsShort, IsStride, three_count, three_start};
 
 use crate::field::{Field, span_by};
+use crate::lattice::{Numbers, Span, Step, above, after, cross, lightest, plane_numbers};
 use crate::ways::two_ways;
 use life_cells::CellList;
-use life_steps::{Numbers, Span, Step, above, after, cross, lightest, plane_numbers};
 
-/// Whether a set is never near the other, where one step is made so often from the start, and two others as often as may
-/// be.
+/// Whether a set is never near the other, where one step is made each number of times in a span from the start, and two others
+/// any number of times.
 fn tried(
     one: &CellList,
     other: &CellList,
@@ -39,7 +39,7 @@ fn tried(
     true
 }
 
-/// Whether a set is never near the other, from the start on by three steps that stay by some numbers.
+/// Whether a set is never near the other, from the start on by three steps that are related by some numbers.
 fn related(
     one: &CellList,
     other: &CellList,
@@ -79,8 +79,8 @@ fn related(
     tried(one, other, field, start, third, (first, second), ups)
 }
 
-/// How often the first of three steps may be made from the start so that the set can be near the other after the others,
-/// made as often as may be; or nothing, where the three lie in a plane.
+/// How often the first of three steps may be made from the start so that the set can be near the other after the others, made any
+/// number of times; or nothing, where the three lie in a plane.
 fn span_over(start: Step, first: Step, second: Step, third: Step, field: Field) -> Option<Span>
     requires start { IsShort three_start start }
     requires first { IsStride first }

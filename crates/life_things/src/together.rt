@@ -1,4 +1,4 @@
-//! Whether steps ever lead to a time, as far as what divides all their times tells.
+//! Whether steps ever lead to a time, as far as what divides all their times shows.
 ghost use Rattle.std.specs.Prelude.{[], ◌∷◌};
 ghost use Rattle.std.specs.Bool.{OnTrue};
 ghost use Rattle.life_model.specs.Generation.{Generation};
@@ -6,8 +6,8 @@ ghost use Rattle.life_things.specs.Clear.{StaysClear};
 ghost use Rattle.life_things.specs.Steps.{list_of};
 ghost use Rattle.life_things.specs.Times.{DividesTimes};
 
+use crate::lattice::{Step, common_divisor};
 use crate::steps::Steps;
-use life_steps::{Step, common_divisor};
 
 /// The greatest number of generations that divides the times of two steps.
 fn common_time(first: Step, second: Step) -> u128

@@ -1,17 +1,17 @@
 //! How often the first of four steps is made, where three others follow it.
 ghost use Rattle.std.specs.Prelude.{◌≡◌, ◌≢◌, ℕ, ◌%◌, ◌<◌, ◌^◌, ◌↔◌, ◌≤◌, ◌≤ℤ◌, ◌+ℤ◌, IsTrue, pos};
-ghost use Rattle.life_growth.specs.Relations.Relations.{product};
-ghost use Rattle.life_steps.specs.Numbers.{number_limit};
-ghost use Rattle.life_steps.specs.Short.{IsShort, IsWithin, cross_limit};
+ghost use Rattle.life_objects.specs.Growth.Relations.Relations.{product};
+ghost use Rattle.life_things.specs.Lattice.Numbers.{number_limit};
+ghost use Rattle.life_things.specs.Lattice.Short.{IsShort, IsWithin, cross_limit};
 ghost use Rattle.life_things.specs.Fields.{IsFieldOf, IsInField, IsNarrow};
 ghost use Rattle.life_things.specs.Tries.{AreClear, AreFit, ClearAfter, ClearTowards};
 
 use crate::field::Field;
+use crate::lattice::{Step, Turn, after, cross, first_in_turn, product, turn_of};
 use crate::three::three_ways;
 use life_cells::CellList;
-use life_steps::{Step, Turn, after, cross, first_in_turn, product, turn_of};
 
-/// A start, a step that is made so often from there, and three steps that follow it, each made as often as may be.
+/// A start, a step that is made some number of times from there, and three steps that follow it, each made any number of times.
 #[derive(Clone, Copy)]
 pub struct Tries {
     pub start: Step,
@@ -23,7 +23,7 @@ pub struct Tries {
     pub until: u128,
 }
 
-/// Whether a set is never near the other where the step is made so often.
+/// Whether a set is never near the other where the step is made `count` times.
 fn is_clear_after(one: &CellList, other: &CellList, field: Field, tries: Tries, count: u128) -> bool
     requires tries { AreFit tries }
     requires count { count < tries.until }
@@ -42,7 +42,7 @@ fn is_clear_after(one: &CellList, other: &CellList, field: Field, tries: Tries, 
     )
 }
 
-/// Whether a set is never near the other, with each number tried in turn.
+/// Whether a set is never near the other, with each number tried, one after another.
 fn are_clear_each(one: &CellList, other: &CellList, field: Field, tries: Tries) -> bool
     requires tries { AreFit tries }
     requires field { IsFieldOf field one.now other.now }
@@ -125,7 +125,7 @@ fn places_between(first: i128, last: i128) -> u128
     (last - first) as u128 + 1
 }
 
-/// The place in so many columns and rows from the corner of a field.
+/// The place `column` columns and `row` rows from the corner of a field.
 fn place_at(field: Field, column: u128, row: u128) -> (i128, i128)
     requires column { column ≤ 2 ^ 36 }
     requires row { row ≤ 2 ^ 36 }

@@ -1,15 +1,15 @@
 //! The ways of things.
 ghost use Rattle.std.specs.Prelude.{◌≡◌, ◌↔◌, All, IsTrue};
-ghost use Rattle.life_growth.specs.Meeting.Meeting as meetings;
-ghost use Rattle.life_steps.specs.Short.{IsStride, IsWithin, way_limit};
+ghost use Rattle.life_objects.specs.Growth.Meeting.Meeting as meetings;
+ghost use Rattle.life_things.specs.Lattice.Short.{IsStride, IsWithin, way_limit};
 ghost use Rattle.life_things.specs.Ways.{IsFit, way_of, ways_of};
 
-use life_steps::Step;
+use crate::lattice::Step;
 
 /// The greatest number of generations that a way may take, and the greatest move along an axis.
 pub const WAY_LIMIT: u32 = 10_000;
 
-/// So many generations after which a thing comes again, moved.
+/// After how many generations a thing recurs, and how far it has moved then.
 #[derive(Clone, Copy)]
 pub struct Way {
     pub generations: u32,
@@ -24,7 +24,7 @@ pub enum Ways {
     Twice(Way, Way),
 }
 
-/// Whether a way may go so far along an axis.
+/// Whether a way may go this far along an axis.
 fn is_short(place: i32) -> bool
     ensures { IsTrue result ↔ IsWithin way_limit place }
 {

@@ -1,24 +1,24 @@
-//! What is reached by two steps, each made as often as may be.
+//! What is reached by two steps, each made any number of times.
 ghost use Rattle.std.specs.Prelude.{◌≡◌, ◌≢◌, ℕ, ◌+◌, ◌%◌, ◌<◌, ◌↔◌, ◌≤◌, IfNone, IfSome, IsTrue, [], ◌∷◌, pos};
 ghost use Rattle.life_model.specs.Generation.{Generation};
-ghost use Rattle.life_growth.specs.Meeting.Sums.{and_then, times};
-ghost use Rattle.life_growth.specs.Relations.Relations.{product};
+ghost use Rattle.life_objects.specs.Growth.Meeting.Sums.{and_then, times};
+ghost use Rattle.life_objects.specs.Growth.Relations.Relations.{product};
 ghost use Rattle.life_things.specs.Clear.{StaysClear, StaysClearBetween, StaysClearOutside};
 ghost use Rattle.life_things.specs.Fields.{IsFieldOf, IsNarrow};
-ghost use Rattle.life_steps.specs.Gauges.{across_gauge, along_gauge};
-ghost use Rattle.life_steps.specs.Numbers.{AreFew, StayBy, number_limit, total_above, turned};
-ghost use Rattle.life_steps.specs.Short.{IsShort, IsStride, count_limit, two_start};
+ghost use Rattle.life_things.specs.Lattice.Gauges.{across_gauge, along_gauge};
+ghost use Rattle.life_things.specs.Lattice.Numbers.{AreFew, StayBy, number_limit, total_above, turned};
+ghost use Rattle.life_things.specs.Lattice.Short.{IsShort, IsStride, count_limit, two_start};
 
 use crate::field::{Field, span_by};
-use crate::places::one_way;
-use life_cells::CellList;
-use life_steps::{
+use crate::lattice::{
     Numbers, Span, Step, Turn, above, across_gauge, after, along_gauge, first_in_turn, lightest,
     parallel_numbers, turn_of,
 };
+use crate::places::one_way;
+use life_cells::CellList;
 
-/// Whether a set is never near the other, where one step is made so often from the start as is in turn, and another as often
-/// as may be.
+/// Whether a set is never near the other, where one step is made each number of times in a span from the start, and another any
+/// number of times. Only the numbers of one turn are tried.
 fn tried_in_turn(
     one: &CellList,
     other: &CellList,
@@ -52,7 +52,8 @@ fn tried_in_turn(
     true
 }
 
-/// Whether a set is never near the other, where one step is made so often from the start, and another as often as may be.
+/// Whether a set is never near the other, where one step is made each number of times in a span from the start, and another any
+/// number of times.
 fn tried(
     one: &CellList,
     other: &CellList,
@@ -76,7 +77,7 @@ fn tried(
     }
 }
 
-/// Whether a set is never near the other, from the start on by two steps that stay by some numbers.
+/// Whether a set is never near the other, from the start on by two steps that are related by some numbers.
 fn related(
     one: &CellList,
     other: &CellList,
@@ -110,8 +111,8 @@ fn related(
     tried(one, other, field, start, last, step, steps)
 }
 
-/// How often a step may be made from the start so that the set can be near the other in some column after another, made as
-/// often as may be; or nothing, where the one goes across as fast as the other.
+/// How often a step may be made from the start so that the set can be near the other in some column after another step, made any
+/// number of times; or nothing, where the one goes across as fast as the other.
 fn span_across(start: Step, step: Step, last: Step, field: Field) -> Option<Span>
     requires start { IsShort two_start start }
     requires step { IsStride step }
@@ -125,7 +126,8 @@ fn span_across(start: Step, step: Step, last: Step, field: Field) -> Option<Span
     span_by(across_gauge(last), start, step, field)
 }
 
-/// The same in some row.
+/// How often a step may be made from the start so that the set can be near the other in some row after another step, made any
+/// number of times; or nothing, where the one goes along as fast as the other.
 fn span_along(start: Step, step: Step, last: Step, field: Field) -> Option<Span>
     requires start { IsShort two_start start }
     requires step { IsStride step }
@@ -139,7 +141,8 @@ fn span_along(start: Step, step: Step, last: Step, field: Field) -> Option<Span>
     span_by(along_gauge(last), start, step, field)
 }
 
-/// The same in some place; or nothing, where the one step goes as fast as the other.
+/// How often a step may be made from the start so that the set can be near the other in some place after another step, made any
+/// number of times; or nothing, where the one step goes as fast as the other.
 fn span_beside(start: Step, step: Step, last: Step, field: Field) -> Option<Span>
     requires start { IsShort two_start start }
     requires step { IsStride step }

@@ -1,4 +1,4 @@
--- A slot more.
+-- One more slot.
 use Rattle.std.proofs.Common.{◌≡◌, ◌≢◌, ℕ, ℤ, pos, ◌+ℤ◌, ◌-ℤ◌, ◌+◌, ◌-◌, ◌%◌, ◌/◌, ◌<◌, ◌⊎◌, inl, inr, ⊎_elim, true, false, List, [], ◌∷◌, ◌++◌, Some, length, length-append, get_or, slice_index, refl, sym, subst, ap, ◌∙◌, arith}
 use Rattle.std.specs.Option.{unwrap_or}
 use Rattle.std.specs.BTreeMap.{IsOrdered, get, is_at}
@@ -25,7 +25,7 @@ use Rattle.life_tile.specs.TileStores.{IsTileStore, IsExtended, all_bands, no_ba
 opposite_side : (a b : ℤ) (d : ℕ) → d < 3 → ((a +ℤ pos d) -ℤ pos 1) ≡ b → ((b +ℤ pos (2 - d)) -ℤ pos 1) ≡ a
 opposite_side a b d small is = omega (arith, ints)
 
--- and back
+-- the way back leads in the opposite direction
 opposite : (p q : ℤ × ℤ) (m : ℕ) → m < 9 → neighbour_at p m ≡ q → neighbour_at q (8 - m) ≡ p
 opposite p q m small is =
     let across : (8 - m) % 3 ≡ 2 - m % 3 = omega arith in

@@ -21,7 +21,7 @@ use Rattle.life_tile.specs.TileStores.{IsBegun, IsKept, members_of}
 use Rattle.life_tile.proofs.Kept.{empty_still}
 
 module _ (index : Index) (slots : List Slot) (whole : IsIndexed index slots) (tiles : List Tile) (none : tile_of tiles 0 ≡ empty_tile) where
-  -- no cell is live where all tiles are empty
+  -- no cell is live if all tiles are empty
   empty_state : ((k : ℕ) → k < length slots → tile_of tiles k ≡ empty_tile) → (X Y : ℤ) → state_at (generation_shown index tiles) X Y ≡ 0
   empty_state empties X Y =
       let s : Split X = split X in

@@ -96,13 +96,13 @@ module _ (s u : TileStore) (k : ℕ) (tile : Tile) (place : ℤ × ℤ) (kept : 
       })
       kept.young within_all kept.reached lacks_previous (busy_fresh s kept lacks_previous) (stirred_fresh s kept lacks_previous)
 
--- Of a store the slots before slot n are copied: their cells are those of a set, which has no others.
+-- The slots before slot n of a store are copied: their cells are those of a set, which has no others.
 pub record IsCopied (s : TileStore) (G : Generation) (n : ℕ) : Type 0 where
   pub copied : (p : ℤ × ℤ) (x y : ℕ) → x < 64 → y < 64 → slot_at s.index p < n →
       state_at G (cell_of p x y).0 (cell_of p x y).1 ≡ tile_cell (tile_of s.current.items (slot_at s.index p)) x y
   pub rest : (p : ℤ × ℤ) (x y : ℕ) → x < 64 → y < 64 → n ≤ slot_at s.index p → state_at G (cell_of p x y).0 (cell_of p x y).1 ≡ 0
 
--- a fresh store has the cells of another one's slots before slot n
+-- a fresh store has the cells of the slots before slot n of another one
 pub record IsCopying (s store : TileStore) (n : ℕ) : Type 0 where
   pub kept : IsKept store
   pub lacks_previous : store.lacks_previous ≡ true
@@ -171,7 +171,7 @@ module _ (s : TileStore) (kept : IsKept s) where
       copied.copied (column, row) x y wide high less
       ∙ sym (shown_state s.index s.current.items kept.whole.indexed.ordered kept.whole.current_none column row x y wide high))
 
-  -- the live cells of the tile of a slot are of the store's age
+  -- the live cells of the tile of a slot are within the reach of the store's age
   pub within_slot : (n x y : ℕ) → 0 < n → n < length s.slots.items → x < 64 → y < 64 → tile_cell (tile_of s.current.items n) x y ≡ 1 → IsWithin s.age (cell_of (place_of s.slots.items n) x y)
   within_slot n x y later inside wide high live =
       kept.within (cell_of (place_of s.slots.items n) x y)

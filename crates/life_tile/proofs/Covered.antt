@@ -85,7 +85,7 @@ is_none n is = eqb-true n 0 is
 pub none_is : (n : ℕ) → n ≡ 0 → IsTrue (nat_eq n 0)
 none_is n is = ap (λ m. nat_eq m 0) is
 
--- where the first cell of a tile is, and the one under its last row
+-- the first cell of a tile, and the one below its last row, are places
 pub corner_placed : (age : ℕ) (place : ℤ × ℤ) → age ≤ age_limit → IsReached age place → IsPlace (corner_at place)
 corner_placed age place young reached = record {
   left = omega (arith, ints, reached.west);

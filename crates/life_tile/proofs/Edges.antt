@@ -84,7 +84,7 @@ set_span_of_ends G ends has =
 pub set_span_of_none : (G : Generation) → ((c : Cell) → contains G c ≡ true → ⊥) → origin ≡ set_span G
 set_span_of_none G none = set_span_of_cells G (cells G) origin refl (none_is (cells G) (λ c in_list. none c (member_has G c in_list)))
 
--- ---- a cell is a member exactly where it is live in the tile of a slot
+-- ---- a cell is a member exactly if it is live in the tile of a slot
 
 module _ (store : TileStore) (kept : IsKept store) where
   abbrev members : Generation

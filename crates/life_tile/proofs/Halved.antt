@@ -1,4 +1,4 @@
--- A cell that is sought in a list in order.
+-- A cell is looked for in a list in order.
 use Rattle.std.proofs.Common.{◌≡◌, ◌≢◌, ℕ, zero, suc, ◌+◌, ◌<◌, ◌≤◌, ◌<ℤ◌, ⊎_elim, true, false, T, List, [], ◌∷◌, Less, length, get_or, sym, subst, ap, ◌∙◌, arith}
 use Rattle.std.specs.Ordering.{int_cmp}
 use Rattle.std.proofs.lemmas.Bool.{cases_eq, cases_lt}
@@ -53,7 +53,7 @@ rising_at (c ∷ cs) rising i zero d less inside = absurd (omega arith)
 rising_at (c ∷ cs) rising zero (suc j) d less inside = below_has c cs (both_hold (below_all c cs) (is_rising cs) rising).0 (get_or cs j d) (has_at cs j d (omega arith))
 rising_at (c ∷ cs) rising (suc i) (suc j) d less inside = rising_at cs (both_hold (below_all c cs) (is_rising cs) rising).1 i j d (omega arith) (omega arith)
 
--- a cell is in none of the places before one and from another on
+-- a cell is not in the places before `low`, nor in those from `high` on
 pub record IsNarrowed (cs : List Cell) (q : Cell) (low high : ℕ) : Type 0 where
   pub inside : high ≤ length cs
   pub before : (i : ℕ) (d : Cell) → i < low → i < length cs → get_or cs i d ≢ q
@@ -106,7 +106,7 @@ module _ (cs : List Cell) (q : Cell) (rising : T (is_rising cs)) where
 turn_back : (a b : Cell) → plus a (opposite b) ≡ opposite (plus b (opposite a))
 turn_back a b = pair (omega (arith, ints)) (omega (arith, ints))
 
--- a set of which a member is moved back to no cell of a list is not the list's, moved
+-- a set with a member that moves back to no cell of a list is not the set of that list, moved
 pub apart_by_stranger : (cs : List Cell) (H : Generation) → T (is_rising cs) → (ends : Ends) → HasEnds (IsMember H) ends →
     (((c : Cell) → IsMember H c → IsMember (from_list cs) (plus c (plus (get_or cs 0 origin) (opposite ends.first)))) → ⊥) → AreNotTranslates (from_list cs) H
 apart_by_stranger cs H rising ends has missing d is =

@@ -43,7 +43,7 @@ inside_from_reached age place young reached = record {
 pub empty_still : (tile : Tile) (m : ℕ) → tile ≡ empty_tile → IsStill tile m
 empty_still tile m is = record { still = λ x y wide high edge. ap (λ (t : Tile). tile_cell t x y) is ∙ empty_cell x y }
 
--- ---- the same store, lying elsewhere
+-- ---- the same store with another layout in memory
 
 module _ (before after : TileStore) (alike : IsAlike before after) where
   get_alike : (p : ℤ × ℤ) → get place_cmp after.index p ≡ get place_cmp before.index p
@@ -110,7 +110,7 @@ alike_itself s = record { age = refl; rule = refl; lacks_previous = refl; index 
 pub extended_itself : (s : TileStore) → IsExtended s s
 extended_itself s = extended_alike s s (alike_itself s)
 
--- ---- slots more
+-- ---- more slots
 
 pub extended_more : (a b c : TileStore) → IsExtended a b → IsExtended b c → IsExtended a c
 extended_more a b c first second =
@@ -258,7 +258,7 @@ module _ (s : TileStore) (kept : IsKept s) (k m : ℕ) (later : 0 < k) (inside :
       })))
       decided
 
-  -- where a live cell is next to a place, that may have a tile
+  -- if a live cell is next to a place, that place may have a tile
   pub reached_beyond : (IsStill (tile_of s.current.items k) m → ⊥) → IsReached s.age (neighbour_at (place_of s.slots.items k) m)
   reached_beyond live = record {
     west = by_live _ (le_or_not _ _) live (λ reached. reached.west);

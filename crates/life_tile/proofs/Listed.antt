@@ -21,14 +21,14 @@ no_bit word j none one = (let dead : bit_at word j ≡ 0 = ap (λ w. bit_at w j)
 pub no_bit_told : (word j : ℕ) → not (nat_eq word 0) ≡ false → bit_at word j ≡ 1 → ⊥
 no_bit_told word j told = no_bit word j (grind arith)
 
--- what leads a set into another makes the cells that list it members
+-- a move that leads a set into another makes the listed cells of the first members of the second
 pub all_members : (G H : Generation) (list : List Cell) (d : Cell) → list ≡ cells G → IsMovedInto G H d → AreMembers H list d
 all_members G H list d listed into = λ k e less.
     let cell = get_or list k origin in
     ap (λ (c : Cell). contains H (plus c d)) (get_or_default list k e origin less)
     ∙ into cell (contains-cells G cell ∙ ap (λ cs. has cs cell) (sym listed) ∙ has_listed list k less)
 
--- the bits of a word from bit s on, with ones past its end
+-- the bits of a word from bit s on, with ones beyond its end
 pub beside_one : (word s j : ℕ) → j < 64 → (s + j < 64 → bit_at word (s + j) ≡ 1) → bit_at (bit_or (word / 2 ^ s) (bit_not w64 ((2 ^ 64 - 1) / 2 ^ s))) j ≡ 1
 beside_one word s j inside each =
     let ones : ℕ = (2 ^ 64 - 1) / 2 ^ s in

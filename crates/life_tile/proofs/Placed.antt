@@ -1,4 +1,4 @@
--- The cells of the tiles of slots, one slot after another: they are the members, and no cell comes twice.
+-- The cells of the tiles of slots, one slot after another: they are the members, and no cell appears twice.
 use Rattle.std.proofs.Common.{◌≡◌, ℕ, zero, suc, ℤ, pos, ◌+ℤ◌, ◌+◌, ◌<◌, ◌≤◌, ⊎_elim, List, [], ◌++◌, length, length-append, slice_index, take, refl, sym, subst, ap, ◌∙◌, arith}
 use Rattle.std.specs.List.{sum_by}
 use Rattle.std.specs.Cmp.{both_ways}
@@ -120,7 +120,7 @@ module _ (slots : List Slot) (tiles : List Tile) where
           (fresh_slots n (omega arith))
           (one_slot n (omega arith))
 
--- there are as many members as live cells in the tiles
+-- there are equally many members and live cells in the tiles
 pub size_kept : (store : TileStore) → IsKept store → size (members_of store) ≡ sum_by tile_count store.current.items
 unfolding Has
 size_kept store kept =

@@ -49,7 +49,7 @@ among_others : (y : Cell) (ys zs : List Cell) → All (Has (y ∷ ys)) zs → Al
 among_others y ys zs all other = λ k d inside.
     ⊎_elim (λ same. absurd (other k d inside same)) (λ rest. rest) (has_cases y (slice_index_or zs k d) ys (all k d inside))
 
--- where the first cells of two lists are the same, the others of one are among the others of the other
+-- if the first cells of two lists are equal, the other cells of one are among the others of the other
 others_same : (x : Cell) (xs : List Cell) (y : Cell) (ys : List Cell) → T (is_rising (x ∷ xs)) → x ≡ y → All (Has (y ∷ ys)) (x ∷ xs) → All (Has ys) xs
 others_same x xs y ys rising same all =
     let parts = both_hold (below_all x xs) (is_rising xs) rising in
@@ -58,7 +58,7 @@ others_same x xs y ys rising same all =
     (λ c behind is. let again : cell_cmp x x ≡ Less = subst (λ d. cell_cmp x d ≡ Less) (is ∙ sym same) behind in never_both x x again again)
     xs (all_behind x xs parts.0))
 
--- where the first cell of one list is among the others of the other, so are all
+-- if the first cell of one list is among the others of the other, so are all
 others_later : (x : Cell) (xs : List Cell) (y : Cell) (ys : List Cell) → T (is_rising (x ∷ xs)) → T (is_rising (y ∷ ys)) → Has ys x → All (Has (y ∷ ys)) (x ∷ xs) → All (Has ys) (x ∷ xs)
 others_later x xs y ys rising rising_too later all =
     let parts = both_hold (below_all x xs) (is_rising xs) rising in
@@ -87,7 +87,7 @@ no_longer (x ∷ xs) (y ∷ ys) h k all =
     omega arith)
     (has_cases y x ys (All-head (Has (y ∷ ys)) x xs all))
 
--- and if it is as long it is that list
+-- a list of the same length is that list
 same_list : (xs ys : List Cell) → T (is_rising xs) → T (is_rising ys) → length xs ≡ length ys → All (Has ys) xs → xs ≡ ys
 same_list [] [] h k long all = refl
 same_list [] (y ∷ ys) h k long all = absurd (omega arith)
@@ -102,7 +102,7 @@ same_list (x ∷ xs) (y ∷ ys) h k long all =
     absurd (omega arith))
     (has_cases y x ys (All-head (Has (y ∷ ys)) x xs all))
 
--- a list that no cell is in
+-- a list without a cell has no length
 none_listed : (ds : List Cell) → ((c : Cell) → Has ds c → ⊥) → length ds ≡ 0
 none_listed [] none = refl
 none_listed (d ∷ ds) none = absurd (none d (has_head d ds))
@@ -111,14 +111,14 @@ some_listed : (ds : List Cell) (c : Cell) → Has ds c → length ds ≢ 0
 some_listed [] c has none = has_none c has
 some_listed (d ∷ ds) c has none = absurd (omega arith)
 
--- a set with a first and a last member has some
+-- a set with a first and a last member has a member
 pub some_by_ends : (H : Generation) (n : ℕ) (ends : Ends) → HasEnds (IsMember H) ends → size H ≡ n → 0 < n
 some_by_ends H n ends has counted =
     let some : n ≢ 0 = λ none. some_listed (cells H) ends.first (has_member H ends.first has.first) (sym (size-cells H) ∙ counted ∙ none) in
     omega arith
 
 module _ (cs : List Cell) (H : Generation) (rising : T (is_rising cs)) where
-  -- how far a set that has no cell is
+  -- the offset of a set without a cell
   pub offset_of_nothing : ((c : Cell) → IsMember H c → ⊥) → size H ≡ length cs → IsOffset (from_list cs) H origin
   offset_of_nothing none same =
       let empty : length (cells H) ≡ 0 = none_listed (cells H) (λ c has. none c (member_has H c has)) in

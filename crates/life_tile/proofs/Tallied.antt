@@ -1,4 +1,4 @@
--- How many tiles have a live cell, and that a store which has no other tiles has no slot yet for a place that isn't copied.
+-- How many tiles have a live cell; and a store without other tiles has no slot yet for a place that isn't copied.
 use Rattle.std.proofs.Common.{◌≡◌, ℕ, zero, suc, ℤ, pos, ◌+ℤ◌, ◌+◌, ◌-◌, ◌<◌, ◌≤◌, ◌==◌, ⊎_elim, true, false, cond, List, [], ◌∷◌, ◌++◌, length, take, drop, nat_lt, slice_index, refl, sym, subst, ap, ◌∙◌, arith, true≢false}
 use Rattle.std.specs.Int.{bit_at}
 use Rattle.std.specs.List.{fold, sum_by}

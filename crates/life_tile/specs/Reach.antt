@@ -9,18 +9,18 @@ use Rattle.life_slots.specs.Ends.{IsMember}
 use Rattle.life_slots.specs.Limits.{reach_limit}
 use Rattle.life_slots.specs.Places.{start_at}
 
--- both places are numbers of 32 bits, by far
+-- both coordinates fit into 32 bits by far
 pub record IsInReach (c : Cell) : Type 0 where
   pub west : negsuc reach_limit ≤ℤ c.0
   pub east : c.0 ≤ℤ pos reach_limit
   pub north : negsuc reach_limit ≤ℤ c.1
   pub south : c.1 ≤ℤ pos reach_limit
 
--- each of the 64 bits of a word that is set is a member, where bit 0 is at this cell
+-- each set bit of the 64 bits of a word is a member; bit 0 is at `start`
 pub record IsRowIn (G : Generation) (word : ℕ) (start : Cell) : Type 0 where
   pub each : (j : ℕ) → j < 64 → bit_at word j ≡ 1 → IsMember G (start.0 +ℤ pos j, start.1)
 
--- each live cell of a tile whose first cell is at this corner is a member, moved by d
+-- each live cell of a tile, whose first cell is at `corner`, is a member after the move d
 pub record IsTileIn (G : Generation) (tile : Tile) (corner d : Cell) : Type 0 where
   pub each : (x y : ℕ) → x < 64 → y < 64 → tile_cell tile x y ≡ 1 → IsMember G (plus (corner.0 +ℤ pos x, corner.1 +ℤ pos y) d)
 

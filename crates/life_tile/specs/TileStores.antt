@@ -31,18 +31,18 @@ pub record IsTileStore (store : TileStore) : Type 0 where
 abbrev pub members_of : TileStore → Generation
 members_of store = generation_shown store.index store.current.items
 
--- what the other tiles show, the generation before where there is one
+-- what the other tiles show: the generation before, if there is one
 abbrev pub earlier_of : TileStore → Generation
 earlier_of store = generation_shown store.index store.previous.items
 
--- the band of a slot is in the next generation what it was in the one before this
+-- the band of a slot is in the next generation what it was in the generation before this one
 pub record IsSettled (store : TileStore) (k band : ℕ) : Type 0 where
   pub known : store.lacks_previous ≡ false
   pub cell : (x y : ℕ) → x < 64 → y < 64 → y / 8 ≡ band →
       tile_cell (tile_of store.previous.items k) x y
       ≡ state_at (next store.rule (members_of store)) (start_at (place_of store.slots.items k).0 +ℤ pos x) (start_at (place_of store.slots.items k).1 +ℤ pos y)
 
--- every place that a live cell is in or next to has a slot
+-- every place with a live cell in it or next to it has a slot
 pub record IsGrown (store : TileStore) : Type 0 where
   pub closed : (k : ℕ) → 0 < k → k < length store.slots.items → IsClosed store.slots.items store.current.items k
 
@@ -59,8 +59,8 @@ pub record IsKept (store : TileStore) : Type 0 where
   pub calm : IsCalm store.active.items → store.lacks_previous ≡ false
   pub grown : IsCalm store.active.items → IsGrown store
 
--- Of a store that is ready for a step each band without something to do is already in `previous` what it will be, and each band without
--- a mark is what it becomes of what `previous` shows.
+-- In a store that is ready for a step, each band without something to do is already in `previous` what it will be, and
+-- each band without a mark is what it becomes from what `previous` shows.
 pub record IsBegun (before after : TileStore) : Type 0 where
   pub same : after ≡ record before { previous = after.previous; active = after.active; next_active = after.next_active }
   pub previous_length : length after.previous.items ≡ length before.slots.items
@@ -75,7 +75,7 @@ pub record IsBegun (before after : TileStore) : Type 0 where
       tile_cell (tile_of before.current.items k) x y
       ≡ state_at (next before.rule (generation_shown before.index after.previous.items)) (start_at (place_of before.slots.items k).0 +ℤ pos x) (start_at (place_of before.slots.items k).1 +ℤ pos y)
 
--- the same store, but for how it lies in memory
+-- the same store, but for its layout in memory
 pub record IsAlike (before after : TileStore) : Type 0 where
   pub age : after.age ≡ before.age
   pub rule : after.rule ≡ before.rule
@@ -87,7 +87,7 @@ pub record IsAlike (before after : TileStore) : Type 0 where
   pub active : after.active.items ≡ before.active.items
   pub next_active : after.next_active.items ≡ before.next_active.items
 
--- there is room for one slot more
+-- there is room for one more slot
 pub record HasRoom (store : TileStore) : Type 0 where
   pub slots : vec_len store.slots < vec_capacity store.slots
   pub current : vec_len store.current < vec_capacity store.current
@@ -101,7 +101,7 @@ no_bands = record { bits = 0 }
 abbrev pub all_bands : Bands
 all_bands = record { bits = 255 }
 
--- one slot more at the end, with the empty tile twice, and all bands to do
+-- one more slot at the end, with the empty tile twice, and all bands to do
 pub record IsAppended (before after : TileStore) (slot : Slot) : Type 0 where
   pub age : after.age ≡ before.age
   pub rule : after.rule ≡ before.rule
@@ -113,7 +113,7 @@ pub record IsAppended (before after : TileStore) (slot : Slot) : Type 0 where
   pub active : after.active.items ≡ before.active.items ++ all_bands ∷ []
   pub next_active : after.next_active.items ≡ before.next_active.items ++ no_bands ∷ []
 
--- `after` is `before`, perhaps with slots more that have the empty tile twice
+-- `after` is `before`, possibly with more slots that have the empty tile twice
 pub record IsExtended (before after : TileStore) : Type 0 where
   pub age : after.age ≡ before.age
   pub rule : after.rule ≡ before.rule
@@ -145,7 +145,7 @@ cell_of place x y = (start_at place.0 +ℤ pos x, start_at place.1 +ℤ pos y)
 pub record IsTileAt (G : Generation) (tile : Tile) (place : ℤ × ℤ) : Type 0 where
   pub cell : (x y : ℕ) → x < 64 → y < 64 → state_at G (cell_of place x y).0 (cell_of place x y).1 ≡ tile_cell tile x y
 
--- two sets are the same but for the cells at a place
+-- two sets are equal but for the cells at a place
 pub record IsSameBut (G H : Generation) (place : ℤ × ℤ) : Type 0 where
   pub cell : (p : ℤ × ℤ) (x y : ℕ) → x < 64 → y < 64 → p ≢ place → state_at H (cell_of p x y).0 (cell_of p x y).1 ≡ state_at G (cell_of p x y).0 (cell_of p x y).1
 
@@ -156,7 +156,7 @@ pub record IsShowing (before after : TileStore) (slot : ℕ) (tile : Tile) : Typ
   pub apart : (k : ℕ) → k ≢ slot → tile_of after.current.items k ≡ tile_of before.current.items k
   pub here : tile_of after.current.items slot ≡ tile
 
--- each slot has a tile that it had before, or this one
+-- each slot has the tile that it had before, or this one
 pub record HasTilesOf (before after : TileStore) (tile : Tile) : Type 0 where
   pub each : (k : ℕ) → k < length after.slots.items →
       (tile_of after.current.items k ≡ tile) ⊎ ((k < length before.slots.items) × (tile_of after.current.items k ≡ tile_of before.current.items k))

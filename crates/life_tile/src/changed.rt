@@ -1,4 +1,4 @@
-//! A quick look at whether the cells of a store that may have changed are others, moved as a whole.
+//! A quick test of whether the cells of a store that may have changed are given cells, moved as a whole.
 ghost use Rattle.std.specs.Prelude.{◌≡◌, ℕ, pos, ◌+ℤ◌, false, T};
 ghost use Rattle.life_model.specs.Cell.{Cell, opposite, plus};
 ghost use Rattle.life_model.specs.Generation.{contains, from_list, is_rising};
@@ -13,7 +13,7 @@ use crate::tile_store::TileStore;
 use life_plane::Tile;
 use life_slots::{is_before, tile_in};
 
-/// Whether a cell is in a list, which is halved until it shows.
+/// Whether a cell is in a list, found by halving.
 fn is_listed(cells: &[(i32, i32)], cell: (i32, i32)) -> bool
     requires { T (is_rising cells.now) }
     ensures { result ≡ false → contains (from_list cells.now) cell ≡ false }
@@ -35,7 +35,7 @@ fn is_listed(cells: &[(i32, i32)], cell: (i32, i32)) -> bool
     false
 }
 
-/// Whether each set bit of a word is a listed cell, where bit 0 is at this cell.
+/// Whether each set bit of a word is a listed cell. Bit 0 is at `start`.
 fn lists_row(cells: &[(i32, i32)], word: u64, start: (i32, i32)) -> bool
     requires rising { T (is_rising cells.now) }
     requires reach { IsInReach start }
@@ -52,7 +52,8 @@ fn lists_row(cells: &[(i32, i32)], word: u64, start: (i32, i32)) -> bool
     true
 }
 
-/// Whether each live cell of a tile whose first cell is here is listed, moved as one place is from another.
+/// Whether each live cell of a tile, whose first cell is at `corner`, is listed after the move from one place to
+/// another.
 fn lists_tile(
     cells: &[(i32, i32)],
     tile: &Tile,
@@ -77,8 +78,8 @@ fn lists_tile(
     true
 }
 
-/// Whether each live cell of the tiles that have something to do is listed, moved as one place is from another. If one is not,
-/// the live cells are none of those listed, moved so.
+/// Whether each live cell of the tiles that have something to do is listed after the move from one place to another. If
+/// one is not, the live cells are not all listed after that move.
 pub fn lists_changed(
     store: &TileStore,
     cells: &[(i32, i32)],

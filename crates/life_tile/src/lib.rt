@@ -1,4 +1,4 @@
-//! The plane of tiles that stay where they are, of which each step works out only the rows that may change.
+//! The plane of tiles that stay where they are, in which each step computes only the rows that may change.
 //!
 //! Tested in `tests_patterns`.
 #![tactic(auto)]

@@ -12,13 +12,13 @@ use life_slots::is_void;
 use std::alloc::{AllocError, Global};
 use std::marker::Model;
 
-/// A plane that keeps its live cells in tiles which stay where they are. A step works out the bands of eight rows that may
-/// change, those in or next to which a cell changed between the last two generations, and of the other tiles only sees that they
-/// have none.
+/// A plane that keeps its live cells in tiles that stay where they are. A step works out only the bands of eight rows
+/// that may change: those with a cell that changed between the last two generations, or next to one. For the other
+/// tiles it only checks that they have no such band.
 #[derive(Drop)]
 pub struct TilePlane {
     store: TileStore,
-    /// With how many slots the store is to be made anew, without those whose tile has no live cell.
+    /// The number of slots at which the store is rebuilt, without those whose tile has no live cell.
     limit: usize,
 }
 
@@ -38,30 +38,30 @@ impl Model for TilePlane {
     ghost invariant = { λ p. IsKept p.store };
 }
 
-/// So many cells are few: a list begins with room for them.
+/// A list begins with room for this many cells.
 const FEW: usize = 32;
 
-/// With how many slots a store is to be made anew that now has room for what its tiles may grow into.
+/// The number of slots at which a store is to be rebuilt that now has room for what its tiles may grow into.
 fn limit_of(store: &TileStore) -> usize {
     store.slots.len().saturating_mul(2).saturating_add(32)
 }
 
-/// Whether at most half of a store's slots have a live cell, so that it is worth while to make it anew.
+/// Whether at most half of a store's slots have a live cell, so that rebuilding it is worth while.
 fn is_sparse(store: &TileStore) -> bool {
     let live = store.current.iter().filter(|tile| !is_void(tile)).count();
     live <= store.slots.len() / 2
 }
 
 impl TilePlane {
-    /// How many tiles it keeps, which is what it takes of memory: at least the empty one, which stands for all that it doesn't
-    /// keep.
+    /// How many tiles it keeps, which determines its memory. At least one: the empty tile stands for all tiles that it
+    /// doesn't keep.
     pub fn tiles(&self) -> usize
         ensures { 0 < result }
     {
         self.store.slots.len()
     }
 
-    /// How many bands of eight rows the next step works out, which is what it takes of time. Nothing rests on it.
+    /// How many bands of eight rows the next step works out, which determines its time. No answer depends on it.
     pub fn active_bands(&self) -> u64 {
         let mut count = 0u64;
         for bands in &self.store.active {
@@ -70,7 +70,7 @@ impl TilePlane {
         count
     }
 
-    /// Makes the store anew where it has many slots, most of them without a live cell.
+    /// Rebuilds the store if it has many slots, most of them without a live cell.
     fn compact(&mut self) -> Result<(), AllocError>
         ensures { self.new ≡ self.old }
     {
@@ -109,7 +109,7 @@ impl Plane for TilePlane {
         self.store.use_rule(rule);
         self.store.grow()?;
         if is_new {
-            // (a store that was just made had no slots yet for the tiles around the live ones)
+            // (a store that was just built had no slots yet for the tiles around the live ones)
             self.limit = limit_of(&self.store);
         }
         self.store.advance();

@@ -1,4 +1,4 @@
-//! A store of tiles in slots, in this generation and in the one before.
+//! A store of tiles in slots, for this generation and the one before.
 ghost use Rattle.std.specs.Prelude.{◌≡◌, ◌≢◌, ℕ, ◌+◌, ◌<◌, ◌≤◌, true, All, OnOk, IfOk, length};
 ghost use Rattle.life_plane.specs.Area.{tile_cell};
 ghost use Rattle.life_model.specs.Evolution.{next};
@@ -20,15 +20,16 @@ use std::alloc::{AllocError, Global};
 use std::collections::BTreeMap;
 use std::mem::swap;
 
-/// Room for so many tiles is asked for at first, for the empty one and one more: pieces of memory that are quick to get.
+/// Room for `FIRST_TILES` tiles is reserved at first, for the empty one and one more: such pieces of memory are quick
+/// to get.
 const FIRST_TILES: usize = 2;
 
 /// Tiles in slots. Slot 0 has the empty tile and no place.
 ///
-/// A slot takes 1,070 bytes: 1,024 for its tile in two generations, 44 for its place and its links, and 2 for its marks; and its
-/// entry in the index takes 12 bytes, with the room that nodes of the index keep about twice that. The vectors grow by doubling,
-/// so that room for up to twice as many slots is reserved. A live cell in the corner of its tile needs four slots, of which three
-/// have empty tiles.
+/// A slot takes 1,070 bytes: 1,024 for its tile in two generations, 44 for its place and its links, and 2 for its
+/// marks. Its entry in the index takes 12 bytes, or about twice that with the spare room in nodes of the index. The
+/// vectors grow by doubling, so that room for up to twice as many slots is reserved. A live cell in the corner of its
+/// tile needs four slots, three of which have empty tiles.
 #[derive(Drop)]
 pub struct TileStore {
     /// From the place of each tile to its slot.
@@ -36,18 +37,18 @@ pub struct TileStore {
     pub slots: Vec<Slot>,
     /// The tiles of this generation.
     pub current: Vec<Tile>,
-    /// The tiles of the generation before, where there is one. They become the next.
+    /// The tiles of the generation before, if there is one. They become the next generation.
     pub previous: Vec<Tile>,
-    /// Which bands of the slots may be other in the next generation than in the one before. A band of slot 0 is marked where
-    /// a place without a slot may get a live cell.
+    /// Which bands of the slots may differ between the generation before and the next one. A band of slot 0 is marked
+    /// if a place without a slot may get a live cell.
     pub active: Vec<Bands>,
-    /// Room for the same of the generation after.
+    /// Room for the marks of the generation after.
     pub next_active: Vec<Bands>,
-    /// The rule by which this generation came of the one before.
+    /// The rule that made this generation from the one before.
     pub rule: Rule,
     /// Whether `previous` is no generation. Then every band has something to do.
     pub lacks_previous: bool,
-    /// How many steps it has made.
+    /// The number of steps it has made.
     pub age: u32,
 }
 
@@ -86,7 +87,7 @@ impl TileStore {
         Ok(store)
     }
 
-    /// Room for one slot more.
+    /// Reserves room for one more slot.
     fn reserve_one(&mut self) -> Result<(), AllocError>
         ensures alike { IsAlike self.old self.new }
         ensures index { self.new.index ≡ self.old.index }
@@ -100,7 +101,7 @@ impl TileStore {
         Ok(())
     }
 
-    /// One slot more at the end, with the empty tile twice, and something to do.
+    /// Adds one more slot at the end, with the empty tile twice, and something to do.
     fn append(&mut self, slot: Slot)
         requires { HasRoom self.old }
         ensures { IsAppended self.old self.new slot }
@@ -112,7 +113,7 @@ impl TileStore {
         let _ = self.next_active.push(Bands::NONE);
     }
 
-    /// The slot that would be made next. There are no more than fit into a link.
+    /// The number of the next slot to be made. It fits into a link.
     fn next_slot(&self) -> Result<u32, AllocError>
         ensures { IfOk result (λ slot. slot ≡ length self.now.slots.items) }
     {
@@ -149,7 +150,7 @@ impl TileStore {
         Rim::of(&self.current[slot])
     }
 
-    /// The slot in a direction from a slot, 0 where there is none.
+    /// The slot in a direction from a slot, or 0 if there is none.
     fn link(&self, slot: usize, direction: usize) -> u32
         requires slot { slot < length self.now.slots.items }
         requires direction { direction < 9 }
@@ -179,7 +180,7 @@ impl TileStore {
         true
     }
 
-    /// Makes a slot for the place in a direction from a slot, if it has none and a live cell is next to it.
+    /// Makes a slot for the place in a direction from a slot, if that place has none and a live cell is next to it.
     fn grow_towards(&mut self, slot: usize, rim: &Rim, direction: usize) -> Result<(), AllocError>
         requires kept { IsKept self.old }
         requires later { 0 < slot }
@@ -206,7 +207,7 @@ impl TileStore {
         self.active[slot].is_empty()
     }
 
-    /// Makes slots for the places around a slot that a live cell of its tile is next to.
+    /// Makes slots for the places around a slot that are next to a live cell of its tile.
     fn grow_around(&mut self, slot: usize) -> Result<(), AllocError>
         requires kept { IsKept self.old }
         requires later { 0 < slot }
@@ -228,7 +229,7 @@ impl TileStore {
         Ok(())
     }
 
-    /// Whether no place without a slot can have got a live cell next to it.
+    /// Whether no place without a slot can have a new live cell next to it.
     fn is_closed(&self) -> bool
         requires { 0 < length self.now.active.items }
         ensures { result ≡ true → IsCalm self.now.active.items }
@@ -236,7 +237,7 @@ impl TileStore {
         self.is_idle(0)
     }
 
-    /// Makes slots for all places that a live cell is in or next to.
+    /// Makes slots for all places with a live cell in them or next to them.
     pub fn grow(&mut self) -> Result<(), AllocError>
         requires { IsKept self.old }
         ensures kept { IsKept self.new }
@@ -254,7 +255,7 @@ impl TileStore {
         Ok(())
     }
 
-    /// Has every slot do its work, if the last step was by another rule.
+    /// Makes every slot do its work if the last step was by another rule.
     pub fn use_rule(&mut self, rule: &Rule)
         requires { IsKept self.old }
         ensures kept { IsKept self.new }
@@ -269,8 +270,9 @@ impl TileStore {
         }
     }
 
-    /// Makes ready for a step. Where there is no generation before, it is taken as empty, so that a band has something to do only
-    /// where a live cell is in or next to it, and again in the step after, since that generation was not the one before.
+    /// Prepares a step. If there is no generation before, an empty one is assumed. So only bands with a live cell in
+    /// them or next to them have something to do. They have it again in the step after, since the empty generation was
+    /// not really the one before.
     fn begin(&mut self)
         requires { IsKept self.old }
         ensures { IsBegun self.old self.new }
@@ -284,7 +286,7 @@ impl TileStore {
         }
     }
 
-    /// The next generation.
+    /// Makes the next generation.
     pub fn advance(&mut self)
         requires kept { IsKept self.old }
         requires grown { IsGrown self.old }
@@ -308,7 +310,7 @@ impl TileStore {
         self.age += 1;
     }
 
-    /// The slot of a place, which is made if there is none.
+    /// The slot of a place, made if there is none.
     fn slot_for(&mut self, place: (i32, i32)) -> Result<usize, AllocError>
         requires kept { IsKept self.old }
         requires reached { IsReached self.old.age place }
@@ -359,7 +361,7 @@ impl TileStore {
         Ok(())
     }
 
-    /// Has a slot show another tile.
+    /// Puts another tile into a slot.
     fn show(&mut self, slot: usize, tile: &Tile)
         requires { slot < length self.old.current.items }
         ensures { IsShowing self.old self.new slot tile.now }
@@ -367,7 +369,7 @@ impl TileStore {
         self.current[slot] = *tile;
     }
 
-    /// Makes the tile at a place another one.
+    /// Replaces the tile at a place.
     fn put_tile(&mut self, place: (i32, i32), tile: &Tile) -> Result<(), AllocError>
         requires kept { IsKept self.old }
         requires lacks_previous { self.old.lacks_previous ≡ true }
@@ -389,8 +391,8 @@ impl TileStore {
         Ok(())
     }
 
-    /// The store of these cells, which may come in any order and with repeats. It has no slot for a tile without a live cell, but
-    /// the first.
+    /// The store of these cells, which may come in any order and with repeats. Apart from slot 0 it has no slot for a
+    /// tile without a live cell.
     pub fn of(alloc: Global, cells: &[(i32, i32)], age: u32) -> Result<TileStore, AllocError>
         requires young { age ≤ age_limit }
         requires within { All (IsWithin age) cells.now }
@@ -406,7 +408,7 @@ impl TileStore {
         Ok(store)
     }
 
-    /// The live cells, in no order that is told, in the memory of cells that are no longer needed.
+    /// The live cells, in no particular order, in the memory of a vector that is no longer needed.
     pub fn cells_in(&self, mut cells: Vec<(i32, i32)>) -> Result<Vec<(i32, i32)>, AllocError>
         requires { IsKept self.now }
         ensures members { IfOk result (λ cells. from_list cells.items ≡ members_of self.now) }
@@ -427,7 +429,7 @@ impl TileStore {
         ends_of(&self.slots, &self.current)
     }
 
-    /// How many live cells there are.
+    /// The number of live cells.
     pub fn population(&self) -> u64
         requires { IsKept self.now }
         ensures { result ≡ size (members_of self.now) }
@@ -436,8 +438,8 @@ impl TileStore {
         count_cells(&self.current[1..])
     }
 
-    /// The same cells at the same age in a store that has no slot for a tile without a live cell, but the first: one tile more
-    /// than there are tiles with a live cell here. Beside the new store it takes no memory.
+    /// The same cells at the same age, in a store that apart from slot 0 has no slot for a tile without a live cell:
+    /// one tile more than there are tiles with a live cell here. Apart from the new store it takes no memory.
     pub fn compacted(&self) -> Result<TileStore, AllocError>
         requires { IsKept self.now }
         ensures kept { IfOk result IsKept }

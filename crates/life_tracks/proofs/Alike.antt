@@ -5,9 +5,9 @@ use Rattle.life_model.specs.Generation.{Generation}
 use Rattle.life_model.specs.Symmetry.{normal, translate_of}
 use Rattle.life_model.proofs.Moves.{moved_from_normal, normal-moved}
 use Rattle.life_objects.specs.Piece.{LivesThrough}
-use Rattle.life_growth.specs.Engine.{FallsApart, IsEngine, Way}
-use Rattle.life_growth.specs.Unsplit.{IsUnsplit, Leaves}
-use Rattle.life_growth.specs.Engines.Tracks.{Step, core_along, left_along, way_along}
+use Rattle.life_objects.specs.Growth.Engine.{FallsApart, IsEngine, Way}
+use Rattle.life_objects.specs.Growth.Unsplit.{IsUnsplit, Leaves}
+use Rattle.life_objects.specs.Growth.Engines.Tracks.{Step, core_along, left_along, way_along}
 
 module _ (R : Rule) (b : ℕ) (E : Generation) (way : Way) (engine : IsEngine R b E way) where
   pub engine_alike : (start : Generation) (steps : List Step) → start ≡ E → length steps ≡ way.period →

@@ -2,7 +2,7 @@
 use Rattle.std.proofs.Common.{◌≡◌, ℕ, zero, suc, ◌-◌, ◌<◌, ◌≤◌, List, [], ◌∷◌, length, get_or, refl, sym, ap, ◌∙◌, arith}
 use Rattle.std.proofs.lemmas.List.{get_or_default}
 use Rattle.life_model.specs.Generation.{Generation, empty}
-use Rattle.life_growth.specs.Engines.Tracks.{Step, core_along, left_along}
+use Rattle.life_objects.specs.Growth.Engines.Tracks.{Step, core_along, left_along}
 use Rattle.life_tracks.specs.Lines.{core_of}
 use Rattle.life_tracks.specs.Readings.{IsReadOff, step_at}
 use Rattle.life_tracks.specs.Tracks.{Path}
@@ -26,7 +26,7 @@ module _ (classes : ℕ → List Generation) (parents : ℕ → List ℕ) (n k :
       let long = read.steps.count in
       core_at_step path.start path.steps m (omega arith) ∙ read.steps.core m (omega arith)
 
--- at the end of the steps is the last one's core
+-- the end of the steps is the last step's core
 pub core_at_last : (P : Generation) (steps : List Step) (s : Step) → (length steps ≡ 0 → ⊥) →
     s ≡ get_or steps (length steps - 1) s → s.0 ≡ core_along P steps (length steps)
 core_at_last P steps s some is =

@@ -1,4 +1,4 @@
--- Where the corner of cells may stand.
+-- Where the corner of cells may be.
 use Rattle.std.proofs.Common.{◌≡◌, ℤ, ◌≤ℤ◌, pos, negsuc, List, [], ◌∷◌, ap, ◌∙◌, arith}
 use Rattle.std.specs.List.{All}
 use Rattle.std.proofs.lemmas.Int.{ints, clamps}
@@ -38,7 +38,7 @@ corner_placed (c ∷ cs) all =
       below = least_to (λ b. b.1) (pos last_place) c cs first.below;
     }
 
--- how far the corner of one set is from that of another
+-- the displacement from the corner of one set to that of another
 pub difference : (E P : Generation) (cs ds : List Cell) (from to d : Cell) → cs ≡ cells E → ds ≡ cells P → from ≡ corner_of cs →
     to ≡ corner_of ds → d ≡ plus to (opposite from) → d ≡ plus (opposite (corner E)) (corner P)
 unfolding corner

@@ -40,7 +40,7 @@ module _ (classes : List Generation) (places : List ℕ) (place : ℕ) where
         ];
   }
 
-  -- nothing is added, or a sibling is
+  -- either nothing is added, or a sibling is
   pub not_added : (n : ℕ) (L : Generation) → (IsSibling places place n → ⊥) → IsWithSibling classes places place n L L
   not_added n L none = record {
     kept = λ c h. h;

@@ -1,4 +1,4 @@
--- The lines to the classes of a generation, by those to the classes of the one before.
+-- The lines to the classes of a generation, from those to the classes of the one before.
 use Rattle.std.proofs.Common.{◌≡◌, ℕ, suc, ◌<◌, List, length, get_or, sym, ap, subst, arith}
 use Rattle.life_model.specs.Generation.{Generation, empty}
 use Rattle.life_tracks.specs.declared.lines.Line.{Line}

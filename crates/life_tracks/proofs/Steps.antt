@@ -17,8 +17,8 @@ use Rattle.life_objects.proofs.Many.{next-union_of}
 use Rattle.life_objects.proofs.Members.{found_now, in_list}
 use Rattle.life_objects.proofs.Sides.{within_each_other}
 use Rattle.life_objects.proofs.Unions.{in_empty, in_first, in_second, in_union}
-use Rattle.life_growth.specs.Unsplit.{AreClasses}
-use Rattle.life_growth.proofs.FilmLemmas.Splits.{apart_now}
+use Rattle.life_objects.specs.Growth.Unsplit.{AreClasses}
+use Rattle.life_objects.proofs.GrowthLemmas.FilmLemmas.Splits.{apart_now}
 use Rattle.life_tracks.specs.Frames.Frames.{AreParents}
 use Rattle.life_tracks.specs.Lines.{IsSibling}
 use Rattle.life_tracks.specs.Readings.{AreLeft}
@@ -41,7 +41,7 @@ module _ (R : Rule) where
         ]
       ]
 
-  -- what a class bears is of the next generation
+  -- what a class bears is in the next generation
   pub bears_within : (b : ℕ) (G : Generation) (Ps : List Generation) → AreClasses R b G Ps → (i : ℕ) → i < length Ps →
       IsSubsetOf (next R (get_or Ps i empty)) (next R G)
   unfolding generation
@@ -61,7 +61,7 @@ module _ (R : Rule) where
 
   module _ (a b : ℕ) (G : Generation) (Ps Qs : List Generation) (places : List ℕ) (classes : AreClasses R a G Ps)
       (later : AreClasses R b (next R G) Qs) (parents : AreParents R Ps Qs places) where
-    -- who bears a cell of a class is its parent
+    -- a class that bears a cell of another is that one's parent
     pub bearer_is_parent : (i j : ℕ) (c : Cell) → i < length Ps → j < length Qs → contains (get_or Qs j empty) c ≡ true →
         contains (next R (get_or Ps i empty)) c ≡ true → i ≡ get_or places j 0
     bearer_is_parent i j c hi hj one bears = (parents.each j hj).only i c hi one bears

@@ -6,7 +6,7 @@ use Rattle.life_model.specs.Symmetry.{translate_of}
 use Rattle.life_plane.specs.Offsets.{AreNotTranslates}
 use Rattle.life_tracks.specs.declared.lines.Line.{Line}
 
--- the class in place j is another than that in place i, with the same parent
+-- the class in place j is not the one in place i, but has the same parent
 pub record IsSibling (places : List ℕ) (i j : ℕ) : Type 0 where
   pub within : j < length places
   pub other : j ≢ i
@@ -66,7 +66,7 @@ pub record AreLines (classes : ℕ → List Generation) (parents : ℕ → List 
   pub count : length lines ≡ length (classes n)
   pub each : (k : ℕ) (d : Line) → k < length (classes n) → IsLine classes parents n k (get_or lines k d)
 
--- How a line goes on to the class LAST in some place, where FIRST is its first class.
+-- How a line goes on to the class LAST in a place. FIRST is the line's first class.
 pub record GoesOn (places : List ℕ) (first last : Generation) (place : ℕ) (before after : Line) : Type 0 where
   pub origin : after.origin ≡ before.origin
   pub back : after.is_back ≡ true → (before.is_back ≡ true) ⊎ ((e : Cell) × (last ≡ translate_of first e))

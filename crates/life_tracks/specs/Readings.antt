@@ -2,7 +2,7 @@
 use Rattle.std.specs.Prelude.{◌≡◌, ◌⊎◌, ℕ, suc, ◌<◌, ◌≤◌, true, List, length, get_or}
 use Rattle.life_model.specs.Cell.{Cell}
 use Rattle.life_model.specs.Generation.{Generation, contains, empty}
-use Rattle.life_growth.specs.Engines.Tracks.{Step}
+use Rattle.life_objects.specs.Growth.Engines.Tracks.{Step}
 use Rattle.life_tracks.specs.declared.returns.Return.{Return}
 use Rattle.life_tracks.specs.Lines.{IsSibling, ancestor, core_of}
 use Rattle.life_tracks.specs.Tracks.{Path}
@@ -14,7 +14,7 @@ pub record IsInSibling (classes : List Generation) (places : List ℕ) (place n 
   pub sibling : IsSibling places place other
   pub has : contains (get_or classes other empty) c ≡ true
 
--- L is the cells of those of the first n classes that are siblings of the one in a place
+-- L is the cells of those of the first n classes that are siblings of the class in a place
 pub record AreLeftOf (classes : List Generation) (places : List ℕ) (place n : ℕ) (L : Generation) : Type 0 where
   pub from : (c : Cell) → contains L c ≡ true → IsInSibling classes places place n c
   pub all : (c : Cell) → IsInSibling classes places place n c → contains L c ≡ true
@@ -22,7 +22,7 @@ pub record AreLeftOf (classes : List Generation) (places : List ℕ) (place n : 
 abbrev pub AreLeft : List Generation → List ℕ → ℕ → Generation → Type 0
 AreLeft classes places place L = AreLeftOf classes places place (length places) L
 
--- More is L, and the class in place OTHER where that is a sibling of the one in a place.
+-- `more` is L, and also the class in place OTHER if that is a sibling of the class in `place`.
 pub record IsWithSibling (classes : List Generation) (places : List ℕ) (place other : ℕ) (L more : Generation) : Type 0 where
   pub kept : (c : Cell) → contains L c ≡ true → contains more c ≡ true
   pub added : (c : Cell) → IsSibling places place other → contains (get_or classes other empty) c ≡ true →

@@ -13,7 +13,7 @@ return_at n k = record { generation = n; place = k }
 abbrev pub IsBackIn : List Line → ℕ → Type 0
 IsBackIn lines k = (k < length lines) × ((d : Line) → (get_or lines k d).is_return ≡ true)
 
--- Those of the first so many lines that come back in generation n are added.
+-- Those of the first `count` lines that come back in generation n are added.
 pub record IsWithReturnsOf (lines : List Line) (n count : ℕ) (old new : List Return) : Type 0 where
   pub from : (r : Return) → Contains new r → Contains old r ⊎ ((r.generation ≡ n) × IsBackIn lines r.place)
   pub kept : (r : Return) → Contains old r → Contains new r

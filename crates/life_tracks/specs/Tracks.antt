@@ -1,4 +1,4 @@
--- A class of a film's first generation that comes back, and the way along which it does.
+-- A class of a film's first generation that comes back, and its way until then.
 use Rattle.std.specs.Prelude.{◌≡◌, ◌≢◌, ℕ, suc, ◌-◌, ◌<◌, ◌≤◌, List, refl}
 use Rattle.std.specs.Coded.{Coded, code_by, coded×, coded_list, coded_ℕ}
 use Rattle.std.specs.List.{Contains}
@@ -9,11 +9,11 @@ use Rattle.life_model.specs.Rule.{Rule}
 use Rattle.life_model.specs.Evolution.{next}
 use Rattle.life_model.specs.Symmetry.{translate_of}
 use Rattle.life_objects.specs.Union.{union}
-use Rattle.life_growth.specs.Engines.Tracks.{Step, way_along}
-use Rattle.life_growth.specs.Engine.{IsEngine, Way}
-use Rattle.life_growth.specs.Unsplit.{IsUnsplit}
+use Rattle.life_objects.specs.Growth.Engines.Tracks.{Step, way_along}
+use Rattle.life_objects.specs.Growth.Engine.{IsEngine, Way}
+use Rattle.life_objects.specs.Growth.Unsplit.{IsUnsplit}
 
--- The class in a place goes along a track: after each step its core, and what left in the step.
+-- The class in a place goes along a track. Each step has the core after it, and what left in it.
 pub record Path : Type 0 where
   pub place : ℕ
   pub start : Generation
@@ -29,8 +29,8 @@ coded_path =
 abbrev pub way_of : Path → Way
 way_of path = way_along path.start path.steps
 
--- E comes back, moved or not, along this way within T generations, and not sooner. Each core is unsplit up to generation T;
--- it and what left in the step are what the core before becomes; and once at least something leaves.
+-- E comes back for the first time, moved or not, along this way within T generations. Each core is unsplit up to
+-- generation T. A core and what left in its step are what the core before becomes. At least once something leaves.
 pub record ComesBack (R : Rule) (T : ℕ) (E : Generation) (way : Way) : Type 0 where
   pub start : way.core 0 ≡ E
   pub later : 1 ≤ way.period

@@ -1,5 +1,5 @@
-//! The classes of each generation of a film: the sets into which it splits that stay apart up to the film's end. All
-//! generations are made once, and read backwards.
+//! The classes of each generation of a film: the finest split of the generation into sets that stay apart up to the
+//! film's end. All generations are made once, and read backwards.
 
 mod bearers;
 mod film;

@@ -1,7 +1,7 @@
 //! The classes of a film's first generation that come back, moved or not, and what leaves them on the way. `frames` has the
 //! classes of each generation of a film.
 //!
-//! Tested in `tests_growth`.
+//! Tested in `tests_objects`.
 #![tactic(auto)]
 
 mod frames;

@@ -22,7 +22,7 @@ pub struct Line {
     pub is_back: bool,
     /// Whether some class after the first, up to the one at which the line came back, has a sibling.
     pub has_left: bool,
-    /// Whether the last class is the first one, moved, none between is so, and something has left.
+    /// Whether the last class is the first one, moved, no class in between is, and something has left.
     pub is_return: bool,
 }
 
@@ -34,7 +34,7 @@ pub fn class_in(classes: &[CellList], place: usize) -> &CellList
     &classes[place]
 }
 
-/// Whether another class has the same parent as one.
+/// Whether another class has the same parent as this one.
 fn has_sibling(parents: &[usize], place: usize) -> bool
     requires { place < length parents.now }
     ensures yes { result ≡ true → (j : ℕ) × IsSibling parents.now place j }
@@ -59,8 +59,8 @@ fn is_moved(from: &CellList, to: &CellList) -> bool
     }
 }
 
-/// The line that goes on from one whose first class is FIRST to the class LAST in some place, where these are the parents
-/// of its generation.
+/// The line that extends one from the class FIRST to the class LAST in a place. `parents` are the parents of LAST's
+/// generation.
 fn line_on(
     first: &CellList,
     last: &CellList,
@@ -107,7 +107,7 @@ pub fn first_lines(alloc: Global, film: &Film) -> Result<Vec<Line>, AllocError>
     Ok(lines)
 }
 
-/// The lines to the classes of a generation, by those to the classes of the one before.
+/// The lines to the classes of a generation, from those to the classes of the one before.
 pub fn later_lines(
     alloc: Global,
     film: &Film,

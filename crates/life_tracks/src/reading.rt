@@ -13,14 +13,14 @@ use life_cells::CellList;
 use life_classes::union;
 use std::alloc::{AllocError, Global};
 
-/// The same set again.
+/// A copy of the set.
 fn copied(alloc: Global, cells: &CellList) -> Result<CellList, AllocError>
     ensures { IfOk result (λ copy. copy ≡ cells.now) }
 {
     Ok(CellList::from_ordered(cells.as_slice().to_vec(alloc)?))
 }
 
-/// A set and the class in a place, where that has the same parent as one and is another.
+/// A set, united with the class in a place if that is a sibling of a given class.
 fn with_sibling(
     alloc: Global,
     left: CellList,
@@ -44,7 +44,7 @@ fn with_sibling(
     Ok(more)
 }
 
-/// The cells of the classes with the same parent as one, without its own.
+/// The cells of the siblings of a class.
 fn left_beside(
     alloc: Global,
     classes: &[CellList],

@@ -28,7 +28,7 @@ fn add_returns(found: &mut Vec<Return>, lines: &[Line], generation: usize) -> Re
     Ok(())
 }
 
-/// The classes at which the lines of a film come back for the first time, where something has left on the way.
+/// The classes at which the lines of a film come back for the first time, if something has left on the way.
 pub fn returns(alloc: Global, film: &Film) -> Result<Vec<Return>, AllocError>
     requires { IsLinkedFilm film.now }
     ensures { IfOk result (λ found. AreReturns (classes_at film.now) (parents_at film.now) (last_of film.now) found.items) }

@@ -1,6 +1,6 @@
 //! Tracks, as contracts and callers see them.
 ghost use Rattle.std.specs.Prelude.{◌≡◌, length};
-ghost use Rattle.life_growth.specs.Engines.Tracks.{core_along};
+ghost use Rattle.life_objects.specs.Growth.Engines.Tracks.{core_along};
 ghost use Rattle.life_tracks.specs.Tracks.{way_of};
 
 use life_cells::{CellList, corner};
@@ -17,7 +17,7 @@ pub struct Step {
 impl Model for Step {
     ghost use Rattle.life_model.specs.Coded.{coded_generation};
     ghost use Rattle.std.specs.Coded.{coded×};
-    ghost use Rattle.life_growth.specs.Engines.Tracks as tracks;
+    ghost use Rattle.life_objects.specs.Growth.Engines.Tracks as tracks;
 
     ghost Value = { tracks.Step };
 
@@ -59,7 +59,7 @@ fn end_of<'a>(start: &'a CellList, steps: &'a [Step]) -> &'a CellList
     steps[steps.len() - 1].core()
 }
 
-/// A class of a film's first generation that comes back, and the way along which it does.
+/// A class of a film's first generation that comes back, and its way until then.
 #[derive(Drop)]
 pub struct Track {
     place: usize,
@@ -119,7 +119,7 @@ impl Track {
         self.steps.len()
     }
 
-    /// How far it has moved then.
+    /// Its displacement when it comes back.
     pub fn displacement(&self) -> (i32, i32)
         ensures { result ≡ (way_of self.now).displacement }
     {

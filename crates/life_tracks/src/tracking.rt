@@ -3,7 +3,7 @@ ghost use Rattle.std.specs.Prelude.{◌≡◌, ℕ, ◌+◌, ◌≤◌, ◌<◌,
 ghost use Rattle.std.specs.List.{All, Contains};
 ghost use Rattle.life_model.specs.Generation.{Generation, empty};
 ghost use Rattle.life_model.specs.Rule.{Rule};
-ghost use Rattle.life_growth.specs.Engine.{IsEngine, Way};
+ghost use Rattle.life_objects.specs.Growth.Engine.{IsEngine, Way};
 ghost use Rattle.life_tracks.specs.Frames.Frames.{IsFilm, classes_at, parents_at};
 ghost use Rattle.life_tracks.specs.Films.{IsLinkedFilm, IsReturnOf, IsTrackOf};
 ghost use Rattle.life_tracks.specs.Readings.{AreReadOff};
@@ -30,8 +30,8 @@ fn tracks_to(alloc: Global, film: &Film, found: &[Return]) -> Result<Vec<Track>,
 
 /// All tracks along which classes of a film's first generation come back within the film and leave something.
 ///
-/// The time is mostly that of comparing, in each generation, each class that has not come back yet with the one from which
-/// it comes, and of looking for others with the same parent.
+/// Most of the time is spent on comparing, in each generation, each class that has not come back yet with the one from
+/// which it comes, and on looking for others with the same parent.
 pub fn tracks(alloc: Global, film: &Film) -> Result<Vec<Track>, AllocError>
     requires { (R : Rule) × (G : Generation) × (T : ℕ) × IsFilm R G T film.now }
     ensures right { IfOk result (λ tracks. (R : Rule) (G : Generation) (T : ℕ) → IsFilm R G T film.now →

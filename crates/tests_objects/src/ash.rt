@@ -1,4 +1,5 @@
 //! Patterns of Life whose ash is known, and the codes of its parts.
+use crate::beginnings::{GUN, PENTOMINO};
 use life_answer::{Finding, Outcome, Part};
 use life_cells::{CellList, Rule};
 use life_census::census;
@@ -6,9 +7,9 @@ use life_plane::{ListPlane, Unobserved};
 use std::alloc::{AllocError, Global};
 use std::process::Abort;
 use std::test::Fail;
-use tests_things::{GUN, PENTOMINO};
 
-// Within how many generations growth is looked for: fewer than the period of the gun, which so is neither ash nor growth.
+// Within how many generations growth is looked for. They are fewer than the period of the gun, which is therefore
+// neither ash nor growth.
 const HORIZON: u32 = 10;
 
 // A glider that goes away from a block.
@@ -99,7 +100,7 @@ const VANISHING: &[(i32, i32)] = &[
     (41, 3),
 ];
 
-// A glider that makes a honey farm of a block, and a block far off.
+// A glider that turns a block into a honey farm, and a block far off.
 const FARMING: &[(i32, i32)] = &[
     (1, 0),
     (2, 1),
@@ -138,7 +139,7 @@ const REPLICATOR: &[(i32, i32)] = &[
 /// The onset of ash, and how many of its parts have each code.
 type Told = (u32, &'static [(&'static str, u64)]);
 
-/// Cells, a bound, and what is told where there is ash.
+/// Cells, a bound, and what is reported if there is ash.
 type Case = (&'static [(i32, i32)], u32, Option<Told>);
 
 const CASES: &[Case] = &[
@@ -149,7 +150,7 @@ const CASES: &[Case] = &[
     (LIGHTS, 20, Some((0, &[("xp2_7", 4)]))),
 ];
 
-// Whether parts have these codes, each so often.
+// Whether parts have these codes, each with this count.
 fn are_parts(parts: &[Part], expected: &[(&str, u64)]) -> bool {
     for (part, (code, count)) in parts.iter().zip(expected) {
         if part.code.as_slice() != code.as_bytes() || part.count != *count {
@@ -170,7 +171,7 @@ fn is_found(finding: &Finding, expected: Option<Told>) -> bool {
     }
 }
 
-// Patterns of which the independent parts are counted.
+// Patterns whose independent parts are counted.
 const CASES_OF_PARTS: &[Case] = &[
     (APART, 4, Some((0, &[("xs4_33", 1), ("xq4_153", 1)]))),
     (MEETING, 10, None),
@@ -181,7 +182,7 @@ const CASES_OF_PARTS: &[Case] = &[
     (FARMING, 102, Some((102, &[("xs4_33", 1), ("xs6_696", 4)]))),
 ];
 
-// Patterns that become ash soon after the bound, or have become it just then.
+// Patterns that become ash soon after the bound, or just before it.
 const CASES_ABOUT_THE_BOUND: &[Case] = &[
     (VANISHING, 60, None),
     (VANISHING, 69, None),
@@ -292,7 +293,7 @@ fn what_grows_has_none(rt: HostRuntime) -> Result<(), Fail> {
     )
 }
 
-/// What stands among the blocks of a grid, a bound, and what is told where there is ash.
+/// What is among the blocks of a grid, a bound, and what is reported if there is ash.
 const CASES_AMONG_BLOCKS: &[Case] = &[
     (&[], 4, Some((0, &[("xs4_33", 40)]))),
     // another block, near one of them
@@ -335,7 +336,7 @@ fn among_blocks(alloc: Global, others: &[(i32, i32)]) -> Result<Vec<(i32, i32)>,
     Ok(cells)
 }
 
-// The cells with x and y in each other's place, so that a grid that was wide is tall.
+// The cells with x and y swapped, so that a grid that was wide is tall.
 fn turned(alloc: Global, cells: &[(i32, i32)]) -> Result<Vec<(i32, i32)>, AllocError> {
     let mut places = Vec::new(alloc);
     for (x, y) in cells {

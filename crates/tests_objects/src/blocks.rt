@@ -14,7 +14,7 @@ const THREE_OBJECTS: &[u8] = b"x = 43, y = 24\n2o$2o8$20b3o12$41bo$42bo$40b3o!";
 const LIGHT: &[u8] = b"x = 23, y = 23\n4bo$4bo$4bo2$3o3b3o2$4bo$4bo$4bo12$21bo$22bo$20b3o!";
 
 // A methuselah, which takes 5,206 generations to fall apart.
-const ACORN: &[u8] = b"x = 7, y = 3, rule = B3/S23\nbo$3bo$2o2b3o!";
+pub const ACORN: &[u8] = b"x = 7, y = 3, rule = B3/S23\nbo$3bo$2o2b3o!";
 
 // Gosper's gun.
 const GUN: &[u8] = b"x = 36, y = 9, rule = B3/S23
@@ -22,7 +22,7 @@ const GUN: &[u8] = b"x = 36, y = 9, rule = B3/S23
 obo$10bo5bo7bo$11bo3bo$12b2o!
 ";
 
-// What is asked where the words say nothing else.
+// What is asked unless the words say otherwise.
 const USUAL: Inquiry = Inquiry {
     bound: 10_000,
     cells: 1_000_000,
@@ -31,7 +31,7 @@ const USUAL: Inquiry = Inquiry {
     form: Form::Lines,
 };
 
-/// A text, the bound, and the block, whether or not what is near is one object.
+/// A text, the bound, and the block, which does not depend on whether what is near is one object.
 type Case = (&'static [u8], u32, &'static str);
 
 const BLOCKS: &[Case] = &[
@@ -47,7 +47,7 @@ const BLOCKS: &[Case] = &[
         20,
         "rule B3/S23\npopulation 9\nbox 5 4\nonset 0\nperiod 4\ndisplacement -2 0\napgcode xq4_6frc\n",
     ),
-    // What settles is told as one.
+    // What settles is reported as one object.
     (
         b"x = 9, y = 2\n3o4b2o$7b2o!",
         20,
@@ -185,7 +185,7 @@ fn growth_is_told_within_the_horizon_and_the_cells(rt: HostRuntime) -> Result<()
     Ok(())
 }
 
-/// The file, a text, the bound, how many cells a generation may have, and the object.
+/// The file, a text, the bound, the limit of cells in a generation, and the object.
 type JsonCase = (Option<&'static [u8]>, &'static [u8], u32, u32, &'static str);
 
 const OBJECTS: &[JsonCase] = &[
@@ -288,7 +288,7 @@ fn a_file_is_told_in_lines(rt: HostRuntime) -> Result<(), Fail> {
 // Names of some objects. One is in quotation marks, and has a byte that is not UTF-8.
 const NAMES: &[u8] = b"# objects\nxs4_33\tblock\nxq4_153\t\"gl\xff\"\n";
 
-/// The form, a text, the bound, and what is told where objects have names.
+/// The form, a text, the bound, and what is reported if objects have names.
 type NamedCase = (Form, &'static [u8], u32, &'static [u8]);
 
 const NAMED: &[NamedCase] = &[
@@ -298,7 +298,7 @@ const NAMED: &[NamedCase] = &[
         100,
         b"rule B3/S23\npopulation 5\nbox 3 3\nonset 0\nperiod 4\ndisplacement 1 1\napgcode xq4_153\nname \"gl\xff\"\n",
     ),
-    // A blinker, which has none.
+    // A blinker, which has no name.
     (
         Form::Lines,
         b"x = 3, y = 1\n3o!",

@@ -1,4 +1,6 @@
 //! Small patterns of Life whose classes are known.
+
+use crate::beginnings::GLIDER;
 use life_cells::{CellList, Rule};
 use life_classes::classes;
 use life_plane::{AGE_LIMIT, ListPlane, Plane};
@@ -22,9 +24,6 @@ const BLINKERS: &[(i32, i32)] = &[(0, 0), (1, 0), (2, 0), (0, 4), (1, 4), (2, 4)
 
 // Two cells that die, and a block.
 const SPARK: &[(i32, i32)] = &[(0, 0), (1, 0), (9, 9), (10, 9), (9, 10), (10, 10)];
-
-// A glider is one piece in each generation.
-const GLIDER: &[(i32, i32)] = &[(1, 0), (2, 1), (0, 2), (1, 2), (2, 2)];
 
 /// Cells, a bound, and how many cells each class has at first, and at last.
 type Case = (&'static [(i32, i32)], u32, &'static [(usize, usize)]);

@@ -1,4 +1,4 @@
-//! Texts of every fault, and the lines that tell them.
+//! Texts with every fault, and the lines that report them.
 
 use census_faults::{
     Fault, RuleKind, fault_line, line_and_column, place_of, rule_kind, sentence, sentence_line,
@@ -8,7 +8,7 @@ use std::alloc::Global;
 use std::process::Abort;
 use std::test::Fail;
 
-/// A text, and the line that tells its fault.
+/// A text, and the line that reports its fault.
 type Told = (&'static [u8], &'static [u8]);
 
 // Whether the fault of each text has its line.

@@ -2,6 +2,7 @@
 ghost use Rattle.std.specs.Prelude.{◌≡◌, IfOk, IfSome};
 ghost use Rattle.life_cells.specs.Rules.{life};
 
+use crate::beginnings::GLIDER;
 use life_cells::{CellFault, CellList, Rule};
 use life_orbit::Orbit;
 use std::alloc::{AllocError, Global};
@@ -17,15 +18,12 @@ const FAR_BLINKER: Cells = &[(5, 9), (5, 10), (5, 11)];
 // It lies flat in the next generation, and is then near the block.
 const NEAR_BLINKER: Cells = &[(4, 9), (4, 10), (4, 11)];
 
-// It flies to the right and down.
-const GLIDER: Cells = &[(1, 0), (2, 1), (0, 2), (1, 2), (2, 2)];
-
 const SECOND_GLIDER: Cells = &[(21, 0), (22, 1), (20, 2), (21, 2), (22, 2)];
 
 // It flies to the left and up, to where the first one comes from.
 const MEETING_GLIDER: Cells = &[(41, 42), (40, 41), (42, 40), (41, 40), (40, 40)];
 
-// The same, past the first one.
+// A glider that flies to the left and up, past the first one.
 const MISSING_GLIDER: Cells = &[(61, 42), (60, 41), (62, 40), (61, 40), (60, 40)];
 
 // It flies to the left and down, through the columns of the first one, in rows that are far from that one's.
@@ -37,10 +35,10 @@ const GLIDER_BELOW: Cells = &[
     (100_000, 14),
 ];
 
-// The same in rows that are near.
+// A glider that flies to the left and down, in rows that are near those of the first one.
 const NEAR_BELOW: Cells = &[(39, 4), (38, 5), (38, 6), (39, 6), (40, 6)];
 
-// The same one row further down, which is far enough.
+// A glider one row further down, which is far enough.
 const NEXT_BELOW: Cells = &[(39, 5), (38, 6), (38, 7), (39, 7), (40, 7)];
 
 // It flies to the right and up, through the rows of the first one, in columns that are far from that one's.
@@ -52,7 +50,7 @@ const GLIDER_BESIDE: Cells = &[
     (13, 100_002),
 ];
 
-// The same in columns that are near.
+// A glider that flies to the right and up, in columns that are near those of the first one.
 const NEAR_BESIDE: Cells = &[(4, 40), (5, 40), (6, 40), (6, 41), (5, 42)];
 
 // It flies to the left and up from far away, to where the first one comes from.
@@ -64,7 +62,7 @@ const FAR_MEETING_GLIDER: Cells = &[
     (1_000_040, 1_000_040),
 ];
 
-// The same 20 columns further to the right, where it flies past the first one.
+// A glider 20 columns further to the right, where it flies past the first one.
 const FAR_MISSING_GLIDER: Cells = &[
     (1_000_061, 1_000_042),
     (1_000_060, 1_000_041),
@@ -73,7 +71,7 @@ const FAR_MISSING_GLIDER: Cells = &[
     (1_000_060, 1_000_040),
 ];
 
-// Into which the first glider flies.
+// The first glider flies into it.
 const FAR_BLOCK: Cells = &[
     (1_000_000, 1_000_000),
     (1_000_001, 1_000_000),
@@ -81,7 +79,7 @@ const FAR_BLOCK: Cells = &[
     (1_000_001, 1_000_001),
 ];
 
-// Past which it flies.
+// The first glider flies past it.
 const BLOCK_BESIDE_THE_WAY: Cells = &[
     (1_000_020, 1_000_000),
     (1_000_021, 1_000_000),
@@ -102,7 +100,7 @@ const PAIRS: &[(Cells, Cells, bool)] = &[
     (GLIDER, NEAR_BESIDE, false),
 ];
 
-// Millions of generations pass before these meet or have passed each other, of which a few are looked at.
+// Millions of generations pass before these meet or have passed each other. A few of those are looked at.
 const FAR_PAIRS: &[(Cells, Cells, bool)] = &[
     (GLIDER, FAR_MEETING_GLIDER, false),
     (GLIDER, FAR_MISSING_GLIDER, true),
@@ -134,7 +132,7 @@ fn is_apart(
     Ok(Some(one.is_apart_for_ever_from(&other)))
 }
 
-/// A square of 400 blocks, each eight places from the next, from this place on in both directions.
+/// A square of 400 blocks, each eight cells from the next, starting at this place in both directions.
 fn blocks(alloc: Global, start: u8) -> Result<Vec<(i32, i32)>, AllocError> {
     let mut cells = Vec::new(alloc);
     for row in 0..20u16 {

@@ -1,4 +1,4 @@
-//! Totals of stretches that are too uneven for what comes again within one.
+//! Totals of stretches that are too uneven for something that recurs within one stretch.
 use life_strays::is_uneven;
 use std::process::Abort;
 

@@ -1,5 +1,6 @@
-//! Words that name files or standard input, and what is told of them.
+//! Words that name files or standard input, and what is reported of them.
 
+use crate::blocks::ACORN;
 use census_facts::{Form, Names};
 use census_folders::{Shelf, ShelfFault, Unread};
 use census_identify::{Inquiry, Onlooker, Unseen, identify};
@@ -10,13 +11,10 @@ use watched::Streams;
 
 const GLIDER: &[u8] = b"x = 3, y = 3, rule = B3/S23\nbo$2bo$3o!";
 
-// It goes on for some thousand generations.
-const ACORN: &[u8] = b"x = 7, y = 3, rule = B3/S23\nbo$3bo$2o2b3o!";
-
 const GLIDER_LINES: &str =
     "rule B3/S23\npopulation 5\nbox 3 3\nonset 0\nperiod 4\ndisplacement 1 1\napgcode xq4_153\n";
 
-// Files by their paths. What is under no path is no regular file.
+// Files by their paths. A path without a file is no regular file.
 struct Shown {
     files: &'static [(&'static str, &'static [u8])],
 }
@@ -141,7 +139,7 @@ fn words_are_told(rt: HostRuntime) -> Result<(), Fail> {
     Ok(())
 }
 
-// The latest generation of standard input that was told.
+// The latest generation of standard input that was reported.
 #[derive(Drop)]
 struct Furthest {
     generation: AtomicU32,

@@ -1,4 +1,4 @@
-//! Planes of each kind: gliders that cross the corners of tiles, copies, and planes that begin at an age.
+//! Planes of each kind: gliders that cross the corners of tiles, copies, and planes that start at an age.
 
 use crate::evolved::{after, shows, step};
 use life_board::Board;
@@ -12,19 +12,19 @@ use std::test::Fail;
 // A glider that moves to the right and down, across the corner of four tiles.
 const DOWN: &[(i32, i32)] = &[(63, 62), (64, 63), (62, 64), (63, 64), (64, 64)];
 
-// The same after 200 generations.
+// The glider after 200 generations.
 const DOWN_50: &[(i32, i32)] = &[(113, 112), (114, 113), (112, 114), (113, 114), (114, 114)];
 
 // A glider that moves to the right and down, from the corner of four tiles.
 const CORNER: &[(i32, i32)] = &[(37, 36), (38, 37), (36, 38), (37, 38), (38, 38)];
 
-// The same after 200 generations.
+// The glider after 200 generations.
 const CORNER_50: &[(i32, i32)] = &[(87, 86), (88, 87), (86, 88), (87, 88), (88, 88)];
 
 // A glider that moves to the left and up, past (0, 0).
 const UP: &[(i32, i32)] = &[(1, 2), (0, 1), (2, 0), (1, 0), (0, 0)];
 
-// The same after 200 generations.
+// The glider after 200 generations.
 const UP_50: &[(i32, i32)] = &[(-50, -50), (-49, -50), (-48, -50), (-50, -49), (-49, -48)];
 
 fn gliders_move<P: Plane>(rt: &impl Abort, alloc: Global) -> Result<(), Fail> {
@@ -60,7 +60,7 @@ fn cells_take_the_place_of_others<P: Plane>(rt: &impl Abort, alloc: Global) -> R
     Ok(())
 }
 
-// The plane of the cells that a plane shows, of the same age.
+// A new plane with the cells and the age of a plane.
 fn begun_again<P: Plane>(rt: &impl Abort, alloc: Global, walked: &P) -> Result<P, AllocError> {
     let list = walked.cells()?;
     let age = walked.age();

@@ -41,7 +41,7 @@ fn two_blinkers_turn_across_the_edges_of_a_band(rt: HostRuntime) {
     west.set(63, 8, true);
     here.set(0, 8, true);
     here.set(1, 8, true);
-    // The other stands with its top in the last row.
+    // The other is upright, with its top in the last row.
     here.set(5, 15, true);
     here.set(5, 16, true);
     here.set(5, 17, true);

@@ -1,4 +1,4 @@
-//! Rule texts and lists of cells, by what they show.
+//! Rule texts and lists of cells, as seen from outside.
 
 use life_cells::{CellFault, CellList, Rule, RuleFault};
 use std::alloc::Global;

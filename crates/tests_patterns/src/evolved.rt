@@ -6,14 +6,14 @@ use std::alloc::{AllocError, Global};
 use std::process::Abort;
 use std::test::Fail;
 
-/// One generation more.
+/// Makes one more generation.
 pub fn step<P: Plane>(rt: &impl Abort, plane: &mut P, rule: &Rule) -> Result<(), Fail> {
     assert!(rt; plane.age() < AGE_LIMIT);
     plane.step(rule)?;
     Ok(())
 }
 
-/// The plane of these cells after so many generations.
+/// The plane of these cells after `steps` generations.
 pub fn after<P: Plane>(
     rt: &impl Abort,
     alloc: Global,

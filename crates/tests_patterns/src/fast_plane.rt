@@ -1,4 +1,4 @@
-//! The fast plane: spans and ways across tiles, another rule, and the tiles that it keeps.
+//! The fast plane: spans and displacements across tiles, another rule, and the tiles that it keeps.
 
 use crate::evolved::{after, shows, step};
 use life_cells::{CellList, Rule};
@@ -11,7 +11,7 @@ use std::test::Fail;
 // A glider that moves to the right and down, from the corner of four tiles.
 const CORNER: &[(i32, i32)] = &[(37, 36), (38, 37), (36, 38), (37, 38), (38, 38)];
 
-// The fast plane of these cells after so many generations of Life.
+// The fast plane of these cells after `steps` generations of Life.
 fn life_after(
     rt: &impl Abort,
     alloc: Global,
@@ -21,7 +21,7 @@ fn life_after(
     after(rt, alloc, cells, b"B3/S23", steps)
 }
 
-// Cells, how many generations of Life follow, and the span of what is then there.
+// Cells, how many generations of Life follow, and the span of the cells then.
 const SPANS: &[(&[(i32, i32)], u32, (i32, i32))] = &[
     (CORNER, 0, (1, 2)),
     (&[(5, 1000), (900, 3)], 0, (-895, 997)),
@@ -36,7 +36,7 @@ fn the_span_is_from_the_first_cell_to_the_last(rt: HostRuntime) -> Result<(), Fa
     Ok(())
 }
 
-// Asserts how far the later plane is from the earlier one, which shows these cells, by both ways to ask it.
+// Asserts how far the later plane is from the earlier one, which has these cells, in both ways to ask.
 fn is_offset(
     rt: &impl Abort,
     earlier: &[(i32, i32)],
@@ -71,10 +71,10 @@ fn no_cells_are_where_they_were(rt: HostRuntime) -> Result<(), Fail> {
     is_offset(&rt, &[], &none, Some((0, 0)), rt.alloc())
 }
 
-// A row of three that Life turns by each generation.
+// A row of three, which Life turns in each generation.
 const ROW: &[(i32, i32)] = &[(37, 38), (38, 38), (39, 38)];
 
-// The same a generation later.
+// The column that the row becomes a generation later.
 const COLUMN: &[(i32, i32)] = &[(38, 37), (38, 38), (38, 39)];
 
 #[test]

@@ -11,7 +11,7 @@ use std::test::Fail;
 // A glider that moves to the right and down: by one in both directions every 4 generations.
 const GLIDER: &[(i32, i32)] = &[(1, 0), (2, 1), (0, 2), (1, 2), (2, 2)];
 
-// Where it begins: within the middle, at its corners and across the edges of leaves.
+// Where it starts: within the middle, at its corners and across the edges of leaves.
 const STARTS: &[(i32, i32)] = &[
     (24, 24),
     (10, 11),
@@ -22,7 +22,7 @@ const STARTS: &[(i32, i32)] = &[
     (43, 43),
 ];
 
-// What becomes of the middle of the square that these cells make, of columns and rows 0 to 63.
+// What becomes of the middle of a square of these cells, in columns and rows 0 to 63.
 fn middle_after(rt: &impl Abort, cells: &[(i32, i32)], rule: &Rule, generations: u32) -> Leaf {
     let four = FourLeaves {
         north_west: &Leaf::of(cells, (0, 0)),
@@ -47,7 +47,7 @@ fn glider_at(rt: &impl Abort, alloc: Global, x: i32, y: i32) -> Result<Vec<(i32,
 
 #[test]
 fn gliders_move_through_the_middle(rt: HostRuntime) -> Result<(), Fail> {
-    // Gliders of Conway's Life and of HighLife are the same.
+    // The glider behaves alike in Conway's Life and in HighLife.
     for text in [b"B3/S23".as_slice(), b"B36/S23".as_slice()] {
         let rule = Rule::parse(text)?;
         for (x, y) in STARTS {

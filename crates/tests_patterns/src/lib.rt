@@ -2,7 +2,7 @@
 //! patterns become.
 //!
 //! Each example's answer was worked by hand or is known from elsewhere: patterns of LifeWiki by their period, displacement
-//! and apgcode, gliders by where they go, texts as their format has them.
+//! and apgcode, gliders by where they go, texts by their format.
 //!
 //! What the built program makes of texts, codes and patterns, and of random cells under many rules, is in `checks/rows`.
 #![tactic(auto)]

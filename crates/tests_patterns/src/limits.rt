@@ -1,5 +1,4 @@
-//! Patterns of which no generation may have more than some number of cells: a blinker, the pi-heptomino, and one cell
-//! that grows.
+//! Patterns with a limit on the number of cells in a generation: a blinker, the pi-heptomino, and one cell that grows.
 ghost use Rattle.std.specs.Prelude.{◌≤◌};
 
 use life_answer::{Answer, Finding, Outcome};
@@ -11,9 +10,9 @@ use std::alloc::Global;
 use std::process::Abort;
 use std::test::Fail;
 
-/// A pattern, a bound, and how many cells a generation may have; and what is known of it: its population, its onset,
-/// period and code where it settles within the bound and the limit, and the first generation past the limit where
-/// there is one.
+/// A pattern, a bound, and how many cells a generation may have; and what is known of it: its population; its onset,
+/// period and code if it settles within the bound and the limit; and the first generation beyond the limit if there is
+/// one.
 #[derive(Clone, Copy)]
 struct Example {
     text: &'static [u8],
@@ -146,11 +145,11 @@ const SETTLING: &[Example] = &[
     },
 ];
 
-// No cell dies. The populations are 1, 9, 13, 33, .., 465 and 469 of generations 15 and 16, 489 and 509 of the next
-// two, and 7,301 of generation 64, the first past 7,300.
+// No cell dies. The populations are 1, 9, 13, 33, .., 465 and 469 in generations 15 and 16, 489 and 509 in the next
+// two, and 7,301 in generation 64, the first with more than 7,300.
 const CELL: &[u8] = b"x = 1, y = 1, rule = B1/S012345678\no!";
 
-/// A bound, how many cells a generation may have, and the first generation past the limit, where there is one.
+/// A bound, how many cells a generation may have, and the first generation beyond the limit if there is one.
 const GROWTHS: &[(u32, u32, Option<u32>)] = &[
     (BOUND_LIMIT, 0, Some(0)),
     (BOUND_LIMIT, 8, Some(1)),
@@ -179,7 +178,7 @@ fn a_growing_pattern_is_too_large_in_the_end(rt: HostRuntime) -> Result<(), Fail
     Ok(())
 }
 
-// Whether this is soon found of the text, or nothing where it is not to be.
+// Whether the early generations of the text show what is known of it, or leave it open if it is not known so soon.
 fn is_soon_found(alloc: Global, example: &Example, is_soon: bool) -> Result<bool, Fail>
     requires { 1 ≤ example.now.bound × example.now.bound ≤ BOUND_LIMIT }
 {
@@ -193,7 +192,7 @@ fn is_soon_found(alloc: Global, example: &Example, is_soon: bool) -> Result<bool
     )
 }
 
-/// What the first 256 generations tell, or leave open.
+/// What the first 256 generations show, or leave open.
 const SOON: &[(Example, bool)] = &[
     (
         Example {

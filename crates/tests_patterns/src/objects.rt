@@ -11,7 +11,7 @@ type Cells = &'static [(i32, i32)];
 
 const GLIDER: Cells = &[(1, 0), (2, 1), (0, 2), (1, 2), (2, 2)];
 
-// A glider that goes the other way, two generations on.
+// A glider that flies the other way, two generations later.
 const MIRRORED_GLIDER: Cells = &[(5, 1), (5, 2), (7, 2), (5, 3), (6, 3)];
 
 const BLOCK: Cells = &[(0, 0), (1, 0), (0, 1), (1, 1)];
@@ -22,7 +22,7 @@ const BLINKER: Cells = &[(0, 0), (1, 0), (2, 0)];
 
 const METHUSELAH: Cells = &[(1, 0), (2, 0), (0, 1), (1, 1), (1, 2)];
 
-// Whether these become one object within ten generations, where both settle.
+// Whether these become one object within ten generations, if both settle.
 fn told(rt: &impl Abort, alloc: Global, first: Cells, second: Cells) -> Result<Option<bool>, Fail> {
     let first = CellList::of(alloc, first)?;
     let second = CellList::of(alloc, second)?;

@@ -14,7 +14,7 @@ use std::test::Fail;
 /// Onset, period, displacement and code.
 type Settled = (u32, u32, (i32, i32), &'static [u8]);
 
-/// A pattern and a bound, and what is known of it: its population, and how it settles within the bound, where it does.
+/// A pattern and a bound, and what is known of it: its population, and how it settles within the bound, if it does.
 #[derive(Clone, Copy)]
 struct Example {
     text: &'static [u8],
@@ -98,7 +98,7 @@ const EXAMPLES: &[Example] = &[
     },
 ];
 
-// Gosper's glider gun, which never comes again, and two gliders, moving towards each other, of which nothing is left at
+// Gosper's glider gun, which never recurs, and two gliders, moving towards each other, of which nothing is left at
 // generation 6,048.
 const LONG_EXAMPLES: &[Example] = &[
     Example {
@@ -150,7 +150,7 @@ fn patterns_are_found_on_the_board(rt: HostRuntime) -> Result<(), Fail> {
     check::<Board>(&rt, rt.alloc())
 }
 
-// The texts of these examples are answered by what is known of them.
+// The answers to the texts of these examples are what is known of them.
 fn check_answers(rt: &impl Abort, alloc: Global, examples: &[Example]) -> Result<(), Fail> {
     for example in examples {
         let bound = example.bound;

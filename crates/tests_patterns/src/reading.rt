@@ -1,4 +1,4 @@
-//! RLE texts that are read.
+//! Reading RLE texts.
 
 use life_cells::Rule;
 use life_text::{RleFault, RuleFault, read_rle};

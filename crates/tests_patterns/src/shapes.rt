@@ -94,7 +94,7 @@ fn what_is_read_is_written_again(rt: HostRuntime) -> Result<(), Fail> {
 
 const GLIDER: &[(i32, i32)] = &[(6, 8), (7, 9), (5, 10), (6, 10), (7, 10)];
 
-// The same with x and y in each other's place, at the origin.
+// Those cells with x and y swapped, at the origin.
 const SWAPPED: &[(i32, i32)] = &[(2, 0), (0, 1), (2, 1), (1, 2), (2, 2)];
 
 #[test]

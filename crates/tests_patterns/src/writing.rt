@@ -1,4 +1,4 @@
-//! RLE texts that are written.
+//! Writing RLE texts.
 
 use life_cells::{CellList, Rule};
 use life_text::{Pattern, write_rle};

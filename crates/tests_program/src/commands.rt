@@ -1,4 +1,4 @@
-//! What the program answers to a command line: its exit status and what stands on its standard streams.
+//! What the program answers to a command line: its exit status and what it writes to its standard streams.
 
 use crate::bundles::{DEMO, DEMO_REPORT};
 use crate::ends::Broken;
@@ -28,7 +28,7 @@ pub(crate) type Call = (
     &'static [u8],
 );
 
-// Whether this is what a call answers, with a reader in the place of standard input.
+// Whether this is what a call answers, with a reader as standard input.
 pub(crate) fn is_answer<I: Read + Drop, R: Threads + Wait + Sync + Files + Alloc + Clone + Drop>(
     rt: &R,
     alloc: Global,
@@ -244,8 +244,8 @@ close 1 3 2 0 1
 end 1 3
 ";
 
-// The populations of the first: 5, 6, 7, 9, 8, 9, 12, 11, 18; of the second 9 and 12 in turn; of the third: 4, 7, 6, 6, 8, 8, 12,
-// 12, 20.
+// The populations of the first are 5, 6, 7, 9, 8, 9, 12, 11, 18, those of the second alternate between 9 and 12, and
+// those of the third are 4, 7, 6, 6, 8, 8, 12, 12, 20.
 const GROWING: &[u8] = b"@folder f
 @file r
 x = 3, y = 3
@@ -336,7 +336,7 @@ end 1 3
     ),
 ];
 
-// The status of words without standard input, and what stands on standard output and standard error.
+// The exit status for words without standard input, and what is written to standard output and standard error.
 fn answered<R: Threads + Wait + Sync + Files + Alloc + Clone + Drop>(
     rt: &R,
     alloc: Global,

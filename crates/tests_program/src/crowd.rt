@@ -6,10 +6,10 @@ use census_bundle::Ticket;
 use census_crew::Gate;
 use std::sync::atomic::{AtomicU64, Ordering};
 
-// How often a worker looks whether the others have come.
+// How often a worker checks whether the others have come.
 const TURNS: u64 = 1_000_000_000;
 
-/// Holds each worker until so many have entered, unless it gives up.
+/// Holds each worker until `awaited` have entered, unless it gives up.
 #[derive(Drop)]
 struct Crowd {
     awaited: u64,
@@ -65,7 +65,7 @@ fn as_many_workers_as_the_words_say_meet_at_the_gate(rt: HostRuntime) {
     }
 }
 
-// A gate that notes what it is told of runs.
+// A gate that notes what it learns of runs.
 #[derive(Drop)]
 struct Notes {
     patterns: u64,

@@ -9,7 +9,7 @@ use std::sync::Wait;
 use std::thread::Threads;
 
 // The exit status of the program with these words, standard input, standard output and standard error, and the last two
-// as they are then.
+// as they are afterwards.
 pub(crate) fn called<
     I: Read + Drop,
     O: Write + Drop,
@@ -28,7 +28,7 @@ pub(crate) fn called<
     )
 }
 
-// The same through a gate, where standard error is a terminal or not.
+// The exit status and the last two streams of a call through a gate, with or without a terminal as standard error.
 pub(crate) fn called_through<
     G: Gate,
     I: Read + Drop,

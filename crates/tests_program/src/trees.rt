@@ -1,4 +1,4 @@
-//! What the program reports of trees of folders, and where something can't be read.
+//! What the program reports of trees of folders, and of what can't be read there.
 
 use crate::bundles::{BLINKER, BLOCK};
 use crate::commands::{Call, is_answer};

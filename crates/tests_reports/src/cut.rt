@@ -1,4 +1,4 @@
-//! Reports that were cut: at each of their bytes, behind other reports, and where a line is wrong.
+//! Reports that were cut: at each of their bytes, after other reports, and if a line is wrong.
 
 use census_merge::{Cut, mend};
 use census_readback::fault_of;
@@ -26,7 +26,7 @@ end 3 4
 const NONE: &[u8] = b"end 0 0
 ";
 
-// Collection 3 alone, under number 1.
+// Only collection 3, under number 1.
 const ONE: &[u8] = b"open 1 1 c
 line 1 1 ash B3/S23 6 7 2 two
 part 1 1 xs4_33 2
@@ -50,7 +50,7 @@ close 1 2 1 1 0
 end 2 3
 ";
 
-// From how many whole lines on a text is mended to what, and how many collections are kept and left out.
+// From which number of whole lines on a text is mended to what, and how many collections are kept and left out.
 const STEPS: &[(usize, &[u8], u64, u64)] = &[
     (0, NONE, 0, 0),
     (1, NONE, 0, 1),
@@ -66,7 +66,7 @@ fn lines_in(text: &[u8]) -> usize {
     text.iter().filter(|byte| **byte == b'\n').count()
 }
 
-// What a text of so many whole lines is mended to, and where it was cut.
+// What a text of `lines` whole lines is mended to, and where it was cut.
 fn wanted(lines: usize) -> (&'static [u8], Cut) {
     let mut made = NONE;
     let mut cut = Cut {
@@ -116,7 +116,7 @@ fn whole_reports_stay_as_they_are(rt: HostRuntime) -> Result<(), Fail> {
     let (text, cut, line) = mended(alloc, WHOLE)?;
     assert_eq!(rt; text.as_slice(), WHOLE);
     assert!(rt; cut == None && line == 0);
-    // The first of two is whole. What stands behind its last line is no whole line.
+    // The first of two reports is whole. What comes after the last line of the second is no whole line.
     let (text, cut, line) = mended(
         alloc,
         b"end 0 0\nopen 1 0 x\nclose 1 0 0 0 0\nopen 2 1 y\nli",

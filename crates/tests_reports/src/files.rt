@@ -1,6 +1,7 @@
-//! Reports that files and standard input have, written as one report or as a table.
+//! Reports from files and standard input, written as one report or as a table.
 
 use crate::lines::lines_of;
+use crate::memory::{Leaf, Memory};
 use census_merge::Cut;
 use census_reports::{Form, Reading, ReportsError, write_reports};
 use census_rows::Row;
@@ -9,7 +10,6 @@ use std::alloc::{AllocError, Global};
 use std::io;
 use std::io::{ErrorKind, Read, Write};
 use std::test::Fail;
-use tests_inputs::{Leaf, Memory};
 use watched::Streams;
 
 const FIRST: &[u8] = b"open 1 2 a
@@ -83,13 +83,13 @@ const SHELF: Memory<'static> = Memory {
     ],
 };
 
-// Texts as they are, however long all are together.
+// Texts as they are, however long all of them are together.
 const PLAIN: Reading = Reading {
     cut: false,
     limit: None,
 };
 
-// Reads reports and writes them, and gives what was written.
+// Reads reports and writes them, and returns what was written.
 fn written<I: Read + Drop>(
     alloc: Global,
     form: Form<'_>,
@@ -201,7 +201,7 @@ const CASES: &[Case] = &[
     (Form::Merged, &[], FIRST, Ok(FIRST)),
     (Form::Merged, &["first", "-"], SECOND, Ok(MERGED)),
     (Form::Merged, &["-", "second"], FIRST, Ok(MERGED)),
-    // Files that are no reports: each text must be one by itself.
+    // Files that are not reports: each text must be a report by itself.
     (
         Form::Merged,
         &["first", "empty"],
@@ -250,7 +250,7 @@ fn reports_of_files_and_of_standard_input(rt: HostRuntime) -> Result<(), Fail> {
     Ok(())
 }
 
-// A report of so many collections, none of which has a pattern.
+// A report of `count` collections, none of which has a pattern.
 fn empty_collections(alloc: Global, count: u64) -> Result<Vec<u8>, AllocError> {
     let mut rows = Vec::new(alloc);
     for collection in 1..=count {
@@ -304,7 +304,7 @@ impl<'a> Read for FailingReader<'a> {
     }
 }
 
-/// Takes bytes until it holds as many as it has room for, and fails then.
+/// Takes bytes until its room is full, and then fails.
 #[derive(Drop)]
 pub(crate) struct FailingWriter {
     pub(crate) written: Vec<u8>,
@@ -349,7 +349,7 @@ fn streams_that_fail(rt: HostRuntime) -> Result<(), Fail> {
     Ok(())
 }
 
-// Merges reports that are read so, and gives what was written, or why nothing was, and where they were cut.
+// Merges reports that are read in this way, and returns what was written, or why nothing was, and where they were cut.
 fn merged_by(
     alloc: Global,
     reading: Reading,
@@ -369,7 +369,7 @@ fn merged_by(
 fn a_limit_counts_the_bytes_of_all_texts(rt: HostRuntime) -> Result<(), Fail> {
     let alloc = rt.alloc();
     let all = (FIRST.len() + SECOND.len()) as u64;
-    // Whether a text passes the limit, and the second word has none.
+    // Whether a text exceeds the limit. The second word then has no text.
     let cases: [(u64, &str, &[u8], bool); 6] = [
         (all, "second", b"", false),
         (all - 1, "second", b"", true),
@@ -392,7 +392,7 @@ fn a_limit_counts_the_bytes_of_all_texts(rt: HostRuntime) -> Result<(), Fail> {
             assert_eq!(rt; text.as_slice(), MERGED);
         }
     }
-    // The texts after the one that passes it are not read.
+    // The texts after the one that exceeds it are not read.
     let reading = Reading {
         cut: false,
         limit: Some(all - 1),
@@ -439,7 +439,7 @@ fn texts_that_were_cut_are_mended(rt: HostRuntime) -> Result<(), Fail> {
     wanted.extend_from_slice(&FIRST[..FIRST.len() - 8])?;
     wanted.extend_from_slice(b"open 2 0 d\nclose 2 0 0 0 0\nend 2 2\n")?;
     assert_eq!(rt; text.as_slice(), wanted.as_slice());
-    // A line that is wrong is told by its number in the text as it was read.
+    // A line that is wrong is reported by its number in the text as it was read.
     let wrong = b"open 1 0 x\nopen 2 0 y\nclose 2 0 0 0 0\nclose 3 0 0 0 0\n";
     let (result, text) = merged_by(alloc, reading, &["cut", "-"], wrong);
     assert!(rt; matches!(result, Err(ReportsError::Fault { text: 2, line: 4 })));

@@ -1,4 +1,4 @@
-//! Bytes that are told at once and are more than a block has.
+//! Bytes that are written at once and are more than a block holds.
 
 use crate::files::FailingWriter;
 use std::alloc::{AllocError, Global};
@@ -10,7 +10,7 @@ const FIRST: &[u8] = b"first ";
 
 const LAST: &[u8] = b" last";
 
-// 70,001 bytes, of which none is the one 65,536 places before it.
+// 70,001 bytes, none of which equals the byte 65,536 places before it.
 fn many(alloc: Global) -> Result<Vec<u8>, AllocError> {
     let mut bytes = Vec::new(alloc);
     for number in 0..70_001u32 {
@@ -19,7 +19,7 @@ fn many(alloc: Global) -> Result<Vec<u8>, AllocError> {
     Ok(bytes)
 }
 
-// Tells the first bytes, these and the last bytes.
+// Writes the first bytes, these and the last bytes.
 fn tell<W: Write>(alloc: Global, bytes: &[u8], writer: &mut Output<W>) -> Result<(), Failed> {
     let mut block = Block::new(alloc);
     put(FIRST, &mut block, writer);

@@ -1,4 +1,4 @@
-//! Reports with patterns that grow: read back, written again, merged and told as tables, and the line of a fault.
+//! Reports with patterns that grow: read back, written again, merged and turned into tables, and the line of a fault.
 
 use crate::lines::{lines_kept, rows_read};
 use crate::merging::merged;
@@ -117,17 +117,17 @@ const OF_ONE: &[(&[u8], usize)] = &[
     (b"engine 1 1 1 30 0 31 1\n", 3),
     (b"engine 1 1 1 30 0 -31 1\n", 3),
     (b"engine 1 1 1 30 0 -9223372036854775808 1\n", 3),
-    // Of another pattern or collection.
+    // An engine of another pattern or collection.
     (b"engine 1 2 1 30 0 0 1\n", 3),
     (b"engine 2 1 1 30 0 0 1\n", 3),
     (b"engine 1 1 1 30 0 0 1\nemits 1 2 1 xq4_153 1\n", 4),
     (b"engine 1 1 1 30 0 0 1\nemits 2 1 1 xq4_153 1\n", 4),
-    // What is emitted by another engine, or by none.
+    // Objects that another engine emits, or none.
     (b"engine 1 1 1 30 0 0 1\nemits 1 1 2 xq4_153 1\n", 4),
     (b"engine 1 1 1 30 0 0 1\nemits 1 1 0 xq4_153 1\n", 4),
     (b"emits 1 1 1 xq4_153 1\n", 3),
     (b"emits 1 1 0 xq4_153 1\n", 3),
-    // Codes that are none, twice the same, or out of order, and numbers out of range.
+    // Codes that are none, are repeated, or are out of order, and numbers out of range.
     (b"engine 1 1 1 30 0 0 1\nemits 1 1 1 glider 1\n", 4),
     (
         b"engine 1 1 1 30 0 0 1\nemits 1 1 1 xq4_153 1\nemits 1 1 1 xq4_153 1\n",
@@ -154,12 +154,12 @@ const OF_ONE: &[(&[u8], usize)] = &[
         b"engine 1 1 1 30 0 0 1\nemits 1 1 1 xq4_153 18446744073709551616\n",
         4,
     ),
-    // An engine more than there are.
+    // One engine too many.
     (
         b"engine 1 1 1 30 0 0 1\nemits 1 1 1 xq4_153 1\nengine 1 1 2 31 0 0 1\n",
         5,
     ),
-    // Counted with those of which nothing is known, or as an object.
+    // The pattern is counted with those of which nothing is known, or as an object.
     (
         b"engine 1 1 1 30 0 0 1\nemits 1 1 1 xq4_153 1\nclose 1 1 0 1 0\n",
         5,
@@ -168,7 +168,7 @@ const OF_ONE: &[(&[u8], usize)] = &[
         b"engine 1 1 1 30 0 0 1\nemits 1 1 1 xq4_153 1\ncode 1 B3/S23 xq4_153 1\n",
         5,
     ),
-    // Parts behind a pattern that grows.
+    // Parts after a pattern that grows.
     (b"part 1 1 xs4_33 1\n", 3),
     (b"engine 1 1 1 30 0 0 1\npart 1 1 xs4_33 1\n", 4),
 ];
@@ -195,7 +195,7 @@ const OF_TWO: &[(&[u8], usize)] = &[
         b"engine 1 1 1 30 0 0 1\nemits 1 1 1 xq4_153 1\nengine 1 1 3 31 0 0 1\n",
         5,
     ),
-    // Out of order by period, by displacement, and by what they emit.
+    // Engines out of order by period, by displacement, and by what they emit.
     (
         b"engine 1 1 1 30 0 0 1\nemits 1 1 1 xq4_153 1\nengine 1 1 2 29 0 0 1\n",
         5,
@@ -216,7 +216,7 @@ const OF_TWO: &[(&[u8], usize)] = &[
         b"engine 1 1 1 30 0 0 1\nemits 1 1 1 xq4_153 2\nengine 1 1 2 30 0 0 1\nemits 1 1 2 xq4_153 1\n",
         6,
     ),
-    // In order by each of these.
+    // Engines in order by each of these.
     (
         b"engine 1 1 1 30 9 9 1\nemits 1 1 1 xq4_153 1\nengine 1 1 2 31 0 0 1\nemits 1 1 2 xs4_33 1\nclose 1 1 1 0 0\nend 1 1\n",
         0,
@@ -241,7 +241,7 @@ const OF_TWO: &[(&[u8], usize)] = &[
         b"engine 1 1 1 30 0 0 1\nemits 1 1 1 xs4_33 1\nengine 1 1 2 30 0 0 1\nemits 1 1 2 xs4_33 1\nemits 1 1 2 xq4_153 1\nclose 1 1 1 0 0\nend 1 1\n",
         0,
     ),
-    // Of both the same is told, or the second emits what the first does, but less.
+    // Both have the same description, or the second emits what the first does, but less of it.
     (
         b"engine 1 1 1 30 0 0 1\nemits 1 1 1 xq4_153 1\nengine 1 1 2 30 0 0 1\nemits 1 1 2 xq4_153 1\nclose 1 1 1 0 0\n",
         7,
@@ -256,7 +256,7 @@ const OF_TWO: &[(&[u8], usize)] = &[
 const FAULTS: &[(&[u8], usize)] = &[
     // No engine at all.
     (b"open 1 1 a\nline 1 1 grows B3/S23 36 0 g\n", 2),
-    // Engines behind other lines.
+    // Engines after other lines.
     (
         b"open 1 1 a\nline 1 1 ash B3/S23 8 7 1 b\nengine 1 1 1 30 0 0 1\n",
         3,
@@ -269,7 +269,7 @@ const FAULTS: &[(&[u8], usize)] = &[
         b"open 1 1 a\nline 1 1 none B3/S23 8 b\nengine 1 1 1 30 0 0 1\n",
         3,
     ),
-    // A pattern that grows beside one that comes again.
+    // A pattern that grows beside one that recurs.
     (
         b"open 1 2 a\nline 1 1 ok B3/S23 4 0 1 0 0 xs4_33 b\nline 1 2 grows B3/S23 36 1 g\n",
         3,
@@ -278,7 +278,7 @@ const FAULTS: &[(&[u8], usize)] = &[
         b"open 1 2 a\nline 1 1 grows B3/S23 36 1 g\nengine 1 1 1 30 0 0 1\nemits 1 1 1 xq4_153 1\nline 1 2 ok B3/S23 4 0 1 0 0 xs4_33 b\n",
         5,
     ),
-    // Another row stands between.
+    // Another row comes in between.
     (
         b"open 1 1 a\nopen 2 1 b\nline 1 1 grows B3/S23 36 1 g\nline 2 1 none B3/S23 4 c\n",
         4,
@@ -307,7 +307,7 @@ const FAULTS: &[(&[u8], usize)] = &[
     ),
 ];
 
-// One text behind another.
+// One text after another.
 fn joined(alloc: Global, head: &[u8], tail: &[u8]) -> Result<Vec<u8>, AllocError> {
     let mut text = Vec::new(alloc);
     text.extend_from_slice(head)?;

@@ -1,11 +1,10 @@
 //! Rows that are held in little room.
 
 use crate::lines::{lines_kept, lines_of};
-use census_kept::Rows;
-use census_rows::{Finding, Outcome, Row};
+use census_rows::{Finding, Outcome, Row, Rows};
 use std::alloc::AllocError;
 
-// A `line` row of a pattern of which this is found.
+// A `line` row of a pattern with this finding.
 fn line_of(population: u64, finding: Finding<'static>) -> Row<'static> {
     Row::Line {
         collection: 65_535,

@@ -2,9 +2,8 @@
 ghost use Rattle.std.specs.Prelude.{IfOk};
 ghost use Rattle.census_readback.specs.Shapes.{AreReports};
 
-use census_kept::Rows;
 use census_readback::read_report;
-use census_rows::{Row, put_row};
+use census_rows::{Row, Rows, put_row};
 use std::alloc::{AllocError, Global};
 use watched::{Block, Output, put, send};
 
@@ -36,7 +35,7 @@ pub fn lines_kept(alloc: Global, rows: &Rows) -> Result<Vec<u8>, AllocError> {
     }
 }
 
-// The rows of a report; an error where it is none.
+// The rows of a report; an error if it is none.
 pub fn rows_read(alloc: Global, text: &[u8]) -> Result<Rows, AllocError>
     ensures { IfOk result (λ rows. AreReports rows) }
 {

@@ -1,12 +1,12 @@
-//! What tables tell of engines, of parts and of faults.
+//! What tables report of engines, of parts and of faults.
 
 use crate::tables::table_by;
 use census_table::{Format, Subject};
 use std::alloc::{AllocError, Global};
 use std::test::Fail;
 
-// Two collections that interleave, and a second report, with engines of which one emits two codes, two kinds of parts, and
-// faults: of a file that can't be read, of a text, and one that has no sentence.
+// Two collections that interleave, and a second report, with engines one of which emits two codes, two kinds of parts,
+// and faults: of a file that can't be read, of a text, and one that has no sentence.
 const REPORT: &[u8] = b"open 2 3 second
 open 1 3 first
 line 2 1 ash B3/S23 9 12 3 two kinds
@@ -70,7 +70,7 @@ const JSON: &str =
 {\"code\":null,\"collection\":3,\"collection_name\":\"third\",\"collection_name_hex\":null,\"dx\":null,\"dy\":null,\"engines\":null,\"fault\":11,\"fault_text\":\"fault 11\",\"generation\":null,\"name\":\"later\",\"name_hex\":null,\"objects\":null,\"onset\":null,\"parts\":null,\"pattern\":2,\"period\":null,\"population\":null,\"rule\":null,\"status\":\"bad\"}
 ";
 
-// The table of the patterns. Where memory is refused once, the same call gives it after all.
+// The table of the patterns. If memory runs out once, the same call succeeds after all.
 fn table(alloc: Global, format: Format) -> Result<Vec<u8>, AllocError> {
     match table_by(alloc, Subject::Patterns, format, REPORT) {
         Ok(table) => Ok(table),
@@ -94,7 +94,7 @@ fn engines_and_parts_are_lists_in_json(rt: HostRuntime) -> Result<(), AllocError
     Ok(())
 }
 
-// More patterns than are told at a time: each has the parts of the rows behind its own line.
+// More patterns than are written at a time: each has the parts of the rows after its own line.
 #[test]
 fn many_patterns_have_their_own_parts(rt: HostRuntime) -> Result<(), Fail> {
     let alloc = rt.alloc();

@@ -5,7 +5,7 @@ use census_readback::fault_of;
 use std::alloc::{AllocError, Global};
 use watched::{Block, Output, send};
 
-// Two reports, whose sections interleave, and one of no collection between them.
+// Two reports, whose sections interleave, and one without a collection between them.
 pub const PARTS: &[u8] = b"open 2 1 b
 open 1 1 a
 line 2 1 ash B3/S23 5 1103 4 r
@@ -46,7 +46,7 @@ close 3 2 1 0 1
 end 3 4
 ";
 
-// The merged report, or nothing where there is none.
+// The merged report, or nothing if there is none.
 pub fn merged(alloc: Global, text: &[u8]) -> Result<Vec<u8>, AllocError> {
     if fault_of(alloc, text)?.is_some() || count(Counted::nothing(), text).is_err() {
         return Ok(Vec::new(alloc));

@@ -160,7 +160,7 @@ pub fn page_with(
     }
 }
 
-// The page of a report of which nothing else is asked.
+// The page of a report with the default options.
 pub fn page_of(alloc: Global, report: &[u8]) -> Result<Vec<u8>, AllocError> {
     page_with(alloc, &default_options(), report)
 }

@@ -3,7 +3,7 @@
 use crate::page::{has, page_of};
 use std::alloc::AllocError;
 
-// A gun, two of them, a rake, and puffers: one that leaves still lifes alone, and two that leave spaceships too.
+// A gun, two of them, a rake, and puffers: one that leaves only still lifes, and two that leave spaceships too.
 const GROWTH: &[u8] = b"open 1 6 c
 line 1 1 grows B3/S23 36 1 gosper
 engine 1 1 1 30 0 0 1

@@ -1,11 +1,12 @@
-//! Pages of which more is asked.
+//! Pages with more options.
 
 use crate::page::{has, lacks, page_with};
 use census_page::{PageOptions, Sort, default_options};
 use std::alloc::{AllocError, Global};
 use std::test::Fail;
 
-// Four codes, of which one occurs twice, and one pattern that is not resolved; and a second report, with one that grows.
+// Four codes, one of which occurs twice, and one pattern that is not resolved; and a second report, with one that
+// grows.
 const REPORT: &[u8] = b"open 1 6 a&b/c d
 line 1 1 ok B3/S23 4 0 1 0 0 xs4_33 block
 line 1 2 ok B3/S23 3 0 2 0 0 xp2_7 Blinker
@@ -27,7 +28,7 @@ close 1 1 1 0 0
 end 1 1
 ";
 
-// What is asked of pages with names and codes that are links.
+// The options of pages with names and codes that are links.
 fn linked() -> PageOptions<'static> {
     PageOptions {
         base: Some(b"https://example.org/?a=1&b=\"<'>\xff/".as_slice()),
@@ -177,7 +178,7 @@ fn a_title_and_a_note_bring_no_markup(rt: HostRuntime) -> Result<(), AllocError>
     Ok(())
 }
 
-// A pattern that has fallen apart into objects with so many codes, from 100 on.
+// A pattern that has fallen apart into objects with `codes` codes, from 100 on.
 fn report_of_parts(alloc: Global, codes: u8) -> Result<String, Fail> {
     let mut report = String::new(alloc);
     write!(

@@ -1,9 +1,8 @@
 //! Reports that are read back: lines, collections, and the line of a fault.
 
 use crate::lines::{lines_kept, rows_read};
-use census_kept::Rows;
 use census_readback::{collections, read_report};
-use census_rows::{Finding, Outcome, Row};
+use census_rows::{Finding, Outcome, Row, Rows};
 use std::alloc::{AllocError, Global};
 
 const RUN: &[u8] = b"open 1 5 demo
@@ -36,7 +35,7 @@ end 2 3
 end 0 0
 ";
 
-// More objects than are looked through one by one.
+// More objects than are searched one by one.
 const MANY: &[u8] = b"open 1 13 many
 line 1 1 ok B3/S23 4 0 1 0 0 xs4_33 p
 line 1 2 ok B3/S23 4 0 2 0 0 xp2_7 p
@@ -83,7 +82,7 @@ fn reports_are_read_and_written_again(rt: HostRuntime) -> Result<(), AllocError>
     Ok(())
 }
 
-// Whether a row is of a glider that goes to the left and down, under the name `a glider`.
+// Whether a row is of a glider that flies to the left and down, with the name `a glider`.
 fn is_glider(row: &Row) -> bool {
     match row {
         Row::Line {
@@ -142,7 +141,7 @@ const FAULTS: &[(&[u8], usize)] = &[
         b"open 1 1 a\nline 1 1 bad 1 b\x7f\nclose 1 1 0 0 1\nend 1 1\n",
         2,
     ),
-    // A pattern that comes again beside one that has fallen apart.
+    // A pattern that recurs beside one that has fallen apart.
     (
         b"open 1 2 a\nline 1 1 ok B3/S23 4 0 1 0 0 xs4_33 b\nline 1 2 ash B3/S23 0 0 0 c\n",
         3,
@@ -156,7 +155,7 @@ const FAULTS: &[(&[u8], usize)] = &[
         b"open 1 1 a\nline 1 1 ash B3/S23 0 0 0 b\nclose 1 1 1 0 0\nend 1 1\nopen 1 1 a\nline 1 1 ok B3/S23 0 0 1 0 0 xs0_0 b\ncode 1 B3/S23 xs0_0 1\nclose 1 1 1 0 0\nend 1 1\n",
         0,
     ),
-    // Objects that no part tells, and parts that are too many, twice the same, or out of order.
+    // Objects that no part lists, and parts that are too many, are repeated, or are out of order.
     (
         b"open 1 1 a\nline 1 1 ash B3/S23 8 7 2 b\npart 1 1 xs4_33 1\nclose 1 1 1 0 0\nend 1 1\n",
         4,
@@ -189,7 +188,7 @@ const FAULTS: &[(&[u8], usize)] = &[
         b"open 1 1 a\nline 1 1 ash B3/S23 8 7 1 b\npart 1 1 xs4_33 1\ncode 1 B3/S23 xs4_33 0\n",
         4,
     ),
-    // Rules that are not printed so.
+    // Rules in other forms than the printed one.
     (b"open 1 1 a\nline 1 1 none B9 4 b\n", 2),
     (b"open 1 1 a\nline 1 1 none B3/S32 4 b\n", 2),
     (b"open 1 1 a\nline 1 1 none B03/S23 4 b\n", 2),
@@ -206,7 +205,7 @@ const FAULTS: &[(&[u8], usize)] = &[
         b"open 1 1 a\nline 1 1 none B/S 4 b\nclose 1 1 0 1 0\nend 1 1\n",
         0,
     ),
-    // Codes that are none, or not those of such a period and displacement.
+    // Codes that are none, or don't fit the period and the displacement.
     (
         b"open 1 1 a\nline 1 1 ok B3/S23 4 0 1 0 0 xs4_33 b\ncode 1 B3/S23 xs4_33 1\nclose 1 1 1 0 0\nend 1 1\n",
         0,
@@ -318,7 +317,7 @@ const FAULTS: &[(&[u8], usize)] = &[
         b"open 1 2 a\nline 1 1 ash B3/S23 8 7 18446744073709551615 b\npart 1 1 xs4_33 18446744073709551615\nline 1 2 ash B3/S23 8 7 1 c\npart 1 2 xs4_33 1\ncode 1 B3/S23 xs4_33 0\n",
         6,
     ),
-    // Parts that stand behind a line of another collection.
+    // Parts after a line of another collection.
     (
         b"open 1 1 a\nopen 2 1 b\nline 1 1 ash B3/S23 4 7 1 c\nline 2 1 none B3/S23 4 d\n",
         4,

@@ -1,12 +1,12 @@
-//! The patterns of which one object is told.
+//! The patterns that are reported as the same object.
 
 use crate::lines::rows_read;
-use census_same::put_same;
+use census_compare::put_same;
 use std::alloc::{AllocError, Global};
 use watched::{Block, Output, send};
 
-// Two collections that interleave, and two more reports: a code under two rules, a code of one
-// pattern alone, parts with the code of a pattern, and a name that is not UTF-8.
+// Two collections that interleave, and two more reports: a code under two rules, a code of only one pattern, parts with
+// the code of a pattern, and a name that is not UTF-8.
 const REPORT: &[u8] = b"open 2 3 second
 open 1 5 first
 line 2 1 ok B3/S23 4 0 1 0 0 xs4_33 cube
@@ -63,7 +63,7 @@ close 1 2 2 0 0
 end 1 2
 ";
 
-// Two patterns that are one object, of which one has a name that is no UTF-8.
+// Two patterns that are one object. One of them has a name that is not UTF-8.
 const TWINS: &[u8] = b"open 1 2 a \"b\"
 line 1 1 ok B3/S23 4 0 1 0 0 xs4_33 \xff
 line 1 2 ok B3/S23 4 0 1 0 0 xs4_33 block
@@ -77,7 +77,7 @@ const TWINS_AS_JSON: &[u8] =
 {\"code\":\"xs4_33\",\"collection_name\":\"a \\\"b\\\"\",\"collection_name_hex\":null,\"name\":\"block\",\"name_hex\":null,\"rule\":\"B3/S23\"}
 ";
 
-// What is told of a report, as JSON or not, and whether that is anything.
+// What is reported of a report, as JSON or not, and whether that is anything.
 fn same_in(alloc: Global, json: bool, report: &[u8]) -> Result<(bool, Vec<u8>), AllocError> {
     let rows = rows_read(alloc, report)?;
     let mut block = Block::new(alloc);

@@ -52,7 +52,7 @@ const JSON: &str =
 {\"code\":null,\"collection\":3,\"collection_name\":\"apart\",\"collection_name_hex\":null,\"dx\":null,\"dy\":null,\"engines\":null,\"fault\":null,\"fault_text\":null,\"generation\":null,\"name\":\"say \\\"hi\\\"\",\"name_hex\":null,\"objects\":2,\"onset\":7,\"parts\":[{\"code\":\"xs4_33\",\"count\":2}],\"pattern\":1,\"period\":null,\"population\":8,\"rule\":\"B3/S23\",\"status\":\"ash\"}
 ";
 
-// The collections of `PARTS`, which are those of two reports, with one of no collection between them.
+// The collections of `PARTS`, which are those of two reports, with one without a collection between them.
 const PARTS_CSV: &str =
     "collection,collection_name,pattern,name,status,rule,population,onset,period,dx,dy,code,fault,collection_name_hex,name_hex,objects,generation,engines,fault_text
 1,a,1,a block,ash,B3/S23,4,0,,,,,,,,1,,,
@@ -61,7 +61,7 @@ const PARTS_CSV: &str =
 3,c,2,d,ash,B36/S23,4,0,,,,,,,,1,,,
 ";
 
-// The table of a report that has a row for each of these.
+// The table of a report with a row for each of these.
 pub fn table_by(
     alloc: Global,
     subject: Subject,
@@ -71,7 +71,7 @@ pub fn table_by(
     named_table_by(alloc, subject, format, None, report)
 }
 
-// The table of a report that has a row for each of these, and these names.
+// The table of a report with a row for each of these, and with these names.
 fn named_table_by(
     alloc: Global,
     subject: Subject,
@@ -114,7 +114,7 @@ fn patterns_are_told_as_tables(rt: HostRuntime) -> Result<(), AllocError> {
     Ok(())
 }
 
-// Two codes of three, with a name that is not UTF-8 and one that begins as a formula does.
+// Two codes of three, with a name that is not UTF-8 and one that starts like a formula.
 const NAMES: &[u8] = b"xs4_33\tblock\xff\nxq4_153\t=glider\n";
 
 const NAMED_CSV: &str =
@@ -162,7 +162,7 @@ fn codes_are_told_with_their_names(rt: HostRuntime) -> Result<(), AllocError> {
     Ok(())
 }
 
-// Names that begin as formulas do, one that has such a sign further on, and one that begins with an apostrophe.
+// Names that start like formulas, one that has such a sign further on, and one that starts with an apostrophe.
 const SIGNS: &[u8] = b"open 1 5 =sum(a,b)
 line 1 1 ok B3/S23 5 0 4 -1 1 xq4_153 -glider
 line 1 2 none B3/S23 5 @a
@@ -209,7 +209,7 @@ fn no_text_of_a_safe_table_is_a_formula(rt: HostRuntime) -> Result<(), AllocErro
     assert!(rt; parts.as_slice() == SAFE_PARTS.as_bytes());
     let codes = table_by(alloc, Subject::Codes, SAFE, SIGNS)?;
     assert!(rt; codes.as_slice() == SAFE_CODES.as_bytes());
-    // Where no text begins so, it is the table that is not safe.
+    // If no text starts like that, the safe table is the ordinary one.
     assert!(rt; table(alloc, SAFE, REPORT)?.as_slice() == CSV.as_bytes());
     Ok(())
 }
@@ -252,8 +252,8 @@ fn many_patterns_of_one_collection(rt: HostRuntime) -> Result<(), Fail> {
     Ok(())
 }
 
-// Three reports: one of objects between two of what comes again. Two patterns have one code, two others another by one report
-// each, and of the codes that occur equally often two are equally long.
+// Three reports: one of objects between two of what recurs. Two patterns have one code, and two others another in one
+// report each. Of the codes that occur equally often two are equally long.
 const OBJECTS: &[u8] = b"open 1 3 a
 line 1 1 ok B36/S23 4 0 1 0 0 xs4_33 p
 line 1 2 none B3/S23 4 o

@@ -56,7 +56,8 @@ const RUNS: &[(Words, Asked)] = &[
     ),
 ];
 
-// Whether a census is asked for so, with or without `--recursive` and `--keep-going`, by the command that comes first.
+// Whether the words ask for this census, with or without `--recursive` and `--keep-going`, by the command that comes
+// first.
 fn is_asked(request: &Request, words: Words, asked: &Asked, flags: (bool, bool)) -> bool {
     let Request::Census(census) = request else {
         return false;
@@ -135,7 +136,7 @@ fn a_census_of_objects_has_its_own_defaults(rt: HostRuntime) -> Result<(), Fail>
     Ok(())
 }
 
-// Words with flags, whether they say `--recursive` and `--keep-going`, and what they ask for.
+// Words with flags, whether they include `--recursive` and `--keep-going`, and what they ask for.
 const FLAGGED: &[(Words, (bool, bool), Asked)] = &[
     (&["run", "-r"], (true, false), (1000, 4, None, &[])),
     (&["run", "-k", "a"], (false, true), (1000, 4, None, &["a"])),
@@ -622,7 +623,7 @@ fn single_patterns_are_told_in_json_where_that_is_asked_for(rt: HostRuntime) -> 
     Ok(())
 }
 
-// The page that is asked for with no options.
+// The page without options.
 const PLAIN: PageAsked<'static> = PageAsked {
     title: None,
     note: None,
@@ -633,7 +634,7 @@ const PLAIN: PageAsked<'static> = PageAsked {
     patterns: true,
 };
 
-// Words that ask for a page, and which.
+// Words that ask for a page, and its options.
 const PAGES: &[(Words, PageAsked<'static>)] = &[
     (&["page"], PLAIN),
     (&["page", "--", "--links"], PLAIN),
@@ -778,7 +779,7 @@ fn each_command_explains_its_faults_where_it_is_asked_to(rt: HostRuntime) -> Res
     Ok(())
 }
 
-// Whether what is near is one object, and within how many generations growth is looked for, where objects are asked for.
+// Whether what is near is one object, and within how many generations growth is looked for, if objects are asked for.
 fn of_objects(request: &Request) -> Option<(bool, u32)> {
     match request {
         Request::Census(census) => match census.question {
@@ -986,7 +987,7 @@ const REPORT_PARTS: Words = &[
     "4 reading or writing failed",
 ];
 
-// The same of the report of objects.
+// What a user has to know of the report of objects.
 const OBJECTS_REPORT_PARTS: Words = &[
     "open C PATTERNS NAME",
     "line C I ash RULE POPULATION ONSET OBJECTS NAME",
@@ -1161,8 +1162,9 @@ const PAGE_PARTS: Words = &[
 
 // What a user has to know of the columns.
 const COLUMN_PARTS: Words = &[
-    "collection, collection_name, pattern, name, status (ok, ash, none,\n",
-    "large or bad), rule, population, onset, period, dx, dy, code, fault",
+    "collection, collection_name, pattern, name, status (ok, ash, grows,\n",
+    "none, large or bad), rule, population, onset, period, dx, dy, code, fault",
+    "engines of what\ngrows, and fault_text",
     "collection_name_hex",
     "name_hex",
     "With --parts: collection, collection_name, pattern, name, rule, code, count.",

@@ -5,7 +5,7 @@ use Rattle.std.proofs.lemmas.List.{take-append-drop}
 use Rattle.std.specs.Io.KnownBytes.{Appends, Keeps}
 use Rattle.watched.specs.Watching.{AppendsFront}
 
--- of these bytes a prefix was written, and this is the rest
+-- a prefix of these bytes was written, and this is the rest
 pub record IsFrontWritten (old new : Option (List ℕ)) (bytes rest : List ℕ) : Type 0 where
   pub front : List ℕ
   pub whole : bytes ≡ front ++ rest

@@ -3,7 +3,7 @@ use Rattle.std.proofs.Common.{◌≡◌, ℕ, ◌+◌, List, ◌++◌, length, t
 use Rattle.std.proofs.KnownBytes.{Consumes-trans}
 use Rattle.std.specs.Io.KnownBytes.{Consumes}
 
--- the bytes so far and one more piece, which stands at the start of a buffer, were taken together
+-- the bytes so far and one more piece, at the start of a buffer, were taken together
 pub taken_more : (old mid new : Option (List ℕ)) (bytes buffer : List ℕ) (count : ℕ) → Consumes old mid bytes → Consumes mid new (take count buffer) → count ≡ length (take count buffer)
     → (all : List ℕ) × (length all ≡ length bytes + count) × Consumes old new all
 taken_more old mid new bytes buffer count before piece long = (

@@ -1,10 +1,10 @@
--- Bytes of which a prefix is told.
+-- Bytes of which a prefix is put.
 use Rattle.std.proofs.Common.{◌≡◌, ℕ, suc, ◌+◌, ◌<◌, ◌≤◌, List, [], ◌∷◌, ◌++◌, length, drop, get_or, Result, Ok, Err, MatchResult, refl, sym, ap, ◌∙◌, subst, append_assoc, append-nil, drop-cons, arith}
 use Rattle.std.proofs.lemmas.List.{drop_all}
 use Rattle.watched.specs.Telling.{Sheet, TellsAfter, TellsFront}
 use Rattle.watched.proofs.Telling.{tells_more, tells_none}
 
--- of the whole all but what is left is told
+-- everything but what is left is put
 pub record TellsUpTo (whole left : List ℕ) (a b : Sheet) : Type 0 where
   pub done : List ℕ
   pub whole_is : whole ≡ done ++ left
@@ -20,7 +20,7 @@ pub up_to_end : (whole left : List ℕ) (a b : Sheet) → TellsUpTo whole left a
 up_to_end whole left a b p none =
     subst (λ t. TellsAfter t a b) (sym (p.whole_is ∙ ap (λ t. p.done ++ t) none ∙ append-nil p.done)) p.told
 
--- nothing is told
+-- nothing is put
 pub front_none : (whole : List ℕ) (a : Sheet) → TellsFront whole a a
 front_none whole a = up_to_stop whole whole a a (up_to_start whole a)
 
@@ -42,18 +42,18 @@ module _ (whole left text others : List ℕ) (a b c : Sheet) (p : TellsUpTo whol
     tells = tells_more p.done front.front a b c p.told front.tells;
   }
 
--- no more than the first of two texts is told
+-- no more than the first of two texts is put
 pub front_first : (whole first second : List ℕ) (a b : Sheet) → whole ≡ first ++ second → TellsFront first a b → TellsFront whole a b
 front_first whole first second a b e front = up_to_front whole whole first second a a b (up_to_start whole a) e front
 
--- two texts, of which the second is told after the first
+-- two texts, of which the second is put after the first
 pub told_both : {A B : Type 0} (r : Result A B) (whole first second : List ℕ) (a b c : Sheet) → whole ≡ first ++ second → TellsAfter first a b
     → MatchResult r (λ _. TellsAfter second b c) (λ _. TellsFront second b c) → MatchResult r (λ _. TellsAfter whole a c) (λ _. TellsFront whole a c)
 told_both (Ok x) whole first second a b c e p q = subst (λ t. TellsAfter t a c) (sym e) (tells_more first second a b c p q)
 told_both (Err x) whole first second a b c e p q =
     up_to_front whole second second [] a b c (record { done = first; whole_is = e; told = p }) (sym (append-nil second)) q
 
--- after a first text a prefix of a second is told
+-- after a first text a prefix of a second is put
 pub front_more : (first second : List ℕ) (a b c : Sheet) → TellsAfter first a b → TellsFront second b c → TellsFront (first ++ second) a c
 front_more first second a b c told front = record {
   front = first ++ front.front;

@@ -1,4 +1,4 @@
--- Bytes told after others.
+-- Bytes put after others.
 use Rattle.std.proofs.Common.{◌≡◌, ℕ, ◌+◌, ◌≤◌, Bool, true, false, List, [], ◌++◌, length, take, Option, Result, Ok, Err, MatchBool, MatchResult, refl, sym, ap, ◌∙◌, subst, arith, append_assoc, append-nil, length-append}
 use Rattle.std.proofs.KnownBytes.{Appends-nil, Appends-trans}
 use Rattle.std.proofs.Math.Seq.{take-append-add}
@@ -7,7 +7,7 @@ use Rattle.std.specs.Io.KnownBytes.{Appends}
 use Rattle.watched.specs.Watching.{AppendsFront}
 use Rattle.watched.specs.Telling.{IsToldAfter, Sheet, TellsAfter}
 
--- a prefix of the second text stands after the whole first one
+-- a prefix of the second text comes after the whole first one
 behind_whole : (a b c : Option (List ℕ)) (xs ys : List ℕ) → Appends a b xs → AppendsFront b c ys → AppendsFront a c (xs ++ ys)
 behind_whole a b c xs ys p q = (
   length xs + q.0,
@@ -55,7 +55,7 @@ tells_gathered bytes a b e written failed first told is =
     (subst (λ f. IsToldAfter first (told ++ bytes) (record { written = a.written; pending = b.pending; failed = f })) (sym failed)
     (gathered_by a.failed first a.written told bytes a.pending b.pending e is))
 
--- what the writer was given: the bytes of the block, and those behind
+-- what the writer was given: the bytes of the block, and those after them
 module _ (bytes all : List ℕ) (first aw bw : Option (List ℕ)) (told ap' : List ℕ) (e : all ≡ ap' ++ bytes) where
   whole_by : (front : List ℕ) → told ≡ front ++ ap' → told ++ bytes ≡ front ++ all
   whole_by front is = ap (λ t. t ++ bytes) is ∙ append_assoc front ap' bytes ∙ ap (λ t. front ++ t) (sym e)
@@ -83,7 +83,7 @@ tells_sent bytes all a b r e empty failed stays uncalled written first told is =
     subst (λ p. IsToldAfter first (told ++ bytes) (record { written = b.written; pending = p; failed = b.failed })) (sym empty)
     (sent_by bytes all first a.written b.written told a.pending e r a.failed b.failed failed stays uncalled written is)
 
--- # All that was told
+-- # All that was put
 
 first_by : (failed : Bool) (written : Option (List ℕ)) → IsToldAfter written [] (record { written = written; pending = []; failed = failed })
 first_by true written = (0, omega arith, Appends-nil written)

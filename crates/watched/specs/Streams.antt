@@ -1,19 +1,19 @@
--- What stands in readers and writers that remember that they failed: one value before and one after.
+-- Readers and writers that remember that they failed, by one value before and one after.
 use Rattle.std.specs.Prelude.{◌≡◌, ℕ, ◌≤◌, Bool, true, false, List, length, take, Option, MatchBool}
 use Rattle.std.specs.Io.KnownBytes.{Appends}
 use Rattle.watched.specs.Watching.{AppendsFront}
 
--- a reader: the bytes that it has left, where it tells any, and whether it has failed
+-- a reader: the bytes that it has left, where they are known, and whether it has failed
 pub record Reader : Type 0 where
   pub unread : Option (List ℕ)
   pub failed : Bool
 
--- a writer: the bytes that were written, where it tells any, and whether it has failed
+-- a writer: the bytes that were written, where they are known, and whether it has failed
 pub record Sink : Type 0 where
   pub written : Option (List ℕ)
   pub failed : Bool
 
--- what stands in a reader or a writer, and that itself
+-- what is known of a reader or a writer, and that itself
 pub record Watched (S T : Type 0) : Type 0 where
   pub stream : S
   pub inner : T
@@ -49,6 +49,6 @@ abbrev pub PutsBytes : List ℕ → Sink → Sink → Type 0
 PutsBytes bytes before after =
     MatchBool after.failed (AppendsFront before.written after.written bytes) (Appends before.written after.written bytes)
 
--- a writer that has failed stays as it is; to any other these bytes were told
+-- a writer that has failed is unchanged; to any other these bytes were put
 abbrev pub PutsMoreBytes : List ℕ → Sink → Sink → Type 0
 PutsMoreBytes bytes before after = MatchBool before.failed (after ≡ before) (PutsBytes bytes before after)

@@ -1,4 +1,4 @@
--- What is told to a watched writer by way of a block.
+-- What is put to a watched writer by way of a block.
 use Rattle.std.specs.Prelude.{◌≡◌, ℕ, Bool, List, ◌++◌, Option, MatchBool}
 use Rattle.std.specs.Io.KnownBytes.{Appends}
 use Rattle.watched.specs.Watching.{AppendsFront}
@@ -9,8 +9,8 @@ use Rattle.watched.specs.declared.block.Block.{Block}
 abbrev pub pending_of : Block → List ℕ
 pending_of block = block.bytes.items
 
--- a writer and its block: the bytes that were written, where the writer tells any, those that it is to be given yet, and
--- whether it has failed
+-- a writer and its block: the bytes that were written, where they are known, those that it is still to be given, and whether it
+-- has failed
 pub record Sheet : Type 0 where
   pub written : Option (List ℕ)
   pub pending : List ℕ
@@ -19,19 +19,19 @@ pub record Sheet : Type 0 where
 abbrev pub sheet : {W : Type 0} → Block → Watched Sink W → Sheet
 sheet block writer = record { written = writer.stream.written; pending = pending_of block; failed = writer.stream.failed }
 
--- Where the bytes that were written are told after the first ones: all but those of the block, and a prefix of them where
--- the writer has failed.
+-- The bytes that were put after the first ones, by what was written: all but those of the block, and a prefix of them where the
+-- writer has failed.
 abbrev pub IsToldAfter : Option (List ℕ) → List ℕ → Sheet → Type 0
 IsToldAfter first bytes s =
     MatchBool s.failed (AppendsFront first s.written bytes)
     ((front : List ℕ) × (bytes ≡ front ++ s.pending) × Appends first s.written front)
 
--- these bytes are told after whatever was told before
+-- these bytes are put after whatever was put before
 unfoldable pub TellsAfter : List ℕ → Sheet → Sheet → Type 0
 TellsAfter bytes before after =
     (first : Option (List ℕ)) (told : List ℕ) → IsToldAfter first told before → IsToldAfter first (told ++ bytes) after
 
--- a prefix of these bytes is told
+-- a prefix of these bytes is put
 pub record TellsFront (bytes : List ℕ) (before after : Sheet) : Type 0 where
   pub front : List ℕ
   pub rest : List ℕ

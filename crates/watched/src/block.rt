@@ -4,7 +4,7 @@ ghost use Rattle.watched.specs.Telling.{pending_of};
 
 use std::alloc::Global;
 
-// As many bytes as a block has at most.
+// The most bytes of a block.
 const SIZE: usize = 65_536;
 
 /// Bytes that a writer is to be given, at most 65,536 of them.
@@ -30,7 +30,8 @@ impl Block {
         self.bytes.as_slice()
     }
 
-    // Whether these bytes have found room behind the others. Where they haven't, or memory was refused, the block is unchanged.
+    // Whether there was room for these bytes after the others. Where there was none, or memory was refused, the block is
+    // unchanged.
     pub fn takes(&mut self, bytes: &[u8]) -> bool
         ensures yes { IsTrue result → pending_of self.new ≡ pending_of self.old ++ bytes.now }
         ensures no { IsFalse result → pending_of self.new ≡ pending_of self.old }
@@ -41,7 +42,7 @@ impl Block {
         self.bytes.extend_from_slice(bytes).is_ok()
     }
 
-    // Without a byte again.
+    // Removes all bytes.
     pub fn clear(&mut self)
         ensures { pending_of self.new ≡ [] }
     {

@@ -1,4 +1,4 @@
-//! What is answered in the place of what a reader gives or a writer takes.
+//! What is returned in the place of what a reader gives or a writer takes.
 use thiserror::Error;
 
 /// The reader or the writer has failed, in this call or in an earlier one.

@@ -1,4 +1,4 @@
-//! A reader with a flag that stands once a call of it failed.
+//! A reader with a flag that is raised once a call of it failed.
 ghost use Rattle.std.specs.Prelude.{◌≡◌, ◌<◌, true, false, length, MatchResult};
 ghost use Rattle.std.specs.Io.{ReadsAtMost};
 ghost use Rattle.std.specs.Io.KnownBytes.{ReadConsumes};
@@ -8,8 +8,8 @@ use crate::interrupted::read_through;
 use std::io::Read;
 use std::marker::Model;
 
-/// A reader, and whether it has failed. It has not failed at first, and once it has, it stays so. A clause sees the bytes that
-/// it has left, where it tells any, and whether it has failed.
+/// A reader, and whether it has failed. It has not failed at first, and once it has, it stays so. A clause sees the bytes that it
+/// has left, where they are known, and whether it has failed.
 #[derive(Drop)]
 pub struct Input<R: Read> {
     reader: R,
@@ -56,9 +56,9 @@ impl<R: Read> Input<R> {
         self.failed
     }
 
-    /// Reads into the front of the buffer, by one call of the reader, and returns how many bytes came: from 0 to the
-    /// buffer's length, 0 only at the reader's end. `Failed` is answered where the reader's call fails, or has failed
-    /// before. In the second case the reader is not called. A call that a signal interrupts is made again.
+    /// Reads into the front of the buffer, by one call of the reader, and returns how many bytes came: from 0 to the buffer's
+    /// length, 0 only at the reader's end. `Failed` is returned where the reader's call fails, or has failed before. In the
+    /// second case the reader is not called. A call that a signal interrupts is made again.
     pub fn get(&mut self, buffer: &mut [u8]) -> Result<usize, Failed>
         requires { 0 < length buffer.old }
         ensures failed { MatchResult result (λ _. self.new.stream.failed ≡ false)

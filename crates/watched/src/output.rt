@@ -1,4 +1,4 @@
-//! A writer with a flag that stands once a call of it failed.
+//! A writer with a flag that is raised once a call of it failed.
 ghost use Rattle.std.specs.Prelude.{◌≡◌, ◌<◌, ◌≤◌, true, false, length, take, IfOk, MatchResult};
 ghost use Rattle.std.specs.Io.KnownBytes.{Appends, Keeps};
 ghost use Rattle.watched.specs.Streams.{PutsMoreBytes};
@@ -10,7 +10,7 @@ use std::io::Write;
 use std::marker::Model;
 
 /// A writer, and whether it has failed. It has not failed at first, and once it has, it stays so. A clause sees the bytes that
-/// were written, where the writer tells any, and whether it has failed.
+/// were written, where they are known, and whether it has failed.
 #[derive(Drop)]
 pub struct Output<W: Write> {
     writer: W,
@@ -57,9 +57,9 @@ impl<W: Write> Output<W> {
         self.failed
     }
 
-    /// Writes a prefix of the bytes, by one call of the writer, and returns how many bytes it took, at least 1. `Failed`
-    /// is answered where the writer's call fails or takes nothing, or one has failed before, and then nothing was
-    /// written. In the last case the writer is not called. A call that a signal interrupts is made again.
+    /// Writes a prefix of the bytes, by one call of the writer, and returns how many bytes it took, at least 1. `Failed` is
+    /// returned where the writer's call fails or takes nothing, or one has failed before, and then nothing was written. In the
+    /// last case the writer is not called. A call that a signal interrupts is made again.
     pub fn put(&mut self, bytes: &[u8]) -> Result<usize, Failed>
         requires { 0 < length bytes.now }
         ensures failed { MatchResult result (λ _. self.new.stream.failed ≡ false)
@@ -82,7 +82,7 @@ impl<W: Write> Output<W> {
         }
     }
 
-    /// Tells a text, and asks for no memory. Where the writer fails, a prefix of the text went out; where it has failed
+    /// Writes a text, and asks for no memory. Where the writer fails, a prefix of the text was written; where it has failed
     /// before, the text is lost.
     pub fn tell(&mut self, text: &[u8])
         ensures { PutsMoreBytes text.now self.old.stream self.new.stream }

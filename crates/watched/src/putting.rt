@@ -7,7 +7,7 @@ use crate::{Failed, Output, put_all};
 use itoa::{Buffer, Integer};
 use std::io::Write;
 
-/// Gives the writer the bytes of the block, which has none then.
+/// Gives the writer the bytes of the block, which is empty afterwards.
 pub fn send<W: Write>(block: &mut Block, writer: &mut Output<W>) -> Result<(), Failed>
     ensures tells { TellsAfter [] (sheet block.old writer.old)
         (sheet block.new writer.new) }
@@ -29,7 +29,7 @@ fn put_behind<W: Write>(bytes: &[u8], block: &mut Block, writer: &mut Output<W>)
     let _ = put_all(writer, bytes);
 }
 
-/// Tells these bytes: they stand in the block, or are written behind it. It asks for no more memory than a block has, and
+/// Puts these bytes in the block, or writes the block and these bytes after it. It asks for no more memory than a block has, and
 /// where that is refused the bytes are written at once. To a writer that has failed nothing is written.
 pub fn put<W: Write>(bytes: &[u8], block: &mut Block, writer: &mut Output<W>)
     ensures { TellsAfter bytes.now (sheet block.old writer.old)
@@ -40,7 +40,7 @@ pub fn put<W: Write>(bytes: &[u8], block: &mut Block, writer: &mut Output<W>)
     }
 }
 
-/// Tells the decimal text of a number.
+/// Puts the decimal text of a number, as `put` does.
 pub fn put_number<I: Integer, W: Write>(number: I, block: &mut Block, writer: &mut Output<W>)
     ensures { TellsAfter (I.text number) (sheet block.old writer.old)
         (sheet block.new writer.new) }

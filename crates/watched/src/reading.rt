@@ -45,14 +45,14 @@ impl From<AllocError> for ReadFault {
     }
 }
 
-/// How many bytes one call of the reader may give at most.
+/// The most bytes that one call of the reader may give.
 const BUFFER_LEN: usize = 8192;
 
 /// Reads all the bytes up to the reader's end, of which there may be at most `limit`.
 ///
-/// `Read` is answered exactly where the reader has failed on return; where it has failed before, it is not called.
-/// `TooLong` is answered as soon as a byte past the limit came. After each fault the bytes that came are lost. No more
-/// than `limit` + 1 bytes are ever taken from the reader.
+/// `Read` is returned exactly where the reader has failed on return; where it has failed before, it is not called. `TooLong` is
+/// returned as soon as a byte after the limit came. After each fault the bytes that came are lost. No more than `limit` + 1 bytes
+/// are ever taken from the reader.
 pub fn read_all<R: Read>(
     alloc: Global,
     reader: &mut Input<R>,
@@ -83,7 +83,7 @@ pub fn read_all<R: Read>(
     let mut buffer = [0u8; BUFFER_LEN];
     loop {
         let room = limit - bytes.len();
-        // One byte past the limit tells that there are too many.
+        // One byte after the limit shows that there are too many.
         let most = room.min(BUFFER_LEN - 1) + 1;
         let count = reader.get(&mut buffer[..most])?;
         if count == 0 {

@@ -1,4 +1,4 @@
--- Texts in which some bytes are replaced, by pieces.
+-- Texts in which some bytes are replaced, in pieces.
 use Rattle.std.proofs.Common.{◌≡◌, ℕ, zero, suc, ◌+◌, ◌-◌, ◌<◌, ◌≤◌, Bool, true, false, ◌&&◌, cond, List, [], ◌∷◌, ◌++◌, length, take, drop, get_or, refl, sym, ap, ap₂, ◌∙◌, arith, append_assoc, append-nil, length-append, length-drop, drop-cons, ⊎_elim}
 use Rattle.std.specs.Prelude.{⊤, nat_le, bytes_eq, codes}
 use Rattle.std.proofs.lemmas.Bool.{cases_Bool, cond-true, cond-false, and_from, leb-true, le-leb}
@@ -33,7 +33,7 @@ true-starts old text rest e =
     and_from _ _ (le-leb _ _ (omega (arith, count)))
     ((bytes_eq-Decides (take (length old) text) old).1 (ap (take (length old)) e ∙ take-append_seam old rest))
 
--- it stands at a place where what begins there begins with it
+-- a text occurs at a place if what begins there begins with it
 occurs-is : (hay old : List ℕ) (i : ℕ) → i ≤ length hay → occurs_at hay old i ≡ starts old (drop i hay)
 occurs-is hay old i within =
     let count = length-drop i hay in
@@ -82,7 +82,7 @@ module _ (b : ℕ) (low : b < 128) (y : List ℕ) where
       (λ h. let found = starts-true old text h in true-starts old (text ++ b ∷ y) (found.0 ++ b ∷ y) (ap (λ t. t ++ b ∷ y) found.1 ∙ append_assoc old found.0 (b ∷ y)))
 
 module _ (old new : List ℕ) where
-  -- the text with each place where the bytes stand taken by the others, after so many bytes that are left out
+  -- the text with each occurrence of the bytes replaced by the others, after `skip` bytes that are left out
   unfoldable spelled : ℕ → List ℕ → List ℕ
   spelled skip [] = []
   spelled zero (c ∷ cs) = cond (starts old (c ∷ cs)) (new ++ spelled (length old - 1) cs) (c ∷ spelled zero cs)
@@ -223,7 +223,7 @@ module _ (old new : List ℕ) (some : 0 < length old) (high : AllHigh old) (b : 
       replaced-is (x ++ b ∷ y) old new some ∙ spelled-cut x 0 (omega arith)
       ∙ ap₂ (λ (s t : List ℕ). s ++ b ∷ t) (sym (replaced-is x old new some)) (sym (replaced-is y old new some))
 
--- what stands before a byte below 128 is escaped by itself, and what stands behind it
+-- what comes before a byte below 128 is escaped by itself, and so is what comes after it
 pub escaped-cut : (x : List ℕ) (b : ℕ) (y : List ℕ) → b < 128 → with_line_ends_escaped (x ++ b ∷ y) ≡ with_line_ends_escaped x ++ b ∷ with_line_ends_escaped y
 escaped-cut x b y low =
     let first = replaced (194 ∷ 133 ∷ []) (codes "\\u0085") in

@@ -1,4 +1,4 @@
--- What is told has no float.
+-- The values have no float.
 use Rattle.std.proofs.Common.{◌≡◌, ℕ, ℤ, pos, negsuc, Bool, true, false, ◌||◌, List, [], ◌∷◌, Option, Some, None, refl, map, codes}
 use Rattle.std.specs.Ordering.{match_ordering, nat_cmp}
 use Rattle.std.specs.Str.Lossy.{utf8_lossy}
@@ -25,7 +25,7 @@ choose Less a b c x y z = x
 choose Equal a b c x y z = y
 choose Greater a b c x y z = z
 
--- with a member more
+-- with one more member
 pub put-floatless : (k : List ℕ) (d : Data) (ms : Members) → has_float d ≡ false → members_have_float ms ≡ false → members_have_float (put k d ms) ≡ false
 put-floatless k d no_members x y = both (has_float d) false x refl
 put-floatless k d (member l e ms) x y =

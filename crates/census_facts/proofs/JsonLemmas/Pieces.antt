@@ -1,4 +1,4 @@
--- JSON of objects and of arrays, by pieces.
+-- JSON of objects and of arrays, in pieces.
 use Rattle.std.proofs.Common.{◌≡◌, ℕ, ℤ, ◌<◌, Bool, true, false, List, [], ◌∷◌, ◌++◌, ◌-◌, ◌≤◌, length, length-append, take, drop, suc, refl, sym, ap, ap₂, ◌∙◌, arith, append_assoc, append-nil}
 use Rattle.std.specs.Prelude.{◌&&◌, codes, nat_lt}
 use Rattle.std.proofs.lemmas.Bool.{ltb-true}
@@ -26,18 +26,18 @@ are_low (b ∷ bs) = nat_lt b 128 && are_low bs
 escaped-first : (b : ℕ) (text : List ℕ) → b < 128 → with_line_ends_escaped (b ∷ text) ≡ b ∷ with_line_ends_escaped text
 escaped-first b text low = escaped-cut [] b text low ∙ ap (λ t. t ++ b ∷ with_line_ends_escaped text) escaped-none
 
--- such bytes are told as they are
+-- such bytes stay as they are
 pub escaped-low : (bytes text : List ℕ) → are_low bytes ≡ true → with_line_ends_escaped (bytes ++ text) ≡ bytes ++ with_line_ends_escaped text
 escaped-low [] text low = refl
 escaped-low (b ∷ bs) text low =
     let parts = both-parts (nat_lt b 128) (are_low bs) low in
     escaped-first b (bs ++ text) (ltb-true b 128 parts.0) ∙ ap (λ t. b ∷ t) (escaped-low bs text parts.1)
 
--- as are those behind a text
+-- as do those after a text
 pub escaped-end : (text : List ℕ) (b : ℕ) → b < 128 → with_line_ends_escaped (text ++ b ∷ []) ≡ with_line_ends_escaped text ++ b ∷ []
 escaped-end text b low = escaped-cut text b [] low ∙ ap (λ t. with_line_ends_escaped text ++ b ∷ t) escaped-none
 
--- a comma, and what stands behind it
+-- a comma, and what comes after it
 pub escaped-comma : (later : Bool) (text : List ℕ) → with_line_ends_escaped (comma_if later ++ text) ≡ comma_if later ++ with_line_ends_escaped text
 escaped-comma true text = escaped-first 44 text (omega arith)
 escaped-comma false text = refl
@@ -72,7 +72,7 @@ array-escaped ds =
     escaped-first 91 (items_text false (items_of ds)) (omega arith)
     ∙ ap (λ t. 91 ∷ t) (ap with_line_ends_escaped (items-within false ds) ∙ escaped-end (items_within false ds) 93 (omega arith))
 
--- items behind an item
+-- an item, and the items after it
 pub item-escaped : (later : Bool) (d : Data) (ds : List Data)
     → with_line_ends_escaped (items_within later (d ∷ ds)) ≡ (comma_if later ++ with_line_ends_escaped (compact_text d)) ++ with_line_ends_escaped (items_within true ds)
 item-escaped later d [] =
@@ -86,7 +86,7 @@ item-escaped later d (e ∷ es) =
     ∙ ap (λ t. comma_if later ++ t) (escaped-cut value 44 others (omega arith) ∙ ap (λ t. with_line_ends_escaped value ++ t) (sym (escaped-first 44 others (omega arith))))
     ∙ sym (append_assoc (comma_if later) (with_line_ends_escaped value) (with_line_ends_escaped (44 ∷ others)))
 
--- members, and a member behind them
+-- members, and a member after them
 behind-true : (ms others : Members) → members_within true (joined ms others) ≡ members_within true ms ++ members_within true others
 behind-true no_members others = refl
 behind-true (member k d ms) others =
@@ -105,7 +105,7 @@ behind k d ms others =
     ∙ sym (append_assoc key (58 ∷ (value ++ members_within true ms)) (members_within true others)
     ∙ ap (λ t. key ++ 58 ∷ t) (append_assoc value (members_within true ms) (members_within true others)))
 
--- members, a member that is told by itself, and others behind it
+-- members, a member that is written by itself, and others after it
 around-escaped : (k : List ℕ) (d : Data) (ms : Members) (key : List ℕ) (value : Data) (l : List ℕ) (e : Data) (ns : Members) (name : List ℕ) → are_low name ≡ true
     → 44 ∷ (compact_text (string key) ++ 58 ∷ []) ≡ name
     → with_line_ends_escaped (members_within false (member k d (joined ms (member key value (member l e ns)))))
@@ -128,7 +128,7 @@ abbrev pub have_some : Members → Bool
 have_some no_members = false
 have_some (member k d ms) = true
 
--- such members, of which none are empty
+-- such members, none of which are empty
 pub between-escaped : (ms : Members) (key : List ℕ) (value : Data) (ns : Members) (name : List ℕ) → have_some ms ≡ true → have_some ns ≡ true → are_low name ≡ true
     → 44 ∷ (compact_text (string key) ++ 58 ∷ []) ≡ name
     → with_line_ends_escaped (members_within false (joined ms (member key value ns)))
@@ -153,7 +153,7 @@ emits-name : 44 ∷ (compact_text (string (codes "emits")) ++ 58 ∷ []) ≡ cod
 unfolding serde_json_on_literals
 emits-name = refl
 
--- the object of engines, within what it is told by
+-- the object of engines, in pieces
 pub engines-escaped : (period : ℕ) (dx dy : ℤ) (count : ℕ) (ds : List Data)
     → with_line_ends_escaped (compact_text (engines_data period dx dy count ds)) ≡ engines_head dx dy count ++ (with_line_ends_escaped (items_within false ds) ++ engines_end period)
 engines-escaped period dx dy count ds =
@@ -170,7 +170,7 @@ engines-escaped period dx dy count ds =
     ∙ ap (λ t. head ++ (codes ",\"emits\":" ++ (t ++ 44 ∷ end))) (array-escaped ds))
     ∙ ap (λ t. 123 ∷ t) (regrouped head (codes ",\"emits\":") inner end)
 
--- what stands between an object's brackets
+-- what comes between an object's brackets
 module _ (json : List ℕ) (ms : Members) (is : json ≡ with_line_ends_escaped (compact_text (object ms))) where
   brackets : json ≡ 123 ∷ (with_line_ends_escaped (members_within false ms) ++ 125 ∷ [])
   brackets = is ∙ object-escaped ms

@@ -5,11 +5,11 @@ use Rattle.bstr.specs.Text.{replaced_at}
 use Rattle.serde_json.specs.Data.{Data}
 use Rattle.serde_json.specs.Written.{compact_text}
 
--- the bytes, with each place where these stand taken by others
+-- the bytes, with each occurrence of the first ones replaced by the second ones
 abbrev pub replaced : List ℕ → List ℕ → List ℕ → List ℕ
 replaced old new bytes = replaced_at bytes (length old) new 0 (matches bytes old 0)
 
--- JSON in which what other programs may take for the end of a line, U+0085, U+2028 and U+2029, is written as an escape
+-- JSON in which what other programs may take for a line end, U+0085, U+2028 and U+2029, is written as an escape
 abbrev pub with_line_ends_escaped : List ℕ → List ℕ
 with_line_ends_escaped json =
     replaced (226 ∷ 128 ∷ 169 ∷ []) (codes "\\u2029")

@@ -1,16 +1,16 @@
--- What is told as JSON of objects and of engines.
+-- The JSON of objects and of engines.
 use Rattle.std.specs.Prelude.{ℕ, ℤ, List, Option, Some, None, codes}
 use Rattle.std.specs.Str.Lossy.{utf8_lossy}
 use Rattle.serde_json.specs.Data.{Data, Members, array, item, no_items, no_members, number, object, put, string, unsigned}
 use Rattle.serde_json.specs.Find.{of_integer}
 use Rattle.serde_json.specs.View.{items_of}
 
--- with the member of a text, where there is one; what is not UTF-8 of it is told as U+FFFD
+-- with the member of a text, if there is one; what is not UTF-8 in it becomes U+FFFD
 abbrev pub with_text : List ℕ → Option (List ℕ) → Members → Members
 with_text name None members = members
 with_text name (Some text) members = put name (string (utf8_lossy text)) members
 
--- so many objects with a code, and the object's name, where it has one
+-- `count` objects with a code, and the object's name, if it has one
 abbrev pub counted_data : List ℕ → ℕ → Option (List ℕ) → Data
 counted_data code count name =
     object (with_text (codes "name") name
@@ -20,8 +20,8 @@ counted_data code count name =
 abbrev pub displacement_data : ℤ → ℤ → Data
 displacement_data dx dy = array (item (number (of_integer dx)) (item (number (of_integer dy)) no_items))
 
--- engines of which the same is told: after how many generations each comes again, how far to the right and down it then
--- stands, how many they are, and what each emits in that time
+-- engines with the same description: their period, how far each moves to the right and down in a period, how many
+-- they are, and what each emits in a period
 abbrev pub engines_data : ℕ → ℤ → ℤ → ℕ → List Data → Data
 engines_data period dx dy count emits =
     object (put (codes "period") (number (unsigned period)) (put (codes "emits") (array (items_of emits))

@@ -8,7 +8,7 @@ use bstr::ByteSlice;
 use serde_json::Value;
 use std::alloc::{AllocError, Global};
 
-// JSON in which no byte or character but LF ends a line, for programs that know more line ends.
+// JSON in which no byte or character but LF ends a line, for programs that know other line ends.
 fn with_line_ends_escaped(alloc: Global, json: &[u8]) -> Result<Vec<u8>, AllocError>
     ensures { IfOk result (λ escaped. escaped.items ≡ with_line_ends_escaped json.now) }
 {

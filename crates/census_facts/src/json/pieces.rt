@@ -1,4 +1,4 @@
-//! JSON by pieces, so that an object with a long list need not be held as a whole. The only error is out of memory.
+//! JSON in pieces, so that an object with a long list need not be held as a whole. The only error is out of memory.
 ghost use Rattle.std.specs.Prelude.{◌≡◌, ◌≤◌, ◌-◌, ◌++◌, drop, false, length, take, OnOk};
 ghost use Rattle.serde_json.specs.View.{members_view, view};
 ghost use Rattle.serde_json.specs.Written.{comma_if, compact_text, has_float, members_have_float};
@@ -10,7 +10,7 @@ use super::line::json_of;
 use serde_json::{Map, Value, put};
 use std::alloc::{AllocError, Global};
 
-// What stands between the first byte and the last one.
+// The bytes between the first one and the last one.
 fn between(json: &[u8]) -> &[u8]
     requires { 2 ≤ length json.now }
     ensures { result.now ≡ take (length json.now - 1 - 1) (drop 1 json.now) }
@@ -34,7 +34,7 @@ pub fn push_members(
     Ok(())
 }
 
-/// Adds a value as an item of an array, behind a comma where it comes `later` than another.
+/// Adds a value as an item of an array, after a comma if it is `later` than another.
 pub fn push_item(
     alloc: Global,
     text: &mut Vec<u8>,
@@ -53,8 +53,8 @@ pub fn push_item(
     Ok(())
 }
 
-/// Adds what stands in the object of engines before what each emits: how many they are, and how many cells each moves to
-/// the right and down in a period.
+/// Adds the beginning of the object of engines, up to what each emits: how many they are, and how many cells each moves
+/// to the right and down in a period.
 pub fn push_engines_head(
     alloc: Global,
     text: &mut Vec<u8>,
@@ -75,7 +75,7 @@ pub fn push_engines_head(
     Ok(())
 }
 
-/// Adds what stands in the object of engines behind what each emits: their period in generations.
+/// Adds the end of the object of engines, after what each emits: their period in generations.
 pub fn push_engines_end(alloc: Global, text: &mut Vec<u8>, period: u64) -> Result<(), AllocError>
     ensures { OnOk result (text.new.items ≡ text.old.items ++ engines_end period) }
 {

@@ -1,4 +1,4 @@
-//! What is told as JSON of objects and of engines. The only error is out of memory.
+//! The JSON of objects and of engines. The only error is out of memory.
 ghost use Rattle.std.specs.Prelude.{◌≡◌, IfOk, OnOk, map, option_map};
 ghost use Rattle.serde_json.specs.View.{members_view, view};
 ghost use Rattle.census_facts.specs.Json.Values.{counted_data, displacement_data, engines_data, with_text};
@@ -6,7 +6,7 @@ ghost use Rattle.census_facts.specs.Json.Values.{counted_data, displacement_data
 use serde_json::{Map, Value, put};
 use std::alloc::{AllocError, Global};
 
-// Sets the member of a text, where there is one.
+// Sets the member of a text, if there is one.
 fn put_text(
     alloc: Global,
     members: &mut Map<String, Value>,
@@ -23,7 +23,7 @@ fn put_text(
     put(members, alloc, name, Value::String(text))
 }
 
-/// The object of so many objects with a code: `code`, `count`, and `name`, where the object has a name.
+/// The object of `count` objects with a code: `code`, `count`, and `name` if the object has a name.
 pub fn counted_value(
     alloc: Global,
     code: &[u8],
@@ -51,8 +51,8 @@ pub fn displacement_value(alloc: Global, dx: i64, dy: i64) -> Result<Value, Allo
     Ok(Value::Array(numbers))
 }
 
-/// The object of engines of which the same is told: their period in generations, how many cells each moves to the right and
-/// down in it, how many they are, and what each emits in a period.
+/// The object of engines with the same description: their period in generations, how many cells each moves to the
+/// right and down in a period, how many they are, and what each emits in a period.
 pub fn engines_value(
     alloc: Global,
     period: u64,

@@ -11,7 +11,6 @@ use Rattle.life_text.specs.declared.rle.RleFault.{RleFault}
 use Rattle.life_text.specs.declared.rle.RleFault.TheVariants.{NoHeader, BadHeader, Rule as OfRule, ManyStates, BadChar, BadRun, TooFar, TooMany, NoEnd, Memory}
 use Rattle.texts.specs.Faults.{fault_if}
 use Rattle.life_text.specs.Rle.{Token, Meaning, after_rule_name, after_sizes, body_tokens, cells_after, fault_of, first_fault, header_line, header_rule, is_bad_run, is_missing, is_no_tag, is_other_state, is_too_far, is_too_many, line_rule, live_cells, column, named_rule, row, rule_behind, rule_or_fault, token_fault, unless_fault, with_body}
-use Rattle.census_faults.specs.Rle.Rules.{rule_in_line}
 use Rattle.census_faults.specs.Rle.Refused.{RefusedRulesAreTold}
 
 -- whether a fault is that of a rule
@@ -69,7 +68,7 @@ module _ (fault : RuleFault) where
   by_rule (Ok rule) e = absurd (false≢true (ap (λ r. is_of_rule (fault_in r)) e))
   by_rule (Err other) e = ap (λ (f : RuleFault). Err f) (let same : other ≡ fault = cc in same)
 
-  by_name : (o : Option (List ℕ)) → named_rule o ≡ Err (OfRule fault) → option_map rule_of (o >>= (λ text. Some (without_ends is_blank text))) ≡ Some (Err fault)
+  by_name : (o : Option (List ℕ)) → named_rule o ≡ Err (OfRule fault) → option_map rule_of (option_map (without_ends is_blank) o) ≡ Some (Err fault)
   by_name None e = absurd (false≢true (ap (λ r. is_of_rule (fault_in r)) e))
   by_name (Some text) e = ap Some (by_rule (rule_of (without_ends is_blank text)) e)
 
@@ -77,7 +76,7 @@ module _ (fault : RuleFault) where
   unless_blank true r e = absurd (false≢true (ap (λ r. is_of_rule (fault_in r)) e))
   unless_blank false r e = e
 
-  by_sizes : (o : Option (List ℕ)) → rule_behind o ≡ Err (OfRule fault) → option_map rule_of (o >>= (λ behind. after_rule_name behind >>= (λ text. Some (without_ends is_blank text)))) ≡ Some (Err fault)
+  by_sizes : (o : Option (List ℕ)) → rule_behind o ≡ Err (OfRule fault) → option_map rule_of (option_map (without_ends is_blank) (o >>= after_rule_name)) ≡ Some (Err fault)
   by_sizes None e = absurd (false≢true (ap (λ r. is_of_rule (fault_in r)) e))
   by_sizes (Some behind) e = by_name (after_rule_name behind) (unless_blank (list_all is_blank behind) (named_rule (after_rule_name behind)) e)
 
@@ -85,7 +84,7 @@ module _ (fault : RuleFault) where
   by_front true r e = e
   by_front false r e = absurd (false≢true (ap (λ r. is_of_rule (fault_in r)) e))
 
-  by_line : (line : List ℕ) → line_rule line ≡ Err (OfRule fault) → option_map rule_of (rule_in_line line) ≡ Some (Err fault)
+  by_line : (line : List ℕ) → line_rule line ≡ Err (OfRule fault) → option_map rule_of (option_map (without_ends is_blank) (after_sizes line >>= after_rule_name)) ≡ Some (Err fault)
   by_line line e = by_sizes (after_sizes line) (by_front (is_some (after_one_of (codes "xX") line)) (rule_behind (after_sizes line)) e)
 
 pub refused_rules_are_told : RefusedRulesAreTold

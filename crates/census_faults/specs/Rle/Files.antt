@@ -1,4 +1,4 @@
--- What a text is that has no header line.
+-- The kind of a text without a header line.
 use Rattle.std.specs.Prelude.{ℕ, List, [], ◌∷◌, nat_eq, codes, if◌then◌else◌}
 use Rattle.std.specs.List.{starts_with}
 use Rattle.census_faults.specs.declared.rle.files.FileKind.{FileKind}

@@ -1,4 +1,4 @@
--- The lines that tell a fault.
+-- The lines that report a fault.
 use Rattle.std.specs.Prelude.{ℕ, List, ◌++◌, codes, decimal}
 use Rattle.life_text.specs.declared.rle.RleFault.{RleFault}
 use Rattle.life_text.specs.declared.rle.RleFault.TheVariants.{Memory}
@@ -6,7 +6,7 @@ use Rattle.life_text.specs.Faults.{fault_number, fault_place}
 use Rattle.census_faults.specs.declared.rle.places.Place.{Place}
 use Rattle.census_faults.specs.Numbers.{numbered}
 use Rattle.census_faults.specs.Rle.Places.{place_of_fault}
-use Rattle.census_faults.specs.Rle.Sentences.{words_of}
+use Rattle.census_faults.specs.Sentences.{words_of}
 
 -- the number of a fault and its byte, counted from 0, where it names one
 abbrev pub fault_name : RleFault → List ℕ

@@ -1,11 +1,9 @@
 -- The sentence for each fault.
-use Rattle.std.specs.Prelude.{◌≡◌, ℕ, List, Option, Some, None, codes}
+use Rattle.std.specs.Prelude.{◌≡◌, ℕ, List, codes}
 use Rattle.life_cells.specs.declared.rule.RuleFault.TheVariants.{NotLifeLike, HasB0}
 use Rattle.life_text.specs.declared.rle.RleFault.{RleFault}
 use Rattle.life_text.specs.declared.rle.RleFault.TheVariants.{NoHeader, BadHeader, Rule, ManyStates, BadChar, BadRun, TooFar, TooMany, NoEnd, Memory}
 use Rattle.life_text.specs.Faults.{without_place}
-use Rattle.census_faults.specs.Rle.Files.{file_kind}
-use Rattle.census_faults.specs.Rle.Rules.{rule_in_header, rule_kind}
 use Rattle.census_faults.specs.declared.rle.files.FileKind.{FileKind}
 use Rattle.census_faults.specs.declared.rle.files.FileKind.TheVariants.{Gzip, Macrocell, OldLife, Plaintext, ByteOrderMark, Other as OtherFile}
 use Rattle.census_faults.specs.declared.rle.kinds.RuleKind.{RuleKind}
@@ -25,7 +23,7 @@ sentence_of (TooMany at) = codes "there are too many live cells: a pattern must 
 sentence_of NoEnd = codes "the text ends too early: its body must end with `!`"
 sentence_of Memory = codes "memory ran out: what was given may be right, but more memory is needed"
 
--- the same for each kind of rule that is not Life-like
+-- what is wrong, and what would be right, for each kind of rule that is not Life-like
 abbrev pub rule_sentence_of : RuleKind → List ℕ
 rule_sentence_of Named = codes "the rule is given by a name: it must be a Life-like rule that is written out, as `B3/S23`"
 rule_sentence_of Bounded = codes "the rule has a bounded grid: it must end before the `:`, since patterns live on the unbounded plane here"
@@ -36,7 +34,7 @@ rule_sentence_of NonTotalistic = codes "the rule is isotropic non-totalistic, wi
 rule_sentence_of Blank = codes "the rule has a blank inside: it must be written without blanks, as `B3/S23`"
 rule_sentence_of Other = codes "the rule has no Life-like form: it must be written as `B3/S23`, `S23/B3` or `23/3`, with digits from 0 to 8"
 
--- the same for each kind of text that has no header line
+-- what is wrong, and what would be right, for each kind of text without a header line
 abbrev pub file_sentence_of : FileKind → List ℕ
 file_sentence_of Gzip = codes "the text is compressed by gzip: it must be unpacked first, as `gunzip` does"
 file_sentence_of Macrocell = codes "the text is a macrocell file: it must be in the format RLE, in which Golly can save it"
@@ -45,26 +43,7 @@ file_sentence_of Plaintext = codes "the text is a drawing in plaintext, with `.`
 file_sentence_of ByteOrderMark = codes "a byte order mark stands before the first line: the text must begin without it"
 file_sentence_of OtherFile = sentence_of NoHeader
 
--- the sentence for the rule of a header
-abbrev pub sentence_of_rule : Option (List ℕ) → List ℕ
-sentence_of_rule None = sentence_of (Rule NotLifeLike)
-sentence_of_rule (Some rule) = rule_sentence_of (rule_kind rule)
-
--- the sentence for a fault of a text, which says what a text without a header line is, and of a rule that is not Life-like which kind it is
-abbrev pub words_of : List ℕ → RleFault → List ℕ
-words_of text (Rule NotLifeLike) = sentence_of_rule (rule_in_header text)
-words_of text (Rule fault) = sentence_of (Rule fault)
-words_of text NoHeader = file_sentence_of (file_kind text)
-words_of text BadHeader = sentence_of BadHeader
-words_of text (ManyStates at) = sentence_of (ManyStates at)
-words_of text (BadChar at) = sentence_of (BadChar at)
-words_of text (BadRun at) = sentence_of (BadRun at)
-words_of text (TooFar at) = sentence_of (TooFar at)
-words_of text (TooMany at) = sentence_of (TooMany at)
-words_of text NoEnd = sentence_of NoEnd
-words_of text Memory = sentence_of Memory
-
--- # No two have the same
+-- # No two sentences are the same
 
 -- faults with one sentence differ in their byte at most
 abbrev pub SentencesDiffer : Type 0
@@ -77,7 +56,3 @@ RuleSentencesDiffer = (k l : RuleKind) → rule_sentence_of k ≡ rule_sentence_
 -- kinds of texts without a header line with one sentence are one
 abbrev pub FileSentencesDiffer : Type 0
 FileSentencesDiffer = (k l : FileKind) → file_sentence_of k ≡ file_sentence_of l → k ≡ l
-
--- whatever the texts: faults that are told by one sentence differ in their byte at most
-abbrev pub WordsDiffer : Type 0
-WordsDiffer = (text other : List ℕ) (f g : RleFault) → words_of text f ≡ words_of other g → without_place f ≡ without_place g

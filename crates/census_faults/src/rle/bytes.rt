@@ -1,9 +1,9 @@
 //! Bytes that are counted, and bytes side by side.
-ghost use Rattle.std.specs.Prelude.{◌≡◌, ◌≤◌, ◌==◌, length};
+ghost use Rattle.std.specs.Prelude.{◌≡◌, ◌≤◌, ◌==◌, length, not};
 ghost use Rattle.std.specs.List.{after_last, suffix_len};
-ghost use Rattle.census_faults.specs.Rle.Places.{is_within_line, times_in};
+ghost use Rattle.census_faults.specs.Rle.Places.{times_in};
 
-/// How often a byte stands in a text.
+/// The number of times that a byte occurs in a text.
 pub fn count_of(text: &[u8], byte: u8) -> usize
     ensures value { result ≡ times_in byte text.now }
     ensures within { result ≤ length text.now }
@@ -19,9 +19,9 @@ pub fn count_of(text: &[u8], byte: u8) -> usize
     count
 }
 
-/// How many bytes stand after the last LF of a text.
+/// The number of bytes after the last LF of a text.
 pub fn last_line_len(text: &[u8]) -> usize
-    ensures value { result ≡ suffix_len is_within_line text.now }
+    ensures value { result ≡ suffix_len (λ c. not (c == 10)) text.now }
     ensures within { result ≤ length text.now }
 {
     let mut start = text.len();
@@ -31,7 +31,7 @@ pub fn last_line_len(text: &[u8]) -> usize
     text.len() - start
 }
 
-/// What stands after the last of a byte in a text, or the text where the byte is not in it.
+/// What comes after the last occurrence of a byte in a text, or the text where the byte is not in it.
 pub fn behind_last(text: &[u8], byte: u8) -> &[u8]
     ensures { result.now ≡ after_last (λ c. c == byte) text.now }
 {

@@ -1,4 +1,4 @@
-//! Files of patterns that are no RLE texts.
+//! Files of patterns that are not RLE texts.
 ghost use Rattle.std.specs.Prelude.{◌≡◌};
 ghost use Rattle.census_faults.specs.Rle.Files.{file_kind};
 
@@ -19,7 +19,7 @@ pub enum FileKind {
     Other,
 }
 
-/// What a text is that has no header line, by its first bytes.
+/// The kind of a text without a header line, by its first bytes.
 pub fn file_kind(text: &[u8]) -> FileKind
     ensures { result ≡ file_kind text.now }
 {

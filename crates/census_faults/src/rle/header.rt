@@ -1,8 +1,10 @@
 //! The header line of an RLE text, and the rule that it names.
 ghost use Rattle.std.specs.Prelude.{◌≡◌, ◌≤◌, length};
-ghost use Rattle.std.specs.Option.{option_copied};
+ghost use Rattle.std.specs.Option.{option_and_then, option_copied, option_map};
+ghost use Rattle.texts.specs.Bytes.{is_blank, without_ends};
+ghost use Rattle.life_text.specs.Rle.{after_rule_name, after_sizes};
 ghost use Rattle.census_faults.specs.Rle.Places.{header_place};
-ghost use Rattle.census_faults.specs.Rle.Rules.{rule_in_header, rule_in_line};
+ghost use Rattle.census_faults.specs.Rle.Rules.{rule_in_header};
 
 use life_text::{after_rule_name, after_sizes, drop_blanks, line_end, skip_blanks, skip_spaces};
 
@@ -17,7 +19,7 @@ pub fn header_place(text: &[u8]) -> usize
 
 // The rule text of a header line, without the blanks at its ends.
 fn rule_in_line(line: &[u8]) -> Option<&[u8]>
-    ensures { option_copied result ≡ rule_in_line line.now }
+    ensures { option_copied result ≡ option_map (without_ends is_blank) (option_and_then after_rule_name (after_sizes line.now)) }
 {
     let behind = after_sizes(line)?;
     let text = after_rule_name(behind)?;

@@ -1,13 +1,13 @@
 //! Kinds of rules that are not Life-like.
-ghost use Rattle.std.specs.Prelude.{◌≡◌};
+ghost use Rattle.std.specs.Prelude.{◌≡◌, ◌==◌, ◌&&◌, ◌||◌, codes};
 ghost use Rattle.std.specs.List.{list_all, list_any};
-ghost use Rattle.texts.specs.Bytes.{is_blank, is_digit};
-ghost use Rattle.census_faults.specs.Rle.Rules.{begins_with_range, has_arrangement_behind, has_history, has_word_behind, is_arrangement, is_generations, is_in_numbers, is_isotropic, is_larger, is_map, is_non_totalistic, is_number, is_rule_name, is_states, rule_kind};
+ghost use Rattle.texts.specs.Bytes.{is_blank, is_digit, is_in, is_letter};
+ghost use Rattle.census_faults.specs.Rle.Rules.{begins_with_range, has_history, has_pair, is_arranged, is_generations, is_larger, is_map, is_non_totalistic, is_number, is_rule_name, is_states, rule_kind};
 
 use crate::rle::bytes::{behind_last, count_of};
 use life_text::{is_blank, is_digit, is_letter};
 
-/// Which kind of rule a text names that is no Life-like rule.
+/// The kind of a rule that is not Life-like.
 #[derive(Clone, Copy, Debug, PartialEq, Eq, Drop)]
 pub enum RuleKind {
     /// A name, as `HighLife`.
@@ -47,7 +47,7 @@ fn begins_with_range(rule: &[u8]) -> bool
 
 // Whether each byte of a text is a digit or a comma.
 fn all_in_numbers(rule: &[u8]) -> bool
-    ensures { result ≡ list_all is_in_numbers rule.now }
+    ensures { result ≡ list_all (λ c. is_digit c || (c == 44)) rule.now }
 {
     rule.iter().all(|byte| is_digit(*byte) || *byte == b',')
 }
@@ -74,7 +74,7 @@ fn is_number(text: &[u8]) -> bool
     !text.is_empty() && all_digits(text)
 }
 
-// Whether a text is a number, before which `C` or `G` may stand.
+// Whether a text is a number, with or without `C` or `G` before it.
 fn is_states(text: &[u8]) -> bool
     ensures { result ≡ is_states text.now }
 {
@@ -93,14 +93,14 @@ fn is_generations(rule: &[u8]) -> bool
 
 // Whether a byte is the letter of an arrangement of neighbours.
 fn is_arrangement(byte: u8) -> bool
-    ensures { result ≡ is_arrangement byte }
+    ensures { result ≡ is_in (codes "ceakinyqjrtwz") byte }
 {
     b"ceakinyqjrtwz".contains(&byte)
 }
 
-// Whether an arrangement stands right after a number of neighbours, or after the `-` of those that are left out.
+// Whether the letter of an arrangement comes right after a number of neighbours, or after the `-` of those that are left out.
 fn has_arrangement(rule: &[u8]) -> bool
-    ensures { result ≡ has_arrangement_behind 47 rule.now }
+    ensures { result ≡ has_pair is_arranged 47 rule.now }
 {
     let mut before = b'/';
     for n in 0..rule.len() {
@@ -112,16 +112,16 @@ fn has_arrangement(rule: &[u8]) -> bool
     false
 }
 
-// Whether a byte may stand in an isotropic rule that tells arrangements of neighbours apart.
+// Whether a byte may be in an isotropic rule that tells arrangements of neighbours apart.
 fn is_isotropic(byte: u8) -> bool
-    ensures { result ≡ is_isotropic byte }
+    ensures { result ≡ is_in (codes "012345678/-BSbsceakinyqjrtwz") byte }
 {
     b"012345678/-BSbsceakinyqjrtwz".contains(&byte)
 }
 
-// Whether each byte of a text may stand in such a rule.
+// Whether each byte of a text may be in such a rule.
 fn all_isotropic(text: &[u8]) -> bool
-    ensures { result ≡ list_all is_isotropic text.now }
+    ensures { result ≡ list_all (is_in (codes "012345678/-BSbsceakinyqjrtwz")) text.now }
 {
     text.iter().all(|byte| is_isotropic(*byte))
 }
@@ -133,9 +133,9 @@ fn is_non_totalistic(rule: &[u8]) -> bool
     has_arrangement(rule) && all_isotropic(rule)
 }
 
-// Whether two letters stand side by side.
+// Whether two letters are side by side.
 fn has_word(rule: &[u8]) -> bool
-    ensures { result ≡ has_word_behind 47 rule.now }
+    ensures { result ≡ has_pair (λ before c. is_letter before && is_letter c) 47 rule.now }
 {
     let mut before = b'/';
     for n in 0..rule.len() {
@@ -164,22 +164,22 @@ fn is_rule_name(rule: &[u8]) -> bool
     has_word(rule) && !rule.contains(&b'/') && !is_map(rule)
 }
 
-// Whether a blank, a tab or CR stands in a text.
+// Whether a blank, a tab or CR is in a text.
 fn has_blank(text: &[u8]) -> bool
     ensures { result ≡ list_any is_blank text.now }
 {
     text.iter().any(|byte| is_blank(*byte))
 }
 
-/// Which kind of rule a text names that is no Life-like rule. The first of these that holds says it:
+/// The kind of a rule that is not Life-like. The first of these that holds decides:
 ///
-/// - `Bounded`: `:` stands in it.
+/// - `Bounded`: it has `:`.
 /// - `History`: it ends in `History` or `Super`.
 /// - `LargerThanLife`: it begins with `R` and a digit and has a comma, or is five numbers with commas between.
-/// - `Generations`: it has two `/`, and after the second a number, before which `C` or `G` may stand.
-/// - `NonTotalistic`: it is made of `0` to `8`, `/`, `-`, `B`, `S`, `b`, `s` and the letters of arrangements, and one of
-///   these letters stands right after a digit or `-`.
-/// - `Named`: two letters stand side by side, and it has no `/` and doesn't begin with `MAP`.
+/// - `Generations`: it has two `/`, and after the second a number, with or without `C` or `G` before it.
+/// - `NonTotalistic`: it is made of `0` to `8`, `/`, `-`, `B`, `S`, `b`, `s` and the letters of arrangements, and one of these
+///   letters comes right after a digit or `-`.
+/// - `Named`: two letters are side by side, and it has no `/` and doesn't begin with `MAP`.
 /// - `Blank`: it has a blank, a tab or CR.
 pub fn rule_kind(rule: &[u8]) -> RuleKind
     ensures { result ≡ rule_kind rule.now }

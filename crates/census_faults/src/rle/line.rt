@@ -1,4 +1,4 @@
-//! Where the bytes of a text stand.
+//! The places of the bytes of a text.
 ghost use Rattle.std.specs.Prelude.{◌≡◌, ◌≤◌, length};
 ghost use Rattle.census_faults.specs.Rle.Places.{line_and_column, place_in, place_of_fault};
 
@@ -7,9 +7,9 @@ use crate::rle::header::header_place;
 use crate::rle::places::Place;
 use life_text::RleFault;
 
-/// The line and the column of a byte, or of the end of the text, both counted from 1. LF ends a line, and belongs to
-/// it. CR is a byte like any other: where a line ends with CR and LF, CR is the last but one byte of its line, and CR
-/// alone ends no line.
+/// The line and the column of a byte, or of the end of the text, both counted from 1. LF ends a line, and belongs to it. CR is a
+/// byte like any other: where a line ends with CR and LF, CR is the last but one byte of its line, and CR alone does not end a
+/// line.
 pub fn line_and_column(text: &[u8], at: usize) -> Place
     requires { at ≤ length text.now }
     ensures { result ≡ line_and_column text.now at }

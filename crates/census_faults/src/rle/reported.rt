@@ -7,7 +7,7 @@ use crate::rle::told::push_number;
 use life_text::RleFault;
 use std::alloc::{AllocError, Global};
 
-// Adds a number behind a word.
+// Adds a number after a word.
 fn push_numbered(words: &mut Vec<u8>, number: u64) -> Result<(), AllocError>
     ensures { OnOk result (words.new.items ≡ words.old.items ++ (codes "fault " ++ decimal number)) }
 {
@@ -16,7 +16,7 @@ fn push_numbered(words: &mut Vec<u8>, number: u64) -> Result<(), AllocError>
     Ok(())
 }
 
-// Adds what a number means that names no fault of a text.
+// Adds the meaning of a number that names no fault of a text.
 fn push_unnamed(words: &mut Vec<u8>, number: u64) -> Result<(), AllocError>
     ensures { OnOk result (words.new.items ≡ words.old.items ++ unnamed_words number) }
 {
@@ -26,7 +26,7 @@ fn push_unnamed(words: &mut Vec<u8>, number: u64) -> Result<(), AllocError>
     }
 }
 
-/// What a report means that names a fault by this number: the sentence for the fault, that the file can't be read, or, where
+/// The meaning of a fault that a report names by this number: the sentence for the fault, that the file can't be read, or, where
 /// no fault has it, the number. The only error is out of memory.
 pub fn fault_words(alloc: Global, number: u64) -> Result<Vec<u8>, AllocError>
     ensures { IfOk result (λ words. words.items ≡ fault_words number) }

@@ -1,7 +1,8 @@
 //! The sentence for each fault.
 ghost use Rattle.std.specs.Prelude.{◌≡◌, ◌<◌, length};
 ghost use Rattle.census_faults.specs.Rle.Refused.{RefusedRulesAreTold};
-ghost use Rattle.census_faults.specs.Rle.Sentences.{FileSentencesDiffer, RuleSentencesDiffer, SentencesDiffer, WordsDiffer, file_sentence_of, rule_sentence_of, sentence_of, words_of};
+ghost use Rattle.census_faults.specs.Rle.Sentences.{FileSentencesDiffer, RuleSentencesDiffer, SentencesDiffer, file_sentence_of, rule_sentence_of, sentence_of};
+ghost use Rattle.census_faults.specs.Sentences.{WordsDiffer, words_of};
 
 use crate::rle::files::{FileKind, file_kind};
 use crate::rle::header::rule_in_header;
@@ -64,7 +65,7 @@ pub fn rule_sentence(kind: RuleKind) -> &'static str
     }
 }
 
-/// The sentence for a kind of text that has no header line: what it is, and what would be right.
+/// The sentence for a kind of text without a header line: what it is, and what would be right.
 pub fn file_sentence(kind: FileKind) -> &'static str
     ensures sentence { result.now ≡ file_sentence_of kind }
     ensures told { 0 < length result.now }
@@ -84,8 +85,8 @@ pub fn file_sentence(kind: FileKind) -> &'static str
     }
 }
 
-/// The sentence for a fault of a text. Where there is no header line, it says what the text is, and where the rule is not
-/// Life-like, of which kind the header's rule is.
+/// The sentence for a fault of a text. Where there is no header line, it says what the text is. Where the rule is not Life-like,
+/// it says of which kind the header's rule is.
 pub fn words_of(text: &[u8], fault: RleFault) -> &'static str
     ensures { result.now ≡ words_of text.now fault }
 {
@@ -99,8 +100,9 @@ pub fn words_of(text: &[u8], fault: RleFault) -> &'static str
     }
 }
 
-/// What tells a fault tells which it is. Faults with one sentence differ in their byte at most, kinds of rules and of texts
-/// without a header line with one sentence are one, and so it is with what is told of faults of whatever texts.
+/// The sentence for a fault identifies it. Faults with one sentence differ in their byte at most. Kinds of rules with one
+/// sentence are one, and so are kinds of texts without a header line. This also holds for the sentences for faults of whatever
+/// texts.
 pub fn sentences_differ()
     ensures faults { SentencesDiffer }
     ensures rules { RuleSentencesDiffer }
@@ -108,8 +110,8 @@ pub fn sentences_differ()
     ensures words { WordsDiffer }
 {}
 
-/// A text that the reader refuses for its rule has a rule text in its header, and this is the one that has the fault: where
-/// the rule is not Life-like, of this the kind is told.
+/// A text that the reader refuses for its rule has a rule text in its header, and that is the one with the fault: where the rule
+/// is not Life-like, its kind is reported.
 pub fn refused_rules_are_told()
     ensures { RefusedRulesAreTold }
 {}

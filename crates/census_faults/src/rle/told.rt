@@ -1,4 +1,4 @@
-//! The lines that tell a fault.
+//! The lines that report a fault.
 ghost use Rattle.std.specs.Prelude.{◌≡◌, ◌++◌, OnOk, IfOk, decimal};
 ghost use Rattle.census_faults.specs.Rle.Lines.{fault_line, fault_name, place_text, sentence_line};
 
@@ -29,7 +29,7 @@ fn push_place(line: &mut Vec<u8>, place: Place) -> Result<(), AllocError>
     Ok(())
 }
 
-/// What the program's lines call a fault: `rle fault N`, with its byte as in `rle fault 6 at 17` where it names one, or
+/// The name of a fault in the program's lines: `rle fault N`, with its byte as in `rle fault 6 at 17` where it names one, or
 /// `out of memory`.
 pub fn fault_name(fault: RleFault) -> Message
     ensures { result.bytes ≡ fault_name fault }
@@ -49,7 +49,7 @@ fn push_sentence(line: &mut Vec<u8>, text: &[u8], fault: RleFault) -> Result<(),
     Ok(())
 }
 
-/// The line `LINE:COLUMN: WORDS` that tells a fault of a text, without a line feed: where a reader should look, and the
+/// The line `LINE:COLUMN: WORDS` that reports a fault of a text, without a line feed: where a reader should look, and the
 /// sentence.
 pub fn sentence_line(alloc: Global, text: &[u8], fault: &RleFault) -> Result<Vec<u8>, AllocError>
     ensures { IfOk result (λ line. line.items ≡ sentence_line text.now fault.now) }
@@ -59,8 +59,8 @@ pub fn sentence_line(alloc: Global, text: &[u8], fault: &RleFault) -> Result<Vec
     Ok(line)
 }
 
-/// The line `LINE:COLUMN: WORDS (NUMBER)` that tells a fault of a text, without a line feed: where a reader should look,
-/// the sentence, and the fault's number with its byte, counted from 0, as in `rle fault 6 at 17`.
+/// The line `LINE:COLUMN: WORDS (NUMBER)` that reports a fault of a text, without a line feed: where a reader should look, the
+/// sentence, and the fault's number with its byte, counted from 0, as in `rle fault 6 at 17`.
 pub fn fault_line(alloc: Global, text: &[u8], fault: &RleFault) -> Result<Vec<u8>, AllocError>
     ensures { IfOk result (λ line. line.items ≡ fault_line text.now fault.now) }
 {

@@ -1,9 +1,9 @@
 -- What is told of a pattern.
 use Rattle.std.specs.Prelude.{ℕ, ℤ, Option, Some, None, List, [], ◌∷◌, ◌++◌, codes}
+use Rattle.life_answer.specs.declared.finding.Outcome.{Outcome}
+use Rattle.life_answer.specs.declared.finding.Outcome.TheVariants.{Ash, Grows, Large, Recurs, Unresolved}
 use Rattle.life_answer.specs.declared.part.Part.{Part}
 use Rattle.life_answer.specs.Parts.{objects_in}
-use Rattle.census_identify.specs.declared.blocks.known.Known.{Known}
-use Rattle.census_identify.specs.declared.blocks.known.Known.TheVariants.{Apart, Grows, Large, Settles, Unresolved}
 use Rattle.census_facts.specs.Facts.{Thing, thing}
 use Rattle.census_facts.specs.Names.{Entry, name_in}
 use Rattle.census_facts.specs.Facts as told
@@ -49,9 +49,9 @@ apart_things onset list =
 
 -- what is known within the bound: of a pattern that grows `engines`, its engines; `large`, the first generation that has more
 -- cells than it may have; `unresolved`, the bound, where it neither settles nor has fallen apart, and isn't told to grow
-abbrev pub known_things : List Entry → ℕ → Known → List Thing
-known_things names bound (Settles onset period dx dy code) = settled_things names onset period dx dy code
-known_things names bound (Apart onset list) = apart_things onset list
+abbrev pub known_things : List Entry → ℕ → Outcome → List Thing
+known_things names bound (Recurs onset period dx dy code) = settled_things names onset period dx dy code
+known_things names bound (Ash onset list) = apart_things onset list
 known_things names bound (Grows list) = thing (codes "engines") (told.engines list) ∷ []
 known_things names bound (Large generation) = thing (codes "large") (told.number generation) ∷ []
 known_things names bound Unresolved = thing (codes "unresolved") (told.number bound) ∷ []

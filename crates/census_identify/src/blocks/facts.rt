@@ -5,9 +5,8 @@ ghost use Rattle.census_identify.specs.Blocks.Things.{apart_things, code_things,
 ghost use Rattle.census_facts.specs.Names.{name_in};
 ghost use Rattle.census_facts.specs.Facts.{content_of, thing, things_in};
 
-use crate::blocks::known::Known;
 use census_facts::{Fact, Names, Worth};
-use life_answer::Parts;
+use life_answer::{Outcome, Parts};
 use std::alloc::AllocError;
 
 // Adds a fact.
@@ -110,25 +109,25 @@ fn push_apart<'a>(facts: &mut Vec<Fact<'a>>, onset: u32, parts: &'a Parts) -> Re
 pub fn push_known<'a>(
     facts: &mut Vec<Fact<'a>>,
     names: &'a Names,
-    known: &'a Known,
+    known: &'a Outcome,
     bound: u32,
 ) -> Result<(), AllocError>
     ensures { OnOk result (things_in facts.new.items ≡ things_in facts.old.items
         ++ known_things names.now bound known.now) }
 {
     match known {
-        Known::Settles {
+        Outcome::Recurs {
             onset,
             period,
             dx,
             dy,
             code,
         } => push_settled(facts, names, *onset, *period, *dx, *dy, code.as_slice()),
-        Known::Apart { onset, parts } => push_apart(facts, *onset, parts),
-        Known::Grows { engines } => push_fact(facts, "engines", Worth::Engines(engines)),
-        Known::Large { generation } => {
+        Outcome::Ash { onset, parts } => push_apart(facts, *onset, parts),
+        Outcome::Grows { engines } => push_fact(facts, "engines", Worth::Engines(engines)),
+        Outcome::Large { generation } => {
             push_fact(facts, "large", Worth::Number(*generation as u64))
         }
-        Known::Unresolved => push_fact(facts, "unresolved", Worth::Number(bound as u64)),
+        Outcome::Unresolved => push_fact(facts, "unresolved", Worth::Number(bound as u64)),
     }
 }

@@ -1,4 +1,4 @@
--- How many sets there are in a field that share no cell.
+-- How many sets that share no cell there are in a field.
 use Rattle.std.proofs.Common.{◌≡◌, ◌≢◌, ℕ, suc, ◌≤◌, ◌^◌, inl, inr, ⊎_elim, true, List, [], ◌∷◌, length, refl, sym, ap, ◌∙◌, arith}
 use Rattle.std.specs.List.{All, AllPairs}
 use Rattle.std.proofs.lemmas.List.Elements.{All-contains, All-head, All-tail}
@@ -48,7 +48,7 @@ listed : (cs : List Cell) (c : Cell) → contains (from_list cs) c ≡ true → 
 unfolding Has
 listed cs c h = sym (contains-from_list cs c) ∙ h
 
--- no set is without a cell, and no cell is in two sets
+-- each set has a cell, and no cell is in two sets
 pub few_sets : (sets : List Generation) → All (λ P. P ≢ empty) sets → AllPairs AreDisjoint sets → (age : ℕ) → age ≤ age_limit
     → ((q : Cell) → contains (union_of sets) q ≡ true → IsWithin age q) → length sets ≤ 2 ^ 48
 few_sets sets some apart age young each =

@@ -21,7 +21,7 @@ use Rattle.life_objects.proofs.Unions.{union-empty, union_of-append}
 use Rattle.life_objects.specs.Parts.Parts.{IsIndependentPart}
 use Rattle.census_merge.proofs.BoundsLemmas.CellCounts.{few_sets}
 
--- G is these sets, each of which has a cell, and no two of which share one
+-- G is these sets, each of which has a cell, and no two of which share a cell
 record AreSetsOf (G : Generation) (Qs : List Generation) : Type 0 where
   together : union_of Qs ≡ G
   some : All (λ Q. Q ≢ empty) Qs

@@ -1,4 +1,4 @@
--- What is told of engines has numbers in the range of a line.
+-- What is reported of engines has numbers in the range of a line.
 use Rattle.std.proofs.Common.{◌≡◌, ◌≢◌, ℕ, zero, suc, ◌+◌, ◌*◌, ◌<◌, ◌≤◌, ◌^◌, Bool, Some, List, [], ◌∷◌, ◌++◌, length, map, sym, ap, subst, ◌∙◌, arith}
 use Rattle.std.specs.List.{All, AllByRecursion as Each, Contains}
 use Rattle.std.proofs.lemmas.List.{length-append, length-map}
@@ -22,11 +22,11 @@ use Rattle.life_answer.proofs.Told.{growth_is_so}
 use Rattle.life_objects.proofs.IndependentLemmas.Found.{owned}
 use Rattle.life_ash.proofs.Places.{generation_within, place_of, subset_within}
 use Rattle.life_cells.specs.Limits.{IsWithin}
-use Rattle.life_growth.specs.Engine.{Emits, IsEngine, IsEngineWithin, Way, joined}
-use Rattle.life_growth.specs.Growth.{IsGrowth}
-use Rattle.life_growth.proofs.Emitting.{emits_some}
-use Rattle.life_growth.proofs.Growing.{generation-one}
-use Rattle.life_growth.proofs.OneGrowth.{IsUnsplit-engine, engines_apart}
+use Rattle.life_objects.specs.Growth.Engine.{Emits, IsEngine, IsEngineWithin, Way, joined}
+use Rattle.life_objects.specs.Growth.Growth.{IsGrowth}
+use Rattle.life_objects.proofs.GrowthLemmas.Emitting.{emits_some}
+use Rattle.life_objects.proofs.GrowthLemmas.Growing.{generation-one}
+use Rattle.life_objects.proofs.GrowthLemmas.OneGrowth.{IsUnsplit-engine, engines_apart}
 use Rattle.life_model.specs.Evolution.{generation}
 use Rattle.life_model.specs.Generation.{Generation, cells, contains, empty}
 use Rattle.life_model.specs.Rule.{Rule}
@@ -59,7 +59,7 @@ each-at-most : (parts : List Part) (most : ℕ) → objects_in parts ≤ most �
 each-at-most [] most few = tt
 each-at-most (p ∷ parts) most few = (omega arith, each-at-most parts most (omega arith))
 
--- what is told of growth fits a report
+-- what is reported of growth fits a report
 pub record FitsGrowth (told : List Engines) : Type 0 where
   pub few : engines_in told < 2 ^ 64
   pub each : Each FitsEngines told
@@ -72,7 +72,7 @@ both-each (p ∷ parts) coded few =
 
 module _ (R : Rule) (near : Bool) (h c : ℕ) (soon : h ≤ period_limit) (young : c ≤ objects_bound_limit) where
   module _ (E : Generation) (stands : All (IsWithin c) (cells E)) (way : Way) (engine : IsEngine R h E way) where
-    -- where the core stands after n steps, and what leaves it then
+    -- where the core is after n steps, and what leaves it then
     stepped : (n : ℕ) → n < way.period → All (IsWithin (c + n)) (cells (way.core n)) →
         All (IsWithin (c + n + 1)) (cells (union (way.core (suc n)) (way.left n)))
     stepped n less core =

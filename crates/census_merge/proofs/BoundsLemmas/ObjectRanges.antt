@@ -54,7 +54,7 @@ use Rattle.census_merge.proofs.Solid.{each-map}
 
 -- ---- what is found of a set
 
--- the outcome can be told, and is of at most 2^48 objects
+-- the outcome can be reported, and has at most 2^48 objects
 abbrev IsRanged : Outcome → Type 0
 IsRanged outcome = FitsOutcome outcome × (objects_in (parts_found outcome) ≤ 2 ^ 48)
 
@@ -104,7 +104,7 @@ module _ (R : Rule) (G : Generation) (b : ℕ) (few : b ≤ objects_bound_limit)
   unfolding census_of
   census-ranged near = found-ranged near (ash_of R b last) refl
 
-  -- what is told of growth goes before what was found
+  -- what is reported of growth goes before what was found
   growing-ranged : (told : Option (List Engines)) (found : Outcome) → ((engines : List Engines) → told ≡ Some engines → FitsGrowth engines)
       → IsRanged found → IsRanged (growing_or told found)
   growing-ranged None found grown h = h

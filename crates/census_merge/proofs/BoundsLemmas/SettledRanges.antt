@@ -43,7 +43,7 @@ after-some : (xs : List ℕ) (y : ℕ) (ys : List ℕ) → 0 < length ((xs ++ y 
 after-some [] y ys = omega arith
 after-some (x ∷ xs) y ys = omega arith
 
--- the code of what comes again is not empty
+-- the code of what recurs is not empty
 pub code-some : (R : Rule) (H : Generation) (period : ℕ) (d : Cell) → 0 < length (code_of R H period d)
 unfolding code_of
 code-some R H period d = after-some (prefix (size H) period d) 95 (least_text (bodies R H period))
@@ -53,7 +53,7 @@ fault-small fault = let few = fault_number-most fault in omega arith
 
 -- ---- objects
 
--- it is not found that a pattern has fallen apart
+-- the pattern has not been found to have fallen apart
 abbrev IsWhole : Outcome → Type 0
 IsWhole (Ash onset parts) = ⊥
 IsWhole _ = ⊤
@@ -100,7 +100,7 @@ module _ (R : Rule) (G : Generation) (b : ℕ) (textual : IsTextual G) where
       (λ none. subst FitsOutcome (sym none.found) (tt, tt, tt))
       (settled_or_not R G b)
 
--- where what is found can be told, so can it where a generation may be too large
+-- if what is found can be reported, so can it where a generation may be too large
 module _ (R : Rule) (G : Generation) (last : ℕ) (short : last < 2 ^ 64)
     (found : Outcome) (told : FitsOutcome found) where
   past-told : (most : ℕ) (large : Option ℕ) → first_past (Some most) R G last ≡ large
@@ -166,6 +166,6 @@ module _ (bound : ℕ) (cells : Option ℕ) (answered : IsAnswered (Settles boun
   folders-are-told [] few = tt
   folders-are-told (f ∷ b) few = (folder-is-told f (few 0 f refl), folders-are-told b (λ k g. few (suc k) g))
 
-  -- the numbers that are found of a bundle's patterns are in the range of a line
+  -- the numbers found of a bundle's patterns are in the range of a line
   pub settled-in-range : (b : List Folder) → IsWithinCounts b → InRange b (Settles bound cells)
   settled-in-range b small = folders-are-told b small.entries

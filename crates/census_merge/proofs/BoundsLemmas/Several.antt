@@ -4,6 +4,7 @@ use Rattle.census_bundle.specs.declared.bundle.Folder.{Folder}
 use Rattle.census_format.specs.Reports.{IsReport}
 use Rattle.census_readback.specs.Reports.{ReadsAsReports}
 use Rattle.census_readback.specs.Shapes.{AreReports, AreWhole, all_rows}
+use Rattle.census_readback.proofs.Interleaved.{reports-complete, reports-sound}
 use Rattle.census_readback.proofs.Walks.{joined-append, lines-append}
 use Rattle.census_rows.specs.Lines.{text_of}
 use Rattle.census_rows.specs.declared.row.Row.{Row}
@@ -36,13 +37,13 @@ read-append xs ys s t first second =
     record {
       lines = lines-append xs ys first.lines second.lines;
       whole = ap (λ z. z ++ t) first.whole ∙ ap (λ z. text_of xs ++ z) second.whole ∙ sym (text-append xs ys);
-      shape = reports-append xs ys first.shape second.shape;
+      shape = reports-complete (xs ++ ys) (reports-append xs ys (reports-sound xs first.shape) (reports-sound ys second.shape));
     }
 
 readable-append : (s t : List ℕ) → Readable s → Readable t → Readable (s ++ t)
 readable-append s t first second = record { rows = first.rows ++ second.rows; read = read-append first.rows second.rows s t first.read second.read }
 
--- where a report is readable by itself, so are several, one after another
+-- if each report is readable by itself, so are several, one after another
 pub all-readable : (question : Question) → ((b : List Folder) (text : List ℕ) → IsBundle b → IsReport b question text → Readable text)
     → (parts : List (List Folder)) (reports : List (List ℕ)) → 0 < length parts → AreBundles parts → EachIsReport question parts reports → Readable (texts reports)
 all-readable question one [] reports some bundles each = absurd (omega (arith, some))
@@ -53,7 +54,7 @@ all-readable question one (b ∷ c ∷ parts) (t ∷ []) some bundles each = abs
 all-readable question one (b ∷ c ∷ parts) (t ∷ u ∷ reports) some bundles each =
     readable-append t (texts (u ∷ reports)) (one b t bundles.0 each.0) (all-readable question one (c ∷ parts) (u ∷ reports) (omega arith) bundles.1 each.1)
 
--- what they are made is read back from all, and is a report of all their bundles
+-- the merged report is read back from all of them, and is a report of all their bundles
 pub reports-made : (question : Question) → ((b : List Folder) (text : List ℕ) → IsBundle b → IsReport b question text → Readable text)
     → (parts : List (List Folder)) (reports : List (List ℕ)) → 0 < length parts → AreBundles parts → EachIsReport question parts reports → AreMade question parts reports
 reports-made question one parts reports some bundles each =

@@ -1,4 +1,4 @@
--- Where the cells that a text means stand, in each generation, and how many they are.
+-- Where the cells that a text means are, in each generation, and how many there are.
 use Rattle.std.proofs.Common.{◌≡◌, ℕ, zero, suc, ◌+◌, ◌*◌, ◌<◌, ◌≤◌, ◌^◌, ⊎_elim, true, Option, Some, None, Result, Ok, Err, List, [], ◌∷◌, map, length, FitsSigned, w64, ap, subst, ◌∙◌, sym, refl, arith}
 use Rattle.std.specs.List.{All}
 use Rattle.std.proofs.Math.Nat.{eq-or-lt_of_le}
@@ -25,7 +25,7 @@ use Rattle.life_text.specs.Rising.{RisesFrom}
 use Rattle.life_text.specs.Rle.{Token, body_tokens, cells_after, first_fault, header_rule, reading, unless_fault, with_body}
 use Rattle.life_text.specs.declared.rle.RleFault.{RleFault}
 
--- each cell stands where cells stand at this age
+-- each cell is where cells are at this age
 abbrev pub Stands : ℕ → Generation → Type 0
 Stands age G = (c : Cell) → contains G c ≡ true → IsWithin age c
 
@@ -45,7 +45,7 @@ generation-stands R age G stands (suc n) =
     let g = next_near R (generation R G n) c h in
     near-stands (n + age) c g.0 g.2 (generation-stands R age G stands n g.0 g.1))
 
--- ---- a set that stands again, moved
+-- ---- a set that recurs, moved
 
 abbrev Fits : Cell → Type 0
 Fits d = FitsSigned w64 d.0 × FitsSigned w64 d.1
@@ -56,7 +56,7 @@ move-fits age later c d young soon here there = (
   omega (arith, ints, here.above, here.below, there.above, there.below),
 )
 
--- a set that stands again has moved no further than a line can tell, where a set without cells is not said to move
+-- a set that recurs has moved no further than a line can say, if a set without cells is not said to move
 pub moved-fits : (age later : ℕ) (G : Generation) (d : Cell) → age ≤ 4000000 → later ≤ 4000000
     → Stands age G → Stands later (translate_of G d) → (G ≡ empty → d ≡ origin) → FitsSigned w64 d.0 × FitsSigned w64 d.1
 moved-fits age later G d young soon here there unmoved = ⊎_elim
@@ -81,7 +81,7 @@ few-rising y x (c ∷ cs) high wide h =
     (λ above. omega (arith, above, wide, others))
     (eq-or-lt_of_le low)
 
--- a set as texts mean them: its cells stand where those of generation 0 may, and are fewer than 2^64
+-- a set as texts mean them: its cells are where those of generation 0 may be, and are fewer than 2^64
 pub record IsTextual (G : Generation) : Type 0 where
   pub stands : Stands 0 G
   pub few : size G < 2 ^ 64

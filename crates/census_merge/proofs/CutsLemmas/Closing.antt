@@ -1,4 +1,4 @@
--- A row that closes a collection is its last: nothing behind it is kept open.
+-- A row that closes a collection is its last: no row of it comes after that one.
 use Rattle.std.proofs.Common.{◌≡◌, ℕ, true, false, ◌||◌, cond, eqb, Some, None as Nothing, Option, List, [], ◌∷◌, ◌++◌, length, ap, ◌∙◌, sym, subst, refl}
 use Rattle.std.specs.Prelude.{⊤}
 use Rattle.std.specs.List.{AllByRecursion as Each}
@@ -18,7 +18,7 @@ use Rattle.life_answer.specs.declared.question.Question.{Question}
 use Rattle.census_merge.proofs.Rowed.{close_row, code_groups, counted_in, section-is}
 use Rattle.census_merge.proofs.CutsLemmas.Sections.{IsInner, codes-inner, patterns-inner}
 
--- no row stands behind one that closes
+-- no row comes after one that closes
 abbrev pub IsOnceClosed : List Row → Type 0
 IsOnceClosed [] = ⊤
 IsOnceClosed (row ∷ rows) = (is_close row ≡ true → rows ≡ []) × IsOnceClosed rows
@@ -50,7 +50,7 @@ at-once question c (Some f) = section-once question c f
 pub sections-once : (question : Question) (b : List Folder) (c : ℕ) → IsOnceClosed (all_rows (section b question c))
 sections-once question b c = at-once question c (element_at b c)
 
--- ---- rows behind
+-- ---- rows after it
 
 none-behind : (xs ys : List Row) → xs ++ ys ≡ [] → ys ≡ []
 none-behind [] ys e = e
@@ -84,7 +84,7 @@ closed-last c (x ∷ xs) ys h e =
       | false ↦ λ here k. closed-last c xs ys h.1 k
     ] refl e
 
--- the rows of a collection close it, where all rows do
+-- the rows of a collection close it, if all rows do
 closed-own : (c : ℕ) (rows : List Row) → is_closed rows c ≡ true → is_closed (rows_of c rows) c ≡ true
 closed-own c [] e = e
 closed-own c (row ∷ rows) e =
@@ -96,7 +96,7 @@ closed-own c (row ∷ rows) e =
       | false ↦ λ other. closed-own c rows (sym (ap (λ v. v || is_closed rows c) (closes-other c row other)) ∙ e)
     ] refl
 
--- behind rows that close a collection there is none of it
+-- after rows that close a collection there is none of it
 pub none-of : (c : ℕ) (front back : List Row) → IsOnceClosed (rows_of c (front ++ back)) → is_closed front c ≡ true → rows_of c back ≡ []
 none-of c front back h e = closed-last c (rows_of c front) (rows_of c back) (subst IsOnceClosed (rows-append c front back) h) (closed-own c front e)
 
@@ -107,7 +107,7 @@ rows-tail c row rows =
       | false ↦ λ e. e
     ]
 
--- of rows none of which is of a collection that is closed, none is kept
+-- if no row is of a collection that is closed, none is kept
 pub none-kept : (all rows : List Row) → ((c : ℕ) → is_closed all c ≡ true → rows_of c rows ≡ []) → kept_of all rows ≡ []
 none-kept all [] h = refl
 none-kept all (row ∷ rows) h =
@@ -117,7 +117,7 @@ none-kept all (row ∷ rows) h =
       | false ↦ λ e. none-kept all rows (λ d k. rows-tail d row rows (h d k))
     ] refl
 
--- what is so of the collection of each row is so of each collection that is closed
+-- what holds for the collection of each row holds for each collection that is closed
 pub closed-of : (Q : ℕ → Type 0) (c : ℕ) (rows : List Row) → Each (λ (row : Row). Q (collection_of row)) rows → is_closed rows c ≡ true → Q c
 closed-of Q c [] h e = absurd (cc)
 closed-of Q c (row ∷ rows) h e =

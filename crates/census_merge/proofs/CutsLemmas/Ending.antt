@@ -1,4 +1,4 @@
--- Where something is cut off a report, its `end` row is.
+-- If something is cut off a report, its `end` row is.
 use Rattle.std.proofs.Common.{◌≡◌, ℕ, ◌+◌, ◌<◌, ◌^◌, false, cond, ltb, List, [], ◌∷◌, ◌++◌, length, length-append, ap, ◌∙◌, refl, arith, append_assoc}
 use Rattle.std.specs.List.{AllByRecursion as Each}
 use Rattle.census_bundle.specs.declared.bundle.Folder.{Folder}
@@ -36,7 +36,7 @@ lasting-end (End collections patterns) e = absurd (cc)
 some-left : (text rest : List ℕ) → 0 < length rest → text ++ rest ≡ [] → ⊥
 some-left text rest some e = (let sum = length-append text rest in let none : length (text ++ rest) ≡ 0 = ap length e in omega (arith, sum, none, some))
 
--- rows whose lines stand before the end of the last line end no report
+-- rows whose lines come before the end of the last line end no report
 none-end : (last : Row) → IsCut last → (told : List Row) → Each IsCut told → Each IsLasting told
     → (rows : List Row) (rest : List ℕ) → AllLines rows → 0 < length rest → text_of rows ++ rest ≡ text_of told ++ (line_of last ++ []) → NoneEnds rows
 none-end last cut told each lasting [] rest lines some e = tt
@@ -56,7 +56,7 @@ count-none (row ∷ rows) h =
     let more : ltb 0 w ≡ false = ap (ltb 0) none in
     ap (λ v. cond v (w + 1) (one (is_end row))) more ∙ ap one h.0
 
--- where a lawful report was cut, none of its rows that are whole ends it
+-- if a lawful report was cut, none of its whole rows ends it
 pub no-end : (b : List Folder) (question : Question) (rows : List Row) (rest : List ℕ) → IsBundle b → AllLines rows → 0 < length rest
     → IsReport b question (text_of rows ++ rest) → whole_count rows ≡ 0
 no-end b question rows rest bundle lines some report =

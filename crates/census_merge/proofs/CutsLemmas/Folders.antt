@@ -29,7 +29,7 @@ module _ (all : List Row) where
         | false ↦ λ e. (let next = next-open c e in omega (arith, next, rest, whole))
       ] refl
 
-  -- the collection m + 1, counted from behind c, is the one of its number among those that are closed
+  -- the collection m + 1, counted from after c, is the one of its number among those that are closed
   pub folder-at : (c j k m : ℕ) (fs : List Folder) → m ≡ c + j → closed_to all m ≡ k + closed_to all c → is_closed all (suc m) ≡ true
       → slice_get (closed_folders all (suc c) fs) k ≡ slice_get fs j
   folder-at c j k m [] at count closed = refl
@@ -53,7 +53,7 @@ module _ (all : List Row) where
         | false ↦ λ e. (let next = next-open c e in folder-at (suc c) j k m fs further (omega (arith, next, count)) closed)
       ] refl
 
-  -- where no collection behind n is closed, no number grows from there on
+  -- if no collection after n is closed, no number grows from there on
   pub closed-past : (n k : ℕ) → ((c : ℕ) → n < c → is_closed all c ≡ false) → closed_to all (k + n) ≡ closed_to all n
   closed-past n zero h = let same : 0 + n ≡ n = omega arith in ap (closed_to all) same
   closed-past n (suc k) h =

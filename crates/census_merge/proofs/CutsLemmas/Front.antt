@@ -1,4 +1,4 @@
--- Rows whose lines stand at the start of a report are spelled as its first rows.
+-- Rows whose lines are at the start of a report are spelled as its first rows.
 use Rattle.std.proofs.Common.{◌≡◌, ℕ, ◌<◌, ◌^◌, true, false, List, [], ◌∷◌, ◌++◌, map, ap, ◌∙◌, sym, refl, append_assoc}
 use Rattle.std.specs.List.{AllByRecursion as Each}
 use Rattle.census_merge.specs.Kept.{is_end}
@@ -29,7 +29,7 @@ IsFew row = patterns_opened row < 2 ^ 64
 abbrev pub NoneEnds : List Row → Type 0
 NoneEnds rows = Each (λ row. is_end row ≡ false) rows
 
--- the first of the rows that are told
+-- the rows are spelled as the first of the rows told
 pub record FrontCut (told rows : List Row) : Type 0 where
   pub front : List Row
   pub back : List Row

@@ -17,7 +17,7 @@ tail-owner : (Q : ℕ → Type 0) (c : ℕ) (l : Owned) (ls : List Owned) → Ea
 tail-owner Q c l ls =
     elim (eqb l.owner c) as (λ v. Each (λ (group : Group). Q c) (cond v (l.group ∷ lines_of c ls) (lines_of c ls)) → Each (λ (group : Group). Q c) (lines_of c ls)) [ true ↦ λ h. h.1 | false ↦ λ h. h ]
 
--- what is so of each number that has lines is so of each owner
+-- what holds for each number that has lines holds for each owner
 pub owners-in : (Q : ℕ → Type 0) (groups : List Owned) → ((c : ℕ) → Each (λ (group : Group). Q c) (lines_of c groups)) → Each (λ (l : Owned). Q l.owner) groups
 owners-in Q [] h = tt
 owners-in Q (l ∷ ls) h =

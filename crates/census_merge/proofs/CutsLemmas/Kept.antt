@@ -1,4 +1,4 @@
--- What is kept of a report that was cut tells the collections that are closed.
+-- What is kept of a report that was cut says what is found of the collections that are closed.
 use Rattle.std.proofs.Common.{◌≡◌, ◌≢◌, ℕ, zero, suc, ◌+◌, ◌-◌, ◌<◌, ◌≤◌, ◌^◌, true, false, cond, ltb, List, [], ◌∷◌, ◌++◌, map, length, slice_get, ap, ◌∙◌, sym, subst, refl, arith, append-nil}
 use Rattle.std.specs.List.{AllByRecursion as Each}
 use Rattle.std.proofs.lemmas.Bool.{ltb-false, ltb-true}
@@ -98,7 +98,7 @@ module _ (all : List Row) (b : List Folder) (question : Question) (groups : List
         | false ↦ λ e. past i (ltb-false i (closed_to all (length b)) e)
       ] refl
 
-  -- how many collections are closed, where each of them is one of the bundle's
+  -- how many collections are closed, if each of them is one of the bundle's
   pub count-kept : length b ≤ most → ((c : ℕ) → is_closed all c ≡ true → IsOf (length b) c) → closed_to all most ≡ length closed
   count-kept few of =
       let n = length b in

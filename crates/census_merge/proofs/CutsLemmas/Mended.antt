@@ -13,7 +13,7 @@ use Rattle.census_merge.specs.Cuts.Closed.{closed_folders}
 use Rattle.census_merge.proofs.CutsLemmas.Ending.{no-end}
 use Rattle.census_merge.proofs.CutsLemmas.Kept.{kept-report}
 
--- where no report is whole, only what is kept of the one that was cut stays
+-- if no report is whole, only what is kept of the one that was cut stays
 none-whole : (rows : List Row) → whole_count rows ≡ 0 → kept_rows rows ≡ report_of rows
 none-whole rows none = ap (λ n. take n rows ++ report_of (drop n rows)) none
 

@@ -119,7 +119,7 @@ sections-within question b (suc k) = ⊎_elim
     (λ some. at-within question (length b) (suc k) (slice_get b k) (omega arith) (omega arith))
     (eq-zero-or-pos (length b - k))
 
--- and none opens 2^64 patterns
+-- no row of a section opens 2^64 patterns
 pub sections-few : (question : Question) (b : List Folder) → IsWithinCounts b → (c : ℕ) → Each (Each (IsFewIn c)) (section b question c)
 sections-few question b h zero = tt
 sections-few question b h (suc k) = at-few question (suc k) b k h.entries

@@ -40,7 +40,7 @@ module _ (b : List Folder) (question : Question) (groups : List Owned) (sections
       each-then (λ (l : Owned). Each (IsWithin (length b) l.owner) l.group) (λ (l : Owned). Each (IsIn l.owner) l.group)
       (λ l. each-then (IsWithin (length b) l.owner) (IsIn l.owner) (λ row h. h.0) l.group) groups within
 
-  -- which is one of the bundle's
+  -- each row's collection is one of the bundle's
   pub rows-within : Each (IsOfMany (length b)) (rows_in groups)
   rows-within = in-rows (IsWithin (length b)) (IsOfMany (length b)) (of-many (length b)) groups within
 

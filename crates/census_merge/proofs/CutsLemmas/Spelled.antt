@@ -1,4 +1,4 @@
--- What is kept of rows is said by how they are spelled.
+-- What is kept of rows depends only on how they are spelled.
 use Rattle.std.proofs.Common.{◌≡◌, ℕ, ◌+◌, ◌<◌, ◌^◌, Bool, true, false, ◌||◌, cond, eqb, List, [], ◌∷◌, map, codes, decimal, bytes_eq, ap, ◌∙◌, sym, refl, arith}
 use Rattle.std.proofs.lemmas.Fmt.{decimal_injective}
 use Rattle.census_merge.specs.Kept.{closed_to, closes, is_closed, is_end, kept_of, numbered}
@@ -96,7 +96,7 @@ small-opened (Code collection rule code count) h = omega arith
 small-opened (Close collection patterns resolved unresolved refused) h = omega arith
 small-opened (End collections patterns) h = omega arith
 
--- a row that is spelled as one that opens fewer than 2^64 patterns opens as many
+-- a row that is spelled as one that opens fewer than 2^64 patterns opens the same number of patterns
 pub same-opened : (row other : Row) → IsRow row → patterns_opened other < 2 ^ 64 → spelling row ≡ spelling other → patterns_opened row ≡ patterns_opened other
 same-opened row other h few e =
     decimal_injective (patterns_opened row) (patterns_opened other) (small-opened row h) few
@@ -134,7 +134,7 @@ module _ (all : List Row) where
       ∙ ap (λ s. cond (is_closed all (collection_of row)) (s ∷ kept_spelled (map spelling rows)) (kept_spelled (map spelling rows))) (numbered-spelled n row)
       ∙ ap (λ c. cond (is_closed all c) (under (closed_to all c) (spelling row) ∷ kept_spelled (map spelling rows)) (kept_spelled (map spelling rows))) (owner-spelled row)
 
-  -- of rows that are spelled alike rows are kept that are spelled alike
+  -- the rows kept of rows that are spelled alike are spelled alike
   pub same-kept : (rows others : List Row) → map spelling rows ≡ map spelling others → map spelling (kept_of all rows) ≡ map spelling (kept_of all others)
   same-kept rows others e = kept-spelled rows ∙ ap kept_spelled e ∙ sym (kept-spelled others)
 
@@ -157,7 +157,7 @@ module _ (all : List Row) where
       ∙ ap (λ m. cond (is_closed all (collection_of row)) (m + rest) rest) (opened-numbered n row)
       ∙ ap (λ c. cond (is_closed all c) (patterns_opened row + rest) rest) (owner-spelled row)
 
-  -- and they open as many patterns, where each row does
+  -- and they open the same number of patterns, if each row does
   pub same-patterns : (rows others : List Row) → map spelling rows ≡ map spelling others → map patterns_opened rows ≡ map patterns_opened others
       → patterns_in (kept_of all rows) ≡ patterns_in (kept_of all others)
   same-patterns rows others e d = kept-opened rows ∙ (λ i. kept_opened (e i) (d i)) ∙ sym (kept-opened others)

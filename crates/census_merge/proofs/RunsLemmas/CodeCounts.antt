@@ -49,7 +49,7 @@ module _ (k : Object) (rule : Rule) where
       let first = count_first is_k code codes in
       omega (arith, here, later, first)
 
-  -- so many codes that are counted are this one
+  -- how many of the codes that are counted are this one
   pub as_counted : (codes : List (List ℕ)) → parts_as k rule (counted_codes codes) ≡ count_by is_k codes
   as_counted codes = as_folded codes [] ∙ omega arith
 

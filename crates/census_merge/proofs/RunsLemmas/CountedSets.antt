@@ -23,7 +23,7 @@ pub count_in_any_order : {A B : Type 0} (p : B → Bool) (f : A → List B) (xs 
 count_in_any_order p f xs ys order =
     count-flat_map p f ys ∙ sum_by-IsPermutation (λ x. count_by p (f x)) xs ys order ∙ sym (count-flat_map p f xs)
 
--- ---- each of them comes again
+-- ---- each of them recurs
 
 pub sooner : (near : Bool) (b : ℕ) → coming_bound near b ≤ code_bound b
 sooner true b = omega arith

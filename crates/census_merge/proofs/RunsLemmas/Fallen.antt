@@ -1,4 +1,4 @@
--- A pattern falls apart exactly where its answer says so.
+-- A pattern falls apart exactly if its answer says so.
 use Rattle.std.proofs.Common.{◌≡◌, ℕ, ◌*◌, min, Bool, false, List, Option, Some, None, Result, Ok, Err, refl, sym, ap, ◌∙◌}
 use Rattle.std.specs.List.Sorted.{IsPermutation}
 use Rattle.census_bundle.specs.declared.bundle.Entry.{Entry}
@@ -51,7 +51,7 @@ ash_found near R G b onset parts e = some_found near R b (ash_onset R G b) onset
 no_growth : (onset : ℕ) (parts : List Part) (lines : List Engines) → Ash onset parts ≡ Grows lines → ⊥
 no_growth onset parts lines e = cc
 
--- what has fallen apart was found so before anything was told of growth
+-- what has fallen apart was found so before growth was looked for
 fallen_before : (near : Bool) (most : Option ℕ) (R : Rule) (G : Generation) (bound horizon onset : ℕ) (parts : List Part)
     → outcome_to (Objects bound most near horizon) R G ≡ Ash onset parts
     → outcome_unless_large most R G (3 * bound) (census_of near R G bound) ≡ Ash onset parts
@@ -90,7 +90,7 @@ module _ (near : Bool) (bound : ℕ) (most : Option ℕ) (horizon : ℕ) (e : En
             ∙ census_some near f.rule f.cells bound parts.0 parts.1);
       }
 
-  -- ---- and one that is said to does
+  -- ---- and one that is said to, does
 
   pub answer_by : e.is_lost ≡ false → (r : Result Picture RleFault) → picture_of (reading e.text) ≡ r
       → answer_in ≡ answer_to (Objects bound most near horizon) r

@@ -1,4 +1,4 @@
--- The rows of a pattern tell that it grows exactly where it does.
+-- The rows of a pattern say that it grows exactly if it does.
 use Rattle.std.proofs.Common.{◌≡◌, ℕ, Bool, true, List, ◌∷◌, Option, Result, Ok, Err, bytes_eq, codes, refl, sym, ap, ◌∙◌, arith}
 use Rattle.std.proofs.lemmas.Bool.{false≢true}
 use Rattle.census_bundle.specs.declared.bundle.Entry.{Entry}
@@ -33,7 +33,7 @@ module _ (near : Bool) (bound : ℕ) (most : Option ℕ) (horizon : ℕ) (e : En
   abbrev answer : Answer
   answer = answer_in near bound most horizon e
 
-  -- ---- what grows is told
+  -- ---- what grows is said to grow
 
   abbrev lines : HasGrown bound most horizon e → List Engines
   lines g = told_of_engines near g.rule g.within g.engines
@@ -51,7 +51,7 @@ module _ (near : Bool) (bound : ℕ) (most : Option ℕ) (horizon : ℕ) (e : En
   unfolding pattern_rows
   rows_grow c i g = ap (λ found. pattern_row c i found e.name ∷ rows_behind c i found) (answer_grows g)
 
-  -- ---- and nothing else is told to grow
+  -- ---- and nothing else is said to grow
 
   grown_by : (rule : Rule) (finding : Finding) (engines : List Engines) → answer ≡ Found rule finding → finding.outcome ≡ Grows engines
       → (r : Result Picture RleFault) → picture_of (reading e.text) ≡ r → HasGrown bound most horizon e

@@ -1,4 +1,4 @@
--- The counts of a closing count what the objects count as that patterns fall apart into.
+-- The counts of a closing count the objects that patterns fall apart into, by what these count as.
 use Rattle.std.proofs.Common.{◌≡◌, ℕ, zero, suc, ◌≤◌, Bool, List, Option, map, get_or, Decides}
 use Rattle.std.proofs.Common.{refl, sym, ap, subst, ◌∙◌, arith}
 use Rattle.std.specs.List.{All, Contains, count_by}
@@ -27,7 +27,7 @@ use Rattle.census_merge.proofs.RunsLemmas.Fallen.{answer_in, said, to_say}
 use Rattle.census_merge.proofs.RunsLemmas.PartCodes.{at_once, part_code-is, part_codes_tell}
 use Rattle.census_merge.proofs.RunsLemmas.CountedSets.{count_in_any_order, counted_recurs, counted_told, sooner}
 
--- the object that is told of a set
+-- the object that is reported for a set
 told : Rule → ℕ → Generation → Object
 told R b P = object R (part_code R (code_bound b) P)
 
@@ -40,7 +40,7 @@ module _ (near : Bool) (bound : ℕ) (most : Option ℕ) (horizon : ℕ) where
 
   -- ---- one pattern
 
-  -- where it falls apart, so many of the sets that count are told to be this object
+  -- if it falls apart, how many of the sets that count are reported as this object
   number-fallen : (k : Object) (e : Entry) (f : FallsApart bound most e)
       → number k e ≡ count_by (λ Q. same_object k (told f.rule bound Q)) (counted_in e f)
   unfolding told
@@ -59,7 +59,7 @@ module _ (near : Bool) (bound : ℕ) (most : Option ℕ) (horizon : ℕ) where
     of_it : Contains (counted_in e fallen) part
     is : k ≡ told fallen.rule bound part
 
-  -- where there is one, it is told of a part
+  -- if there is one, it is reported for a part
   from_fallen : (k : Object) (e : Entry) (f : FallsApart bound most e) → 1 ≤ number k e → IsFrom k e
   from_fallen k e f some =
       let same = number-fallen k e f in

@@ -7,7 +7,7 @@ use Rattle.census_format.proofs.Owning.{eqb_same, lines_of-other, lines_of-own, 
 use Rattle.census_rows.specs.Lines.{text_of}
 use Rattle.life_answer.specs.declared.question.Question.{Question}
 
--- no line belongs to another collection than the first
+-- each line belongs to the first collection
 abbrev AreFirst : List Owned → Type 0
 AreFirst ls = (c : ℕ) → (1 ≡ c → ⊥) → lines_of c ls ≡ []
 

@@ -1,4 +1,4 @@
--- The code that is found of a set alone tells which object it is.
+-- The code found of a set determines which object it is.
 use Rattle.std.proofs.Common.{◌≡◌, ◌↔◌, ℕ, ap, ◌∙◌}
 use Rattle.life_answer.specs.Apgcode.{code_of}
 use Rattle.life_answer.specs.Census.{part_code}
@@ -18,7 +18,7 @@ module _ (R : Rule) (b : ℕ) where
   pub part_code-is : (P : Generation) (s : SettlesAtOnce R b P) → part_code R b P ≡ code_of R P s.period s.displacement
   part_code-is P s = found.part_code-is R b P s ∙ ap (λ G. code_of R G s.period s.displacement) (generation-zero R P)
 
-  -- sets have one code exactly where they are one object
+  -- sets have one code exactly if they are one object
   pub part_codes_tell : (P Q : Generation) → RecursWithin R b P → RecursWithin R b Q →
       (part_code R b P ≡ part_code R b Q) ↔ AreOneObject R P Q
   part_codes_tell P Q again too = (

@@ -9,7 +9,7 @@ use Rattle.census_rows.specs.declared.row.Row.{Row}
 use Rattle.life_answer.specs.declared.question.Question.{Question}
 use Rattle.census_merge.specs.Joining.{bundles, texts}
 
--- the texts, one after another, are read back, and what is written of the merged rows is a lawful report of all the bundles
+-- the texts, one after another, are read back, and the merged rows as written are a lawful report of all the bundles
 pub record AreMade (question : Question) (parts : List (List Folder)) (reports : List (List ℕ)) : Type 0 where
   pub rows : List Row
   pub read : ReadsAsReports rows (texts reports)

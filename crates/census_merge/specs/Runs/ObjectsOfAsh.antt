@@ -1,4 +1,4 @@
--- What the counts of a closing say of what the objects count as that patterns fall apart into.
+-- What the counts of a closing say of the objects that patterns fall apart into, by what these count as.
 use Rattle.std.specs.Prelude.{◌≡◌, ℕ, Bool, true, false, List, Option, count_by}
 use Rattle.std.specs.List.{All, Contains, sum_by}
 use Rattle.census_bundle.specs.declared.bundle.Entry.{Entry}
@@ -13,20 +13,20 @@ use Rattle.census_format.specs.Lines.{answers}
 use Rattle.census_format.specs.Objects.{Object, object, objects, same_object, tally}
 use Rattle.census_merge.specs.Runs.Fallen.{CountsIn, FallsApart, counted_sets}
 
--- P comes again within the bound, and this is the rule and P's code.
+-- P recurs within the bound, and this is the rule and P's code.
 pub record IsCoded (bound : ℕ) (R : Rule) (P : Generation) (k : Object) : Type 0 where
   pub period : ℕ
   pub displacement : Cell
   pub settles : Settles R P bound (record { onset = 0; period = period; displacement = displacement })
   pub named : k ≡ object R (code_of R P period displacement)
 
--- a bound within which each set comes again that counts: an object does so within the bound asked for
+-- a bound within which each set that counts recurs: an object does so within the bound asked for
 abbrev pub coming_bound : Bool → ℕ → ℕ
 coming_bound true bound = bound
 coming_bound false bound = code_bound bound
 
--- The line has the rule and the code of a set that one of these patterns counts as, and its number is how many such sets,
--- of all of them, are one object with that one under that rule.
+-- The line has the rule and the code of a set that one of these patterns counts as. Its number is how many such sets, of all
+-- the patterns, are one object with that set under that rule.
 pub record CountsPartsOfObject (near : Bool) (bound : ℕ) (most : Option ℕ) (es : List Entry) (line : Object × ℕ) : Type 0 where
   pub pattern : Entry
   pub among : Contains es pattern
@@ -42,13 +42,13 @@ pub record CountsPartsOfObject (near : Bool) (bound : ℕ) (most : Option ℕ) (
 abbrev pub code_counts : (near : Bool) (bound : ℕ) (most : Option ℕ) (horizon : ℕ) → List Entry → List (Object × ℕ)
 code_counts near bound most horizon es = tally same_object (objects (answers (question.Objects bound most near horizon) es))
 
--- One of these lines, and no more, has the rule and P's code.
+-- Exactly one of these lines has the rule and P's code.
 pub record HasOneLine (bound : ℕ) (R : Rule) (P : Generation) (lines : List (Object × ℕ)) : Type 0 where
   pub shown : Object
   pub coded : IsCoded bound R P shown
   pub once : count_by (λ line. same_object shown line.0) lines ≡ 1
 
--- each set that these patterns count as, where they fall apart, has one line
+-- each set that these patterns count as, if they fall apart, has one line
 abbrev pub PartsHaveOneLine : (near : Bool) (bound : ℕ) (most : Option ℕ) (horizon : ℕ) → List Entry → Type 0
 PartsHaveOneLine near bound most horizon es =
     (e : Entry) → Contains es e → (f : FallsApart bound most e) → (P : Generation) → Contains (counted_sets near bound most e f) P

@@ -14,7 +14,7 @@ use Rattle.life_model.proofs.Orbits.{along}
 use Rattle.life_model.proofs.Recurrences.{generation-next, generation-zero, move_from_shape, shape, shape-follows, shape_from_move, way}
 use Rattle.life_model.proofs.Symmetries.{contains-moved}
 
--- a column or a row of a cell, which a move moves for all alike and which a neighbour has but for one
+-- a column or a row of a cell, which a move moves for all alike and which differs by at most one for a neighbour
 record IsAxis (f : Cell → ℤ) : Type 0 where
   moved : (c d by : Cell) (n : ℕ) → f (plus d (opposite by)) ≤ℤ (f (plus c (opposite by)) +ℤ pos n) → f d ≤ℤ (f c +ℤ pos n)
   left : (c g : Cell) → IsNear c g → f g ≤ℤ (f c +ℤ pos 1)
@@ -66,7 +66,7 @@ module _ (f : Cell → ℤ) (axis : IsAxis f) where
       spans_wider (generation R G (suc t)) ((n + 2 * t) + 2) (n + 2 * suc t) (omega arith)
       (subst (λ H. Spans H ((n + 2 * t) + 2)) e now)
 
-  -- a generation after that at which a set settles is an earlier one, moved
+  -- a generation after the one at which a set settles is an earlier one, moved
   earlier : (R : Rule) (G : Generation) (g steps t : ℕ) (by : Cell) → generation R G (g + steps) ≡ translate_of (generation R G g) by → g + steps ≤ t
       → (d : Cell) × (generation R G t ≡ translate_of (generation R G (t - steps)) d)
   earlier R G g steps t by e h =

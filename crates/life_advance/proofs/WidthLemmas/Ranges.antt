@@ -1,4 +1,4 @@
--- Cells between two places stand no further apart than these.
+-- Cells between two places are no further apart than these.
 use Rattle.std.proofs.Common.{◌≡◌, ℕ, ℤ, pos, ◌+ℤ◌, ◌-ℤ◌, ◌≤ℤ◌, ◌+◌, ◌<◌, true, List, All, length, get_or, take, sym, ◌∙◌, arith}
 use Rattle.std.proofs.Math.IntN.{nat_abs}
 use Rattle.std.proofs.lemmas.Int.{ints}
@@ -8,7 +8,7 @@ use Rattle.life_model.specs.Generation.{contains, from_list}
 use Rattle.life_model.proofs.Generations.{contains-from_list}
 use Rattle.life_model.proofs.Members.{of_member}
 
--- a number is one from the first to the last
+-- a number is between the first and the last, or is one of them
 pub record IsBetween (first last z : ℤ) : Type 0 where
   pub from : first ≤ℤ z
   pub to : z ≤ℤ last
@@ -28,7 +28,7 @@ between_all f first last cs n is all c d live also =
     (of_member (λ q. IsBetween first last (f q)) cs all c (sym (contains-from_list cs c) ∙ live))
     (of_member (λ q. IsBetween first last (f q)) cs all d (sym (contains-from_list cs d) ∙ also))
 
--- one cell more, and places further out
+-- one more cell, and places further out
 pub between_more : (f : Cell → ℤ) (first last first_new last_new : ℤ) (cs : List Cell) (i : ℕ) (d : Cell) → i < length cs → first_new ≤ℤ first → last ≤ℤ last_new →
     first_new ≤ℤ f (get_or cs i d) → f (get_or cs i d) ≤ℤ last_new → All (λ c. IsBetween first last (f c)) (take i cs) → All (λ c. IsBetween first_new last_new (f c)) (take (i + 1) cs)
 between_more f first last first_new last_new cs i d inside before behind here there all =

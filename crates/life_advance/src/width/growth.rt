@@ -1,32 +1,32 @@
-//! Growth past what settles.
+//! Growth beyond what settles.
 ghost use Rattle.std.specs.Prelude.{ℕ, ℤ, pos, ◌≡◌, ◌≤◌, ◌≤ℤ◌, All, IfSome, IsTrue};
 ghost use Rattle.life_model.specs.Evolution.{generation};
 ghost use Rattle.life_model.specs.Generation as sets;
 ghost use Rattle.life_model.specs.Recurrence.{SettlesAt};
 ghost use Rattle.life_cells.specs.Limits.{IsWithin};
-ghost use Rattle.life_leaps.specs.Planes.{members};
+ghost use Rattle.life_advance.specs.Leaps.Planes.{members};
 ghost use Rattle.life_advance.specs.Width.Spans.{SpansColumns, SpansRows};
 
+use crate::leaps::{LeapPlane, Side};
 use crate::width::spread::spread_of;
 use life_cells::{CellList, Rule};
-use life_leaps::{LeapPlane, Side};
 use std::alloc::Global;
 
-/// The exponent of how many generations are leapt over at once. What sends something out at a fourth of a place a generation, to
-/// one side alone, is then wider than it may be within a bound of 1,000,000.
+/// The exponent of the number of generations that are leapt over at once. What sends something out at a quarter of a
+/// cell per generation, to one side only, is then wider than it may be within a bound of 1,000,000.
 const FAR: u32 = 23;
 
-/// After so many generations it is first asked how far apart the cells grow.
+/// The first generation at which the distance between the cells is checked.
 const FIRST_ASKED: u32 = 2_048;
 
-/// After so many it is last asked.
+/// The last generation at which it is checked.
 const LAST_ASKED: u32 = 1_048_576;
 
-/// How many cells make a leap as dear as a band of eight rows of 64 cells in each generation before it.
+/// How many cells make a leap as expensive as a band of eight rows of 64 cells in each generation before it.
 const CELLS_OF_WORK: u64 = 16;
 
-/// A generation far after this one, where the memory that there is makes one and some work: about a part of that of the
-/// generations before.
+/// A generation long after this one, if some work and the memory that there is are enough. The work is about a fraction
+/// of that of the generations before.
 fn far_generation(alloc: Global, rule: &Rule, cells: &CellList, age: u32) -> Option<LeapPlane>
     requires age { age ≤ 1048576 }
     requires within { All (IsWithin age) (sets.cells cells.now) }
@@ -43,7 +43,7 @@ fn far_generation(alloc: Global, rule: &Rule, cells: &CellList, age: u32) -> Opt
     }
 }
 
-/// Whether two cells stand in columns further apart than so many.
+/// Whether two cells are in columns more than `most` apart.
 fn is_wider(plane: &LeapPlane, most: i64) -> bool
     ensures { IsTrue result →
         (n : ℕ) → pos n ≤ℤ most → SpansColumns (members plane.now) n → ⊥ }
@@ -57,7 +57,7 @@ fn is_wider(plane: &LeapPlane, most: i64) -> bool
     i64::from(east.0) - i64::from(west.0) > most
 }
 
-/// The same of rows.
+/// Whether two cells are in rows more than `most` apart.
 fn is_higher(plane: &LeapPlane, most: i64) -> bool
     ensures { IsTrue result →
         (n : ℕ) → pos n ≤ℤ most → SpansRows (members plane.now) n → ⊥ }
@@ -71,10 +71,10 @@ fn is_higher(plane: &LeapPlane, most: i64) -> bool
     i64::from(south.1) - i64::from(north.1) > most
 }
 
-/// Whether cells are seen to grow further apart than they may where a generation comes again within a bound, as those of a later
-/// generation show, of this age. A far generation is made of these, by leaps. It is not asked before age 2,048, and nothing is
-/// known where the leaps would be too much work, where memory is refused, and where the cells of the far generation are near
-/// enough.
+/// Whether the cells of a later generation, of this age, show that the cells grow further apart than they may if a
+/// generation recurs within a bound. A far generation is made from them by leaps. This is not checked before age 2,048.
+/// A negative answer means nothing: the leaps may be too much work or run out of memory, or the cells of the far
+/// generation may be near enough.
 pub fn outgrows(
     alloc: Global,
     rule: &Rule,

@@ -1,17 +1,17 @@
-//! How far apart the cells of a list stand.
+//! How far apart the cells of a list are.
 ghost use Rattle.std.specs.Prelude.{All};
 ghost use Rattle.life_model.specs.Generation.{from_list};
 ghost use Rattle.life_cells.specs.Limits.{IsPlace};
 ghost use Rattle.life_advance.specs.Width.Spans.{SpansColumns, SpansRows};
 
-/// How many columns the last cell stands to the right of the first, and how many rows below it.
+/// How many columns the rightmost cell is from the leftmost one, and how many rows the lowest is below the highest.
 #[derive(Clone, Copy)]
 pub struct Spread {
     pub columns: u32,
     pub rows: u32,
 }
 
-/// How far apart cells stand. Where there is none, any number is one that they don't pass.
+/// How far apart cells are. If there is none, any number will do.
 pub fn spread_of(cells: &[(i32, i32)]) -> Spread
     requires { All IsPlace cells.now }
     ensures columns { SpansColumns (from_list cells.now) result.columns }

@@ -1,4 +1,4 @@
--- How many cells sets have together, and which.
+-- How many cells sets have together, and which cells.
 use Rattle.std.proofs.Common.{◌≡◌, ℕ, zero, suc, ◌+◌, ◌<◌, ◌≤◌}
 use Rattle.std.proofs.Common.{List, [], ◌∷◌, ◌++◌, flat_map, get_or, length, take, inl, inr, sym, ap, subst, ◌∙◌, arith}
 use Rattle.std.specs.FinMap as finmap
@@ -32,14 +32,14 @@ apart_from_union P (Q ∷ Qs) all c in_P in_them =
       | inr later ↦ apart_from_union P Qs (All-tail (AreDisjoint P) Q Qs all) c in_P later
     ]
 
--- sets without a common cell have together as many cells as one by one
+-- sets without a common cell have together the sum of their sizes
 pub size-all : (Ps : List Generation) → AllPairs AreDisjoint Ps → size (union_of Ps) ≡ total Ps
 size-all [] apart = size-empty
 size-all (P ∷ Ps) apart =
     size-disjoint P (union_of Ps) (apart_from_union P Ps (AllPairs-head AreDisjoint P Ps apart))
     ∙ ap (λ n. size P + n) (size-all Ps (AllPairs-tail AreDisjoint P Ps apart))
 
--- ---- one set more
+-- ---- one more set
 
 total-append : (Ps : List Generation) (P : Generation) → total (Ps ++ P ∷ []) ≡ total Ps + size P
 total-append [] P = omega arith
@@ -62,7 +62,7 @@ cells_more n os i d h =
     ∙ flat_map-append cells (pasts n (take i os)) (past_of n (get_or os i d) ∷ [])
     ∙ ap (λ z. flat_map cells (pasts n (take i os)) ++ z) (append-nil (cells (past_of n (get_or os i d))))
 
--- what holds of each cell of sets together holds of each cell of each
+-- what holds of each cell of several sets together holds of each cell of each set
 pub of_part : (P : Cell → Type 0) (n : ℕ) (os : List Course) (i : ℕ) (d : Course) → i < length os →
     All P (cells (union_of (pasts n os))) → All P (cells (past_of n (get_or os i d)))
 of_part P n os i d h all =

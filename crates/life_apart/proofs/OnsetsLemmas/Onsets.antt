@@ -20,14 +20,14 @@ use Rattle.life_apart.specs.Onsets.Pasts.{IsCourseBy, pasts, sets_of}
 use Rattle.life_apart.specs.Onsets.Since.{AreAllApartSince, AreApartCourses, AreApartFrom}
 use Rattle.life_apart.proofs.OnsetsLemmas.Pasts.{pasts_at, pasts_before}
 
--- what follows from two things that are said of a result
+-- what follows from two statements about a result
 pub both_ok : {E X : Type 0} {P Q S : X → Type 0} (r : Result X E) → IfOk r P → IfOk r Q → ((x : X) → P x → Q x → S x) →
     IfOk r S
 both_ok (Ok x) p q then = then x p q
 both_ok (Err e) p q then = tt
 
 module _ (R : Rule) where
-  -- apart from some generation on, and so from each later one
+  -- what is apart from some generation on is so from each later one on
   from_later : (Ps : List Generation) (s t : ℕ) → s ≤ t → AreApartFrom R Ps s → AreApartFrom R Ps t
   from_later Ps s t le apart =
       let e : s + (t - s) ≡ t = omega arith in

@@ -1,4 +1,4 @@
--- Since when any two of some sets that recur are apart.
+-- Since when any two of several sets that recur are apart.
 use Rattle.std.proofs.Common.{◌≡◌, ◌⊎◌, ℕ, ◌+◌, ◌-◌, ◌*◌, ◌<◌, ◌≤◌, List, length, get_or, Bool, true, false, inl, inr}
 use Rattle.std.proofs.Common.{sym, refl, ap, subst, ◌∙◌, true≢false, arith}
 use Rattle.std.proofs.lemmas.Bool.{cases_lt}
@@ -37,7 +37,7 @@ module _ (R : Rule) (os : List Course) (are : AreApartCourses R os) where
       ]
 
   module _ (age : ℕ) where
-    -- where any two sets are apart from generation n on, so are those in two places
+    -- if any two sets are apart from generation n on, so are those in two places
     pub places_from : (n : ℕ) → AreApartFrom R (pasts age os) n → (i j : ℕ) (e : Course) → i < length os → j < length os →
         (i ≡ j → ⊥) →
         AreApartForEver R (generation R (past_of age (get_or os i e)) n) (generation R (past_of age (get_or os j e)) n)
@@ -54,7 +54,7 @@ module _ (R : Rule) (os : List Course) (are : AreApartCourses R os) where
           ]
         ]
 
-    -- apart from some generation on, and so from each later one
+    -- what is apart from some generation on is so from each later one on
     pub apart_later : (P Q : Generation) (s t : ℕ) → s ≤ t → AreApartForEver R (generation R P s) (generation R Q s) →
         AreApartForEver R (generation R P t) (generation R Q t)
     apart_later P Q s t le apart =

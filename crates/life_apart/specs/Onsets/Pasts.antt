@@ -1,4 +1,4 @@
--- What sets were that recur.
+-- What sets that recur were some generations ago.
 use Rattle.std.specs.Prelude.{◌≡◌, ℕ, ◌+◌, ◌-◌, ◌*◌, List, [], ◌∷◌, map}
 use Rattle.life_model.specs.Cell.{opposite}
 use Rattle.life_model.specs.Evolution.{generation}
@@ -8,7 +8,7 @@ use Rattle.life_model.specs.Symmetry.{translate_of}
 use Rattle.life_objects.specs.Drift.{multiple_of}
 use Rattle.life_orbit.specs.Course.{Course}
 
--- the sets that recur so
+-- the sets of these courses
 abbrev pub sets_of : List Course → List Generation
 sets_of courses = map (λ o. o.set) courses
 
@@ -16,7 +16,8 @@ sets_of courses = map (λ o. o.set) courses
 abbrev pub IsCourseBy : Rule → Course → Type 0
 IsCourseBy R o = o.rule ≡ R
 
--- what a set was n generations ago that has always come again so: n periods ago, and from there so far on
+-- what a set that has always recurred was n generations ago: the set n periods ago, and from there n * period - n
+-- generations on
 abbrev pub past_of : ℕ → Course → Generation
 past_of n o = translate_of (generation o.rule o.set (n * o.period - n)) (opposite (multiple_of n o.displacement))
 
@@ -24,7 +25,7 @@ past_of n o = translate_of (generation o.rule o.set (n * o.period - n)) (opposit
 abbrev pub pasts : ℕ → List Course → List Generation
 pasts n courses = map (past_of n) courses
 
--- how many cells sets have together, counted one by one
+-- how many cells sets have together, counted set by set
 abbrev pub total : List Generation → ℕ
 total [] = 0
 total (P ∷ Ps) = size P + total Ps

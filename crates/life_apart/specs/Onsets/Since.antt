@@ -14,7 +14,7 @@ use Rattle.life_apart.specs.Onsets.Pasts.{IsCourseBy, past_of, pasts, sets_of}
 abbrev pub AreApartFrom : Rule → List Generation → ℕ → Type 0
 AreApartFrom R Ps t = AllPairs (AreApartForEver R) (generations R Ps t)
 
--- From generation t on any two of the sets are apart for ever, and from none before it.
+-- From generation t on any two of the sets are apart for ever, and they are not from any earlier generation on.
 pub record AreAllApartSince (R : Rule) (Ps : List Generation) (t : ℕ) : Type 0 where
   pub apart : AreApartFrom R Ps t
   pub first : (n : ℕ) → AreApartFrom R Ps n → t ≤ n
@@ -25,21 +25,21 @@ pub record AreApartCourses (R : Rule) (os : List Course) : Type 0 where
   pub courses : All IsCourse os
   pub apart : AllPairs (AreApartForEver R) (sets_of os)
 
--- From no generation before t on are any two of the sets apart for ever.
+-- The sets are not all apart for ever from any generation before t on.
 abbrev pub IsNeeded : Rule → ℕ → List Course → ℕ → Type 0
 IsNeeded R age os t = (n : ℕ) → AreApartFrom R (pasts age os) n → t ≤ n
 
--- what the sets in two places were is apart for ever from generation t on, or the places are one
+-- what the sets in two places were is apart for ever from generation t on, or the places are the same
 abbrev pub ArePlacesApartFrom : Rule → ℕ → List Course → ℕ → ℕ → ℕ → Type 0
 ArePlacesApartFrom R age os t i j =
     (i ≡ j) ⊎ ((e : Course) → AreApartForEver R (generation R (past_of age (slice_index_or os i e)) t)
     (generation R (past_of age (slice_index_or os j e)) t))
 
--- what the set in one place was is so from all others
+-- this holds for the set in one place and all others
 abbrev pub IsPlaceApartFrom : Rule → ℕ → List Course → ℕ → ℕ → Type 0
 IsPlaceApartFrom R age os t i = (j : ℕ) → j < length os → ArePlacesApartFrom R age os t i j
 
--- if that set moves
+-- this holds if that set moves
 abbrev pub IsMoverApartFrom : Rule → ℕ → List Course → ℕ → ℕ → Type 0
 IsMoverApartFrom R age os t i =
     (e : Course) → ((slice_index_or os i e).displacement ≡ origin → ⊥) → IsPlaceApartFrom R age os t i

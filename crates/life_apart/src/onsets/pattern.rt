@@ -20,11 +20,11 @@ use life_orbit::Orbit;
 use life_plane::{AGE_LIMIT, Plane};
 use std::alloc::{AllocError, Global};
 
-/// How many generations the walk goes on from one look to the next.
+/// How many generations the walk makes from one look to the next.
 const BETWEEN_LOOKS: u32 = 32;
 
-/// Whether a plane's cells, which are the generation of this age, are ash already, where a later generation is ash of these
-/// parts, and these are apart since some generation.
+/// Whether a plane's cells, which are generation `now`, are ash already. The generation of this age is ash of these
+/// parts, which are apart since generation `since`.
 fn is_ash_already<P: Plane>(
     alloc: Global,
     plane: &P,
@@ -48,7 +48,7 @@ fn is_ash_already<P: Plane>(
     were_together(alloc, plane, parts, age - now)
 }
 
-/// A plane of a generation that is kept, where it is before the one of this age, which is ash of these parts, and is no ash
+/// A plane of a kept generation, if it is before the one of this age, which is ash of these parts, and is not ash
 /// itself.
 fn plane_before_ash<P: Plane>(
     alloc: Global,
@@ -81,8 +81,8 @@ fn plane_before_ash<P: Plane>(
     Ok(Some(plane))
 }
 
-/// A plane of a generation of a pattern before which none is ash, where the one of this age is ash of these parts: the last
-/// of those that are kept that is no ash itself, or else generation 0.
+/// A plane of a generation of a pattern before which none is ash: the last kept generation that is not ash itself, or
+/// else generation 0. The generation of this age is ash of these parts.
 fn plane_before_onset<P: Plane>(
     alloc: Global,
     cells: &CellList,
@@ -112,8 +112,8 @@ fn plane_before_onset<P: Plane>(
     P::from_cells(alloc, cells)
 }
 
-/// The onset of a pattern's ash, where a plane has the generation of the number `start`, before which none is ash, and that of
-/// the number `end` is ash. A later generation, of this age, is ash of these parts, which are apart since some generation.
+/// The onset of a pattern's ash, if a plane has generation `start`, before which none is ash, and generation `end` is
+/// ash. The later generation of this age is ash of these parts, which are apart since generation `since`.
 fn onset_between<P: Plane>(
     alloc: Global,
     rule: &Rule,
@@ -147,10 +147,10 @@ fn onset_between<P: Plane>(
     Ok(end)
 }
 
-/// The onset of a pattern's ash, where the generation of this age is ash of these parts. It goes from the parts back to
-/// when the last two of them were near, and from the pattern on, to the first generation after that of which the parts
-/// then have as many cells, and the same. Since all later ones are ash too, it begins with the last generation of the
-/// trail that is no ash, and looks at each only after the last look that found none.
+/// The onset of a pattern's ash, if the generation of this age is ash of these parts. It follows the parts back to when
+/// the last two of them were near, and the pattern forward to the first generation after that with as many cells as the
+/// parts then had, and the same ones. All later generations are ash too. So it begins with the last generation of the
+/// trail that is not ash, and looks at every generation only after the last look that found no ash.
 pub fn onset<P: Plane>(
     alloc: Global,
     rule: &Rule,

@@ -12,7 +12,7 @@ use life_orbit::Orbit;
 use life_plane::{AGE_LIMIT, Plane};
 use std::alloc::{AllocError, Global};
 
-/// Whether the sets had so many cells together so many generations ago.
+/// Whether the sets had `population` cells in all, `ago` generations ago.
 fn were_as_many(parts: &[Orbit], ago: u32, population: u64) -> bool
     requires ago { 1 ≤ ago }
     requires courses { All IsCourse parts.now }
@@ -28,7 +28,7 @@ fn were_as_many(parts: &[Orbit], ago: u32, population: u64) -> bool
     left == 0
 }
 
-/// The cells of each of the sets as it was so many generations ago, where they all had places of a list of cells.
+/// The cells of each of the sets as it was `ago` generations ago, if all of them had places of a list of cells.
 fn cells_ago(
     alloc: Global,
     parts: &[Orbit],
@@ -51,7 +51,7 @@ fn cells_ago(
     Ok(Some(all))
 }
 
-/// Whether a plane's cells are what the sets were so many generations ago, which had no cell in common.
+/// Whether a plane's cells are what the sets were `ago` generations ago, and the sets had no cell in common.
 pub fn were_together<P: Plane>(
     alloc: Global,
     plane: &P,

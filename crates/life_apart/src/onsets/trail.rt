@@ -1,4 +1,4 @@
-//! Generations of a pattern that are kept on the way, so that a later walk need not begin with the pattern itself.
+//! Generations of a pattern that are kept on the way, so that a later walk need not start with the pattern itself.
 ghost use Rattle.std.specs.Prelude.{◌≡◌, ◌≤◌, [], All, IfOk, ℕ};
 ghost use Rattle.life_model.specs.Evolution.{generation};
 ghost use Rattle.life_model.specs.Generation.{Generation};
@@ -10,10 +10,10 @@ use life_plane::{AGE_LIMIT, Plane};
 use std::alloc::{AllocError, Global};
 use std::marker::Model;
 
-/// How many generations are kept at most.
+/// The most generations that are kept.
 const MOST: usize = 3;
 
-/// How many generations are between two that are kept at least, beside an eighth of the age.
+/// The least number of generations between two that are kept, in addition to an eighth of the age.
 const BETWEEN: u32 = 48;
 
 /// The cells of a generation, and its number.
@@ -39,7 +39,7 @@ impl Model for Kept {
 }
 
 impl Kept {
-    /// The cells of a plane, and its age.
+    /// The cells of a plane, with its age as their number.
     fn of<P: Plane>(plane: &P) -> Result<Kept, AllocError>
         ensures cells { IfOk result (λ kept. kept.cells ≡ P.members plane.now) }
         ensures number { IfOk result (λ kept. kept.number ≡ P.steps_made plane.now) }
@@ -56,7 +56,7 @@ impl Kept {
         self.number
     }
 
-    /// A plane of these cells that is as old as the number says.
+    /// A plane of these cells whose age is the number.
     pub fn plane<P: Plane>(&self, alloc: Global) -> Result<P, AllocError>
         requires { self.now.number ≤ AGE_LIMIT }
         ensures cells { IfOk result (λ plane. P.members plane ≡ self.now.cells) }
@@ -66,7 +66,7 @@ impl Kept {
     }
 }
 
-/// A few generations of a pattern, the last first: how many, and which, is a matter of speed alone.
+/// A few generations of a pattern, the last first. How many, and which, is only a matter of speed.
 #[derive(Drop)]
 pub struct Trail {
     kept: Vec<Kept>,
@@ -86,7 +86,7 @@ impl Model for Trail {
 }
 
 impl Trail {
-    /// No generation yet.
+    /// The trail without a generation.
     pub fn new(alloc: Global) -> Trail
         ensures { result ≡ [] }
     {
@@ -96,8 +96,9 @@ impl Trail {
         }
     }
 
-    /// Keeps the generation that a plane has come to, where the last that is kept is some time ago, in place of the first
-    /// where there are many. Nothing rests on whether it does, and on an `Err` those that are kept are right too.
+    /// Keeps the generation that a plane has come to, if the last that is kept is some time ago. If many are kept, it
+    /// takes the place of the earliest. Nothing rests on whether it does. After an `Err`, too, those that are kept are
+    /// right.
     pub fn note<P: Plane>(&mut self, plane: &P) -> Result<(), AllocError>
         ensures { (R : ModelRule) (G : Generation) →
             P.members plane.now ≡ generation R G (P.steps_made plane.now) →
@@ -114,7 +115,7 @@ impl Trail {
         Ok(())
     }
 
-    /// Those that are kept.
+    /// The generations that are kept.
     pub fn kept(&self) -> &[Kept]
         ensures { result.now ≡ self.now }
     {

@@ -1,4 +1,4 @@
--- A walk of one period, on which cells are joined.
+-- A walk of one period, in which cells are joined.
 use Rattle.std.proofs.Common.{◌≡◌, ℕ, suc, ◌+◌, ◌<◌, ◌≤◌, Bool, true, false, List, length, get_or, inl, inr, sym, refl, ap, subst, ◌∙◌, arith, true≢false}
 use Rattle.std.specs.List.{Contains, range_with_len}
 use Rattle.std.proofs.lemmas.Bool.{cases_lt}
@@ -31,7 +31,7 @@ use Rattle.life_islands.proofs.Whole.{pairs_of_those, those_held_apart}
 use Rattle.life_islands.specs.Split.Rounds.{AreHeldUntil, AreJoinedTied, AreParted, HaveArrived, HaveWalked}
 use Rattle.life_islands.proofs.SplitLemmas.Walks.{ends_tied, ends_whole, first_labels_tied, first_mark, heirs_tied, heirs_tied_here, next_of_whole, plus_nothing, sets_next}
 
--- ---- generations of what comes again
+-- ---- generations of what recurs
 
 pub comes_again : (R : Rule) (P : Generation) (k : ℕ) (d : Cell) → RecursBy R P (suc k) d → (c : Cell) → contains P c ≡ true →
     contains (next R (generation R P k)) (plus c d) ≡ true

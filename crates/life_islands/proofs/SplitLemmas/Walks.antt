@@ -133,7 +133,7 @@ module _ (R : Rule) (G : Generation) (L : Labels) (fits : Fits G L) (held : AreH
   unfolding generation
   next_is_one A B one two x h k = split_then.one A B one two x h k
 
-  -- sets whose next generations share a cell stand in one place
+  -- sets whose next generations share a cell are in one place of the list
   next_in_place : (i j : ℕ) (x : Cell) → i < length Hs → j < length Hs → contains (next R (get_or Hs i empty)) x ≡ true →
       contains (next R (get_or Hs j empty)) x ≡ true → i ≡ j
   next_in_place i j x h k a b =
@@ -205,13 +205,13 @@ module _ (R : Rule) (G : Generation) (L : Labels) (fits : Fits G L) (held : AreH
         ext_get_or empty (sets_of H M) (map (next R) Hs) (omega arith) (λ k h.
         set_of_next k (omega arith) ∙ sym (get_or-map (next R) Hs k empty empty (omega arith)))
 
-    -- of sets that are these, so much later
+    -- where the sets are those of Qs n generations later, these are those of Qs a generation after that
     pub sets_next : (Qs : List Generation) (n : ℕ) → Hs ≡ generations R Qs n → sets_of H M ≡ generations R Qs (suc n)
     sets_next Qs n are = heirs_are_next ∙ ap (map (next R)) are ∙ generations_then R Qs n
 
   -- ---- the end of a period
 
-  -- the cells of P, moved, are heirs of sets that are those of P, so much later
+  -- the cells of P, moved, are heirs of sets that are those of P, k generations later
   module _ (P : Generation) (M : Labels) (d : Cell) (later : Fits P M) (heirs : AreHeirs R G L d P M)
       (same : M.forest.items ≡ L.forest.items) (k : ℕ) (are : Hs ≡ generations R (joined_sets P L.forest.items) k) where
     abbrev Qs : List Generation
@@ -220,7 +220,7 @@ module _ (R : Rule) (G : Generation) (L : Labels) (fits : Fits G L) (held : AreH
     abbrev end_mark : Cell → ℕ
     end_mark c = mark_of P M.labels.items M.forest.items c
 
-    -- a set of P to which a moved cell comes stands in the place of the cell's mark
+    -- a set of P to which a moved cell comes is in the place of the cell's mark
     end_place : (i : ℕ) (c : Cell) → i < length Qs → contains P c ≡ true →
         contains (generation R (get_or Qs i empty) (suc k)) (plus c d) ≡ true → end_mark c ≡ i
     unfolding generation
@@ -254,7 +254,7 @@ module _ (R : Rule) (G : Generation) (L : Labels) (fits : Fits G L) (held : AreH
         both_by_mark P (range_with_len 0 (length (cells P))) L.forest.items c e too
         (first_mark P L.forest.items m.0 c m.1 m.2 ∙ kept m.0 j.0 m.1 j.1 roots ∙ sym (first_mark P L.forest.items j.0 e j.1 j.2))
 
--- where P stands again, moved, cells whose labels are joined at the end are tied
+-- where P recurs, moved, cells whose labels are joined at the end are tied
 pub ends_tied : (R : Rule) (P : Generation) (M : Labels) (forest : List ℕ) (k : ℕ) (d : Cell) → Fits P M → M.forest.items ≡ forest →
     AreTiedLabels R P (cells P) (suc k) (λ c. plus c d) P M.labels.items → AreTiedFirsts R P (cells P) forest →
     RecursBy R P (suc k) d → (m j : ℕ) → m < length (cells P) → j < length (cells P) →

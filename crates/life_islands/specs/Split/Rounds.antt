@@ -26,7 +26,7 @@ pub record HaveArrived (R : Rule) (P : Generation) (n : ℕ) (L : Labels) (is_jo
   pub labels : AreTiedLabels R P (cells P) n (λ c. c) (generation R P n) L.labels.items
   pub held : is_joined ≡ false → AreHeldUntil R P n L
 
--- The same, and the sets of that generation are held apart in it.
+-- The labels have arrived at generation n, and the sets that they make there are held apart in it.
 pub record HaveWalked (R : Rule) (P : Generation) (n : ℕ) (L : Labels) (is_joined : Bool) : Type 0 where
   pub arrived : HaveArrived R P n L is_joined
   pub here : AreHeldApart R (generation R P n) (sets_of (generation R P n) L)

@@ -31,7 +31,7 @@ fn part_orbit(alloc: Global, orbit: &Orbit, part: &CellList) -> Result<Option<Or
     Orbit::of(alloc, &rule, part, BOUND_LIMIT)
 }
 
-/// The orbits of parts of an orbit's set, in their order, where each of them comes again within 100,000 generations.
+/// The orbits of parts of an orbit's set, in their order, where each of them recurs within 100,000 generations.
 fn orbits_of(
     alloc: Global,
     orbit: &Orbit,
@@ -55,9 +55,9 @@ fn orbits_of(
     Ok(Some(orbits))
 }
 
-/// The independent parts of the set of an orbit, each once, in no promised order, as orbits with their own least period
-/// and displacement. `None` exactly where one of them has a period past 100,000 generations, as parts may have that change
-/// places.
+/// The independent parts of the set of an orbit, each once, in no promised order, as orbits with their own least period and
+/// displacement. `None` exactly where one of them has a period of more than 100,000 generations, as parts that change places may
+/// have.
 pub fn part_orbits(alloc: Global, orbit: &Orbit) -> Result<Option<Vec<Orbit>>, AllocError>
     requires within { All (IsWithin orbit_age_limit) (generations.cells orbit.now.set) }
     ensures parts { IfOk result (λ found. IfSome found (λ parts.

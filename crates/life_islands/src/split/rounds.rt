@@ -1,4 +1,4 @@
-//! Rounds of one period, on which cells are joined that belong together.
+//! Rounds of one period, in which cells that belong together are joined.
 ghost use Rattle.std.specs.Prelude.{◌≡◌, ℕ, suc, ◌-◌, ◌<◌, ◌≤◌, Bool, IfOk, ◌||◌, false, true, length};
 ghost use Rattle.std.specs.List.{sum};
 ghost use Rattle.life_model.specs.Cell.{origin};
@@ -19,8 +19,8 @@ use life_classes::root;
 use life_orbit::Orbit;
 use std::alloc::{AllocError, Global};
 
-/// The cells of a set that a round joins, by their places, and whether something was joined of which an earlier generation
-/// did not know.
+/// The cells of a set that a round joins, by their places, and whether something was joined that earlier generations had not
+/// joined.
 #[derive(Drop)]
 struct Round {
     forest: Vec<usize>,
@@ -89,7 +89,7 @@ fn are_all_joined(forest: &[usize]) -> bool
     true
 }
 
-/// What a round joins, of what is joined already. It ends once all is joined.
+/// What is joined after one more round, given what is joined already. The round ends once all is joined.
 fn joined_once(alloc: Global, orbit: &Orbit, forest: Vec<usize>) -> Result<Round, AllocError>
     requires { AreJoinedTied orbit.now.rule orbit.now.set forest.items }
     ensures tied { IfOk result (λ one. AreJoinedTied orbit.now.rule orbit.now.set one.forest.items) }

@@ -1,4 +1,4 @@
--- If a set is ash at all, it is ash of what its classes tell.
+-- If a set is ash at all, it is ash of the parts that its classes determine.
 use Rattle.std.proofs.Common.{◌≡◌, ℕ, Bool, not, List, map, filter, inl, inr}
 use Rattle.std.proofs.Common.{sym, ap, subst, ◌∙◌, arith}
 use Rattle.std.specs.List.{All, AllPairs, Contains}
@@ -28,7 +28,7 @@ use Rattle.life_objects.proofs.DecidedLemmas.Periods.{part_told, same_end}
 use Rattle.life_objects.proofs.DecidedLemmas.Tests.{not_true, true_not}
 use Rattle.life_objects.proofs.DecidedLemmas.Undivided.{lives_by_test, test_by_lives}
 
--- A part that is told by L, and becomes what L becomes.
+-- L determines a part, which becomes what L becomes.
 record IsTold (R : Rule) (b : ℕ) (parts : List Generation) (L : Generation) : Type 0 where
   known : Contains parts (part_of R b L)
   end : generation R (part_of R b L) b ≡ generation R L b

@@ -1,4 +1,4 @@
--- Sets that come again and move differently have passed each other in the end, and are apart for ever then.
+-- Sets that recur and move differently have passed each other in the end, and are apart for ever then.
 use Rattle.std.proofs.Common.{◌≡◌, ℕ, zero, suc, ◌+◌, ◌*◌, ◌<◌, ◌≤◌, ℤ, pos, neg_ℤ, ◌+ℤ◌, ◌≤ℤ◌, ◌<ℤ◌, Bool, true, not}
 use Rattle.std.proofs.Common.{sym, refl, ap}
 use Rattle.std.proofs.Common.{subst, ◌∙◌, arith}
@@ -55,7 +55,7 @@ module _ (f : Cell → ℤ) (axis : IsAxis f) where
       one_wider (f (multiple_of k e)) (f (multiple_of k d)) (f e) (f d) _ _ k (times_wider k d e h) h (axis.adds (multiple_of k e) e)
       (axis.adds (multiple_of k d) d)
 
-  -- c is what stands after a move by x, and before the move it stood at b
+  -- a cell that is moved by x to c lies at c less x on the axis
   before_move : (c x : Cell) → f c ≡ f (plus c (opposite x)) +ℤ f x
   before_move c x = ap f (sym (plus-opposite_first c x)) ∙ axis.adds (plus c (opposite x)) x
 
@@ -95,7 +95,7 @@ module _ (R : Rule) (n k : ℕ) where
       apart_by_below R (k * n) n P Q d e r s far (lt_le e.1 d.1 faster)
       (λ m h. gap_then (λ c. c.1) y_axis R n k P Q d e r s enough faster m h)
 
--- so far is far enough
+-- k rounds are enough
 module _ (R : Rule) (n k : ℕ) (P Q : Generation) (d e : Cell) (r : RecursBy R P n d) (s : RecursBy R Q n e)
     (enough : reach P + reach Q + 2 * n + 3 ≤ k) (far : AreApartBefore R (k * n) P Q) where
   back : AreApartBefore R (k * n) Q P

@@ -1,4 +1,4 @@
--- After how many generations a set comes again, and what it was where it is known what becomes of it.
+-- After how many generations a set recurs, and what it was if what it becomes is known.
 use Rattle.std.proofs.Common.{◌≡◌, ℕ, zero, suc, ◌+◌, ◌-◌, ◌*◌, ◌<◌, ◌≤◌, true, false, Bool, cond, inl, inr, sym, ap}
 use Rattle.std.proofs.Common.{subst, ◌∙◌}
 use Rattle.std.proofs.Common.{true≢false, arith}
@@ -72,7 +72,7 @@ module _ (R : Rule) (P : Generation) where
   pub period-le : (b : ℕ) → period R b P ≤ b
   period-le b = let h = first-le (returns_after R P) b 1 (omega arith) in omega arith
 
-  -- what is found is a number of generations after which P comes again
+  -- what is found is a number of generations after which P recurs
   pub recurs : (b : ℕ) → 1 ≤ period R b P → RecursBy R P (period R b P) (corner_offset R P (period R b P))
   recurs b h = recurs_by_test (period R b P) h (first_passes (returns_after R P) b 1 h)
 
@@ -92,7 +92,7 @@ module _ (R : Rule) (P : Generation) where
     recurs = recurs b h;
   }
 
--- what comes again is told by what of it lives on
+-- what recurs is determined by what of it lives on
 module _ (R : Rule) (b : ℕ) (L P : Generation) (r : RecursWithin R b P) (core : IsCore R b L P) where
   abbrev last : Generation
   last = generation R L b

@@ -1,4 +1,4 @@
--- What the tests tell.
+-- What the tests say.
 use Rattle.std.proofs.Common.{◌≡◌, ℕ, zero, suc, ◌<◌, ◌≤◌, ℤ, pos, negsuc, neg_ℤ, ◌-ℤ◌, ◌≤ℤ◌, Bool, true, false, not}
 use Rattle.std.proofs.Common.{◌&&◌, inl, inr, List, [], ◌∷◌, get_or, sym, refl, ap, ◌∙◌, true≢false, Decides}
 use Rattle.std.proofs.Common.{arith}

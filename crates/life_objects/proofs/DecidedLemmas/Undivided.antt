@@ -53,7 +53,7 @@ module _ (R : Rule) (b : ℕ) where
       (AllPairs-weaker (NotBothLive R b) (λ A B. (dies_out R b A || dies_out R b B) ≡ true) test_one_dies
       (finest R b P) (few_by_undivided R b P (finest R b P) (finest_together R b P) (finest_apart R b P) whole))
 
-  -- what comes again within b shows all its generations in the first b
+  -- what recurs within b shows all its generations in the first b
   pub one_piece_by_test : (P : Generation) → RecursWithin R b P →
       each_below (λ n. is_undivided R b (generation R P n)) b ≡ true → IsOnePiece R b P
   one_piece_by_test P r h =

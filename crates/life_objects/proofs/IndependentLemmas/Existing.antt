@@ -1,4 +1,4 @@
--- Each set that comes again has independent parts: single cells, joined as long as cells of two sets are tied.
+-- Each set that recurs has independent parts: single cells, joined as long as cells of two sets are tied.
 use Rattle.std.proofs.Common.{◌≡◌, ℕ, zero, suc, ◌+◌, ◌≤◌, ◌⊎◌, Bool, true, false, List, count_by, get_or, length, inl, inr, sym, refl, ap, ◌∙◌, arith}
 use Rattle.std.specs.Prelude.{nat_le}
 use Rattle.std.specs.List.{Contains, list_all, list_any}

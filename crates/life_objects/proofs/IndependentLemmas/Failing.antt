@@ -1,4 +1,4 @@
--- What a test that fails tells of sets: two of them touch, or not all groups around a place are fair.
+-- What a failing test says about sets: two of them touch, or not all groups around a place are fair.
 use Rattle.std.proofs.Common.{◌≡◌, ℕ, ◌≤◌, ◌⊎◌, Bool, true, false, not, ◌&&◌, ◌||◌, List, [], ◌∷◌, count_by, inl, inr, true≢false, arith}
 use Rattle.std.specs.Prelude.{nat_le}
 use Rattle.std.specs.List.{AllPairs, Contains, list_all, list_any}

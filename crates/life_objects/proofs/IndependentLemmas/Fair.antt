@@ -1,4 +1,4 @@
--- What the test of fairness tells of sets.
+-- What the test of fairness says about sets.
 use Rattle.std.proofs.Common.{◌≡◌, ℕ, ◌≤◌, Bool, true, false, cond, List, count_by, get_or, inl, inr, sym, ap, ◌∙◌, eqb-true, eq-eqb, arith}
 use Rattle.std.specs.List.{AllPairs, Contains}
 use Rattle.std.proofs.lemmas.Bool.{both_ways, cases_Bool, cases_lt, true_from_ne_false}

@@ -1,4 +1,4 @@
--- Where each element of a list has one of its own in another, that is no shorter, and where it isn't longer, each has just one.
+-- Where each element of a list has one of its own in another list, that one is no shorter. If it is no longer, each has just one.
 use Rattle.std.proofs.Common.{◌≡◌, ◌≢◌, ◌≤◌, ◌⊎◌, List, [], ◌∷◌, length, inl, inr, sym, subst, arith}
 use Rattle.std.specs.List.{Contains, remove}
 use Rattle.std.proofs.lemmas.List.Elements.{All-contains, at_from_Contains}

@@ -1,4 +1,4 @@
--- The period that is found is the least, and hangs on no bound.
+-- The period that is found is the least, and does not depend on the bound.
 use Rattle.std.proofs.Common.{◌≡◌, ℕ, zero, suc, ◌+◌, ◌≤◌, Bool, true, cond, inl, inr, sym, ap, ◌∙◌, true≢false, arith}
 use Rattle.std.proofs.lemmas.Bool.{cases_Bool, cases_lt}
 use Rattle.life_model.specs.Cell.{Cell}

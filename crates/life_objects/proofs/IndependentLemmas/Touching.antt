@@ -1,4 +1,4 @@
--- What the tests of cells and sets that touch tell.
+-- What the tests of cells and sets that touch say.
 use Rattle.std.proofs.Common.{◌≡◌, Bool, true, not, List, get_or, sym, subst, ◌∙◌, arith}
 use Rattle.std.specs.List.{AllPairs, Contains, list_any}
 use Rattle.std.proofs.lemmas.Int.{ints}

@@ -56,7 +56,7 @@ module _ (R : Rule) (j : ℕ) (v : Cell) where
 moved_by : (A : Generation) (c d e : Cell) → plus c d ≡ e → translate_of (translate_of A c) d ≡ translate_of A e
 moved_by A c d e same = moved-moved A c d ∙ ap (translate_of A) same
 
--- P comes again after k generations, and no later after q
+-- P recurs after k generations, and after q, which is no later
 module _ (R : Rule) (P : Generation) (k q : ℕ) (g f : Cell) (less : q ≤ k) (r : RecursBy R P k g) (s : RecursBy R P q f) where
   abbrev pub ahead : Cell
   ahead = plus g (opposite f)

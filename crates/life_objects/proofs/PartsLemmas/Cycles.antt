@@ -1,4 +1,4 @@
--- A splitting into sets that come again is one of the earlier generations too.
+-- A splitting into sets that recur is one of the earlier generations too.
 use Rattle.std.proofs.Common.{◌≡◌, ℕ, ◌*◌, ◌≤◌, List, [], ◌∷◌, map, inl, inr, sym, ap, subst, ◌∙◌, mul-le-mul_left, arith}
 use Rattle.std.specs.List.{All, Contains}
 use Rattle.std.proofs.lemmas.List.Elements.{All-cons, All-contains, All-head, All-nil, All-tail, All-weaker}
@@ -27,7 +27,7 @@ module _ (R : Rule) where
   more_times : (m n : ℕ) → 1 ≤ m → (Q : Generation) → RecursAfter n Q → RecursAfter (m * n) Q
   more_times m n one Q again = (multiple_of m again.0, RecursBy-times R Q n again.0 again.1 m one)
 
-  -- a number of generations after which all come again
+  -- a number of generations after which all recur
   common : (Qs : List Generation) → All (Recurs R) Qs → (n : ℕ) × (1 ≤ n) × All (RecursAfter n) Qs
   common [] all = (1, omega arith, All-nil (RecursAfter 1))
   common (Q ∷ Qs) all =
@@ -47,7 +47,7 @@ module _ (R : Rule) where
       )
 
   module _ (P : Generation) (Qs : List Generation) (split : AreSplit R P Qs) where
-    -- a set that comes again when P does is moved as P is
+    -- a set that recurs when P does is moved as P is
     moves_along : (n : ℕ) (d : Cell) → RecursBy R P n d → (Q : Generation) → Contains Qs Q → RecursAfter n Q → RecursBy R Q n d
     moves_along n d r Q one again =
         elim (nothing_or_some Q) [

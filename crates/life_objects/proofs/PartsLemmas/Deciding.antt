@@ -101,7 +101,7 @@ module _ (R : Rule) (P : Generation) (Qs : List Generation) (p : ℕ) (d : Cell)
       ∙ ap (λ H. generation R H (k * p)) here ∙ generation-moved R B d (k * p)
       ∙ ap (λ H. translate_of H d) there ∙ moved-moved Q (multiple_of k d) d
 
-  -- each set of now is a set so many periods later, moved
+  -- each set is one of the sets k periods later, moved back
   comes_to_later : (k : ℕ) (Q : Generation) → Contains Qs Q → (A : Generation) × Contains Qs A × (generation R A (k * p) ≡ translate_of Q (multiple_of k d))
   comes_to_later zero Q one = (Q, one, ap (generation R Q) (let e : 0 * p ≡ 0 = omega arith in e) ∙ generation-zero R Q ∙ sym (moved-origin Q))
   comes_to_later (suc k) Q one =
@@ -116,7 +116,7 @@ module _ (R : Rule) (P : Generation) (Qs : List Generation) (p : ℕ) (d : Cell)
         | inr cell ↦ (cell.0, in_at_first R P cell.0 (split_first.within Q one cell.0 (at_first R Q cell.0 cell.1)))
       ]
 
-  -- each set of now is a set whenever all come again, moved
+  -- each set is one of the sets whenever P stands again, moved back
   comes_to_again : (q : ℕ) (f : Cell) → RecursBy R P q f → (Q : Generation) → Contains Qs Q →
       (A : Generation) × Contains Qs A × (generation R A q ≡ translate_of Q f)
   comes_to_again q f s Q one =

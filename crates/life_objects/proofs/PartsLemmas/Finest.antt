@@ -42,7 +42,7 @@ moved_forth A f =
     moved-moved A (opposite f) f ∙ ap (translate_of A) (let e : plus (opposite f) f ≡ origin = pair (omega (arith, ints)) (omega (arith, ints)) in e)
     ∙ moved-origin A
 
--- Into sets that have become these P was split more than K generations before.
+-- More than K generations before, P was split into sets that have become these.
 pub record HasPast (R : Rule) (P : Generation) (K : ℕ) (Qs : List Generation) : Type 0 where
   pub later : AreSplit R P Qs
   pub steps : ℕ
@@ -181,7 +181,7 @@ module _ (R : Rule) (births : HasBirthsAtThreeAlone R) (P : Generation) where
         (n m : ℕ) (c e : Cell) → AreTied R P n c m e → (Q : Generation) → Contains Qs Q → IsIn R Q n c → IsIn R Q m e
     not_split p d r Qs split n m c e t = not_split_without p d r Qs split n m c e (without_forks n m c e t)
 
-    -- What is tied is so much later of one set, into which P is split from now on alone.
+    -- Where P is split only from now on, what is tied is of one set when P stands again after more than K generations.
     pub not_split_later : (Qs : List Generation) → AreSplit R P Qs → (n m : ℕ) (c e : Cell) → AreTied R P n c m e →
         (K : ℕ) × ((k : ℕ) (f : Cell) → RecursBy R P k f → K < k → (Q : Generation) → Contains Qs Q →
         IsIn R Q (n + k) (plus c f) → IsIn R Q (m + k) (plus e f))

@@ -138,8 +138,8 @@ module _ (R : Rule) (P : Generation) (Passed : Generation → (Cell → ℕ) →
       ∙ ap (λ H. generation R H n) same ∙ generation-moved R Q f n)
       ∙ contains-moved (generation R Q n) f (plus c f) ∙ ap (contains (generation R Q n)) (plus-opposite c f)
 
-  -- With a list of sets that reaches back so far, so does each shorter time, and where it reaches back q generations more,
-  -- there is one before it.
+  -- A list of sets that reaches back for K generations does so for each smaller number. If it reaches back q generations more,
+  -- there is a list before it.
   pub record ReachBack (Past : ℕ → List Generation → Type 0) : Type 0 where
     pub less : (K L : ℕ) (Qs : List Generation) → L ≤ K → Past K Qs → Past L Qs
     pub at : (K : ℕ) (Qs : List Generation) → Past K Qs → (n : ℕ) → AreFollowed R P Passed Qs n
@@ -147,7 +147,7 @@ module _ (R : Rule) (P : Generation) (Passed : Generation → (Cell → ℕ) →
         (Bs : List Generation) × Past K Bs × ComeFrom R q f Bs Qs
 
   module _ (Past : ℕ → List Generation → Type 0) (reach : ReachBack Past) where
-    -- a set that has the one cell then, of those that reach back so far, has the other
+    -- of the sets that reach back for K generations, one that has the one cell has the other
     abbrev pub AreOfOne : ℕ → ℕ → Cell → ℕ → Cell → Type 0
     AreOfOne K n c m e =
         (Qs : List Generation) → Past K Qs → (Q : Generation) → Contains Qs Q → IsIn R Q n c → IsIn R Q m e
@@ -155,7 +155,7 @@ module _ (R : Rule) (P : Generation) (Passed : Generation → (Cell → ℕ) →
     further : (n m : ℕ) (c e : Cell) (K L : ℕ) → K ≤ L → AreOfOne K n c m e → AreOfOne L n c m e
     further n m c e K L h one Qs past = one Qs (reach.less L K Qs h past)
 
-    -- How far all must reach back for whom each pair of cells around a place must reach back so far.
+    -- How far all sets must reach back, if each pair of cells around a place needs some number of generations.
     module _ (n : ℕ) (x : Cell) (colour : Cell → ℕ) where
       abbrev Around : Cell → Type 0
       Around c = IsAround (generation R P n) x c

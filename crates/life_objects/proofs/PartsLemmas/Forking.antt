@@ -53,7 +53,7 @@ lists_or_not (b ∷ bs) (c ∷ cs) =
 differ_or_not : (m n : ℕ) → OrNot (m ≢ n)
 differ_or_not m n = elim (cases_eq m n) [ inl e ↦ inr (λ other. other e) | inr other ↦ inl other ]
 
--- what is so, or isn't, of each of the eight maps is so of one of them, or of none
+-- what is decided for each of the eight maps holds for one of them, or for none
 module _ (F : Orientation → Type 0) (each : (m : Orientation) → OrNot (F m)) where
   none_of : (F Same → ⊥) → (F FlipX → ⊥) → (F FlipY → ⊥) → (F Half → ⊥) → (F Swap → ⊥) → (F SwapFlipX → ⊥) → (F SwapFlipY → ⊥) →
       (F SwapHalf → ⊥) → (m : Orientation) → F m → ⊥

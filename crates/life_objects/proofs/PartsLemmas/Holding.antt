@@ -1,4 +1,4 @@
--- What is held apart in one generation is so a period later.
+-- What is held apart in one generation is held apart a period later.
 use Rattle.std.proofs.Common.{◌≡◌, ℕ, ◌+◌, List, inl, inr, sym, ap, subst, ◌∙◌, arith}
 use Rattle.std.specs.List.{Contains}
 use Rattle.life_model.specs.Cell.{Cell, plus, opposite}
@@ -50,7 +50,7 @@ module _ (R : Rule) (P : Generation) (Qs : List Generation) (p : ℕ) (d : Cell)
     is = generation-later R P p d r k;
   }
 
-  -- a set that is a set of now, moved
+  -- where generation p of Q is A, moved, generation k + p of Q is generation k of A, moved
   set_later : (Q A : Generation) → generation R Q p ≡ translate_of A d → generation R Q (k + p) ≡ translate_of (generation R A k) d
   set_later Q A same =
       ap (generation R Q) (let e : k + p ≡ p + k = omega arith in e) ∙ sym (generation-add R Q p k)

@@ -51,7 +51,7 @@ module _ (R : Rule) (P : Generation) (Qs : List Generation) (first : AreClassesA
     islands_H : ColoursIslands G colour → ColoursIslands H colour
     islands_H islands c d h k near = islands c d (in_G c h) (in_G d k) near
 
-    -- a group of a cell of Q is the same among all
+    -- the group of a cell of Q bears the same in Q as among all
     same_bears : Within → (g : Cell) → IsAround H x g → bears R H colour (colour g) x ≡ bears R G colour (colour g) x
     same_bears within g at =
         ap (born R) (count_at-alike (in_group H colour (colour g)) (in_group G colour (colour g)) x (λ y near.
@@ -139,7 +139,7 @@ module _ (R : Rule) (P : Generation) (Qs : List Generation) (first : AreClassesA
         (subst (λ B. AreTied R B n (plus (plus c f) (opposite f)) m (plus (plus e f) (opposite f))) (moved_back Q f)
         (shifts.tied_of_moved R (translate_of Q f) (opposite f) n m (plus c f) (plus e f) v))
 
-    -- what is tied to a part in the set is so in the part alone
+    -- what is tied to a part in the set is tied to it in the part alone
     pub tied_alone : (n m : ℕ) (c e : Cell) → AreTied R P n c m e → (Q : Generation) → Contains Qs Q → IsIn R Q n c →
         AreTied R Q n c m e
     tied_alone n m c e (itself _ _ h) Q one in_Q = itself n c in_Q

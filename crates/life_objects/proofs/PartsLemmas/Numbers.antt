@@ -73,8 +73,8 @@ some_near p x dead y near live =
           ) y near live)
     ]
 
--- Where as many cells around pass the first test as pass the second, which those of the first do, all of the second
--- pass the first.
+-- Where each cell around that passes the first test passes the second, and as many pass either, each that passes the second
+-- passes the first.
 module _ (p q : Cell → Bool) (x : Cell) (sub : (y : Cell) → p y ≡ true → q y ≡ true) (many : count_at p x ≡ count_at q x)
     (dead : q x ≡ false) where
   of_all : (y : Cell) → one (q y) ≤ one (p y) → q y ≡ true → p y ≡ true

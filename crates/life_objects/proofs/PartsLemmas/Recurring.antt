@@ -1,4 +1,4 @@
--- Each independent part of a set that comes again does so too.
+-- Each independent part of a set that recurs recurs too.
 use Rattle.std.proofs.Common.{◌≡◌, ℕ, zero, suc, ◌+◌, ◌-◌, ◌*◌, ◌<◌, ◌≤◌, List, length, get_or, add-mul, sym, refl, ap, ◌∙◌, arith}
 use Rattle.std.proofs.lemmas.Int.{ints}
 use Rattle.std.specs.Cmp as cmp
@@ -67,7 +67,7 @@ module _ (R : Rule) (P : Generation) (Qs : List Generation) (first : AreClassesA
       one_owner =
           sym ((place twice.0).2 P) ∙ ap (λ k. get_or Qs k P) twice.4 ∙ (place twice.1).2 P
 
-      -- so many periods later a is tied to itself
+      -- `rounds` periods later a is tied to itself
       pub back_to_itself : AreTied R P 0 a (rounds * p) (plus a (multiple_of rounds d))
       unfolding rounds
       back_to_itself =

@@ -27,7 +27,7 @@ use Rattle.life_objects.proofs.PartsLemmas.Ends.{contains-later}
 use Rattle.life_objects.proofs.PartsLemmas.Evolving.{at_first, in_at_first}
 use Rattle.life_objects.proofs.PartsLemmas.Repeats.{two_alike}
 
--- each time that a set comes again is a multiple of the first
+-- each time that a set recurs is a multiple of the first
 pub which_multiple : (R : Rule) (P : Generation) (p : ℕ) (d : Cell) → RecursBy R P p d →
     ((n : ℕ) (e : Cell) → RecursBy R P n e → p ≤ n) → (a : Cell) → contains P a ≡ true → (q : ℕ) (f : Cell) →
     RecursBy R P q f → (q ≡ (q / p) * p) × (f ≡ multiple_of (q / p) d)
@@ -180,7 +180,7 @@ module _ (R : Rule) (P : Generation) (Qs : List Generation) (p : ℕ) (d : Cell)
         | inr cell ↦ cell
       ]
 
-  -- each set is a set a period later, moved
+  -- each set, moved, is one of the sets a period later
   pub comes_to : (Q : Generation) → Contains Qs Q → (A : Generation) × Contains Qs A × (generation R A p ≡ translate_of Q d)
   comes_to Q one =
       let a = a_cell Q one in
@@ -205,7 +205,7 @@ module _ (R : Rule) (P : Generation) (Qs : List Generation) (p : ℕ) (d : Cell)
   along : (Q B A : Generation) → Q ≡ B → generation R B p ≡ translate_of A d → generation R Q p ≡ translate_of A d
   along Q B A same e = ap (λ H. generation R H p) same ∙ e
 
-  -- each set with a cell so much later is a set of now, moved, a period later
+  -- each set with a cell p or more generations later is, a period later, one of the sets, moved
   pub came_by : (Q : Generation) → Contains Qs Q → (k : ℕ) (c : Cell) → IsIn R Q (k + p) c →
       (A : Generation) × Contains Qs A × (generation R Q p ≡ translate_of A d)
   came_by Q one k c h =

@@ -12,7 +12,7 @@ classes_with R n P [] = P ∷ []
 classes_with R n P (Q ∷ Qs) =
     if meet (generation R P n) (generation R Q n) then classes_with R n (union P Q) Qs else (Q ∷ classes_with R n P Qs)
 
--- each of the sets in turn joined with those after it
+-- each of the sets, one after another, joined with those after it
 unfoldable pub classes_after_meeting : Rule → ℕ → List Generation → List Generation
 classes_after_meeting R n [] = []
 classes_after_meeting R n (P ∷ Ps) = classes_with R n P (classes_after_meeting R n Ps)

@@ -1,4 +1,4 @@
--- Of which parts a set is ash.
+-- The parts of which a set is ash.
 use Rattle.std.specs.Prelude.{ℕ, suc, Bool, not, ◌&&◌, List, map, Option, Some, None, nat_lt, if◌then◌else◌}
 use Rattle.std.specs.List.{filter, list_all}
 use Rattle.life_model.specs.Rule.{Rule}
@@ -20,7 +20,7 @@ unfoldable pub is_ash : Rule → ℕ → Generation → List Generation → Bool
 is_ash R b G parts =
     same_set (union_of parts) G && (list_all (is_object R b) parts && each_pair (stay_apart R b) parts)
 
--- of each class of G that lives through b, what would be its part
+-- for each class of G that lives through b, what its part would be
 unfoldable pub candidate_parts : Rule → ℕ → Generation → List Generation
 candidate_parts R b G = map (part_of R b) (filter (λ L. not (dies_out R b L)) (classes R G (suc b)))
 

@@ -1,4 +1,4 @@
--- How a set comes again, and for how long two such sets are to be watched.
+-- How a set recurs, and for how long two such sets are to be watched.
 use Rattle.std.specs.Prelude.{ℕ, zero, suc, ◌+◌, ◌*◌, Bool, not, map, unsigned_abs, if◌then◌else◌}
 use Rattle.life_model.specs.Box.{extent}
 use Rattle.life_model.specs.Cell.{Cell, opposite, plus}
@@ -13,7 +13,7 @@ use Rattle.life_objects.specs.Decided.Tests.{each_below, meet, same_set}
 abbrev pub returns_after : Rule → Generation → ℕ → Bool
 returns_after R P n = same_set (normal (generation R P n)) (normal P)
 
--- the first of so many numbers from n on that passes the test, or 0 if none does
+-- the first of `count` numbers from n on that passes the test, or 0 if none does
 abbrev pub first_or_zero : (ℕ → Bool) → ℕ → ℕ → ℕ
 first_or_zero test n zero = 0
 first_or_zero test n (suc count) = if test n then n else first_or_zero test (n + 1) count
@@ -26,7 +26,7 @@ period R b P = first_or_zero (returns_after R P) 1 b
 abbrev pub corner_offset : Rule → Generation → ℕ → Cell
 corner_offset R P n = plus (opposite (corner P)) (corner (generation R P n))
 
--- What comes again and becomes what L becomes: L after b periods of its generation b, moved back as far.
+-- What recurs and becomes what L becomes: L after b periods of its generation b, moved back as far.
 unfoldable pub part_of : Rule → ℕ → Generation → Generation
 part_of R b L =
     let last = generation R L b in
@@ -37,9 +37,9 @@ part_of R b L =
 abbrev pub reach : Generation → ℕ
 reach P = extent (map (λ c. unsigned_abs c.0 + unsigned_abs c.1) (cells P))
 
--- Two sets that come again within b both do so after n generations. Where they move alike, these tell whether they stay
--- apart. Else they have passed each other after this many: in n generations neither reaches further than by n on each
--- side, and they drift apart by one at least.
+-- Two sets that recur within b both do so after n generations. If they move alike, these decide whether they stay apart. If not,
+-- they have passed each other after this many: in n generations neither reaches further than by n on each side, and they drift
+-- apart by one at least.
 unfoldable pub horizon : Rule → ℕ → Generation → Generation → ℕ
 horizon R b P Q =
     let n = period R b P * period R b Q in

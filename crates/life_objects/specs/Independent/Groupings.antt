@@ -5,7 +5,7 @@ use Rattle.life_model.specs.Cell.{Cell}
 use Rattle.life_model.specs.Generation.{Generation, cells, from_list, insert}
 use Rattle.life_objects.specs.Decided.Tests.{each_pair}
 
--- c put into each of the groups in turn, and into a group of its own
+-- c put into each of the groups, one after another, and into a group of its own
 abbrev pub ways_to_add : Cell → List Generation → List (List Generation)
 ways_to_add c [] = (from_list (c ∷ []) ∷ []) ∷ []
 ways_to_add c (Q ∷ Qs) = (insert Q c ∷ Qs) ∷ map (λ groups. Q ∷ groups) (ways_to_add c Qs)

@@ -12,8 +12,7 @@ abbrev pub longest : {X : Type 0} → List (List X) → List X
 longest [] = []
 longest (xs ∷ rest) = if nat_le (length (longest rest)) (length xs) then xs else longest rest
 
--- Of all ways to split P into sets that are held apart through its period, the first with the most sets. P comes again
--- within b.
+-- The first with the most sets, of all ways to split P into sets that are held apart through its period. P recurs within b.
 unfoldable pub independent_parts_of : Rule → ℕ → Generation → List Generation
 independent_parts_of R b P =
     let p = period R b P in

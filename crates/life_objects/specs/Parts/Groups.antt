@@ -5,7 +5,7 @@ use Rattle.life_model.specs.Rule.{Rule, born}
 use Rattle.life_model.specs.Generation.{Generation, contains}
 use Rattle.life_model.specs.Evolution.{count_at, next}
 
--- Cells of G that touch have one colour, and so each island has: what touching joins, from cell to cell.
+-- Cells of G that touch have one colour. So has each island, as touching joins its cells one after another.
 abbrev pub ColoursIslands : Generation → (Cell → ℕ) → Type 0
 ColoursIslands G colour = (c d : Cell) → contains G c ≡ true → contains G d ≡ true → IsNear c d → colour c ≡ colour d
 

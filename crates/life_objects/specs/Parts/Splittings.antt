@@ -18,8 +18,9 @@ pub record AreSplit (R : Rule) (P : Generation) (Qs : List Generation) : Type 0 
   pub together : (n : ℕ) → union_of (generations R Qs n) ≡ generation R P n
   pub apart : (n : ℕ) → AllPairs AreUntouching (generations R Qs n)
 
--- So it is in the earlier generations too: a set that stands again k generations later, moved by d, has come from where it
--- stood k generations before, moved back by d. There it was split into the sets `Bs`, so moved back, which have become these.
+-- This holds in the earlier generations too. A set that stands again k generations later, moved by d, has come from where it
+-- stood k generations before, moved back by d. There it was split into the sets `Bs`, moved back likewise, which have become
+-- these.
 pub record AreSplitThroughout (R : Rule) (P : Generation) (Qs : List Generation) : Type 0 where
   pub later : AreSplit R P Qs
   pub earlier : (k : ℕ) (d : Cell) → RecursBy R P k d → (Bs : List Generation) × AreSplit R P Bs ×

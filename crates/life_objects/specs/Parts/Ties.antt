@@ -22,7 +22,7 @@ pub data AreTied (R : Rule) (P : Generation) : ℕ → Cell → ℕ → Cell →
   touching : (n : ℕ) (c d : Cell) → IsIn R P n c → IsIn R P n d → IsNear c d → AreTied R P n c n d
   -- a cell that stays
   staying : (n : ℕ) (c : Cell) → IsIn R P n c → IsIn R P (suc n) c → AreTied R P n c (suc n) c
-  -- Of groups of islands around a place, each tied within itself, that are fair: what is born and the group that bears it.
+  -- What is born and the group that bears it, where groups of islands around a place, each tied within itself, are fair.
   bearing : (n : ℕ) (x : Cell) (colour : Cell → ℕ) → contains (generation R P n) x ≡ false →
       ColoursIslands (generation R P n) colour →
       ((c d : Cell) → IsAround (generation R P n) x c → IsAround (generation R P n) x d → colour c ≡ colour d →
@@ -30,7 +30,7 @@ pub data AreTied (R : Rule) (P : Generation) : ℕ → Cell → ℕ → Cell →
       IsFair R (generation R P n) colour x →
       (c : Cell) → IsAround (generation R P n) x c → bears R (generation R P n) colour (colour c) x ≡ true →
       AreTied R P n c (suc n) x
-  -- Of such groups that are not fair: all islands around the place, and what is born there.
+  -- All islands around the place, and what is born there, where such groups are not fair.
   meeting : (n : ℕ) (x : Cell) (colour : Cell → ℕ) → contains (generation R P n) x ≡ false →
       ColoursIslands (generation R P n) colour →
       ((c d : Cell) → IsAround (generation R P n) x c → IsAround (generation R P n) x d → colour c ≡ colour d →

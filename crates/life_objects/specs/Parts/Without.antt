@@ -9,7 +9,7 @@ use Rattle.life_model.specs.Recurrence.{RecursBy}
 use Rattle.life_objects.specs.Parts.Groups.{ColoursIslands, IsAround, IsFair, bears}
 use Rattle.life_objects.specs.Parts.Ties.{IsIn}
 
--- As `AreTied`, but that groups which are passed over join nothing, though they are not fair.
+-- Like `AreTied`, except that groups which are passed over join nothing, though they are not fair.
 pub data AreTiedWithout (R : Rule) (P : Generation) (Passed : Generation → (Cell → ℕ) → Cell → Type 0) :
     ℕ → Cell → ℕ → Cell → Type 0 where
   itself : (n : ℕ) (c : Cell) → IsIn R P n c → AreTiedWithout R P Passed n c n c
@@ -20,7 +20,7 @@ pub data AreTiedWithout (R : Rule) (P : Generation) (Passed : Generation → (Ce
   touching : (n : ℕ) (c d : Cell) → IsIn R P n c → IsIn R P n d → IsNear c d → AreTiedWithout R P Passed n c n d
   -- a cell that stays
   staying : (n : ℕ) (c : Cell) → IsIn R P n c → IsIn R P (suc n) c → AreTiedWithout R P Passed n c (suc n) c
-  -- Of groups of islands around a place, each tied within itself, that are fair: what is born and the group that bears it.
+  -- What is born and the group that bears it, where groups of islands around a place, each tied within itself, are fair.
   bearing : (n : ℕ) (x : Cell) (colour : Cell → ℕ) → contains (generation R P n) x ≡ false →
       ColoursIslands (generation R P n) colour →
       ((c d : Cell) → IsAround (generation R P n) x c → IsAround (generation R P n) x d → colour c ≡ colour d →
@@ -28,7 +28,7 @@ pub data AreTiedWithout (R : Rule) (P : Generation) (Passed : Generation → (Ce
       IsFair R (generation R P n) colour x →
       (c : Cell) → IsAround (generation R P n) x c → bears R (generation R P n) colour (colour c) x ≡ true →
       AreTiedWithout R P Passed n c (suc n) x
-  -- Of such groups that are not fair, and not passed over: all islands around the place, and what is born there.
+  -- All islands around the place, and what is born there, where such groups are not fair, and not passed over.
   meeting : (n : ℕ) (x : Cell) (colour : Cell → ℕ) → contains (generation R P n) x ≡ false →
       ColoursIslands (generation R P n) colour →
       ((c d : Cell) → IsAround (generation R P n) x c → IsAround (generation R P n) x d → colour c ≡ colour d →

@@ -25,7 +25,7 @@ regrouped : (a b c d e f g h a' b' c' d' e' f' g' h' : ℕ) → a ≡ a' → b �
     a' + b' + c' + d' + e' + f' + g' + h' ≡ a + (b + (c + (d + (e + (f + (g + (h + 0)))))))
 regrouped a b c d e f g h a' b' c' d' e' f' g' h' p1 p2 p3 p4 p5 p6 p7 p8 = omega arith
 
--- a bit of a row is the cell that stands there
+-- a bit of a row is the cell there
 pub look : (G : Generation) (left y : ℤ) (bits a : ℕ) → IsRowAt G left y bits → 63 ≤ a → a < 129 → (across down : ℤ) →
     across ≡ ((left -ℤ pos 64) +ℤ pos a) → down ≡ y → state G (across, down) ≡ bit_at bits a
 look G left y bits a row from to across down across_is down_is = (λ i. state G (across_is i, down_is i)) ∙ sym (row.bit a from to)

@@ -61,7 +61,7 @@ line_at start y bits (suc n) a less =
     ∙ line_at start y bits n a (omega arith))
     (cases_eq a n)
 
--- the cells of the first n rows, each of so many bits
+-- the cells of the first n rows, each of `wide` bits
 unfoldable lines : ℤ → ℤ → (ℕ → ℕ) → ℕ → ℕ → List Cell
 lines start first rows wide zero = []
 lines start first rows wide (suc n) = line start (first +ℤ pos n) (rows n) wide ++ lines start first rows wide n

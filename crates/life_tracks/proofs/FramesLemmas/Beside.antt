@@ -18,7 +18,7 @@ use Rattle.life_tracks.specs.Frames.Bearers.{IsBearer, IsBetween, IsTouched}
 
 -- ---- the first cell from a number on
 
--- a place whose neighbours stand on its two sides parts the list
+-- a place whose neighbours are on its two sides parts the list
 pub parted_here : (cs : List Cell) (m number : ℤ) (at : ℕ) → T (is_rising cs) → All IsPlace cs → at ≤ length cs →
     ((d : Cell) → 0 < at → int_lt (place_number (get_or cs (at - 1) d)) m ≡ true) →
     ((d : Cell) → at < length cs → int_lt (place_number (get_or cs at d)) m ≡ false) → m ≡ number → IsParting cs number at
@@ -28,7 +28,7 @@ parted_here cs m number at rising placed within low high same =
 not_less : (x y : ℤ) → y ≤ℤ x → int_lt x y ≡ true → ⊥
 not_less x y h e = grind (arith, ints)
 
--- where that is too far there is none
+-- if that is too far, there is none
 pub none_between : (cs : List Cell) (number low high : ℤ) (at : ℕ) → T (is_rising cs) → All IsPlace cs →
     IsParting cs number at → number ≡ low → at < length cs → (place_number (get_or cs at origin) ≤ℤ high → ⊥) → (n : ℕ) → IsBetween cs low high n → ⊥
 none_between cs number low high at rising placed parts same inside far n there =

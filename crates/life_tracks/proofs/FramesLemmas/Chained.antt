@@ -69,7 +69,7 @@ module _ (G : Generation) (placed : All IsPlace (cells G)) where
         (above.is ∙ ap (λ r. number_at G n -ℤ r) two) from to
   ]
 
--- ---- what is joined by near
+-- ---- what is joined because it is near
 
 module _ (G : Generation) where
   pub nearer_itself : (f : List ℕ) → AreJoinedByNear G f f
@@ -130,7 +130,7 @@ module _ (G : Generation) where
     is = here ∙ ap (λ xs. place_number (get_or xs n origin) -ℤ pos (2 ^ 32)) is;
   }
 
-  -- all in turn
+  -- one join after another
   pub joined_at : (f g h : List ℕ) (cs : List Cell) (n : ℕ) (a b : ℤ) → cs ≡ cells G → AreJoinedByNear G f g →
       AreJoinedByNear G g h →
       (0 < n → (number_at G n -ℤ pos 2) ≤ℤ number_at G (n - 1) → root f (n - 1) ≡ root f n) → IsJoinedAround G g n a →
@@ -152,11 +152,11 @@ module _ (G : Generation) where
         subst (IsJoinedAt G g) same here
   ]
 
-  -- ---- all that are near are joined
+  -- ---- all that are near each other are joined
 
   module _ (placed : All IsPlace (cells G)) (rise : Rise place_number (cells G)) (f : List ℕ)
       (all : (k : ℕ) → k < length (cells G) → IsJoinedAt G f k) where
-    -- cells at most two apart in a row, by those between them
+    -- cells at most two apart in a row, joined through those between them
     chained : (k m : ℕ) → m ≤ k → k < length (cells G) → (number_at G k -ℤ pos 2) ≤ℤ number_at G m → root f m ≡ root f k
     chained zero m low inside close =
         let same : m ≡ 0 = omega arith in

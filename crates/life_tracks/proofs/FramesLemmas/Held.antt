@@ -1,4 +1,4 @@
--- Which of some sets has a cell.
+-- Which of several sets has a cell.
 use Rattle.std.proofs.Common.{◌≡◌, ℕ, ◌+◌, ◌<◌, ◌≤◌, true, false, List, [], ◌∷◌, ◌++◌, length, get_or, inl, inr, sym, ap, subst, ◌∙◌, true≢false, arith}
 use Rattle.std.proofs.lemmas.Bool.{cases_lt}
 use Rattle.std.proofs.lemmas.List.{get_or_default, get_or_append_left, get_or_push}
@@ -9,7 +9,7 @@ use Rattle.life_objects.specs.Union.{union_of}
 use Rattle.life_objects.proofs.Unions.{contains-union_of}
 use Rattle.life_tracks.specs.Frames.Frames.{IsBeside}
 
--- one more doesn't have the cell
+-- one more set doesn't have the cell
 pub one_more_without : (Ps : List Generation) (c : Cell) (n : ℕ) (P : Generation) → n < length Ps → P ≡ get_or Ps n P →
     contains P c ≡ false → ((k : ℕ) → k < n → contains (get_or Ps k empty) c ≡ false) → (k : ℕ) → k < n + 1 →
     contains (get_or Ps k empty) c ≡ false
@@ -28,7 +28,7 @@ none_has Ps c n past all h =
     let within : one.0 < length Ps = one.2 in
     true≢false (sym (ap (λ H. contains H c) (get_or_default Ps one.0 empty one.1 within ∙ one.3) ∙ one.4) ∙ all one.0 (omega arith))
 
--- one place more
+-- one more place
 pub one_place_more : (G : Generation) (Ps Qs : List Generation) (n : ℕ) (Q : Generation) (old new : List ℕ) (p : ℕ) →
     n < length Qs → Q ≡ get_or Qs n Q → length old ≡ n → new ≡ old ++ (p ∷ []) → IsBeside G Ps Q p →
     ((j : ℕ) → j < n → IsBeside G Ps (get_or Qs j empty) (get_or old j 0)) → (j : ℕ) → j < n + 1 →

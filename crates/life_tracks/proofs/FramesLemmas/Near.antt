@@ -16,14 +16,14 @@ use Rattle.life_objects.proofs.Unions.{union-comm, union-empty}
 use Rattle.life_classes.specs.declared.class.Class.{Class}
 use Rattle.life_classes.specs.Tracking.{AreApartNow, AreTracked, LeadTo, class_of_cell, first_sets}
 use Rattle.life_classes.proofs.Later.{end_apart, tracked_at_first}
-use Rattle.life_growth.specs.Unsplit.{AreClasses}
+use Rattle.life_objects.specs.Growth.Unsplit.{AreClasses}
 use Rattle.life_islands.proofs.Labelled.{place_in_list}
 use Rattle.life_tracks.specs.Frames.Frames.{with_cells}
 
 abbrev pub some_cell : Generation → Bool
 some_cell P = not (size P == 0)
 
--- what has no cell is the set without a cell
+-- a set without a cell is the empty set
 pub none_is_empty : (P : Generation) → size P ≡ 0 → P ≡ empty
 none_is_empty P none =
     elim (nothing_or_some P) [

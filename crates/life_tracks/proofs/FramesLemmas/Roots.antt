@@ -1,4 +1,4 @@
--- Roots stay where numbers go further up.
+-- Roots stay when numbers are made to point further up.
 use Rattle.std.proofs.Common.{◌≡◌, ℕ, true, ◌<◌, ◌≤◌, List, length, length-set, get_or, inl, inr, sym, refl, ap, ◌∙◌, arith}
 use Rattle.std.proofs.Math.ListN.{set}
 use Rattle.std.proofs.lemmas.Bool.{cases_lt}
@@ -20,7 +20,7 @@ same_through f g h a b =
       less = omega arith;
     }
 
--- the number that the next but one goes to has the same root
+-- the number that the next one points to has the same root
 pub two_up : (f : List ℕ) (at next further : ℕ) → at < length f → next < length f → next ≡ get_or f at next →
     further ≡ get_or f next further → next < at → further < next → root f further ≡ root f at
 two_up f at next further h k is goes_to lower least =
@@ -28,7 +28,7 @@ two_up f at next further h k is goes_to lower least =
     let second : get_or f next next ≡ further = get_or_default f next next further k ∙ sym goes_to in
     sym (root-up f at (omega arith) ∙ ap (root f) first ∙ root-up f next (omega arith) ∙ ap (root f) second)
 
--- a number may go there
+-- a number may be made to point there
 pub same_two_up : (f : List ℕ) (at next further : ℕ) → at < length f → next < length f → next ≡ get_or f at next →
     further ≡ get_or f next further → next < at → further < next → AreSameRoots f (set f at further)
 same_two_up f at next further h k is goes_to lower least =
@@ -39,12 +39,12 @@ same_two_up f at next further h k is goes_to lower least =
       less = sum-set-le f at further h (omega arith) (omega arith);
     }
 
--- what was told as the root before is its own root still
+-- what was returned as the root before is still its own root
 pub root_still : (f g h : List ℕ) (k r : ℕ) → AreSameRoots f g → AreSameRoots g h → r ≡ root f k → root h r ≡ r
 root_still f g h k r a b is =
     b.same r ∙ a.same r ∙ ap (root f) is ∙ root-root f k ∙ sym is
 
--- what goes to a number that is not greater has its root
+-- what points to a number that is not greater has the root of that number
 at_most_up : (f : List ℕ) (k next : ℕ) → get_or f k k ≡ next → next ≤ k → root f k ≡ root f next
 at_most_up f k next is low = elim (cases_lt next k) [
   | inl less ↦ root-up f k (omega arith) ∙ ap (root f) is
@@ -53,7 +53,7 @@ at_most_up f k next is low = elim (cases_lt next k) [
       ap (root f) same
 ]
 
--- numbers that go to one number that is not greater than either have one root
+-- numbers that point to the same number, which is not greater than either, have the same root
 pub siblings : (f : List ℕ) (one other : ℕ) → one < length f → other < length f → get_or f one 0 ≤ one → get_or f other 0 ≤ other →
     get_or f one 0 ≡ get_or f other 0 → root f one ≡ root f other
 siblings f one other h k low low_too same =
@@ -68,7 +68,7 @@ united_already f h one other a same = record {
   only = λ k l e. inl (sym (a.same k) ∙ e ∙ a.same l);
 }
 
--- what is joined after roots have stayed
+-- what is joined after steps that keep the roots
 pub united_by : (f h new : List ℕ) (one other : ℕ) → AreSameRoots f h → IsJoined h new one other true → IsUnited f new one other
 united_by f h new one other a joined = record {
   long = joined.long ∙ a.long;

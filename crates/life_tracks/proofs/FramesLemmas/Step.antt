@@ -1,4 +1,4 @@
--- Places that are joined make up the classes of a generation, told by those of the next one.
+-- Places that are joined make up the classes of a generation, given those of the next one.
 use Rattle.std.proofs.Common.{◌≡◌, ℕ, ◌<◌, true, List, ◌++◌, length, get_or, inl, inr, sym, refl, ap, subst, ◌∙◌, zero-add, arith}
 use Rattle.std.specs.List.{AllPairs, Contains, range_with_len}
 use Rattle.std.proofs.lemmas.Bool.{cases_lt}
@@ -15,11 +15,11 @@ use Rattle.life_objects.proofs.Distances.{AreApart-swap, near_through}
 use Rattle.life_objects.proofs.Lists.{AllPairs-weaker, related_or_same}
 use Rattle.life_objects.proofs.Members.{found_now, in_list_now}
 use Rattle.life_classes.proofs.Owners.{owner}
-use Rattle.life_growth.specs.Unsplit.{AreClasses}
-use Rattle.life_growth.proofs.FilmLemmas.Splits.{apart_now}
-use Rattle.life_growth.proofs.FilmLemmas.Joined.{AreSeparate-swap, bearer, in_classes, separate_apart}
-use Rattle.life_growth.specs.Film.Film.{AreLinked, AreSeparate, bearing, itself, swapped, through, within}
-use Rattle.life_growth.specs.Film.Film as film
+use Rattle.life_objects.specs.Growth.Unsplit.{AreClasses}
+use Rattle.life_objects.proofs.GrowthLemmas.FilmLemmas.Splits.{apart_now}
+use Rattle.life_objects.proofs.GrowthLemmas.FilmLemmas.Joined.{AreSeparate-swap, bearer, in_classes, separate_apart}
+use Rattle.life_objects.specs.Growth.Film.Film.{AreLinked, AreSeparate, bearing, itself, swapped, through, within}
+use Rattle.life_objects.specs.Growth.Film.Film as film
 use Rattle.life_classes.specs.Forest.{root}
 use Rattle.life_islands.specs.Labels.{AreThoseWithCells, joined_sets, mark_of}
 use Rattle.life_classes.proofs.Forests.{root-le}
@@ -61,13 +61,13 @@ module _ (G : Generation) (forest : List ℕ) (long : length forest ≡ length (
     pub all_together : union_of Ps ≡ G
     all_together = those.together ∙ (sets_make_up G labels forest marked).together
 
-    -- cells of one set have one mark
+    -- cells of the same set have the same mark
     one_mark : (P : Generation) → Contains Ps P → (c d : Cell) → contains P c ≡ true → contains P d ≡ true → mark c ≡ mark d
     one_mark P one c d h k =
         let a = of_listed G labels forest P (those.from P one) c h in
         sym (of_set G labels forest (mark c) empty d a.0 (ap (λ H. contains H d) a.2 ∙ k)).1
 
-    -- a cell with the mark of a cell of a set is of that set
+    -- a cell with the mark of a cell of a set is in that set
     same_set : (P : Generation) → Contains Ps P → (c d : Cell) → contains P c ≡ true → contains G d ≡ true → mark c ≡ mark d →
         contains P d ≡ true
     same_set P one c d h k same =
@@ -95,7 +95,7 @@ module _ (G : Generation) (forest : List ℕ) (long : length forest ≡ length (
       mark_by_bearer : (c : Cell) (m : ℕ) → IsBearer G c m → contains G c ≡ true → mark c ≡ root forest m
       mark_by_bearer c m bears h = ap mark (sym (bears.own h)) ∙ mark_by_place m bears.within
 
-      -- cells that are near each other have one mark
+      -- cells that are near each other have the same mark
       near_one_mark : (c d : Cell) → contains G c ≡ true → contains G d ≡ true → AreNear c d → mark c ≡ mark d
       near_one_mark c d h k close =
           let i = place_in_list G (cells G) refl c h in
@@ -104,7 +104,7 @@ module _ (G : Generation) (forest : List ℕ) (long : length forest ≡ length (
           (subst (AreNear c) (sym j.2) close)) in
           ap mark (sym i.2) ∙ mark_by_place i.0 i.1 ∙ one ∙ sym (mark_by_place j.0 j.1) ∙ ap mark j.2
 
-      -- they are in one piece
+      -- they are in the same piece
       pieces_hold : HoldsNear G (pieces ++ Qs)
       pieces_hold c d h k close =
           let N = piece_of c h in

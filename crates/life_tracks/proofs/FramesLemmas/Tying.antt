@@ -1,4 +1,4 @@
--- Forests that join places of a generation, and no more than is tied.
+-- Forests that join places of a generation, and only such as are tied.
 use Rattle.std.proofs.Common.{◌≡◌, ℕ, ◌+◌, ◌<◌, ◌≤◌, true, List, length, get_or, inl, inr, sym, refl, ap, subst, ◌∙◌, arith}
 use Rattle.std.specs.List.{Contains, range_with_len}
 use Rattle.std.proofs.lemmas.Bool.{cases_lt}
@@ -40,7 +40,7 @@ module _ (G : Generation) where
       let b = all c d h k in
       record { first = b.first; second = b.second; bears = b.bears; bears_too = b.bears_too; one = a.coarser b.first b.second b.one }
 
-  -- cells that all have a bearer with one root
+  -- cells that all have a bearer with the same root
   pub joined_by_root : (f : List ℕ) (S : Generation) (cs : List Cell) (r : ℕ) → cs ≡ cells S →
       ((k : ℕ) → k < length cs → HasRootOf G f (get_or cs k origin) r) → IsJoined G f S
   joined_by_root f S cs r is all c d h k =
@@ -59,7 +59,7 @@ module _ (G : Generation) where
   pub joined_of_none : (f : List ℕ) (S : Generation) (cs : List Cell) → cs ≡ cells S → length cs ≡ 0 → IsJoined G f S
   joined_of_none f S cs is none c d h k = let at = place_in_list S cs is c h in let within = at.1 in absurd (omega arith)
 
-  -- the first has its own
+  -- the first has its own root
   pub first_rooted : (f : List ℕ) (cs : List Cell) (r : ℕ) → IsBearer G (get_or cs 0 origin) r → (k : ℕ) → k < 1 →
       HasRootOf G f (get_or cs k origin) r
   first_rooted f cs r bears k below =

@@ -13,7 +13,7 @@ use Rattle.life_tracks.specs.Frames.Ties.{IsFurther, JoinsTied}
 abbrev pub number_at : Generation → ℕ → ℤ
 number_at G n = place_number (get_or (cells G) n origin)
 
--- cells of G that are near each other are in one of the sets
+-- any two cells of G that are near each other are both in one of the sets
 abbrev pub HoldsNear : Generation → List Generation → Type 0
 HoldsNear G Ss = (c d : Cell) → contains G c ≡ true → contains G d ≡ true → AreNear c d →
     (S : Generation) × Contains Ss S × (contains S c ≡ true) × (contains S d ≡ true)
@@ -23,7 +23,7 @@ abbrev pub IsJoinedNear : Generation → List ℕ → Type 0
 IsJoinedNear G forest = (m k : ℕ) → m < length (cells G) → k < length (cells G) →
     AreNear (get_or (cells G) m origin) (get_or (cells G) k origin) → root forest m ≡ root forest k
 
--- more is joined, and of that only cells of sets that hold what is near
+-- more is joined, but only cells of sets that hold what is near
 pub record AreJoinedByNear (G : Generation) (old new : List ℕ) : Type 0 where
   pub further : IsFurther old new
   pub tied : (Ss : List Generation) → HoldsNear G Ss → JoinsTied G Ss old → JoinsTied G Ss new
@@ -34,8 +34,8 @@ pub record IsAbove (G : Generation) (n : ℕ) (number : ℤ) : Type 0 where
   pub rows : (row ≡ pos (2 ^ 31)) ⊎ (row ≡ pos (2 ^ 32))
   pub is : number ≡ (number_at G n -ℤ row)
 
--- The first cell from a number on, and the last before it, are joined with that in place n, unless their numbers are more
--- than two away from it.
+-- The first cell from a number on, and the last cell before it, are joined with that in place n, unless their numbers
+-- are more than two away from that number.
 pub record IsJoinedAround (G : Generation) (f : List ℕ) (n : ℕ) (number : ℤ) : Type 0 where
   pub place : ℕ
   pub parts : IsParting (cells G) number place

@@ -6,13 +6,13 @@ use Rattle.life_model.specs.Generation.{Generation, contains}
 use Rattle.life_classes.specs.Forest.{AreAs, root}
 use Rattle.life_tracks.specs.Frames.Bearers.{IsBearer, IsTouched}
 
--- each number has the root that it had
+-- each number keeps its root
 pub record AreSameRoots (old new : List ℕ) : Type 0 where
   pub long : length new ≡ length old
   pub same : (k : ℕ) → root new k ≡ root old k
   pub less : sum new ≤ sum old
 
--- Two numbers are joined, and no more than that makes needful.
+-- Two numbers are joined, and nothing more than that requires.
 pub record IsUnited (old new : List ℕ) (one other : ℕ) : Type 0 where
   pub long : length new ≡ length old
   pub coarser : (k l : ℕ) → root old k ≡ root old l → root new k ≡ root new l
@@ -25,7 +25,7 @@ pub record IsFurther (old new : List ℕ) : Type 0 where
   pub long : length new ≡ length old
   pub coarser : (k l : ℕ) → root old k ≡ root old l → root new k ≡ root new l
 
--- Places of G are tied where their cells bear cells of one of the sets.
+-- Places of G are tied if their cells bear cells of the same set.
 pub data AreTied (G : Generation) (Ss : List Generation) : ℕ → ℕ → Type 0 where
   itself : (m : ℕ) → AreTied G Ss m m
   swapped : (m k : ℕ) → AreTied G Ss m k → AreTied G Ss k m

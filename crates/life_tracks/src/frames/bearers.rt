@@ -15,7 +15,7 @@ use std::alloc::{AllocError, Global};
 /// How many places around the guessed one are looked at.
 const STEPS: usize = 12;
 
-/// Whether the cell right before a place has a lesser number than this one, if there is one.
+/// Whether the cell just before a place has a smaller number than this one, if there is such a cell.
 #[inline(always)]
 fn is_past(all: &[(i32, i32)], number: i64, at: usize) -> bool
     requires { at ≤ length all.now }
@@ -29,7 +29,7 @@ fn is_past(all: &[(i32, i32)], number: i64, at: usize) -> bool
     place_number(all[at - 1]) < number
 }
 
-/// Whether the cell in a place has a lesser number than this one.
+/// Whether the cell in a place has a smaller number than this one.
 #[inline(always)]
 fn is_before(all: &[(i32, i32)], number: i64, at: usize) -> bool
     ensures not { result ≡ false → (d : Cell) → at < length all.now →
@@ -42,7 +42,7 @@ fn is_before(all: &[(i32, i32)], number: i64, at: usize) -> bool
     place_number(all[at]) < number
 }
 
-/// Before which place the cells have lesser numbers than this one, where it is found in a few steps from the guessed one.
+/// The place before which the cells have smaller numbers than this one, if a few steps from the guess find it.
 fn parting_near(all: &[(i32, i32)], number: i64, guess: usize) -> Option<usize>
     requires rising { T (is_rising all.now) }
     requires placed { All IsPlace all.now }
@@ -64,7 +64,7 @@ fn parting_near(all: &[(i32, i32)], number: i64, guess: usize) -> Option<usize>
     None
 }
 
-/// Before which place the cells have lesser numbers than this one, found by halving.
+/// The place before which the cells have smaller numbers than this one, found by halving.
 fn halved(all: &[(i32, i32)], number: i64) -> usize
     requires rising { T (is_rising all.now) }
     requires placed { All IsPlace all.now }
@@ -73,8 +73,8 @@ fn halved(all: &[(i32, i32)], number: i64) -> usize
     all.partition_point(|one| place_number(*one) < number)
 }
 
-/// Before which place the cells have lesser numbers than this one. It is soon found near the guessed place, and else by
-/// halving; it is the next guess.
+/// The place before which the cells have smaller numbers than this one. It is mostly found near the guess, and
+/// otherwise by halving. It is the next guess.
 pub fn parting(all: &[(i32, i32)], number: i64, guess: &mut usize) -> usize
     requires rising { T (is_rising all.now) }
     requires placed { All IsPlace all.now }
@@ -88,7 +88,7 @@ pub fn parting(all: &[(i32, i32)], number: i64, guess: &mut usize) -> usize
     at
 }
 
-/// The place of the first cell whose number is from one to another, looked for from a guessed one.
+/// The place of the first cell with a number from `low` to `high`. The search starts from a guess.
 fn first_between(all: &[(i32, i32)], low: i64, high: i64, guess: &mut usize) -> Option<usize>
     requires rising { T (is_rising all.now) }
     requires placed { All IsPlace all.now }
@@ -105,7 +105,8 @@ fn first_between(all: &[(i32, i32)], low: i64, high: i64, guess: &mut usize) -> 
     Some(at)
 }
 
-/// The same, looked for from where a cell was found last in its row, which has this place in the table.
+/// The place of the first cell with a number from `low` to `high`. The search starts where a cell was last found in its
+/// row, whose place in the table is `row`.
 fn first_in_row(
     all: &[(i32, i32)],
     low: i64,
@@ -127,15 +128,17 @@ fn first_in_row(
     }
 }
 
-/// For how many rows it is kept where a cell was found last.
+/// For how many rows the table keeps where a cell was last found.
 const ROWS: i32 = 256;
 
-/// Where a cell was found last in each row of so many, by the row's place in the table: at first in none.
+/// A new table of where a cell was last found in each of `ROWS` rows, with one more entry at each end. At first no entry
+/// says so: each is an arbitrary guess.
 pub fn rows(alloc: Global) -> Result<Vec<usize>, AllocError> {
     numbers(alloc, ROWS as usize + 2)
 }
 
-/// The place of a cell's row in the table. The rows above and below have those beside it, but at its ends.
+/// The place of a cell's row in the table. The rows above and below have the places beside it, except at the ends of
+/// the table.
 #[inline(always)]
 fn row_of(cell: (i32, i32)) -> usize
     ensures low { 0 < result }
@@ -157,8 +160,8 @@ pub fn has(list: &CellList, cell: (i32, i32)) -> bool
     }
 }
 
-/// The place of a cell of a set that is at most one away from this one: of itself, where the set has it. It is looked for near
-/// where cells were found last, by a table of rows.
+/// The place of a cell of a set that is at most one away from this one: of the cell itself, if the set has it. A table
+/// of rows says where cells were last found, and the search starts there.
 pub fn bearer(list: &CellList, cell: (i32, i32), near: &mut [usize]) -> usize
     requires placed { IsPlace cell }
     requires touched { IsTouched list.now cell }

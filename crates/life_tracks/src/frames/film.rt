@@ -1,9 +1,9 @@
-//! A film: the generations of a plane up to one of them.
+//! A film: the generations of a plane up to a last one.
 ghost use Rattle.std.specs.Prelude.{◌≡◌, ℕ, ◌+◌, ◌-◌, ◌≤◌, ◌<◌, IfOk, length};
 ghost use Rattle.life_model.specs.Evolution.{generation, next};
 ghost use Rattle.life_model.specs.Generation.{Generation};
 ghost use Rattle.life_model.specs.Rule.{Rule as ModelRule};
-ghost use Rattle.life_growth.specs.Unsplit.{AreClasses};
+ghost use Rattle.life_objects.specs.Growth.Unsplit.{AreClasses};
 ghost use Rattle.life_tracks.specs.Frames.Frames.{AreFrames, AreGenerations, AreParents, IsFilm, IsNextFrame, classes_at, parents_at};
 
 use crate::frames::frame::{Frame, frame_before, last_frame};
@@ -11,14 +11,14 @@ use life_cells::{CellList, Rule};
 use life_plane::{AGE_LIMIT, Plane};
 use std::alloc::{AllocError, Global};
 
-/// The classes of each generation of a plane from 0 to the film's last one: the sets into which it splits that stay apart
-/// up to the last one, as finely as can be. The film holds each cell of each generation once.
+/// The classes of each generation of a plane from 0 to the film's last one: the finest split of the generation into
+/// sets that stay apart up to the last one. The film holds each cell of each generation once.
 #[derive(Drop)]
 pub struct Film {
     frames: Vec<Frame>,
 }
 
-/// The cells of a plane, and those of so many later generations.
+/// The cells of a plane, and those of the next `length` generations.
 fn generations<P: Plane>(
     alloc: Global,
     plane: &P,
@@ -38,7 +38,7 @@ fn generations<P: Plane>(
     Ok(all)
 }
 
-/// The frame of a generation, where these are those of the later ones, read backwards.
+/// The frame of a generation. `frames` are those of the later ones, read backwards.
 fn frame_of(alloc: Global, list: &CellList, frames: &[Frame]) -> Result<Frame, AllocError>
     requires { (R : ModelRule) × (G : Generation) × (T : ℕ) × AreFrames R G T (length frames.now) frames.now
         × (length frames.now ≤ T) × (list.now ≡ generation R G (T - length frames.now)) }
@@ -89,7 +89,7 @@ impl Film {
         Ok(Film { frames })
     }
 
-    /// The number of its last generation.
+    /// The number of the film's last generation.
     pub fn length(&self) -> usize
         ensures count { result ≡ length self.now.frames.items - 1 }
         ensures length { (R : ModelRule) (G : Generation) (T : ℕ) → IsFilm R G T self.now → result ≡ T }
@@ -97,7 +97,7 @@ impl Film {
         self.frames.len().saturating_sub(1)
     }
 
-    /// The classes of a generation, for all generations that are left up to the last one; none past that.
+    /// The classes of a generation, for all generations that are left up to the last one; none after that.
     pub fn classes(&self, t: usize) -> &[CellList]
         ensures lent { t < length self.now.frames.items → result.now ≡ classes_at self.now t }
         ensures classes { (R : ModelRule) (G : Generation) (T : ℕ) → IsFilm R G T self.now → t ≤ T →
@@ -109,8 +109,8 @@ impl Film {
         self.frames[self.frames.len() - 1 - t].classes.as_slice()
     }
 
-    /// For each class of the generation after a generation, in their order, the place of the class of this one that bears
-    /// it; none of the last generation.
+    /// For each class of the generation after `t`, in their order, the place of the class of generation `t` that bears
+    /// it. The last generation has none.
     pub fn parents(&self, t: usize) -> &[usize]
         ensures lent { t < length self.now.frames.items → result.now ≡ parents_at self.now t }
         ensures parents { (R : ModelRule) (G : Generation) (T : ℕ) → IsFilm R G T self.now → t < T →

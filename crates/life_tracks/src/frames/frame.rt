@@ -2,15 +2,15 @@
 ghost use Rattle.std.specs.Prelude.{◌≡◌, ℕ, ◌+◌, IfOk};
 ghost use Rattle.life_model.specs.Evolution.{next};
 ghost use Rattle.life_model.specs.Rule.{Rule};
-ghost use Rattle.life_growth.specs.Unsplit.{AreClasses};
+ghost use Rattle.life_objects.specs.Growth.Unsplit.{AreClasses};
 ghost use Rattle.life_tracks.specs.Frames.Frames.{AreParents};
 
 use crate::frames::joining::joined;
 use crate::frames::parents::parents;
 use crate::frames::pieces::near_pieces;
 use life_cells::CellList;
-use life_growth::{classes_are_told_backwards, film_classes_are_classes};
 use life_islands::gathered;
+use life_objects::growth::{classes_are_told_backwards, film_classes_are_classes};
 use std::alloc::{AllocError, Global};
 
 /// The classes of a generation, and for each class of the next one, in their order, the place of the class that bears it.
@@ -30,8 +30,8 @@ pub fn last_frame(alloc: Global, list: &CellList) -> Result<Frame, AllocError>
     })
 }
 
-/// A generation, where these are the classes of the next one: its near pieces, joined wherever they bear cells of one of
-/// these. Cells are joined by their places.
+/// A generation, if these are the classes of the next one: its near pieces, joined wherever they bear cells of the same
+/// class. Cells are joined by their places.
 pub fn frame_before(alloc: Global, list: &CellList, later: &[CellList]) -> Result<Frame, AllocError>
     requires { (R : Rule) × (b : ℕ) × AreClasses R b (next R list.now) later.now }
     ensures classes { IfOk result (λ frame. (R : Rule) (b : ℕ) → AreClasses R b (next R list.now) later.now →
@@ -41,7 +41,7 @@ pub fn frame_before(alloc: Global, list: &CellList, later: &[CellList]) -> Resul
 {
     // The law by which the joined pieces are classes.
     classes_are_told_backwards();
-    // The near pieces, of which the program makes no lists here.
+    // The near pieces. The program makes no lists of them here.
     film_classes_are_classes();
     let forest = joined(alloc, list, later)?;
     let classes = gathered(alloc, list, forest.as_slice())?;

@@ -1,4 +1,4 @@
-//! Places of a generation's cells are joined where these are near each other, and where they bear cells of one set.
+//! Places of a generation's cells are joined if the cells are near each other, or bear cells of the same set.
 ghost use Rattle.std.specs.Prelude.{◌≡◌, ℕ, ◌<◌, IfOk, List, length, true};
 ghost use Rattle.std.specs.List.{Contains};
 ghost use Rattle.life_model.specs.Cell.{Cell};
@@ -14,7 +14,7 @@ use life_cells::CellList;
 use life_islands::numbers;
 use std::alloc::{AllocError, Global};
 
-/// Joins the cells that bear the cells of a set. A table of rows says where cells were found last.
+/// Joins the cells that bear the cells of a set. A table of rows says where cells were last found.
 fn join_set(forest: &mut Vec<usize>, list: &CellList, set: &CellList, near: &mut [usize])
     requires long { length forest.old.items ≡ length (cells list.now) }
     requires touched { (c : Cell) → contains set.now c ≡ true → IsTouched list.now c }
@@ -34,7 +34,7 @@ fn join_set(forest: &mut Vec<usize>, list: &CellList, set: &CellList, near: &mut
     }
 }
 
-/// Joins the cells that bear cells of one of the sets.
+/// Joins, for each of the sets, the cells that bear cells of it.
 fn join_sets(forest: &mut Vec<usize>, list: &CellList, sets: &[CellList], near: &mut [usize])
     requires long { length forest.old.items ≡ length (cells list.now) }
     requires touched { AreTouched list.now sets.now }
@@ -48,7 +48,7 @@ fn join_sets(forest: &mut Vec<usize>, list: &CellList, sets: &[CellList], near: 
     }
 }
 
-/// The places of the cells, joined where the cells are near each other, and where they bear cells of one of the sets.
+/// The places of the cells, joined if the cells are near each other, or bear cells of the same set.
 pub fn joined(alloc: Global, list: &CellList, later: &[CellList]) -> Result<Vec<usize>, AllocError>
     requires later { AreTouched list.now later.now }
     ensures long { IfOk result (λ forest. length forest.items ≡ length (cells list.now)) }

@@ -1,4 +1,4 @@
-//! Places of a generation's cells are joined where these are near each other.
+//! Places of a generation's cells are joined if the cells are near each other.
 ghost use Rattle.std.specs.Prelude.{◌≡◌, ◌+◌, ◌-◌, ◌<◌, ◌^◌, ◌+ℤ◌, ◌-ℤ◌, ◌≤ℤ◌, neg_ℤ, pos, get_or, length};
 ghost use Rattle.life_model.specs.Cell.{Cell, origin};
 ghost use Rattle.life_model.specs.Generation.{cells};
@@ -19,7 +19,7 @@ struct Cursors {
     further: usize,
 }
 
-/// Joins the place of a cell with the one before it, where their cells are near.
+/// Joins the place of a cell with the place before it, if their cells are near.
 #[inline(always)]
 fn join_before(forest: &mut Vec<usize>, list: &CellList, n: usize)
     requires long { length forest.old.items ≡ length (cells list.now) }
@@ -38,7 +38,7 @@ fn join_before(forest: &mut Vec<usize>, list: &CellList, n: usize)
     join(forest, n - 1, n);
 }
 
-/// Joins the place of a cell with that of the first cell whose number is not less than this one, where it is near.
+/// Joins the place of a cell with that of the first cell whose number is not less than this one, if that is near.
 #[inline(always)]
 fn join_next(forest: &mut Vec<usize>, list: &CellList, n: usize, number: i64, at: usize)
     requires long { length forest.old.items ≡ length (cells list.now) }
@@ -61,7 +61,7 @@ fn join_next(forest: &mut Vec<usize>, list: &CellList, n: usize, number: i64, at
     join(forest, at, n);
 }
 
-/// Joins the place of a cell with that of the last cell whose number is less than this one, where it is near.
+/// Joins the place of a cell with that of the last cell whose number is less than this one, if that is near.
 #[inline(always)]
 fn join_last(forest: &mut Vec<usize>, list: &CellList, n: usize, number: i64, at: usize)
     requires long { length forest.old.items ≡ length (cells list.now) }
@@ -84,8 +84,8 @@ fn join_last(forest: &mut Vec<usize>, list: &CellList, n: usize, number: i64, at
     join(forest, at - 1, n);
 }
 
-/// Joins the place of a cell with those of the cells next to this number, where they are near. It is that of a place in a row
-/// above the cell.
+/// Joins the place of a cell with those of the cells next to this number, if they are near. The number is that of a
+/// place in a row above the cell.
 #[inline(always)]
 fn join_around(forest: &mut Vec<usize>, list: &CellList, n: usize, number: i64, guess: &mut usize)
     requires long { length forest.old.items ≡ length (cells list.now) }
@@ -101,7 +101,7 @@ fn join_around(forest: &mut Vec<usize>, list: &CellList, n: usize, number: i64, 
     join_last(forest, list, n, number, at);
 }
 
-/// Joins the place of a cell with those of the cells before it that are near.
+/// Joins the place of a cell with those of the near cells before it.
 #[inline(always)]
 fn join_at(forest: &mut Vec<usize>, list: &CellList, n: usize, cursors: &mut Cursors)
     requires long { length forest.old.items ≡ length (cells list.now) }
@@ -115,7 +115,7 @@ fn join_at(forest: &mut Vec<usize>, list: &CellList, n: usize, cursors: &mut Cur
     join_around(forest, list, n, number - 2 * ROW, &mut cursors.further);
 }
 
-/// Joins the places of those of the cells that are near each other.
+/// Joins the places of the cells that are near each other.
 pub fn join_near(forest: &mut Vec<usize>, list: &CellList)
     requires long { length forest.old.items ≡ length (cells list.now) }
     ensures nearer { AreJoinedByNear list.now forest.old.items forest.new.items }

@@ -14,8 +14,8 @@ use life_cells::CellList;
 use life_classes::root;
 use std::alloc::{AllocError, Global};
 
-/// For the place of each root of a forest how many roots come before it: where classes come in the order of their roots, the
-/// place of the root's class. Nothing rests on it.
+/// For the place of each root of a forest, how many roots come before it. If classes come in the order of their roots,
+/// that is the place of the root's class. Nothing rests on it.
 fn class_places(alloc: Global, forest: &[usize]) -> Result<Vec<usize>, AllocError> {
     let mut places = Vec::with_capacity(alloc, forest.len())?;
     let mut count: usize = 0;
@@ -28,7 +28,7 @@ fn class_places(alloc: Global, forest: &[usize]) -> Result<Vec<usize>, AllocErro
     Ok(places)
 }
 
-/// The place of the class that has a cell. It is looked for first in the guessed place.
+/// The place of the class that has a cell. The guessed place is checked first.
 fn class_of(classes: &[CellList], cell: (i32, i32), guess: usize) -> usize
     requires placed { IsPlace cell }
     requires some { contains (union_of classes.now) cell ≡ true }
@@ -48,7 +48,7 @@ fn class_of(classes: &[CellList], cell: (i32, i32), guess: usize) -> usize
     0
 }
 
-/// What stands in a place of a table, or 0 past it.
+/// The entry in a place of a table, or 0 beyond its end.
 fn guess_at(class_places: &[usize], place: usize) -> usize {
     match class_places.get(place) {
         Some(guess) => *guess,
@@ -56,7 +56,7 @@ fn guess_at(class_places: &[usize], place: usize) -> usize {
     }
 }
 
-/// The place of the class that bears a set. A table of rows says where cells were found last.
+/// The place of the class that bears a set. A table of rows says where cells were last found.
 fn parent(
     list: &CellList,
     forest: &[usize],

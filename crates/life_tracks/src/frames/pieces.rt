@@ -2,14 +2,14 @@
 ghost use Rattle.std.specs.Prelude.{◌≡◌, IfOk};
 ghost use Rattle.life_model.specs.Rule.{Rule};
 ghost use Rattle.life_classes.specs.Tracking.{first_sets};
-ghost use Rattle.life_growth.specs.Unsplit.{AreClasses};
+ghost use Rattle.life_objects.specs.Growth.Unsplit.{AreClasses};
 ghost use Rattle.life_tracks.specs.Frames.Frames.{with_cells};
 
 use life_cells::CellList;
 use life_classes::{Class, first_classes};
 use std::alloc::{AllocError, Global};
 
-/// What those classes were at first that have a cell.
+/// The sets that the classes were at first, of those classes that had a cell then.
 fn some_of(alloc: Global, classes: Vec<Class>) -> Result<Vec<CellList>, AllocError>
     ensures { IfOk result (λ sets. sets.items ≡ with_cells (first_sets classes.items)) }
 {
@@ -22,7 +22,7 @@ fn some_of(alloc: Global, classes: Vec<Class>) -> Result<Vec<CellList>, AllocErr
     Ok(sets)
 }
 
-/// The near pieces of a set: cells at most two from each other in both directions are in one.
+/// The near pieces of a set: cells at most two from each other in both directions are in the same piece.
 pub fn near_pieces(alloc: Global, list: &CellList) -> Result<Vec<CellList>, AllocError>
     ensures { IfOk result (λ pieces. (R : Rule) → AreClasses R 0 list.now pieces.items) }
 {

@@ -4,9 +4,7 @@ use Rattle.std.proofs.lemmas.Result.{MatchResult-weaker}
 use Rattle.clap.specs.Faults.{fault_of, is_simple_and_free}
 use Rattle.clap.specs.Simple.{App, is_simple, subcommand_of}
 use Rattle.clap.specs.Walk.{Row}
-use Rattle.census_cli.specs.Asking.{GivesAsked}
-use Rattle.census_cli.specs.Holding.{IsCommand}
-use Rattle.census_cli.specs.Refusing.{RefusesCommand}
+use Rattle.census_cli.specs.Holding.{GivesAsked, IsCommand, RefusesCommand}
 use Rattle.census_cli.specs.CommandLine.{census_app}
 use Rattle.census_cli.proofs.Commands.{is_command}
 use Rattle.census_cli.proofs.Told.{refuses, refuses_matched}

@@ -1,25 +1,27 @@
-use Rattle.std.proofs.Common.{refl, codes, subst}
+use Rattle.std.proofs.Common.{refl, codes, subst, sym, lit≤}
 use Rattle.clap.specs.Matches.{found_of}
 use Rattle.clap.specs.Walk.{rows_of}
-use Rattle.census_cli.specs.Holding.{IsCommand}
+use Rattle.census_cli.specs.Holding.{GivesRequest, IsCommand}
+use Rattle.census_cli.specs.declared.request.Request.TheVariants as request
 use Rattle.census_cli.proofs.Commands.{advance_command, identify_command, objects_command, page_command, run_command, same_command, table_command, verify_command}
-use Rattle.census_cli.proofs.Getters.{entered_as, number_within}
+use Rattle.census_cli.proofs.Getters.{entered_as, number_fits}
 use Rattle.census_cli.proofs.request.request_of.Goals as goal
 use Rattle.census_cli.specs.Limits.{generation_limit}
+
+pub number-requires : goal.number-requires
+number-requires c =
+    let arm = c.in-Some-subcommand_matches-3 in
+    let rows = rows_of (found_of arm.advance.now) in
+    let has = advance_command rows (subst IsCommand (entered_as c.args.matches.now (codes "advance") rows (arm.ensures.found.0 refl) arm.ensures.rows) c.requires) in
+    number_fits 0 generation_limit (codes "generations") rows (lit≤ tt) has.generations
 
 pub returns-in-Some-subcommand_matches-3 : goal.returns-in-Some-subcommand_matches-3
 returns-in-Some-subcommand_matches-3 c =
     let arm = c.in-Some-subcommand_matches-3 in
     let rows = rows_of (found_of arm.advance.now) in
-    let named = entered_as c.args.matches.now (codes "advance") rows (arm.ensures.found.0 refl) arm.ensures.rows in
-    let has = advance_command rows (subst IsCommand named c.requires) in
-    record {
-      rows = rows;
-      named = named;
-      generations_are = c.number.ensures;
-      generations_in = (number_within 0 generation_limit (codes "generations") rows _ has.generations c.number.ensures).1;
-      file_is = c.text_if_used.ensures;
-    }
+    subst (λ o. GivesRequest o (request.Advance c.number.result c.text_if_used.result))
+    (sym (entered_as c.args.matches.now (codes "advance") rows (arm.ensures.found.0 refl) arm.ensures.rows))
+    (refl, c.number.ensures, c.text_if_used.ensures)
 
 pub run_of-requires : goal.run_of-requires
 run_of-requires c =

@@ -14,5 +14,5 @@ returns-in-Err g c =
     rw c.in-Err.is (
       c.stop_saying.ensures.status,
       subst (λ (l : List ℕ). PutsBytes (error_line c.in-Err.stopped.error ++ said_if c.args.explain l) c.args.errors.now.stream c.stop_saying.new.errors.stream)
-          (says_at _ _ _ c.saying_of.result c.in-Err.stopped.place c.at-saying.result c.saying_of.ensures c.at-saying.ensures) c.stop_saying.ensures.lines,
+          (says_at _ c.saying_of.result c.in-Err.stopped.place c.at-saying.result c.saying_of.ensures c.at-saying.ensures) c.stop_saying.ensures.lines,
     )

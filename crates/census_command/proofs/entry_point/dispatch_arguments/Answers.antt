@@ -12,13 +12,13 @@ pub returns-in_default-clause-outcome : goal.returns-in_default-clause-outcome
 returns-in_default-clause-outcome g c =
     let same = untouched c.args.streams.now _ (ap (λ (s : Streams). s.input) c.streams.view_is) (ap (λ (s : Streams). s.output) c.streams.view_is) c.requires.streams in
     let line = subst (λ (s : Sink). PutsBytes (error_line command.Memory) s c.stop.new.errors.stream) (ap (λ (s : Streams). s.errors) c.streams.view_is) c.stop.ensures.line in
-    inr (record { fault = words_fault.Memory; why = tt; answers = (c.stop.ensures.status, same, line) })
+    inr (words_fault.Memory, tt, (c.stop.ensures.status, same, line))
 
 pub returns-in_default-borrowed_words-clause-outcome : goal.returns-in_default-borrowed_words-clause-outcome
 returns-in_default-borrowed_words-clause-outcome g c =
     let same = untouched c.args.streams.now _ (ap (λ (s : Streams). s.input) c.streams.view_is) (ap (λ (s : Streams). s.output) c.streams.view_is) c.requires.streams in
     let line = subst (λ (s : Sink). PutsBytes (error_line command.Memory) s c.stop-in_default-borrowed_words.new.errors.stream) (ap (λ (s : Streams). s.errors) c.streams.view_is) c.stop-in_default-borrowed_words.ensures.line in
-    inr (record { fault = words_fault.Memory; why = tt; answers = (c.stop-in_default-borrowed_words.ensures.status, same, line) })
+    inr (words_fault.Memory, tt, (c.stop-in_default-borrowed_words.ensures.status, same, line))
 
 pub returns-clause-outcome : goal.returns-clause-outcome
 returns-clause-outcome g c =

@@ -1,10 +1,11 @@
-use Rattle.std.proofs.Common.{List, ℕ, ◌++◌, None, Some, inl, inr, refl, ap, subst, ◌∙◌, ◌≡◌}
+use Rattle.std.proofs.Common.{List, ℕ, ◌++◌, Some, inl, inr, refl, ap, subst, ◌∙◌, ◌≡◌}
 use Rattle.census_folders.specs.Sources.{Reads}
 use Rattle.census_command.specs.BesideReports.{IfExplained, SaysBesideReport}
-use Rattle.census_command.specs.Keeps.{StopsKeeping, cut_lines, lost_lines}
+use Rattle.census_command.specs.Keeps.{StopsKeeping, error_lines, lost_lines}
 use Rattle.watched.specs.Streams.{PutsBytes, PutsMoreBytes, Sink, Streams}
 use Rattle.census_errors.specs.Messages.{error_line}
-use Rattle.census_errors.specs.Sayings.{run_fault, run_spot, said, said_if}
+use Rattle.census_errors.specs.Places.{kept_place}
+use Rattle.census_errors.specs.Sayings.{run_said, said, said_if}
 use Rattle.census_errors.specs.declared.error.CommandError.TheVariants as command
 use Rattle.census_errors.proofs.Said.{at_sound, says_line}
 use Rattle.census_identify.proofs.Written.{tells_more}
@@ -17,7 +18,7 @@ pub returns-in-Err-clause-kept : goal.returns-in-Err-clause-kept
 returns-in-Err-clause-kept g c =
     let shelf = g.S.Shelf.tellings c.args.shelf.now in
     let error = c.in-Err.error in
-    let line = says_line (run_fault error) None (run_spot error) c.run_saying-saying.result c.run_saying-saying.ensures in
+    let line = says_line (run_said error) c.run_saying-saying.result c.run_saying-saying.ensures in
     let before = c.args.streams.now in
     inr (inr (record {
       error = error;
@@ -69,7 +70,7 @@ returns-clause-kept g c =
       unread = refl;
       error = error;
       cut = rw c.from.ensures (is_cut c.in-Err-report.fault _ (ap (λ s. s.input.failed) c.streams.view_is ∙ c.requires.sound.read) c.in-Err-report.ensures.failed);
-      told = tells_more (lost_lines lost) (cut_lines c.args.explain error) c.streams.inside.errors.stream c.tell.new.self.stream c.tell_cut.new.errors.stream first c.tell_cut.ensures.told;
+      told = tells_more (lost_lines lost) (error_lines c.args.explain error (kept_place error)) c.streams.inside.errors.stream c.tell.new.self.stream c.tell_cut.new.errors.stream first c.tell_cut.ensures.told;
       status_is = c.tell_cut.ensures.status;
     })))
 

@@ -5,5 +5,5 @@ use Rattle.census_faults.proofs.refusals.push_folder.Given as goal
 
 abbrev pub invariant-loop-entry : goal.invariant-loop-entry
 invariant-loop-entry l =
-    l.lines.items ++ flat_map (λ e. entry_lines l.collection e) (drop l.entry-index l.entry-items)
-    ≡ l.fn.lines.items ++ flat_map (λ e. entry_lines l.collection e) l.entry-items
+    l.lines.items ++ flat_map (entry_lines l.collection) (drop l.entry-index l.entry-items)
+    ≡ l.fn.lines.items ++ flat_map (entry_lines l.collection) l.entry-items

@@ -1,10 +1,10 @@
-use Rattle.std.proofs.Common.{◌≡◌, [], ◌∷◌, ◌++◌, map, string_bytes, subst, sym, ap, ◌∙◌, append-nil}
+use Rattle.std.proofs.Common.{◌≡◌, not, [], ◌∷◌, ◌++◌, map, string_bytes, subst, sym, ap, ◌∙◌, append-nil}
 use Rattle.std.specs.List.{filter}
 use Rattle.std.specs.Str.{is_utf8}
 use Rattle.std.proofs.lemmas.Result.{err_from_is_err_and}
 use Rattle.census_folders.specs.declared.loss.Cause.TheVariants as cause
 use Rattle.census_folders.specs.Losses.{lost_at}
-use Rattle.census_folders.specs.Paths.{is_any, is_foreign, names_in, path_of}
+use Rattle.census_folders.specs.Paths.{is_any, names_in, path_of}
 use Rattle.census_folders.specs.Told.{silent}
 use Rattle.census_folders.specs.Walks.{lost_names}
 use Rattle.census_folders.proofs.Listings.{left_names}
@@ -21,7 +21,7 @@ loop-left-preserved-in_ok-add_name c =
     let any = sym c.is_any.ensures ∙ c.if-is_any.true in
     record {
       found_are = add_on (path_of folder) is_utf8 name (map string_bytes c.loop-left.found.items) (map string_bytes c.add_name.new.found.items) (map string_bytes c.args.found.now.items ++ map (path_of folder) (filter is_utf8 (names_in c.args.folders.now))) left rest parts any c.in_ok-add_name.ensures.added c.loop-left.invariant.found_are;
-      lost_are = add_on (λ n. lost_at (path_of folder n) (cause.Unread silent)) is_foreign name c.loop-left.lost c.add_name.new.lost (c.args.lost.now ++ lost_names folder (names_in c.args.folders.now)) left rest parts any c.in_ok-add_name.ensures.told c.loop-left.invariant.lost_are;
+      lost_are = add_on (λ n. lost_at (path_of folder n) (cause.Unread silent)) (λ n. not (is_utf8 n)) name c.loop-left.lost c.add_name.new.lost (c.args.lost.now ++ lost_names folder (names_in c.args.folders.now)) left rest parts any c.in_ok-add_name.ensures.told c.loop-left.invariant.lost_are;
       none = still_none c.args.on_loss c.args.lost.now c.loop-left.lost c.add_name.new.lost (lost_names folder (name ∷ [])) c.loop-left.invariant.none c.in_ok-add_name.ensures.told c.in_ok-add_name.ensures.allowed;
     }
 
@@ -35,7 +35,7 @@ loop-left-preserved c =
     let any = sym c.is_any.ensures ∙ c.if-is_any.false in
     record {
       found_are = pass_on (path_of folder) is_utf8 name (map string_bytes c.loop-left.found.items) (map string_bytes c.args.found.now.items ++ map (path_of folder) (filter is_utf8 (names_in c.args.folders.now))) left rest parts any c.loop-left.invariant.found_are;
-      lost_are = pass_on (λ n. lost_at (path_of folder n) (cause.Unread silent)) is_foreign name c.loop-left.lost (c.args.lost.now ++ lost_names folder (names_in c.args.folders.now)) left rest parts any c.loop-left.invariant.lost_are;
+      lost_are = pass_on (λ n. lost_at (path_of folder n) (cause.Unread silent)) (λ n. not (is_utf8 n)) name c.loop-left.lost (c.args.lost.now ++ lost_names folder (names_in c.args.folders.now)) left rest parts any c.loop-left.invariant.lost_are;
       none = c.loop-left.invariant.none;
     }
 

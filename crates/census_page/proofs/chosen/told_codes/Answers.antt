@@ -1,5 +1,5 @@
 use Rattle.std.proofs.Common.{◌≡◌, ◌<◌, ◌++◌, [], ◌∷◌, ap, ◌∙◌, sym, length, arith}
-use Rattle.census_kept.specs.Placed.{row_numbered}
+use Rattle.census_rows.specs.Store.Placed.{row_numbered}
 use Rattle.census_page.specs.Pages.{is_code}
 use Rattle.census_page.proofs.Held.{row_there}
 use Rattle.census_page.proofs.Numbers.{told-more, told-same, within-one}

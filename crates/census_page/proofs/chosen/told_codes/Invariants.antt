@@ -1,5 +1,5 @@
 use Rattle.std.proofs.Common.{◌≡◌, ◌++◌, drop, filter}
-use Rattle.census_kept.specs.Placed.{AreWithin, rows_numbered}
+use Rattle.census_rows.specs.Store.Placed.{AreWithin, rows_numbered}
 use Rattle.census_page.specs.Pages.{is_code}
 use Rattle.census_page.proofs.chosen.told_codes.Given as goal
 

@@ -1,7 +1,7 @@
 use Rattle.std.proofs.Common.{codes}
-use Rattle.census_page_pieces.specs.Kinds.{object_words}
-use Rattle.census_page_pieces.specs.Objects.{code_element}
-use Rattle.census_page_pieces.proofs.Appending.{four_parts}
+use Rattle.census_page.specs.Pieces.Kinds.{object_words}
+use Rattle.census_page.specs.Pieces.Objects.{code_element}
+use Rattle.census_page.proofs.PiecesLemmas.Appending.{four_parts}
 use Rattle.census_page.specs.Pages.{name_cell}
 use Rattle.census_page.proofs.code_row.push_name_cell.Goals as goal
 

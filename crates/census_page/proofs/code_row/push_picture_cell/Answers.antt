@@ -1,7 +1,7 @@
 use Rattle.std.proofs.Common.{codes, ◌++◌, ap, ◌∙◌}
-use Rattle.census_page_pieces.specs.Kinds.{class_of, kind_of}
-use Rattle.census_page_pieces.specs.Pictures.{picture}
-use Rattle.census_page_pieces.proofs.Appending.{five_parts}
+use Rattle.census_page.specs.Pieces.Kinds.{class_of, kind_of}
+use Rattle.census_page.specs.Pieces.Pictures.{picture}
+use Rattle.census_page.proofs.PiecesLemmas.Appending.{five_parts}
 use Rattle.census_page.proofs.code_row.push_picture_cell.Goals as goal
 
 pub returns : goal.returns

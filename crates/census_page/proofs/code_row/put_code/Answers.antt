@@ -3,7 +3,7 @@ use Rattle.std.proofs.lemmas.Result.{err_from_is_err_and}
 use Rattle.watched.specs.Telling.{TellsAfter, sheet}
 use Rattle.watched.proofs.Telling.{tells_failed, tells_more}
 use Rattle.watched.proofs.Prefixes.{front_first, front_more, front_none}
-use Rattle.census_page_pieces.specs.Links.{linking_of}
+use Rattle.census_page.specs.Pieces.Links.{linking_of}
 use Rattle.census_page.specs.Holders.{way_of}
 use Rattle.census_page.specs.Lists.{holder_list}
 use Rattle.census_page.specs.Pages.{code_cells, front_cells}

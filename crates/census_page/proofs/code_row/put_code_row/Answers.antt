@@ -1,7 +1,7 @@
 use Rattle.std.proofs.Common.{subst, sym}
 use Rattle.watched.specs.Telling.{TellsAfter, sheet}
 use Rattle.watched.proofs.Telling.{tells_none}
-use Rattle.census_page_pieces.specs.Links.{linking_of}
+use Rattle.census_page.specs.Pieces.Links.{linking_of}
 use Rattle.census_page.proofs.Tables.{no-row}
 use Rattle.census_page.proofs.code_row.put_code_row.Goals as goal
 

@@ -1,6 +1,6 @@
 use Rattle.std.proofs.Common.{MatchResult, subst}
 use Rattle.watched.specs.Telling.{TellsAfter, TellsFront, sheet}
-use Rattle.census_page_pieces.specs.Links.{linking_of}
+use Rattle.census_page.specs.Pieces.Links.{linking_of}
 use Rattle.census_page.specs.Pages.{code_cells}
 use Rattle.census_page.proofs.code_row.put_having.Goals as goal
 

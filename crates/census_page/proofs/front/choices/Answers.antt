@@ -1,7 +1,7 @@
 use Rattle.std.proofs.Common.{codes, ◌++◌, ap, ◌∙◌}
 use Rattle.std.specs.List.{count_by}
-use Rattle.census_page_pieces.specs.declared.kind.Kind.TheVariants.{StillLife, Oscillator, Spaceship, Other}
-use Rattle.census_page_pieces.proofs.Appending.{seven_parts}
+use Rattle.census_page.specs.declared.pieces.kind.Kind.TheVariants.{StillLife, Oscillator, Spaceship, Other}
+use Rattle.census_page.proofs.PiecesLemmas.Appending.{seven_parts}
 use Rattle.census_page.specs.Pages.{choice, is_shown, is_shown_as}
 use Rattle.census_page.proofs.front.choices.Goals as goal
 

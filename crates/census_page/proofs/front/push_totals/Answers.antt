@@ -2,7 +2,7 @@ use Rattle.std.proofs.Common.{codes, ◌++◌, ap, ◌∙◌}
 use Rattle.std.specs.List.{count_by}
 use Rattle.census_rows.specs.Kinds.{is_refused, is_resolved, is_unresolved}
 use Rattle.census_readback.specs.Shapes.{any_outcome, is_line}
-use Rattle.census_page_pieces.proofs.Appending.{seven_parts}
+use Rattle.census_page.proofs.PiecesLemmas.Appending.{seven_parts}
 use Rattle.census_page.specs.Pages.{total, totals}
 use Rattle.census_page.proofs.front.push_totals.Goals as goal
 

@@ -1,7 +1,7 @@
 use Rattle.std.proofs.Common.{codes}
 use Rattle.std.specs.Prelude.{decimal}
-use Rattle.census_page_pieces.specs.Escapes.{name_element}
-use Rattle.census_page_pieces.proofs.Appending.{five_parts}
+use Rattle.census_page.specs.Pieces.Escapes.{name_element}
+use Rattle.census_page.proofs.PiecesLemmas.Appending.{five_parts}
 use Rattle.census_page.specs.Pages.{link_cell}
 use Rattle.census_page.proofs.index.push_link.Goals as goal
 

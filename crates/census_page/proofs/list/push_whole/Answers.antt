@@ -1,6 +1,6 @@
 use Rattle.std.proofs.Common.{codes}
-use Rattle.census_page_pieces.specs.Numbers.{labelled}
-use Rattle.census_page_pieces.proofs.Appending.{two_parts}
+use Rattle.census_page.specs.Pieces.Numbers.{labelled}
+use Rattle.census_page.proofs.PiecesLemmas.Appending.{two_parts}
 use Rattle.census_page.proofs.list.push_whole.Goals as goal
 
 pub returns : goal.returns

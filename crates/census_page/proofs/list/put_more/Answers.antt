@@ -1,11 +1,12 @@
 use Rattle.std.proofs.Common.{ℕ, ap, codes, length, ◌++◌, ◌∙◌, refl, subst, sym}
+use Rattle.std.specs.List.{flat_map}
 use Rattle.std.proofs.lemmas.Result.{err_from_is_err_and}
 use Rattle.watched.specs.Telling.{TellsAfter, TellsFront, sheet}
 use Rattle.watched.proofs.Telling.{tells_more, tells_none}
 use Rattle.watched.proofs.Prefixes.{front_first, front_more, front_none}
-use Rattle.census_page_pieces.specs.Links.{linking_of}
-use Rattle.census_page_pieces.specs.Numbers.{grouped}
-use Rattle.census_page.specs.Lists.{items, more_items}
+use Rattle.census_page.specs.Pieces.Links.{linking_of}
+use Rattle.census_page.specs.Pieces.Numbers.{grouped}
+use Rattle.census_page.specs.Lists.{item, more_items}
 use Rattle.census_page.proofs.Listing.{more-is, more-none}
 use Rattle.census_page.proofs.list.put_more.Goals as goal
 
@@ -23,7 +24,7 @@ pub returns-in_err-put_items : goal.returns-in_err-put_items
 returns-in_err-put_items g c =
     let p = err_from_is_err_and c.from_residual-in_err-put_items.result c.from_residual-in_err-put_items.ensures.1 in
     let first = codes "<details><summary>" ++ grouped (length c.args.holders.now) ++ codes " more</summary><ul>" in
-    let all = items (linking_of c.args.links.now) c.args.holders.now in
+    let all = flat_map (item (linking_of c.args.links.now)) c.args.holders.now in
     let last = codes "</ul></details>" in
     let a = sheet c.args.block.now c.args.writer.now in
     let b = sheet c.put.new.block c.put.new.writer in
@@ -37,7 +38,7 @@ returns-in_err-put_items g c =
 pub returns : goal.returns
 returns g c =
     let first = codes "<details><summary>" ++ grouped (length c.args.holders.now) ++ codes " more</summary><ul>" in
-    let all = items (linking_of c.args.links.now) c.args.holders.now in
+    let all = flat_map (item (linking_of c.args.links.now)) c.args.holders.now in
     let last = codes "</ul></details>" in
     let a = sheet c.args.block.now c.args.writer.now in
     let b = sheet c.put.new.block c.put.new.writer in

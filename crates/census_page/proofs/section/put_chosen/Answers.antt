@@ -1,13 +1,14 @@
 use Rattle.std.proofs.Common.{◌++◌, ◌∙◌, ap, refl, subst, sym}
+use Rattle.std.specs.List.{flat_map}
 use Rattle.std.proofs.lemmas.Result.{err_from_is_err_and}
 use Rattle.watched.specs.Telling.{TellsAfter, TellsFront, sheet}
 use Rattle.watched.proofs.Telling.{tells_more, tells_none}
 use Rattle.watched.proofs.Prefixes.{front_first, front_more, front_none}
-use Rattle.census_page_pieces.specs.Links.{linking_of}
-use Rattle.census_page_pieces.specs.Markup.{table_begin, table_end}
-use Rattle.census_kept.specs.Placed.{rows_numbered}
+use Rattle.census_page.specs.Pieces.Links.{linking_of}
+use Rattle.census_page.specs.Pieces.Markup.{table_begin, table_end}
+use Rattle.census_rows.specs.Store.Placed.{rows_numbered}
 use Rattle.census_page.specs.Options.{options_of}
-use Rattle.census_page.specs.Pages.{chosen, code_rows, table_of}
+use Rattle.census_page.specs.Pages.{chosen, code_row, table_of}
 use Rattle.census_page.proofs.Tables.{table-is, table-none}
 use Rattle.census_page.proofs.section.put_chosen.Goals as goal
 
@@ -36,7 +37,7 @@ returns-in_err-put_code_rows g c =
     let holders = c.args.holders.now in
     let lent = c.new-lent.result in
     let is = c.new-lent.ensures ∙ ap (rows_numbered c.args.rows.now) c.as_slice.ensures.value ∙ c.in_ok-numbers.ensures.all in
-    let all = code_rows (linking_of c.args.links.now) holders lent in
+    let all = flat_map (code_row (linking_of c.args.links.now) holders) lent in
     let a = sheet c.args.block.now c.args.writer.now in
     let b = sheet c.put.new.block c.put.new.writer in
     let d = sheet c.put_code_rows.new.block c.put_code_rows.new.writer in
@@ -51,7 +52,7 @@ returns g c =
     let holders = c.args.holders.now in
     let lent = c.new-lent.result in
     let is = c.new-lent.ensures ∙ ap (rows_numbered c.args.rows.now) c.as_slice.ensures.value ∙ c.in_ok-numbers.ensures.all in
-    let all = code_rows (linking_of c.args.links.now) holders lent in
+    let all = flat_map (code_row (linking_of c.args.links.now) holders) lent in
     let a = sheet c.args.block.now c.args.writer.now in
     let b = sheet c.put.new.block c.put.new.writer in
     let d = sheet c.put_code_rows.new.block c.put_code_rows.new.writer in

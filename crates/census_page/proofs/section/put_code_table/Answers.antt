@@ -2,7 +2,7 @@ use Rattle.std.proofs.Common.{ap, ◌∙◌, MatchResult, subst}
 use Rattle.std.proofs.lemmas.Result.{err_from_is_err_and}
 use Rattle.watched.specs.Telling.{TellsAfter, TellsFront, sheet}
 use Rattle.watched.proofs.Prefixes.{front_none}
-use Rattle.census_page_pieces.specs.Links.{linking_of}
+use Rattle.census_page.specs.Pieces.Links.{linking_of}
 use Rattle.census_page.specs.Held.{holders_at}
 use Rattle.census_page.specs.Options.{options_of}
 use Rattle.census_page.specs.Pages.{chosen, code_table, table_of}

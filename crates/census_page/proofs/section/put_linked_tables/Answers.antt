@@ -2,7 +2,7 @@ use Rattle.std.proofs.Common.{◌++◌, refl}
 use Rattle.std.proofs.lemmas.Result.{err_from_is_err_and}
 use Rattle.watched.specs.Telling.{sheet}
 use Rattle.watched.proofs.Prefixes.{front_first, told_both}
-use Rattle.census_page_pieces.specs.Links.{linking_of}
+use Rattle.census_page.specs.Pieces.Links.{linking_of}
 use Rattle.census_page.specs.Options.{options_of}
 use Rattle.census_page.specs.Pages.{code_table, pattern_table}
 use Rattle.census_page.proofs.section.put_linked_tables.Goals as goal

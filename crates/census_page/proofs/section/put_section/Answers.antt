@@ -1,11 +1,12 @@
 use Rattle.std.proofs.Common.{codes, ◌++◌, ◌∙◌, refl, subst, sym}
+use Rattle.std.specs.List.{flat_map}
 use Rattle.std.specs.Prelude.{decimal}
 use Rattle.std.proofs.lemmas.Result.{err_from_is_err_and}
 use Rattle.watched.specs.Telling.{TellsAfter, sheet}
 use Rattle.watched.proofs.Telling.{tells_failed, tells_more}
 use Rattle.watched.proofs.Prefixes.{front_first, front_more, front_none}
 use Rattle.census_page.specs.Options.{options_of}
-use Rattle.census_page.specs.Pages.{headings, section_text, tables}
+use Rattle.census_page.specs.Pages.{heading, section_text, tables}
 use Rattle.census_page.proofs.section.put_section.Goals as goal
 
 pub returns-then-failed : goal.returns-then-failed
@@ -22,7 +23,7 @@ returns-in_err-put_headings g c =
     let p = err_from_is_err_and c.from_residual-in_err-put_headings.result c.from_residual-in_err-put_headings.ensures.1 in
     let rows = c.args.rows.now in
     let first = codes "<section id=\"c" ++ decimal c.args.number ++ codes "\">\n" in
-    let two = headings rows in
+    let two = flat_map heading rows in
     let three = tables (options_of c.args.options.now) rows ++ codes "</section>\n" in
     let a = sheet c.args.block.now c.args.writer.now in
     let b = sheet c.put.new.block c.put.new.writer in
@@ -36,7 +37,7 @@ returns-in_err-put_tables g c =
     let p = err_from_is_err_and c.from_residual-in_err-put_tables.result c.from_residual-in_err-put_tables.ensures.1 in
     let rows = c.args.rows.now in
     let first = codes "<section id=\"c" ++ decimal c.args.number ++ codes "\">\n" in
-    let two = headings rows in
+    let two = flat_map heading rows in
     let both = tables (options_of c.args.options.now) rows in
     let three = both ++ codes "</section>\n" in
     let a = sheet c.args.block.now c.args.writer.now in
@@ -52,7 +53,7 @@ pub returns : goal.returns
 returns g c =
     let rows = c.args.rows.now in
     let first = codes "<section id=\"c" ++ decimal c.args.number ++ codes "\">\n" in
-    let two = headings rows in
+    let two = flat_map heading rows in
     let both = tables (options_of c.args.options.now) rows in
     let three = both ++ codes "</section>\n" in
     let a = sheet c.args.block.now c.args.writer.now in

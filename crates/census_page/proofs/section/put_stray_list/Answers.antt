@@ -3,8 +3,8 @@ use Rattle.std.proofs.lemmas.Result.{err_from_is_err_and}
 use Rattle.watched.specs.Telling.{TellsAfter, TellsFront, sheet}
 use Rattle.watched.proofs.Telling.{tells_more, tells_none}
 use Rattle.watched.proofs.Prefixes.{front_first, front_more}
-use Rattle.census_page_pieces.specs.Links.{linking_of}
-use Rattle.census_page_pieces.specs.Markup.{list_begin, table_end}
+use Rattle.census_page.specs.Pieces.Links.{linking_of}
+use Rattle.census_page.specs.Pieces.Markup.{list_begin, table_end}
 use Rattle.census_page.specs.Pages.{stray_rows}
 use Rattle.census_page.proofs.Tables.{list-is, list-none}
 use Rattle.census_page.proofs.section.put_stray_list.Goals as goal

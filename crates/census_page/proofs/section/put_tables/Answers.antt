@@ -1,10 +1,10 @@
-use Rattle.std.proofs.Common.{MatchResult, ap, ◌∙◌, subst}
+use Rattle.std.proofs.Common.{◌++◌, MatchResult, ap, ◌∙◌, subst}
 use Rattle.std.proofs.lemmas.Result.{err_from_is_err_and}
 use Rattle.watched.specs.Telling.{TellsAfter, TellsFront, sheet}
 use Rattle.watched.proofs.Prefixes.{front_none}
-use Rattle.census_page_pieces.specs.Links.{Linking}
+use Rattle.census_page.specs.Pieces.Links.{Linking}
 use Rattle.census_page.specs.Options.{options_of}
-use Rattle.census_page.specs.Pages.{linked_tables, tables}
+use Rattle.census_page.specs.Pages.{code_table, pattern_table, tables}
 use Rattle.census_page.proofs.section.put_tables.Goals as goal
 
 pub returns-in_err-address : goal.returns-in_err-address
@@ -18,6 +18,6 @@ returns g c =
     let rows = c.args.rows.now in
     let a = sheet c.args.block.now c.args.writer.now in
     let b = sheet c.put_linked_tables.new.block c.put_linked_tables.new.writer in
-    subst (λ (links : Linking). MatchResult c.put_linked_tables.result (λ _. TellsAfter (linked_tables links options rows) a b) (λ _. TellsFront (linked_tables links options rows) a b))
+    subst (λ (links : Linking). MatchResult c.put_linked_tables.result (λ _. TellsAfter (code_table links options rows ++ pattern_table links options.patterns rows) a b) (λ _. TellsFront (code_table links options rows ++ pattern_table links options.patterns rows) a b))
     (c.links_in-links.ensures ∙ ap (λ names. record { names = names; catalogue = options.links }) c.in_ok-address.ensures)
     c.put_linked_tables.ensures

@@ -1,8 +1,8 @@
 use Rattle.std.proofs.Common.{◌∙◌, MatchResult, ap, ap₂, subst, sym}
 use Rattle.watched.proofs.Telling.{tells_none}
 use Rattle.watched.specs.Telling.{TellsAfter, TellsFront, sheet}
-use Rattle.census_page_pieces.specs.Fates.{fate_row}
-use Rattle.census_page_pieces.specs.Links.{linking_of}
+use Rattle.census_page.specs.Pieces.Fates.{fate_row}
+use Rattle.census_page.specs.Pieces.Links.{linking_of}
 use Rattle.census_page.specs.Pages.{stray_row}
 use Rattle.census_page.proofs.Tables.{no-stray-row}
 use Rattle.census_page.proofs.stray.put_stray_row.Goals as goal

@@ -1,7 +1,7 @@
 use Rattle.std.proofs.Common.{drop}
 use Rattle.watched.specs.Telling.{sheet}
 use Rattle.watched.proofs.Prefixes.{TellsUpTo}
-use Rattle.census_page_pieces.specs.Links.{linking_of}
+use Rattle.census_page.specs.Pieces.Links.{linking_of}
 use Rattle.census_page.specs.Pages.{stray_rows}
 use Rattle.census_page.proofs.stray.put_stray_rows.Given as goal
 

@@ -1,19 +1,20 @@
 use Rattle.std.proofs.Common.{◌++◌, ◌∙◌, refl, subst}
+use Rattle.std.specs.List.{enumerate_from, flat_map}
 use Rattle.std.proofs.lemmas.Result.{err_from_is_err_and}
 use Rattle.watched.specs.Telling.{TellsAfter, sheet}
 use Rattle.watched.proofs.Telling.{tells_more}
 use Rattle.watched.proofs.Prefixes.{front_first, front_more, front_none}
-use Rattle.census_page_pieces.specs.Markup.{index_begin, index_end, page_end}
+use Rattle.census_page.specs.Pieces.Markup.{index_begin, index_end, page_end}
 use Rattle.census_page.specs.Options.{options_of}
-use Rattle.census_page.specs.Pages.{choices, index_rows, sections_text}
+use Rattle.census_page.specs.Pages.{choices, index_row, section_text}
 use Rattle.census_page.proofs.whole_page.put_body.Goals as goal
 
 pub returns-in_err-put_rows : goal.returns-in_err-put_rows
 returns-in_err-put_rows g c =
     let p = err_from_is_err_and c.from_residual.result c.from_residual.ensures.1 in
     let sections = c.args.sections.now in
-    let rows = index_rows 1 sections in
-    let last = sections_text (options_of c.args.options.now) 1 sections ++ page_end in
+    let rows = flat_map (λ s. index_row s.0 s.1) (enumerate_from 1 sections) in
+    let last = flat_map (λ s. section_text (options_of c.args.options.now) s.0 s.1) (enumerate_from 1 sections) ++ page_end in
     let rest = (index_end ++ choices c.args.rows.now) ++ last in
     let a = sheet c.args.block.now c.args.writer.now in
     let b = sheet c.put.new.block c.put.new.writer in
@@ -26,9 +27,9 @@ pub returns-in_err-choices : goal.returns-in_err-choices
 returns-in_err-choices g c =
     let p = err_from_is_err_and c.from_residual-in_err-choices.result c.from_residual-in_err-choices.ensures.1 in
     let sections = c.args.sections.now in
-    let rows = index_rows 1 sections in
+    let rows = flat_map (λ s. index_row s.0 s.1) (enumerate_from 1 sections) in
     let kinds = choices c.args.rows.now in
-    let last = sections_text (options_of c.args.options.now) 1 sections ++ page_end in
+    let last = flat_map (λ s. section_text (options_of c.args.options.now) s.0 s.1) (enumerate_from 1 sections) ++ page_end in
     let rest = (index_end ++ kinds) ++ last in
     let a = sheet c.args.block.now c.args.writer.now in
     let b = sheet c.put.new.block c.put.new.writer in
@@ -43,9 +44,9 @@ pub returns-in_err-put_sections : goal.returns-in_err-put_sections
 returns-in_err-put_sections g c =
     let p = err_from_is_err_and c.from_residual-in_err-put_sections.result c.from_residual-in_err-put_sections.ensures.1 in
     let sections = c.args.sections.now in
-    let rows = index_rows 1 sections in
+    let rows = flat_map (λ s. index_row s.0 s.1) (enumerate_from 1 sections) in
     let kinds = choices c.args.rows.now in
-    let all = sections_text (options_of c.args.options.now) 1 sections in
+    let all = flat_map (λ s. section_text (options_of c.args.options.now) s.0 s.1) (enumerate_from 1 sections) in
     let last = all ++ page_end in
     let rest = (index_end ++ kinds) ++ last in
     let a = sheet c.args.block.now c.args.writer.now in
@@ -64,9 +65,9 @@ returns-in_err-put_sections g c =
 pub returns : goal.returns
 returns g c =
     let sections = c.args.sections.now in
-    let rows = index_rows 1 sections in
+    let rows = flat_map (λ s. index_row s.0 s.1) (enumerate_from 1 sections) in
     let kinds = choices c.args.rows.now in
-    let all = sections_text (options_of c.args.options.now) 1 sections in
+    let all = flat_map (λ s. section_text (options_of c.args.options.now) s.0 s.1) (enumerate_from 1 sections) in
     let last = all ++ page_end in
     let rest = (index_end ++ kinds) ++ last in
     let a = sheet c.args.block.now c.args.writer.now in

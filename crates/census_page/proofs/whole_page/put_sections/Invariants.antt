@@ -1,11 +1,12 @@
 use Rattle.std.proofs.Common.{◌+◌, drop}
+use Rattle.std.specs.List.{enumerate_from, flat_map}
+use Rattle.census_page.specs.Pages.{section_text}
 use Rattle.watched.specs.Telling.{sheet}
 use Rattle.watched.proofs.Prefixes.{TellsUpTo}
 use Rattle.census_page.specs.Options.{options_of}
-use Rattle.census_page.specs.Pages.{sections_text}
 use Rattle.census_page.proofs.whole_page.put_sections.Given as goal
 
 abbrev pub invariant-loop-index : goal.invariant-loop-index
 invariant-loop-index g l =
-    TellsUpTo (sections_text (options_of l.options) 1 l.sections) (sections_text (options_of l.options) (l.index + 1) (drop l.index l.sections))
+    TellsUpTo (flat_map (λ s. section_text (options_of l.options) s.0 s.1) (enumerate_from 1 l.sections)) (flat_map (λ s. section_text (options_of l.options) s.0 s.1) (enumerate_from (l.index + 1) (drop l.index l.sections)))
     (sheet l.fn.block l.fn.writer) (sheet l.block l.writer)

@@ -2,8 +2,8 @@ use Rattle.std.proofs.Common.{inr, refl}
 use Rattle.std.proofs.lemmas.Result.{err_from_is_err_and}
 use Rattle.watched.specs.Telling.{sheet}
 use Rattle.census_table.specs.Entries.{entries_of}
-use Rattle.census_verify.specs.Claims.{claims_read}
-use Rattle.census_verify.specs.Verdict.{verdict_text}
+use Rattle.census_compare.specs.Claims.{claims_read}
+use Rattle.census_compare.specs.Verdict.{verdict_text}
 use Rattle.census_reports.proofs.Halted.{all_written, found_bytes, halted, lost}
 use Rattle.census_reports.specs.declared.form.Form.TheVariants as form
 use Rattle.census_reports.proofs.form.write_disagreement.Goals as goal

@@ -1,8 +1,8 @@
 use Rattle.std.proofs.Common.{inr, refl}
 use Rattle.std.proofs.lemmas.Result.{err_from_is_err_and}
 use Rattle.watched.specs.Telling.{sheet}
-use Rattle.census_same.specs.Patterns.{tolds_of}
-use Rattle.census_same.specs.Same.{same_text}
+use Rattle.census_compare.specs.SamePatterns.{tolds_of}
+use Rattle.census_compare.specs.Same.{same_text}
 use Rattle.census_reports.proofs.Halted.{all_written, halted, lost}
 use Rattle.census_reports.specs.declared.form.Form.TheVariants as form
 use Rattle.census_reports.proofs.form.write_same.Goals as goal

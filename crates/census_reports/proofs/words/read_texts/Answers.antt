@@ -22,7 +22,7 @@ returns-in_err-push-clause-fault g c =
     let p = err_from_is_err_and c.from_residual-in_err-push.result c.from_residual-in_err-push.ensures.1 in
     rw (p.1, p.2)
     (stops_reading ((g.S.Shelf.tellings c.args.shelf.now).held []) c.args.words.now c.loop-word.word-index (record { ref_ptr = (0, 0); now = [] }) c.loop-word.texts.items _ _ (omega arith) c.loop-word.invariant.0 Memory c.args.limit _ c.loop-word.invariant.2.fits
-    (record { taken = c.in_ok-text.ensures.taken; sound = c.in_ok-text.ensures.sound }))
+    (c.in_ok-text.ensures.taken, c.in_ok-text.ensures.sound))
 
 pub loop-word-preserved : goal.loop-word-preserved
 loop-word-preserved g c = (

@@ -1,10 +1,11 @@
 use Rattle.std.proofs.Common.{◌∙◌, false, subst}
+use Rattle.std.specs.List.{filter_map}
+use Rattle.census_table.specs.Lists.{portion_of}
 use Rattle.std.proofs.lemmas.Result.{err_from_is_err_and}
 use Rattle.watched.specs.Telling.{TellsAfter, sheet}
 use Rattle.watched.proofs.Prefixes.{front_around, front_none, told_around}
 use Rattle.census_facts.specs.Json.Pieces.{engines_end}
 use Rattle.census_table.specs.Contents.{portion_data}
-use Rattle.census_table.specs.Lists.{portions}
 use Rattle.census_table.specs.Pieces.{items_text, kind_head, kind_text}
 use Rattle.census_table.proofs.Pieced.{kind-pieces}
 use Rattle.census_table.proofs.lists.put_kind.Goals as goal
@@ -26,7 +27,7 @@ returns-in_err-put_portions g c =
     let second = sheet c.put.new.block c.put.new.writer in
     let third = sheet c.put_portions.new.block c.put_portions.new.writer in
     let head = kind_head c.args.later c.args.displacement.0 c.args.displacement.1 c.args.count in
-    let inner = items_text portion_data false (portions c.args.emits.now) in
+    let inner = items_text portion_data false (filter_map portion_of c.args.emits.now) in
     rw p.1
     (front_around (kind_text c.args.period c.args.displacement.0 c.args.displacement.1 c.args.count c.args.emits.now c.args.later) head inner (engines_end c.args.period)
     (kind-pieces c.args.period c.args.displacement.0 c.args.displacement.1 c.args.count c.args.emits.now c.args.later) first second third
@@ -40,7 +41,7 @@ returns g c =
     let third = sheet c.put_portions.new.block c.put_portions.new.writer in
     let last = sheet c.put-2.new.block c.put-2.new.writer in
     let head = kind_head c.args.later c.args.displacement.0 c.args.displacement.1 c.args.count in
-    let inner = items_text portion_data false (portions c.args.emits.now) in
+    let inner = items_text portion_data false (filter_map portion_of c.args.emits.now) in
     told_around (kind_text c.args.period c.args.displacement.0 c.args.displacement.1 c.args.count c.args.emits.now c.args.later) head inner (engines_end c.args.period)
     (kind-pieces c.args.period c.args.displacement.0 c.args.displacement.1 c.args.count c.args.emits.now c.args.later) first second third
     (subst (λ t. TellsAfter t first second) (c.as_slice.ensures.value ∙ c.in_ok-head.ensures) c.put.ensures)

@@ -1,5 +1,6 @@
 use Rattle.std.proofs.Common.{◌∙◌, ◌+◌, ◌++◌, [], ap, arith, map, subst}
-use Rattle.census_table.specs.Objects.{object_before, section_objects}
+use Rattle.std.specs.List.{cons_option}
+use Rattle.census_table.specs.Objects.{section_objects}
 use Rattle.census_table.specs.Places.{object_at, told_at, AreBefore}
 use Rattle.census_table.specs.declared.place.Place.{Place}
 use Rattle.census_table.proofs.Placed.{row-more, section-start, section-told, told-here}
@@ -22,7 +23,7 @@ loop-row-preserved c =
           (map told l.places.items) (map told c.push_place.new.places.items) (omega arith) c.line_at-line.ensures
           (told-here c.args.sections.now c.args.collection c.line_at-line.result l.row _ rows c.requires.within c.section-rows.ensures)
           l.invariant.0
-          (c.in_ok-push_place.ensures.told ∙ ap (λ (p : Place). map told l.places.items ++ object_before (told_at c.args.sections.now p) []) c.in_ok-place.ensures),
+          (c.in_ok-push_place.ensures.told ∙ ap (λ (p : Place). map told l.places.items ++ cons_option (told_at c.args.sections.now p) []) c.in_ok-place.ensures),
       λ before.
           subst (λ (p : Place). AreBefore p.collection p.row l.places.items → AreBefore p.collection (p.row + 1) c.push_place.new.places.items) c.in_ok-place.ensures
           c.in_ok-push_place.ensures.placed (l.invariant.1 before),

@@ -1,7 +1,8 @@
 use Rattle.std.proofs.Common.{◌≡◌, ◌++◌, map, drop}
+use Rattle.std.specs.Prelude.{filter}
 use Rattle.std.specs.Option.{option_copied}
-use Rattle.census_table.specs.ObjectColumns.{there, title_of}
+use Rattle.census_table.specs.ObjectColumns.{is_there, title_of}
 use Rattle.census_table.proofs.subject.names_of.Given as goal
 
 abbrev pub invariant-loop-column : goal.invariant-loop-column
-invariant-loop-column l = map (λ s. s.now) l.titles.items ++ map title_of (there (option_copied l.names) (drop l.column-index l.columns)) ≡ map title_of (there (option_copied l.names) l.columns)
+invariant-loop-column l = map (λ s. s.now) l.titles.items ++ map title_of (filter (is_there (option_copied l.names)) (drop l.column-index l.columns)) ≡ map title_of (filter (is_there (option_copied l.names)) l.columns)

@@ -1,6 +1,6 @@
 use Rattle.std.proofs.Common.{◌≡◌, ◌≤◌}
 use Rattle.life_advance.specs.Later.{IsLater}
-use Rattle.life_leaps.specs.Planes.{rule_of, steps_made}
+use Rattle.life_advance.specs.Leaps.Planes.{rule_of, steps_made}
 use Rattle.life_advance.proofs.leaping.leap_on.Given as goal
 
 abbrev pub invariant-leaps : goal.invariant-leaps

@@ -1,7 +1,7 @@
--- A plane whose leap was refused is where it was.
+-- A plane whose leap ran out of memory is unchanged.
 use Rattle.std.proofs.Common.{◌∙◌, subst, sym}
 use Rattle.life_advance.specs.Later.{IsLater}
-use Rattle.life_leaps.specs.Planes.{Seen, rule_of}
+use Rattle.life_advance.specs.Leaps.Planes.{Seen, rule_of}
 use Rattle.life_advance.proofs.Laters.{later_kept}
 use Rattle.life_advance.proofs.leaping.leap_once.Goals.{then-exponent-eq0-via-then-exponent-eq0, then-exponent-eq0-via-else-exponent-eq0+then-is_err}
 use Rattle.life_advance.proofs.leaping.leap_once.Goals as goal

@@ -3,7 +3,7 @@ use Rattle.life_model.specs.Cell.{Cell}
 use Rattle.life_apart.proofs.Boxes.{IsOwnOrFarOff}
 use Rattle.life_apart.proofs.clearance.distance.Given as goal
 
--- each cell so far is one of the set or as far off as the least is
+-- each cell so far is in the set, or at least as far off as `least`
 abbrev pub invariant-loop-cell : goal.invariant-loop-cell
 invariant-loop-cell l = record {
   most : l.least ≤ℤ pos (2 ^ 20);

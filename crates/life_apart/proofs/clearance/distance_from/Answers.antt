@@ -3,7 +3,7 @@ use Rattle.std.specs.Int.{int_max}
 use Rattle.std.proofs.lemmas.Int.{ints, to_z-of_z}
 use Rattle.life_apart.proofs.clearance.distance_from.Goals as goal
 
--- a number after it goes through the bits of an i64
+-- a number after passing through the bits of an i64
 abbrev by_bits : ℤ → ℤ
 by_bits z = to_z w64 (of_z w64 z)
 

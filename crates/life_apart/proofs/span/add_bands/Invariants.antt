@@ -4,7 +4,7 @@ use Rattle.life_apart.specs.Spans.{IsPlacedIn, span_at}
 use Rattle.life_apart.specs.declared.span.Span.{Span}
 use Rattle.life_apart.proofs.span.add_bands.Given as goal
 
--- all spans are there still, and those of the bands so far
+-- all spans are still there, and those of the bands so far
 abbrev pub invariant-loop-band : goal.invariant-loop-band
 invariant-loop-band l = record {
   kept : (s : Span) → Contains l.fn.spans.items s → Contains l.spans.items s;

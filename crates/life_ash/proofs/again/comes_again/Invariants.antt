@@ -4,7 +4,7 @@ use Rattle.life_model.specs.Evolution.{generation}
 use Rattle.life_model.specs.Recurrence.{RecursBy}
 use Rattle.life_ash.proofs.again.comes_again.Given as goal
 
--- the set has not come again so far
+-- the set has not recurred so far
 abbrev pub invariant-loop-taken : goal.invariant-loop-taken
 invariant-loop-taken g l = record {
   members : g.P.Plane.members l.later ≡ generation l.rule l.cells l._taken;

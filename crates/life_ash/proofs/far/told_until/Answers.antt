@@ -6,7 +6,7 @@ use Rattle.life_strays.specs.Totals.{AreTotals, total}
 use Rattle.life_strays.proofs.Even.{uneven_is_no_ash}
 use Rattle.life_strays.proofs.Stretches.{stretch_more, totals_more}
 use Rattle.life_ash.proofs.far.told_until.Goals as goal
-use Rattle.life_ash.proofs.far.told_until.Goals.{then-left-eq0+in_ok-push+else-is_uneven, else-left-eq0}
+use Rattle.life_ash.proofs.far.told_until.Goals.{then-left-eq0+in_ok-push+else-is_uneven+else-is_dear, else-left-eq0}
 use Rattle.life_ash.proofs.far.told_until.Goals.{then-bound-age+in_ok-parts+in_default, else-bound-age}
 
 pub loop-age-init : goal.loop-age-init
@@ -56,7 +56,7 @@ loop-age-preserved g c =
     let stand : AreTotals R b H c.if-left-eq0.totals.items
     × (length c.if-left-eq0.totals.items * b ≡ n + c.if-left-eq0.left) × (1 ≤ c.if-left-eq0.left) =
     elim c.if-left-eq0.branch [
-      | then-left-eq0+in_ok-push+else-is_uneven w ↦
+      | then-left-eq0+in_ok-push+else-is_uneven+else-is_dear w ↦
           let none = w.if-left-eq0.true in
           let here : length totals * b ≡ n = omega arith in
           let left = w.left-is in

@@ -3,7 +3,7 @@ use Rattle.life_model.specs.Evolution.{generation}
 use Rattle.life_strays.specs.Totals.{AreTotals, total}
 use Rattle.life_ash.proofs.far.told_until.Given as goal
 
--- so many generations after the bound all cells are counted, and before each stretch they were
+-- the plane is `age - bound` generations after the bound; the cells of all of them so far are counted, also up to each stretch
 abbrev pub invariant-loop-age : goal.invariant-loop-age
 invariant-loop-age g l = record {
   aged : g.P.Plane.steps_made l.later ≡ l.age;

@@ -2,7 +2,7 @@ use Rattle.std.proofs.Common.{◌≡◌, ◌+◌}
 use Rattle.life_model.specs.Evolution.{generation}
 use Rattle.life_ash.proofs.newcomers.is_no_ash.Given as goal
 
--- so many generations after the bound
+-- the later plane has made `counter` steps since the bound
 abbrev pub invariant-loop : goal.invariant-loop
 invariant-loop g l = record {
   members : g.P.Plane.members l.later ≡ generation l.known.rule (g.P.Plane.members l.plane) l.counter;

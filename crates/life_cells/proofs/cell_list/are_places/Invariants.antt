@@ -3,6 +3,6 @@ use Rattle.life_model.specs.Cell.{Cell}
 use Rattle.life_cells.specs.Limits.{IsPlace}
 use Rattle.life_cells.proofs.cell_list.are_places.Given as goal
 
--- the cells before this one do
+-- this holds of the cells before this one
 abbrev pub invariant-loop-cell : goal.invariant-loop-cell
 invariant-loop-cell l = (k : ℕ) (d : Cell) → k < l.cell-index → IsPlace (slice_index_or l.cells k d)

@@ -8,13 +8,13 @@ use Rattle.life_cells.proofs.Sorted.{left_rises, left_has, left_all, same_sets}
 use Rattle.life_cells.proofs.order.put_in_order.Goals as goal
 use Rattle.life_cells.proofs.order.put_in_order.Goals.{then-is_err, else-is_err}
 
--- what holds where there is no error
+-- what holds if there is no error
 without_error : {T E P : Type 0} (r : Result T E) → false ≡ is_err r → OnOk r P → P
 without_error (Ok x) e h = h
 without_error (Err y) e h = absurd (true≢false (sym e))
 
 module _ (c : goal.After-dedup) where
-  -- sorted by the one way or the other
+  -- sorted in one way or the other
   both : IsPermutation {X = Cell} c.args.items.now.items c.if-is_err.items.items × IsSorted cell_cmp c.if-is_err.items.items
   both =
       let Q = λ (l : List Cell). IsPermutation {X = Cell} c.args.items.now.items l × IsSorted cell_cmp l in

@@ -1,5 +1,5 @@
 use Rattle.std.proofs.Common.{rules, take, refl, ap, subst, ◌∙◌}
-use Rattle.life_settled.specs.Settling.{Settling}
+use Rattle.life_growing.specs.Settled.Settling.{Settling}
 use Rattle.life_census.specs.Counted.{AreCounted}
 use Rattle.life_census.specs.Emitted.{parts_of_each}
 use Rattle.life_census.proofs.Taken.{all_taken, one_flat, one_taken}

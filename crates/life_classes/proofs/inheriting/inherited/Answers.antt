@@ -26,7 +26,7 @@ heir_of-heir-requires-clause-reached c =
     (subst (λ xs. contains G (get_or xs k origin) ≡ true) (sym same)
     (cells-contained G k origin (subst (λ xs. k < length xs) same c.loop-cell-test.true)))
 
--- one more cell is born, and cells-contained, or was there before
+-- one more cell is listed as born, or was there before
 one_more_born : (l : Labelled) (cs : List Cell) (n place : ℕ) (is_born : Bool) (old new : List ℕ) (c : Cell) → place ≡ n →
     ((e : Cell) → c ≡ get_or cs n e) → ((k : ℕ) → Contains old k → Contains new k) →
     (is_born ≡ true → Contains new place) → (is_born ≡ false → contains l.cells c ≡ true) → AreBornOrOld l cs n old →

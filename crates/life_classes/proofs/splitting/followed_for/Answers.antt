@@ -29,7 +29,7 @@ loop-made-preserved g c =
       apart = c.in_ok-walk.ensures.apart;
     }
 
--- ---- where at most one class lives from some generation on
+-- ---- at most one class lives from some generation on
 
 pub returns-then-are_few-clause-tracked : goal.returns-then-are_few-clause-tracked
 returns-then-are_few-clause-tracked g c =

@@ -2,7 +2,7 @@ use Rattle.std.proofs.Common.{◌-◌, ◌≤◌, length}
 use Rattle.life_classes.specs.Tags.{AreFrom, AreLess}
 use Rattle.life_classes.proofs.tags.place_between.Given as goal
 
--- those before have lesser numbers, and those behind do not
+-- the tags before have smaller numbers, and those after do not
 abbrev pub invariant-loop-from : goal.invariant-loop-from
 invariant-loop-from l = record {
   order : l.from ≤ l.to;

@@ -4,7 +4,7 @@ use Rattle.life_classes.specs.Splits.{IsLabelledSplit, classes_of_split}
 use Rattle.life_classes.specs.Tracking.{AreApartNow, AreTracked}
 use Rattle.life_classes.proofs.undivided.is_undivided.Given as goal
 
--- The classes are tracked for whatever number of generations there is still to go.
+-- The classes are tracked for any number of generations that are still to go.
 abbrev pub invariant-loop : goal.invariant-loop
 invariant-loop g l = record {
   members : g.P.Plane.members l.plane ≡ generation l.rule (g.P.Plane.members l.fn.plane) l.counter;

@@ -1,8 +1,8 @@
 use Rattle.std.proofs.Common.{◌≡◌, ◌+◌, ◌*◌, ◌/◌, ◌%◌, ◌^◌, length, get_or, map, set, subst, take, sym, ap, ◌∙◌, arith}
 use Rattle.life_cells.specs.Orients.{orientation}
-use Rattle.life_lengths.specs.Frames.{cell_in_frame, strips_of, wide_of}
-use Rattle.life_lengths.specs.Grids.{HoldsWeights}
-use Rattle.life_lengths.proofs.Filled.{weight_small, value_more, filled_more, weights_within}
+use Rattle.life_codes.specs.Lengths.Frames.{cell_in_frame, strips_of, wide_of}
+use Rattle.life_codes.specs.Lengths.Grids.{HoldsWeights}
+use Rattle.life_codes.proofs.LengthsLemmas.Filled.{weight_small, value_more, filled_more, weights_within}
 use Rattle.life_codes.proofs.grid.fill.Goals as goal
 
 pub overflow_add-values-in-loop-cell : goal.overflow_add-values-in-loop-cell

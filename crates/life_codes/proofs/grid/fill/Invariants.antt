@@ -1,7 +1,7 @@
 use Rattle.std.proofs.Common.{map, take}
 use Rattle.life_cells.specs.Orients.{orientation}
-use Rattle.life_lengths.specs.Frames.{cell_in_frame, strips_of, wide_of}
-use Rattle.life_lengths.specs.Grids.{HoldsWeights}
+use Rattle.life_codes.specs.Lengths.Frames.{cell_in_frame, strips_of, wide_of}
+use Rattle.life_codes.specs.Lengths.Grids.{HoldsWeights}
 use Rattle.life_codes.proofs.grid.fill.Given as goal
 
 -- the grid holds what the cells so far weigh

@@ -3,9 +3,9 @@ use Rattle.std.proofs.lemmas.Int.{ints}
 use Rattle.life_model.specs.Cell.{Cell, origin}
 use Rattle.life_model.specs.Symmetry.{Same, FlipX, FlipY, Half, Swap, SwapFlipX, SwapFlipY, SwapHalf, turn}
 use Rattle.life_model.proofs.Cells.{pair}
-use Rattle.life_lengths.specs.Frames.{IsInFrame, cell_in_frame, turned_frame, wide_of}
+use Rattle.life_codes.specs.Lengths.Frames.{IsInFrame, cell_in_frame, turned_frame, wide_of}
 use Rattle.life_codes.proofs.Keyed.{key_placed}
-use Rattle.life_lengths.proofs.Marked.{inside_turned}
+use Rattle.life_codes.proofs.LengthsLemmas.Marked.{inside_turned}
 use Rattle.life_codes.proofs.keys.keys_of.Goals as goal
 
 pub place_in-left-requires-clause-inside : goal.place_in-left-requires-clause-inside

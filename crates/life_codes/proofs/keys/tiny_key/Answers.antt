@@ -1,7 +1,7 @@
 use Rattle.std.proofs.Common.{refl, ap, ◌∙◌}
 use Rattle.life_model.specs.Symmetry.{Same}
 use Rattle.life_cells.specs.TextOrder.{least_text}
-use Rattle.life_lengths.proofs.Bodies.{cells_inside, framed_cells}
+use Rattle.life_codes.proofs.LengthsLemmas.Bodies.{cells_inside, framed_cells}
 use Rattle.life_codes.proofs.Keyed.{keys_below, texts_of_keys}
 use Rattle.life_codes.proofs.keys.tiny_key.Goals as goal
 

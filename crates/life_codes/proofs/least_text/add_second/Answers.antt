@@ -1,6 +1,6 @@
 use Rattle.std.proofs.Common.{◌≡◌, ℕ, List, Option, true, false, sym, subst, ap, ◌∙◌}
 use Rattle.life_codes.specs.declared.grid.Grid.{Grid}
-use Rattle.life_lengths.specs.Grids.{grid_text}
+use Rattle.life_codes.specs.Lengths.Grids.{grid_text}
 use Rattle.life_codes.specs.Least.{with_text}
 use Rattle.life_codes.proofs.Leasts.{two_again}
 use Rattle.life_codes.proofs.least_text.add_second.Goals as goal

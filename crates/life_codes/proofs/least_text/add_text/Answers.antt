@@ -1,6 +1,6 @@
 use Rattle.std.proofs.Common.{◌≡◌, ◌++◌, length, sym, ap, ◌∙◌}
 use Rattle.life_cells.specs.Wechsler.{columns_text}
-use Rattle.life_lengths.specs.Grids.{columns_from, grid_text, strip_of}
+use Rattle.life_codes.specs.Lengths.Grids.{columns_from, grid_text, strip_of}
 use Rattle.life_codes.specs.Least.{with_text}
 use Rattle.life_codes.proofs.Firsts.{grid_begun}
 use Rattle.life_codes.proofs.least_text.add_text.Goals as goal

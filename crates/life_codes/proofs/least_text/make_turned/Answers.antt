@@ -3,9 +3,9 @@ use Rattle.life_model.specs.Generation.{from_list}
 use Rattle.life_model.specs.Symmetry.{FlipX, image_under}
 use Rattle.life_cells.specs.Orients.{orientation}
 use Rattle.life_cells.specs.Wechsler.{body}
-use Rattle.life_lengths.specs.Frames.{cell_in_frame, strips_of, wide_of}
-use Rattle.life_lengths.specs.Grids.{grid_text}
-use Rattle.life_lengths.proofs.Bodies.{placed-lt, text_forward, text_backward, framed_cells, cells_inside, small_values}
+use Rattle.life_codes.specs.Lengths.Frames.{cell_in_frame, strips_of, wide_of}
+use Rattle.life_codes.specs.Lengths.Grids.{grid_text}
+use Rattle.life_codes.proofs.LengthsLemmas.Bodies.{placed-lt, text_forward, text_backward, framed_cells, cells_inside, small_values}
 use Rattle.life_codes.proofs.least_text.make_turned.Goals as goal
 
 pub make_grid-requires-clause-inside : goal.make_grid-requires-clause-inside

@@ -1,8 +1,8 @@
 use Rattle.std.proofs.Common.{◌≡◌, ℕ, ◌++◌, refl, ◌∙◌, ap, arith}
 use Rattle.life_cells.specs.Wechsler.{columns_text}
 use Rattle.life_cells.proofs.Columns.{joined, joined_turn, strips_text_is}
-use Rattle.life_lengths.specs.Grids.{columns_from, strip_of}
-use Rattle.life_lengths.proofs.Written.{strip_within}
+use Rattle.life_codes.specs.Lengths.Grids.{columns_from, strip_of}
+use Rattle.life_codes.proofs.LengthsLemmas.Written.{strip_within}
 use Rattle.life_codes.proofs.writing.end_text.Goals as goal
 
 pub strip_of-requires : goal.strip_of-requires

@@ -1,7 +1,7 @@
 use Rattle.std.proofs.Common.{◌≡◌}
 use Rattle.life_cells.specs.Wechsler.{columns_text}
 use Rattle.life_cells.proofs.Columns.{joined}
-use Rattle.life_lengths.specs.Grids.{columns_from, strip_of}
+use Rattle.life_codes.specs.Lengths.Grids.{columns_from, strip_of}
 use Rattle.life_codes.proofs.writing.end_text.Given as goal
 
 -- the strips so far are written

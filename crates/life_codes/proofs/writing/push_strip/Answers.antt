@@ -1,7 +1,7 @@
 use Rattle.std.proofs.Common.{◌<◌, ◌+◌, ◌++◌, ◌∷◌, [], drop, length, subst, ◌∙◌, sym, arith}
 use Rattle.life_cells.specs.Wechsler.{columns_text}
-use Rattle.life_lengths.specs.Grids.{columns_from}
-use Rattle.life_lengths.proofs.Written.{length-facing, small_facing, text_skip, text_value}
+use Rattle.life_codes.specs.Lengths.Grids.{columns_from}
+use Rattle.life_codes.proofs.LengthsLemmas.Written.{length-facing, small_facing, text_skip, text_value}
 use Rattle.life_codes.proofs.writing.push_strip.Goals as goal
 use Rattle.life_codes.proofs.writing.push_strip.Goals.{then-value-eq0, else-value-eq0+in_ok-push_zeros+in_ok-push}
 

@@ -1,6 +1,6 @@
 use Rattle.std.proofs.Common.{◌≡◌, ◌≤◌, ◌++◌, drop}
 use Rattle.life_cells.specs.Wechsler.{columns_text}
-use Rattle.life_lengths.specs.Grids.{columns_from}
+use Rattle.life_codes.specs.Lengths.Grids.{columns_from}
 use Rattle.life_codes.proofs.writing.push_strip.Given as goal
 
 -- the columns so far are written, but for the zeros at their end

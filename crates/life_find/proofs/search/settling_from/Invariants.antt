@@ -3,7 +3,7 @@ use Rattle.life_model.specs.Evolution.{generation}
 use Rattle.life_model.proofs.Recurrences.{shape}
 use Rattle.life_find.proofs.search.settling_from.Given as goal
 
--- No generation so far comes again after the period.
+-- No generation so far recurs after the period.
 abbrev pub invariant-loop-onset : goal.invariant-loop-onset
 invariant-loop-onset g l = record {
   here : g.P.Plane.members l.runner ≡ generation l.rule l.cells l.onset;

@@ -1,6 +1,6 @@
 use Rattle.std.proofs.Common.{[], ◌∷◌, ◌++◌, map, ap, ◌∙◌, arith}
 use Rattle.std.proofs.lemmas.List.{map_push}
-use Rattle.life_settled.specs.Things.{things_of}
+use Rattle.life_growing.specs.Settled.Things.{things_of}
 use Rattle.life_growing.proofs.FindingThings.{all_there, are_of_each, first_list, one_list_more}
 use Rattle.life_growing.proofs.apart.things_of_each.Goals as goal
 

@@ -1,7 +1,7 @@
 use Rattle.std.proofs.Common.{rules, ◌≡◌, ◌==◌, ℕ, ◌+◌, ◌<◌, true, List, [], length, refl, inl, inr, sym, ap, subst, ◌∙◌, true≢false, arith}
 use Rattle.std.proofs.lemmas.Bool.{cases_lt, eqb-true}
 use Rattle.std.proofs.lemmas.List.{get_or_read_under, nil_from_length}
-use Rattle.life_settled.specs.Settling.{Settling}
+use Rattle.life_growing.specs.Settled.Settling.{Settling}
 use Rattle.life_growing.specs.Emissions.{left_at, nothing_left}
 use Rattle.life_growing.proofs.finding.emit.Goals as goal
 

@@ -1,8 +1,8 @@
 use Rattle.std.proofs.Common.{rules, ◌≡◌, ◌≢◌, ℕ, ◌<◌, ◌≤◌, List, [], Option, Some, IfSome, length, sym, subst, ◌∙◌, true≢false}
-use Rattle.life_growth.specs.Engine.{IsEngine}
-use Rattle.life_growth.specs.Things.{NeverMeetAgain, listed}
-use Rattle.life_growth.specs.Unsplit.{IsUnsplit}
-use Rattle.life_settled.specs.Settling.{Settling}
+use Rattle.life_objects.specs.Growth.Engine.{IsEngine}
+use Rattle.life_objects.specs.Growth.Things.{NeverMeetAgain, listed}
+use Rattle.life_objects.specs.Growth.Unsplit.{IsUnsplit}
+use Rattle.life_growing.specs.Settled.Settling.{Settling}
 use Rattle.life_tracks.specs.Tracks.{way_of}
 use Rattle.life_growing.specs.Emissions.{AreLefts, left_at, things_left}
 use Rattle.life_growing.proofs.Deciding.{fit_way, is_engine, never_again, some_parts, whole_in_film}
@@ -12,7 +12,7 @@ use Rattle.life_growing.proofs.finding.engine_along.Goals.{else-length-bound-via
 some_at : {A : Type 0} (P : A → Type 0) (o : Option A) (x : A) → o ≡ Some x → IfSome o P → P x
 some_at P o x e = subst (λ r. IfSome r P) e
 
--- some left has parts, as it is said of their list
+-- one of the lefts has parts, stated for their list
 abbrev HasParts : List Settling → ℕ → Type 0
 HasParts lefts count = (n : ℕ) × (n < count) × ((left_at lefts n).parts ≢ [])
 

@@ -2,7 +2,7 @@ use Rattle.std.proofs.Common.{◌+◌, [], ◌∷◌, map, ap, ◌∙◌, arith}
 use Rattle.std.proofs.lemmas.Result.{IfOk-weaker}
 use Rattle.life_model.specs.Cell.{origin}
 use Rattle.life_things.specs.Ways.{way_of as fit_way_of}
-use Rattle.life_settled.specs.Things.{placed}
+use Rattle.life_growing.specs.Settled.Things.{placed}
 use Rattle.life_tracks.specs.Tracks.{way_of}
 use Rattle.life_growing.specs.Emissions.{things_left}
 use Rattle.life_growing.proofs.GoingPlaced.{placed_later, placed_left, things_at}

@@ -1,5 +1,5 @@
 use Rattle.std.proofs.Common.{◌≡◌, ℕ, ◌<◌, length, get_or}
-use Rattle.life_settled.specs.Settling.{IsSettling, Settling}
+use Rattle.life_growing.specs.Settled.Settling.{IsSettling, Settling}
 use Rattle.life_tracks.specs.Tracks.{way_of}
 use Rattle.life_growing.proofs.lefts.lefts_along.Given as goal
 

@@ -10,7 +10,7 @@ use Rattle.life_classes.specs.Forest.{root}
 use Rattle.life_islands.proofs.places.row_has.Goals as goal
 use Rattle.life_islands.proofs.places.row_has.Goals.{After-partition_point-start}
 
--- what is in the row stands from the first place on
+-- what is in the row is listed from the first place on
 after_start : (c : After-partition_point-start) (k : ℕ) → k < length c.as_slice-cells.result.now →
     c.args.low ≤ℤ place_number (get_or c.as_slice-cells.result.now k origin) → c.partition_point-start.result ≤ k
 after_start c k h low =

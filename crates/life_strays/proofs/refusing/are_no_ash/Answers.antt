@@ -52,7 +52,7 @@ later_told-requires-clause-trails g c =
     All-same (IsTrail R (b / 2) b G) c.append.new.self.items (trails ++ more) c.in_ok-append.ensures.items
     (All-append (IsTrail R (b / 2) b G) trails more c.in_ok-trails.ensures.trails c.in_ok-more.ensures.trails)
 
--- a trail tells by what it lacks past twice the bound
+-- a trail tells by what it lacks after twice the bound
 abbrev LaterTells : Rule → ℕ → Generation → Type 0
 LaterTells R b G = (trail : Trail) × (trail.tells ≡ true) × IsTrail R (2 * b) (3 * b) G trail
 

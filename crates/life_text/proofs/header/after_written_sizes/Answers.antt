@@ -9,7 +9,7 @@ use Rattle.life_text.specs.Sizes.{after_number}
 use Rattle.life_text.proofs.HeadingLemmas.{number_behind}
 use Rattle.life_text.proofs.header.after_written_sizes.Goals as goal
 
--- what was found, where something was
+-- what was found, if anything was
 found : (line height : List ℕ) (o : Option (Bor (List ℕ))) → after_sizes line ≡ after_size (32 ∷ height) → option_copied o ≡ after_number height → IfSome o (λ rest. after_sizes line ≡ Some rest.now)
 found line height None h k = tt
 found line height (Some rest) h k = h ∙ number_behind height rest.now (sym k)

@@ -3,7 +3,7 @@ use mir.Val.{SFits, of_z, to_z}
 use Rattle.std.proofs.Common.{◌≡◌, ℤ, pos, ◌+ℤ◌, ◌-ℤ◌, ◌≤ℤ◌, ◌^◌, sym, subst, rules, arith}
 use Rattle.std.proofs.lemmas.Int.{ints}
 use Rattle.life_things.specs.Fields.{IsNarrow}
-use Rattle.life_steps.specs.Short.{IsWithin}
+use Rattle.life_things.specs.Lattice.Short.{IsWithin}
 use Rattle.life_things.proofs.field.field_of.Goals as goal
 
 -- what the machine has for the ends of the field

@@ -1,9 +1,9 @@
 use Rattle.std.proofs.Common.{◌≤ℤ◌, ◌^◌, sym, subst, arith}
 use Rattle.std.proofs.Math.IntN.{◌*ℤ◌}
 use Rattle.std.proofs.lemmas.Int.{ints}
-use Rattle.life_steps.specs.Short.{IsWithin}
-use Rattle.life_steps.proofs.Steady.{keeps_order, turns_order}
-use Rattle.life_steps.proofs.Within.{product_fits, product_read, within_product}
+use Rattle.life_things.specs.Lattice.Short.{IsWithin}
+use Rattle.life_things.proofs.LatticeLemmas.Steady.{keeps_order, turns_order}
+use Rattle.life_things.proofs.LatticeLemmas.Within.{product_fits, product_read, within_product}
 use Rattle.life_things.proofs.field.least_times.Goals as goal
 
 pub multiplied-requires : goal.multiplied-requires

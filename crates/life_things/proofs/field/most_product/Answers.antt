@@ -3,8 +3,8 @@ use mir.Val.{of_z, to_z}
 use Rattle.std.proofs.Common.{◌≡◌, ℤ, ◌≤ℤ◌, ◌+ℤ◌, ◌^◌, pos, sym, subst, arith}
 use Rattle.std.proofs.Math.IntN.{◌*ℤ◌, *ℤ-zero}
 use Rattle.std.proofs.lemmas.Int.{ints}
-use Rattle.life_steps.specs.Short.{IsWithin}
-use Rattle.life_steps.proofs.Within.{read_back, sum_is, within_sum}
+use Rattle.life_things.specs.Lattice.Short.{IsWithin}
+use Rattle.life_things.proofs.LatticeLemmas.Within.{read_back, sum_is, within_sum}
 use Rattle.life_things.proofs.field.most_product.Goals as goal
 
 -- what is ensured, without the machine's turning of numbers into bits and back

@@ -3,13 +3,13 @@ use mir.Val.{of_z, to_z}
 use lib.Signed.{le_z}
 use Rattle.std.proofs.Common.{◌≡◌, ℕ, false, ◌+◌, ◌*◌, ◌^◌, ℤ, ◌<ℤ◌, sym, subst, arith}
 use Rattle.std.proofs.lemmas.Int.{ints}
-use Rattle.life_growth.specs.Relations.Relations.{product}
+use Rattle.life_objects.specs.Growth.Relations.Relations.{product}
 use Rattle.life_things.specs.Clear.{IsClearOver}
-use Rattle.life_steps.specs.Gauges.{NoneFalls}
-use Rattle.life_steps.specs.Short.{IsWithin, cross_limit, four_start}
+use Rattle.life_things.specs.Lattice.Gauges.{NoneFalls}
+use Rattle.life_things.specs.Lattice.Short.{IsWithin, cross_limit, four_start}
 use Rattle.life_things.specs.Steps.{list_of}
 use Rattle.life_things.proofs.Leading.{clear_past, on_true_more}
-use Rattle.life_steps.proofs.Within.{within_product_of}
+use Rattle.life_things.proofs.LatticeLemmas.Within.{within_product_of}
 use Rattle.life_things.proofs.refusal.is_past.Goals as goal
 
 abbrev most : ℕ

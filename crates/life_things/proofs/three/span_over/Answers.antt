@@ -2,15 +2,15 @@ use Rattle.std.proofs.Common.{◌≡◌, ℕ, ◌+◌, ◌<◌, ◌≤◌, ◌^�
 use Rattle.std.specs.Prelude.{IfNone}
 use Rattle.life_model.specs.Cell.{Cell}
 use Rattle.life_model.specs.Generation.{Generation}
-use Rattle.life_growth.specs.Meeting.Sums.{Step, and_then, times}
-use Rattle.life_growth.specs.Relations.Relations.{cross, product}
-use Rattle.life_growth.proofs.RelationsLemmas.Crosses.{square_first, square_second}
+use Rattle.life_objects.specs.Growth.Meeting.Sums.{Step, and_then, times}
+use Rattle.life_objects.specs.Growth.Relations.Relations.{cross, product}
+use Rattle.life_objects.proofs.GrowthLemmas.RelationsLemmas.Crosses.{square_first, square_second}
 use Rattle.life_things.specs.Clear.{StaysClearOutside}
 use Rattle.life_things.specs.Fields.{IsFieldOf, IsInField}
-use Rattle.life_steps.specs.Short.{IsWithin, cross_limit, three_count, three_start, way_limit}
+use Rattle.life_things.specs.Lattice.Short.{IsWithin, cross_limit, three_count, three_start, way_limit}
 use Rattle.life_things.proofs.Beside.{some_more}
 use Rattle.life_things.proofs.Going.{IsLevel, level_more, level_none, outside_by}
-use Rattle.life_steps.proofs.Within.{short_wider, within_product_of}
+use Rattle.life_things.proofs.LatticeLemmas.Within.{short_wider, within_product_of}
 use Rattle.life_things.proofs.three.span_over.Goals as goal
 
 pub span_by-requires-clause-gauge : goal.span_by-requires-clause-gauge

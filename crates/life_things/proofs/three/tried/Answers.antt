@@ -1,8 +1,8 @@
 use Rattle.std.proofs.Common.{◌+◌, ◌*◌, [], ◌∷◌, refl, sym, subst, true≢false, arith}
 use Rattle.life_things.specs.Clear.{StaysClear}
-use Rattle.life_steps.specs.Short.{IsShort, three_count, three_start, two_start, way_limit}
+use Rattle.life_things.specs.Lattice.Short.{IsShort, three_count, three_start, two_start, way_limit}
 use Rattle.life_things.proofs.Going.{between_more}
-use Rattle.life_steps.proofs.Within.{short_after, short_wider}
+use Rattle.life_things.proofs.LatticeLemmas.Within.{short_after, short_wider}
 use Rattle.life_things.proofs.three.tried.Goals as goal
 
 pub two_ways-requires-clause-start : goal.two_ways-requires-clause-start

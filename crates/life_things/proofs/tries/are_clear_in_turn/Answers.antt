@@ -1,6 +1,6 @@
 use Rattle.std.proofs.Common.{◌≡◌, inl, inr, refl, subst, arith}
 use Rattle.std.proofs.lemmas.Bool.{cases_lt}
-use Rattle.life_steps.proofs.Turning.{next_turn, out_of_turn}
+use Rattle.life_things.proofs.LatticeLemmas.Turning.{next_turn, out_of_turn}
 use Rattle.life_things.specs.Tries.{ClearAfter}
 use Rattle.life_things.proofs.tries.are_clear_in_turn.Goals as goal
 

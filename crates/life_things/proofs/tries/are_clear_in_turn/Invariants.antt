@@ -2,7 +2,7 @@ use Rattle.std.proofs.Common.{◌≡◌, ℕ, ◌%◌, ◌-◌, ◌<◌, ◌≤�
 use Rattle.life_things.specs.Tries.{ClearAfter}
 use Rattle.life_things.proofs.tries.are_clear_in_turn.Given as goal
 
--- it is clear for each number in turn before this one, which is in turn
+-- it is clear for each number of the turn before this one, which is one of the turn
 abbrev pub invariant-loop-count : goal.invariant-loop-count
 invariant-loop-count l = record {
   turn : l.count % l.turn.every ≡ l.turn.first;

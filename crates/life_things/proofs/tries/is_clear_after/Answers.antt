@@ -1,7 +1,7 @@
 use Rattle.std.proofs.Common.{◌+◌, ◌*◌, sym, subst, arith}
-use Rattle.life_steps.specs.Numbers.{number_limit}
-use Rattle.life_steps.specs.Short.{IsShort, four_start, three_start, way_limit}
-use Rattle.life_steps.proofs.Within.{short_after, short_wider}
+use Rattle.life_things.specs.Lattice.Numbers.{number_limit}
+use Rattle.life_things.specs.Lattice.Short.{IsShort, four_start, three_start, way_limit}
+use Rattle.life_things.proofs.LatticeLemmas.Within.{short_after, short_wider}
 use Rattle.life_things.proofs.tries.is_clear_after.Goals as goal
 
 pub three_ways-requires-clause-start : goal.three_ways-requires-clause-start

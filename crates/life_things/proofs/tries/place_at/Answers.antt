@@ -2,7 +2,7 @@ use mir.Syntax.{w128}
 use mir.Val.{of_z, to_z}
 use Rattle.std.proofs.Common.{◌≡◌, ℕ, ℤ, pos, ◌+ℤ◌, ◌≤◌, ◌^◌, arith}
 use Rattle.std.proofs.lemmas.Int.{ints}
-use Rattle.life_steps.specs.Short.{IsWithin}
+use Rattle.life_things.specs.Lattice.Short.{IsWithin}
 use Rattle.life_things.proofs.tries.place_at.Goals as goal
 
 moved_is : (x : ℤ) (n : ℕ) → IsWithin (2 ^ 34) x → n ≤ 2 ^ 36 →

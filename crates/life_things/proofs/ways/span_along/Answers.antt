@@ -1,16 +1,16 @@
 use Rattle.std.proofs.Common.{◌≡◌, ℕ, ◌+◌, ◌*◌, ◌<◌, ◌≤◌, ◌^◌, pos, [], ◌∷◌, sym, subst, arith}
 use Rattle.life_model.specs.Cell.{Cell}
 use Rattle.life_model.specs.Generation.{Generation}
-use Rattle.life_growth.specs.Meeting.Sums.{Step, and_then, times}
-use Rattle.life_growth.specs.Relations.Relations.{product}
+use Rattle.life_objects.specs.Growth.Meeting.Sums.{Step, and_then, times}
+use Rattle.life_objects.specs.Growth.Relations.Relations.{product}
 use Rattle.life_things.specs.Clear.{StaysClearOutside}
 use Rattle.life_things.specs.Fields.{IsFieldOf, IsInField}
-use Rattle.life_steps.specs.Gauges.{along_gauge}
-use Rattle.life_steps.specs.Short.{IsShort, IsWithin, count_limit, two_start, way_limit}
-use Rattle.life_steps.proofs.Gauging.{along_level, along_short, along_within}
+use Rattle.life_things.specs.Lattice.Gauges.{along_gauge}
+use Rattle.life_things.specs.Lattice.Short.{IsShort, IsWithin, count_limit, two_start, way_limit}
+use Rattle.life_things.proofs.LatticeLemmas.Gauging.{along_level, along_short, along_within}
 use Rattle.life_things.proofs.Beside.{some_more}
 use Rattle.life_things.proofs.Going.{level_more, level_none, outside_by}
-use Rattle.life_steps.proofs.Within.{short_wider}
+use Rattle.life_things.proofs.LatticeLemmas.Within.{short_wider}
 use Rattle.life_things.proofs.ways.span_along.Goals as goal
 
 gauge_short : (u v : Step) → u ≡ along_gauge v → IsShort way_limit v → IsShort way_limit u

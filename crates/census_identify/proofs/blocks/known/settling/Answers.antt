@@ -1,14 +1,12 @@
-use Rattle.std.proofs.Common.{Some, ap, ◌∙◌}
+use Rattle.std.proofs.Common.{Some, ap}
 use Rattle.life_answer.specs.declared.question.Question.TheVariants.{Settles}
 use Rattle.life_answer.specs.declared.finding.Finding.{Finding}
-use Rattle.census_identify.specs.Blocks.Known.{known_recurrence}
 use Rattle.census_identify.proofs.BlocksLemmas.Meant.{found, not_refused}
 use Rattle.census_identify.proofs.blocks.known.settling.Goals as goal
 
 pub returns-in-Found : goal.returns-in-Found
 returns-in-Found g c =
-    c.known_recurrence.ensures
-    ∙ ap (λ (f : Finding). known_recurrence f.outcome) (found (Settles c.args.inquiry.bound (Some c.args.inquiry.cells)) c.args.text.now c.args.pattern.now _ _ _ c.in_ok-finding.ensures.answer c.requires.meant c.in-Found.is)
+    ap (λ (f : Finding). f.outcome) (found (Settles c.args.inquiry.bound (Some c.args.inquiry.cells)) c.args.text.now c.args.pattern.now _ _ _ c.in_ok-finding.ensures.answer c.requires.meant c.in-Found.is)
 
 pub returns-in-Refused : goal.returns-in-Refused
 returns-in-Refused g c =

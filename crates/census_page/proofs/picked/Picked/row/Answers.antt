@@ -1,5 +1,5 @@
 use Rattle.std.proofs.Common.{arith}
-use Rattle.census_kept.proofs.Placing.{within-at, count-is, row-numbered}
+use Rattle.census_rows.proofs.StoreLemmas.Placing.{within-at, count-is, row-numbered}
 use Rattle.census_page.proofs.picked.Picked.row.Goals as goal
 
 pub row-requires : goal.row-requires

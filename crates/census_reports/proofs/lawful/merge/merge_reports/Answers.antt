@@ -3,7 +3,7 @@ use Rattle.census_reports.specs.declared.reading.Written.{Written}
 use Rattle.census_reports.proofs.LawfulLemmas.Read.{merges_lawfully}
 use Rattle.census_reports.proofs.lawful.merge.merge_reports.Goals as goal
 
--- what is so whatever is told of what was written
+-- what holds whatever is reported of what was written
 whatever : {E : Type 0} (r : Result Written E) (P : Written → Type 0) (Q : Type 0) → ((result : Written) → P result → Q) → IfOk r P → OnOk r Q
 whatever (Ok result) P Q so is = so result is
 whatever (Err error) P Q so is = is

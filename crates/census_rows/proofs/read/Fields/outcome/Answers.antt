@@ -2,7 +2,7 @@ use Rattle.std.proofs.Common.{◌++◌, sym, append_assoc}
 use Rattle.census_rows.specs.Kinds.{said, texts_of}
 use Rattle.census_rows.specs.Lines.{fields_text}
 use Rattle.census_rows.proofs.FieldTexts.{first-field, ends-behind}
-use Rattle.census_rows.proofs.FirstWords.{word-plain}
+use Rattle.census_rows.proofs.EachKind.{word-plain}
 use Rattle.census_rows.proofs.read.Fields.outcome.Goals as goal
 
 pub returns-clause-all : goal.returns-clause-all

@@ -4,7 +4,7 @@ use Rattle.census_rows.specs.declared.row.Outcome.TheVariants.{Found, Bad}
 use Rattle.census_rows.specs.Kinds.{said_of, texts_of}
 use Rattle.census_rows.specs.Lines.{fields_text, outcome_fields, HasNoBlank, EndsField, IsOutcome, SameOutcome}
 use Rattle.census_rows.proofs.FieldTexts.{first-field, ends-behind}
-use Rattle.census_rows.proofs.FirstWords.{first-word, found-not-bad}
+use Rattle.census_rows.proofs.EachKind.{first-word, found-not-bad}
 use Rattle.census_rows.proofs.read.Fields.outcome_of.Goals as goal
 
 -- a fault is read

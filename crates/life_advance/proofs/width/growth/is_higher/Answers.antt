@@ -1,9 +1,9 @@
--- The two cells stand further apart.
+-- The two cells are further apart.
 use Rattle.std.proofs.Common.{◌≡◌, pos, ◌+ℤ◌, ◌≤ℤ◌, true, arith}
 use Rattle.std.proofs.lemmas.Int.{ints, to_z-of_z}
 use Rattle.life_model.specs.Generation.{contains}
 use Rattle.life_cells.specs.Limits.{IsPlace}
-use Rattle.life_leaps.specs.Planes.{members}
+use Rattle.life_advance.specs.Leaps.Planes.{members}
 use Rattle.life_advance.proofs.width.growth.is_higher.Goals as goal
 
 pub returns : goal.returns

@@ -1,11 +1,11 @@
--- A far generation that is wider or higher than those of what settles.
+-- A far generation that is wider or higher than any generation of what settles.
 use Rattle.std.proofs.Common.{◌≡◌, ℕ, ◌+◌, ◌*◌, sym, ap, subst, ◌∙◌, arith}
 use Rattle.std.proofs.lemmas.Int.{ints}
 use Rattle.life_model.specs.Generation.{Generation, from_list}
 use Rattle.life_model.specs.Evolution.{generation}
 use Rattle.life_model.proofs.Generations.{from_list-cells}
 use Rattle.life_model.proofs.Recurrences.{generation-add}
-use Rattle.life_leaps.specs.Planes.{members}
+use Rattle.life_advance.specs.Leaps.Planes.{members}
 use Rattle.life_advance.specs.Width.Spans.{SpansColumns, SpansRows}
 use Rattle.life_advance.proofs.WidthLemmas.Narrow.{columns_stay, rows_stay}
 use Rattle.life_advance.proofs.width.growth.outgrows.Goals as goal

@@ -1,4 +1,4 @@
--- Cells between two places stand no further apart than these.
+-- Cells between two places are no further apart than these.
 use Rattle.std.proofs.Common.{pos, All, get_or, w32, to_z, subst, arith}
 use Rattle.std.proofs.lemmas.Int.{ints, to_z-of_z}
 use Rattle.std.proofs.lemmas.List.{take_all}

@@ -1,4 +1,4 @@
--- The cells that the loop has come to stand between the outermost places.
+-- The cells that the loop has come to are between the outermost places.
 use Rattle.std.proofs.Common.{All, take}
 use Rattle.life_advance.proofs.WidthLemmas.Ranges.{IsBetween}
 use Rattle.life_advance.proofs.width.spread.spread_of.Given as goal

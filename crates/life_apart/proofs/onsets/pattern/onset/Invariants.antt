@@ -5,7 +5,7 @@ use Rattle.life_objects.specs.Onset.{HasAsh}
 use Rattle.life_apart.specs.Onsets.Pasts.{sets_of}
 use Rattle.life_apart.proofs.onsets.pattern.onset.Given as goal
 
--- the plane is this generation, and the copy an earlier one, before which none is ash
+-- the plane is this generation, and the copy is an earlier one, before which none is ash
 abbrev pub invariant-loop-now : goal.invariant-loop-now
 invariant-loop-now g l = record {
   members : g.P.Plane.members l.plane ≡ generation l.rule l.cells l.now;

@@ -1,7 +1,7 @@
 use Rattle.std.proofs.Common.{◌+◌, ◌∷◌, [], map, ap, subst, ◌∙◌, arith}
 use Rattle.life_model.specs.Cell.{origin}
 use Rattle.life_things.specs.Ways.{way_of as fit_way_of}
-use Rattle.life_settled.specs.Things.{placed}
+use Rattle.life_growing.specs.Settled.Things.{placed}
 use Rattle.life_tracks.specs.Tracks.{way_of}
 use Rattle.life_growing.specs.Emissions.{AreAll, Emission, IsEmissionThing, things_left}
 use Rattle.life_growing.proofs.GoingPlaced.{placed_left, things_at}

@@ -4,7 +4,7 @@ use Rattle.life_orbit.specs.Passing.{AreApartBetween}
 use Rattle.life_orbit.specs.Past.{IsPast}
 use Rattle.life_orbit.proofs.orbit.Orbit.apart_since.Given as goal
 
--- the sets were apart so many generations ago and less, as far as they have been looked at
+-- the sets were apart in the generations that have been looked at so far
 abbrev pub invariant-loop-near : goal.invariant-loop-near
 invariant-loop-near l =
     (P Q : Generation) → IsPast l.age l.self P → IsPast l.age l.other Q →

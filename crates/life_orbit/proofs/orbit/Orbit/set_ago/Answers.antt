@@ -10,7 +10,7 @@ use Rattle.life_orbit.specs.Past.{IsPast}
 use Rattle.life_orbit.proofs.Backwards.{phase_then}
 use Rattle.life_orbit.proofs.orbit.Orbit.set_ago.Goals as goal
 
--- where nothing is found, what follows from what is so there
+-- what follows where nothing is found, from what holds there
 none_then : {X N M : Type 0} (o : Option X) → IfNone o N → (N → M) → IfNone o M
 none_then None h then = then h
 none_then (Some x) h then = tt

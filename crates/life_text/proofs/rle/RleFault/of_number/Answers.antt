@@ -6,7 +6,7 @@ use Rattle.life_text.specs.declared.rle.RleFault.{RleFault}
 use Rattle.life_text.specs.Faults.{fault_number, text_faults}
 use Rattle.life_text.proofs.rle.RleFault.of_number.Goals as goal
 
--- what stands behind a fault that has another number
+-- what comes after a fault that has another number
 find_behind : (faults : List RleFault) (i number told : ℕ) (fault : RleFault) (found : Option RleFault) → i < length faults
     → told ≡ fault_number (get_or faults i fault) → (told ≡ number → ⊥) → find (λ f. fault_number f == number) (drop i faults) ≡ found
     → find (λ f. fault_number f == number) (drop (i + 1) faults) ≡ found

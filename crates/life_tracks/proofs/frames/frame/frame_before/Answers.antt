@@ -1,8 +1,8 @@
 use Rattle.std.proofs.Common.{ℕ, ◌<◌, length, get_or, sym, subst, ◌∙◌, ap, add-one}
 use Rattle.life_model.specs.Generation.{empty}
 use Rattle.life_objects.specs.Union.{union_of}
-use Rattle.life_growth.specs.Unsplit.{AreClasses}
-use Rattle.life_growth.specs.Film.Passes.{film_classes}
+use Rattle.life_objects.specs.Growth.Unsplit.{AreClasses}
+use Rattle.life_objects.specs.Growth.Film.Passes.{film_classes}
 use Rattle.life_islands.specs.Labels.{AreThoseWithCells, joined_sets}
 use Rattle.life_tracks.specs.Frames.Frames.{IsBeside}
 use Rattle.life_tracks.proofs.FramesLemmas.Step.{all_together, joined_are, later_touched, parents_are}

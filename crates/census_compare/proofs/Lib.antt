@@ -1,0 +1,13 @@
+pub mod Agreeing
+pub mod Claiming
+pub mod Keys
+pub mod Nothing
+pub mod Numbers
+pub mod Rows
+pub mod Silent
+pub mod Spelled
+pub mod Groups
+pub mod SameKeys
+pub mod Placed
+pub mod Several
+pub mod Sorting

@@ -1,0 +1,49 @@
+-- The columns of claims.
+use Rattle.std.specs.Prelude.{ℕ, Bool, true, false, ◌&&◌, ◌||◌, ◌==◌, if◌then◌else◌, not, Option, Some, List, [], ◌∷◌, find, nat_eq}
+use Rattle.std.specs.Char.{is_ascii_digit}
+use Rattle.std.specs.Cmp.Lexicographic.{pointwise}
+use Rattle.std.specs.List.{list_all}
+use Rattle.census_table.specs.Columns.{name_of}
+use Rattle.census_table.specs.declared.column.Column.{Column}
+use Rattle.census_table.specs.declared.column.Column.TheVariants as column
+
+-- the columns that a claim may have
+abbrev pub claimable : List Column
+claimable = column.Name ∷ column.CollectionName ∷ column.Status ∷ column.Rule ∷ column.Population ∷ column.Onset ∷ column.Period ∷ column.Dx ∷ column.Dy ∷ column.Code ∷ column.Objects ∷ column.Engines ∷ []
+
+-- the column that has this name, if there is one
+abbrev pub column_of : List ℕ → Option Column
+column_of title = find (λ column. pointwise nat_eq title (name_of column)) claimable
+
+abbrev pub is_name : Option Column → Bool
+is_name (Some column.Name) = true
+is_name _ = false
+
+abbrev pub is_empty : List ℕ → Bool
+is_empty [] = true
+is_empty (byte ∷ bytes) = false
+
+-- a number without a sign, as a table has it: digits, and if there are several, the first is not 0
+abbrev pub is_number : List ℕ → Bool
+is_number [] = false
+is_number (digit ∷ digits) = if digit == 48 then is_empty digits else list_all is_ascii_digit (digit ∷ digits)
+
+-- a number that may have a `-` before it, unless it is 0
+abbrev pub is_signed : List ℕ → Bool
+is_signed [] = false
+is_signed (byte ∷ bytes) = if byte == 45 then is_number bytes && not (pointwise nat_eq bytes (48 ∷ [])) else is_number (byte ∷ bytes)
+
+-- what a cell that is not empty may have in a column
+abbrev pub has_form : Option Column → List ℕ → Bool
+has_form (Some column.Population) cell = is_number cell
+has_form (Some column.Onset) cell = is_number cell
+has_form (Some column.Period) cell = is_number cell
+has_form (Some column.Objects) cell = is_number cell
+has_form (Some column.Engines) cell = is_number cell
+has_form (Some column.Dx) cell = is_signed cell
+has_form (Some column.Dy) cell = is_signed cell
+has_form _ cell = true
+
+-- an empty cell claims nothing
+abbrev pub fits : Option Column → List ℕ → Bool
+fits column cell = is_empty cell || has_form column cell

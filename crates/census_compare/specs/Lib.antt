@@ -1,0 +1,15 @@
+pub mod Agreement
+pub mod Claims
+pub mod Columns
+pub mod Found
+pub mod Numbers
+pub mod Patterns
+pub mod Read
+pub mod Rows
+pub mod Verdict
+pub mod Written
+pub mod Order
+pub mod SamePatterns
+pub mod Places
+pub mod Same
+pub mod KeyLaws

@@ -1,5 +1,0 @@
-use Rattle.census_feed.proofs.Steps.{merges}
-use Rattle.census_feed.proofs.closing.end.Goals as goal
-
-pub absorb-requires-clause-rule : goal.absorb-requires-clause-rule
-absorb-requires-clause-rule c = merges _ _ _ _ c.requires.ending.1 c.args.hand.holder

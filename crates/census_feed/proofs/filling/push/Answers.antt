@@ -1,5 +1,0 @@
-use Rattle.census_feed.proofs.Steps.{pushes}
-use Rattle.census_feed.proofs.filling.push.Goals as goal
-
-pub push_as-requires-clause-pushes : goal.push_as-requires-clause-pushes
-push_as-requires-clause-pushes c = let f = c.requires.filling in let n = c.requires.next in pushes _ _ c.args.item n.0 n.1 n.2 f.1 f.2 f.3 n.3

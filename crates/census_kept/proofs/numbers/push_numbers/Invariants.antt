@@ -1,6 +1,0 @@
-use Rattle.std.proofs.Common.{◌≡◌, ◌++◌, take}
-use Rattle.census_kept.specs.Numbers.{Grown, numbers_bytes}
-use Rattle.census_kept.proofs.numbers.push_numbers.Given as goal
-
-abbrev pub invariant-loop-number : goal.invariant-loop-number
-invariant-loop-number l = Grown l.fn.bytes.items l.bytes.items × (l.bytes.items ≡ l.fn.bytes.items ++ numbers_bytes (take l.number-index l.numbers))

@@ -1,5 +1,0 @@
-pub mod Order
-pub mod Patterns
-pub mod Places
-pub mod Same
-pub mod KeyLaws

@@ -1,5 +1,0 @@
-use Rattle.census_verify.proofs.Numbers.{numbers-claimed}
-use Rattle.census_verify.proofs.columns.numbers_may_be_claimed.Goals as goal
-
-pub returns : goal.returns
-returns c = numbers-claimed

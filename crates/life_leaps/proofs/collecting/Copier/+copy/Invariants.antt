@@ -1,5 +1,0 @@
--- Each call goes one level down.
-use Rattle.life_leaps.proofs.collecting.Copier.+copy.Given as goal
-
-abbrev pub decreases-copy : goal.decreases-copy
-decreases-copy l = l.level

@@ -1,5 +1,0 @@
--- Each call goes one level down.
-use Rattle.life_leaps.proofs.store.Store.+push_cells.Given as goal
-
-abbrev pub decreases-push_cells : goal.decreases-push_cells
-decreases-push_cells l = l.site.now.level

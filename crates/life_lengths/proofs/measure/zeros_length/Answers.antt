@@ -1,5 +1,0 @@
-use Rattle.life_lengths.proofs.Measured.{length-zeros}
-use Rattle.life_lengths.proofs.measure.zeros_length.Goals as goal
-
-pub returns-else-count-lt39-clause-length : goal.returns-else-count-lt39-clause-length
-returns-else-count-lt39-clause-length c = length-zeros c.args.count c.short_length-else-count-lt39.result c.short_length-else-count-lt39.ensures.length

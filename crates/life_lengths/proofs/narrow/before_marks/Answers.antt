@@ -1,5 +1,0 @@
-use Rattle.life_lengths.proofs.Counts.{near_before}
-use Rattle.life_lengths.proofs.narrow.before_marks.Goals as goal
-
-pub returns : goal.returns
-returns c = near_before c.args.word c.args.wide c.requires

@@ -1,8 +1,0 @@
-use Rattle.std.proofs.Common.{◌≡◌, ◌++◌, map}
-use Rattle.life_settled.specs.Placing.{placed_by}
-use Rattle.life_settled.specs.Things.{first_things, phase_thing}
-use Rattle.life_settled.proofs.outcome.add_phases.Given as goal
-
-abbrev pub invariant-loop-m : goal.invariant-loop-m
-invariant-loop-m l =
-    l.all.items ≡ l.initial.all.items ++ map (placed_by l.placing) (first_things (phase_thing l.since l.part) l.m)

@@ -1,8 +1,0 @@
-use Rattle.life_steps.proofs.turn.likely_factor.Given as goal
-
--- the modulus stays what it was
-abbrev pub invariant-loop-rest : goal.invariant-loop-rest
-invariant-loop-rest l = Unit {0}
-
-abbrev pub decreases-loop-rest : goal.decreases-loop-rest
-decreases-loop-rest l = l.rest

@@ -1,0 +1,20 @@
+-- Gauges: steps whose products with other steps tell these apart.
+use Rattle.std.specs.Prelude.{pos, neg_ℤ, ◌≤ℤ◌, List, [], ◌∷◌}
+use Rattle.life_objects.specs.Growth.Meeting.Sums.{Step}
+use Rattle.life_objects.specs.Growth.Relations.Relations.{product}
+
+-- the product with these gauges is 0 for the step, and says how far another step deviates from its direction along each
+-- axis
+abbrev pub across_gauge : Step → Step
+across_gauge u = (neg_ℤ u.1.0, (u.0, pos 0))
+
+abbrev pub along_gauge : Step → Step
+along_gauge u = (neg_ℤ u.1.1, (pos 0, u.0))
+
+abbrev pub turned_gauge : Step → Step
+turned_gauge u = (neg_ℤ u.0, (neg_ℤ u.1.0, neg_ℤ u.1.1))
+
+-- no step leads back along the gauge
+abbrev pub NoneFalls : Step → List Step → Type 0
+NoneFalls g [] = Unit {0}
+NoneFalls g (u ∷ us) = (pos 0 ≤ℤ product g u) × NoneFalls g us
