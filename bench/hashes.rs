@@ -32,7 +32,7 @@ impl Box {
         }
     }
 
-    /// The pattern of an RLE text, behind its header line.
+    /// The pattern of an RLE text, after its header line.
     fn read(&mut self, text: &str) {
         *self = Box::default();
         let (mut x, mut row, mut count) = (0, 0u128, 0usize);

@@ -1,5 +1,5 @@
 // What threads that share nothing do at once on this machine: the same number of steps of eight generators of random bits,
-// in equal parts by so many threads, without a part that one thread does alone.
+// in equal parts by THREADS threads, without a part that one thread does alone.
 // With 0 threads it takes no step.
 //     rustc --edition 2021 -O loop.rs && ./loop THREADS
 #![forbid(unsafe_code)]

@@ -10,7 +10,7 @@ type Tile = [u64; 64];
 const EMPTY: Tile = [0; 64];
 const ROWS: usize = 8;
 const BANDS: usize = 64 / ROWS;
-/// By how much the tiles stand off to the north west.
+/// The offset of the tiles to the north west.
 const STAND_OFF: i32 = 26;
 
 /// The next state of 64 cells, of the bits that their live neighbours' number is made of:
@@ -79,7 +79,7 @@ impl Logic for Terms {
     }
 }
 
-/// The sums along a row: of the two beside each cell, and of all three, each as two planes of bits.
+/// The sums along a row: of the two neighbours of each cell, and of all three, each as two planes of bits.
 #[inline(always)]
 fn sums(west: u64, here: u64, east: u64) -> (u64, u64, u64, u64) {
     let (left, right, edges) = (here << 1, here >> 1, west >> 63 | east << 63);

@@ -1,4 +1,4 @@
-"""By which engines a pattern grows for ever, that is by which guns, puffers and rakes, worked out by a program that shares nothing with
+"""The engines by which a pattern grows for ever, that is the guns, puffers and rakes, worked out by a program that shares nothing with
 `census`; the command is that of parts.py.
 
 Near, apart and ash are those of objects.py. A set settles within b where its generation b has an ash within b. It is undivided within b
@@ -7,7 +7,7 @@ and of debris, all apart for ever, the debris settling within b. An engine of pe
 number p is the engine moved, and is the first of which that is true. Each is undivided within b, and is a part of the next generation of
 the core before it, apart for ever from the rest, which leaves, and which settles within b. Of what leaves in a period something lives on.
 A pattern grows where the generation of the bound has a growth within h, which is the horizon, or the bound where that is less. Where an
-earlier generation has a growth, or within less than h, so has this one, by engines of which the same is told.
+earlier generation has a growth, or within less than h, so has this one, by engines with the same report.
 
 `growth_literal` decides by the definition, step by step. `growth_in_film` decides it from one film of the future. `growth_early` looks
 at earlier generations and within fewer generations first, where the population has come to rise steadily.
@@ -20,7 +20,7 @@ import objects as O
 import patterns as R
 
 LITERAL_HORIZON = 60           # up to which the definition is taken step by step
-EARLY_BOUND = 400              # within which an ash is looked for before growth is
+EARLY_BOUND = 400              # within which an ash is sought before growth is
 
 
 # ------------------------------------------------------------------ is there a sum of whole multiples from 0 on?
@@ -368,7 +368,7 @@ def settles(rule, cells, b):
 
 
 def settles_at(rule, cells, b):
-    """The same for one set, which isn't kept. An ash of a generation up to b within up to b generations tells that of generation b."""
+    """The same for one set, which isn't kept. An ash of a generation up to b within up to b generations gives that of generation b."""
     walk = O.Walk(rule, cells)
     wait, pops = 0, []
     for age in range(b):
@@ -388,7 +388,7 @@ def settles_at(rule, cells, b):
 
 # ------------------------------------------------------------------ engines
 class Engine:
-    """`cores` are the cores 0 to p - 1, as (shape, x, y); `left` is what leaves, as (n, cells) where it is beside core n."""
+    """`cores` are the cores 0 to p - 1, as (shape, x, y); `left` is what leaves, as (n, cells) where it stands with core n."""
 
     def __init__(self, rule, cores, move, left, b):
         self.world, self.cores, self.move, self.left = O.world_of(rule), cores, move, left
@@ -497,7 +497,7 @@ def is_growth(rule, engines, debris, b):
 
 
 def growth_in_film(rule, cells, h, longest):
-    """The same, by one film, which is h generations longer than the longest period that is looked for; all growth within h where that
+    """The same, by one film, which is h generations longer than the longest period that is sought; all growth within h where that
     is h."""
     film = Film(rule, cells)
     film.run(h)
@@ -582,7 +582,7 @@ def undivided(film, n, nodes, h):
 # ------------------------------------------------------------------ sooner
 def steady_rise(pops):
     """The least p, up to a third of the list, such that the populations have changed by the same in each p generations, and not by 0, for
-    the last 3 p and for 100; None where there is none. (A guess; nothing but speed hangs on it.)"""
+    the last 3 p and for 100; None where there is none. (A guess; only speed depends on it.)"""
     for p in range(1, len(pops) // 3):
         last = max(p, 100 - 2 * p)
         if len(pops) >= last + 2 * p and pops[-1] != pops[-1 - p] and all(
@@ -597,7 +597,7 @@ def growth_of(rule, cells, h):
 
 
 def growth_early(rule, cells0, b, h):
-    """The engines of the growth of generation b within h, or None, by an earlier generation and fewer generations where these tell it."""
+    """The engines of the growth of generation b within h, or None, by an earlier generation and fewer generations where these show it."""
     run, pops, wait = R.Plane(cells0), [], 60
     while run.age < b:
         if isinstance(run, R.Plane) and run.pop and run.bits is None:
@@ -617,14 +617,14 @@ def growth_early(rule, cells0, b, h):
     return growth_of(rule, run.cells(), h)
 
 
-# ------------------------------------------------------------------ what is told
+# ------------------------------------------------------------------ what is reported
 def itself(_rule, P):
     return [P]
 
 
 def told(rule, engines, parts_of):
-    """[((period, dx, dy, ((code, count), ..)), engines)]: what each engine leaves in a period is told in the order of codes, and engines
-    of which the same is told count together, in the order of numbers, then of what leaves."""
+    """[((period, dx, dy, ((code, count), ..)), engines)]: what each engine leaves in a period stands in the order of codes, and engines
+    with the same tale count together, in the order of numbers, then of what leaves."""
     tales = Counter()
     for engine in engines:
         parts = [part for _, some in engine.ashes for P in some for part in parts_of(rule, P)]
@@ -635,7 +635,7 @@ def told(rule, engines, parts_of):
 @lru_cache(maxsize=256)
 def becomes(rule, cells, bound, horizon):
     """What a set becomes within the bound: ('ash', onset, parts), ('grows', engines) or ('none',). No set has both an ash and a growth, so
-    it doesn't matter which is looked for first."""
+    it doesn't matter which is sought first."""
     early = min(bound, EARLY_BOUND)
     ash = O.ash_early(rule, cells, early)
     if ash is None:
@@ -647,7 +647,7 @@ def becomes(rule, cells, bound, horizon):
 
 
 def decide(rule, cells, bound, horizon, parts_of=itself):
-    """What is told of a set: ('ash', onset, [(code, count)]), ('grows', [(tale, count)]) or ('none',)."""
+    """What is reported of a set: ('ash', onset, [(code, count)]), ('grows', [(tale, count)]) or ('none',)."""
     kind, *found = becomes(rule, frozenset(cells), bound, horizon)
     if kind == 'ash':
         onset, parts = found

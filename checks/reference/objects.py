@@ -2,8 +2,8 @@
 that of parts.py.
 
 `ash` decides by the definition, with the whole bound: the finest splitting that stays apart, what lives on of it, and whether the
-parts so found recur, are one piece and stay apart for ever. `ash_early` looks for the ash of an earlier generation, which tells the same.
-Both tell the onset too, by its definition: the first generation that has an ash.
+parts so found recur, are one piece and stay apart for ever. `ash_early` looks for the ash of an earlier generation, which gives the same.
+Both also give the onset, by its definition: the first generation that has an ash.
 """
 import hashlib
 from collections import Counter
@@ -315,7 +315,7 @@ def window(low_p, high_p, vel_p, low_q, high_q, vel_q):
 def apart_for_ever(P, Q):
     """Exactly. At time n the box of P lies in its hull moved by n times its velocity; so the
     generations at which the boxes can be near are those of one stretch of times, which is finite
-    unless the velocities are equal; then lcm(p, q) generations tell."""
+    unless the velocities are equal; then lcm(p, q) generations decide."""
     p, q = P.period, Q.period
     span = (0, None)
     for low, vp, vq in ((0, P.dx, Q.dx), (2, P.dy, Q.dy)):
@@ -364,7 +364,7 @@ def ash_of(rule, cells, b):
         P = settled(world, s, x, y, b)
         if P is None:
             return None
-        k = -(-b // P.period)                           # k periods lead from P at generation 0 past b
+        k = -(-b // P.period)                           # k periods lead from P at generation 0 to after b
         Q = P.later(k * P.period - b)
         parts.append(Part([(s, x - k * P.dx, y - k * P.dy) for s, x, y in Q.phases], P.dx, P.dy))
     union = set()
@@ -435,7 +435,7 @@ class Walk:
 
 
 def ash_early(rule, cells0, b):
-    """The same as `ash`, by an earlier generation where one tells it."""
+    """The same as `ash`, by an earlier generation where one shows it."""
     run = R.Plane(cells0)
     pops, wait = [], 0
     while run.age < b:
@@ -461,7 +461,7 @@ def ash_early(rule, cells0, b):
 
 
 def _steady(pops):
-    """Have the populations repeated for a while? (A guess; nothing but speed hangs on it.)"""
+    """Have the populations repeated for a while? (A guess; only speed depends on it.)"""
     n = len(pops)
     if n < 24:
         return n in (1, 9)
@@ -506,7 +506,7 @@ def answer(text, bound, horizon, decide):
 
 
 def lines_of(c, i, entry, a):
-    """The lines of entry i of collection c, of which `a` is told."""
+    """The lines of entry i of collection c, of which `a` is reported."""
     if a[0] not in ('ash', 'grows'):
         return [b'line %d %d %s %s' % (c, i, ' '.join(map(str, a)).encode(), entry)]
     *head, counts = a

@@ -4,10 +4,10 @@ answers it.
 
     checks/reference/parts.py objects [--near] [--bound N] [--horizon N] [--workers N] [FOLDER..]
 
-With `--near` it tells the objects of objects.py, and those that the engines of growth.py leave. Without it, it tells the independent
+With `--near` it reports the objects of objects.py, and those that the engines of growth.py leave. Without it, it reports the independent
 parts of these objects, by the definition: cells are tied that touch, that stay, or that bear one another, and so are sets that would
-make of a place, each by itself, something else than is made of it; and the parts are the classes of what is tied, which are followed
-round the cycle until they come back.
+make of a place, each alone, something else than is made of it. The parts are the classes of what is tied, which are followed round the
+cycle until they come back.
 """
 import os
 import sys
@@ -55,9 +55,9 @@ _verdicts = {}
 
 
 def verdicts(births, counts):
-    """Of a place that islands stand around, each with so many cells that touch it: the groupings into several groups, each with its
-    verdict. It is None where nothing is born there and none of the groups, by itself, would bear it; a group where it is born and that
-    one alone would bear it; and else UNFAIR. Groupings into more groups come first."""
+    """For a place that islands stand around, each with a number of cells that touch it: the groupings into several groups, each with its
+    verdict. It is None where nothing is born there and none of the groups, alone, would bear it; a group where it is born and only that
+    group would bear it; and otherwise UNFAIR. Groupings into more groups come first."""
     key = (births, counts)
     if key not in _verdicts:
         found = []
@@ -196,7 +196,7 @@ def parts_of(rule, P):
 
 
 def decide_in_parts(rule, cells, bound, horizon):
-    """What becomes of a set, told in independent parts."""
+    """What becomes of a set, reported in independent parts."""
     return G.decide(rule, cells, bound, horizon, parts_of)
 
 

@@ -627,7 +627,7 @@ def end_line(bundle):
 
 def report(bundle, bound):
     """One lawful report: that of a collector to which all results come in rising order.
-    (All `open` lines first, an empty collection's `close` behind its `open`.)"""
+    (All `open` lines first, an empty collection's `close` after its `open`.)"""
     sections = [section(c, f, bound) for c, f in enumerate(bundle, 1)]
     out = []
     for s, (_, entries) in zip(sections, bundle):

@@ -337,7 +337,7 @@ class Faults(Room):
             self.assertEqual(caught.exception.status, 2)
 
     def test_out_of_memory(self):
-        # the program tells what it can, and then stops
+        # the program reports what it can, and then stops
         body = "echo file 0; echo rule B3/S23; echo population 1; echo box 1 1; echo unresolved 10000\n"
         body += "echo 'census: out of memory' >&2; exit 3"
         for call in (lambda it: it.identify(GLIDER), lambda it: it.identify_many([GLIDER, BLOCK], return_exceptions=True),
@@ -827,7 +827,7 @@ end 2 4
         great, = read_report(report(most, f"engine 1 1 1 10000 10000 -10000 {most};emits 1 1 1 xs1_ {most};"))
         self.assertEqual(great.engines, [Engine(10000, (10000, -10000), most, {"xs1_": most})])
         wrong = [
-            # none, too few, too many, or some of which nothing is told
+            # none, too few, too many, or some without a report
             (0, ""), (1, ""), (2, one + glider), (1, one + glider + two + gliders), (0, one + glider), (1, glider), (1, one),
             (2, one + two + gliders), (2, one + glider + two),
             # other numbers
@@ -838,7 +838,7 @@ end 2 4
             # engines that are twice the same, or out of order by what they emit
             (2, one + glider + two + again), (2, one + gliders.replace("1 1 2", "1 1 1") + two + again),
             (2, one + glider + ship + two + again), (2, one + glider + ship + two + again + "emits 1 1 2 xq4_6fr0 9;"),
-            # other lines among them, and lines of an engine behind others
+            # other lines among them, and lines of an engine after others
             (1, one + "part 1 1 xs4_33 1;" + glider), (1, "part 1 1 xs4_33 1;"), (1, one + glider + "code 1 B3/S23 xq4_153 1;"),
             (1, one + "open 2 0 c;close 2 0 0 0 0;" + glider), (1, one + glider + "open 2 0 c;" + ship + "close 2 0 0 0 0;"),
         ]
@@ -938,7 +938,7 @@ end 2 4
         for parts in ("", "part 1 1 xs4_33 1;", "part 1 1 xs4_33 3;", "part 1 1 xs4_33 0;part 1 1 xs6_696 2;", "part 1 1 xs4_33 1;part 1 1 xs4_33 1;",
                       "part 1 1 xs6_696 1;part 1 1 xs4_33 1;", "part 1 1 xs4_33 1;part 1 1 xs4_32 1;", "part 1 2 xs4_33 2;"):
             reports.append(f"open 1 1 c;line 1 1 ash B3/S23 8 7 2 a;{parts}close 1 1 1 0 0;end 1 1")
-        # parts of another collection, and behind one of its lines
+        # parts of another collection, and after one of its lines
         reports.append("open 1 1 a;open 2 1 b;line 1 1 ash B3/S23 0 0 0 c;line 2 1 ash B3/S23 4 7 1 d;part 1 1 xs4_33 1;code 2 B3/S23 xs4_33 1;close 1 1 1 0 0;close 2 1 1 0 0;end 2 2")
         reports.append("open 1 1 a;open 2 0 b;line 1 1 ash B3/S23 4 7 1 c;close 2 0 0 0 0;part 1 1 xs4_33 1;code 1 B3/S23 xs4_33 1;close 1 1 1 0 0;end 2 1")
         for text in reports:

@@ -5,8 +5,8 @@
     >>> glider.apgcode, glider.period, glider.displacement
     ('xq4_153', 4, (1, 1))
 
-The program does the work; this module starts it, hands it texts or folders, and reads what it writes. It needs Python 3.8 or later and
-nothing but the standard library. No shell is used.
+The program does the work; this module starts it, hands it texts or folders, and reads its output. It needs Python 3.8 or later and only
+the standard library. It uses no shell.
 """
 from __future__ import annotations
 
@@ -39,7 +39,7 @@ class CensusError(Exception):
     folder that can't be written) is an `OSError` as everywhere, and what is no text or list a `TypeError`.
 
     It is raised itself where a text or a path has a lone surrogate, a path a NUL, and where this process ignores SIGCHLD, so that the
-    system tells no status of a program that has ended.
+    system reports no status of a program that has ended.
 
     `sentence` says it in words. `number` is the fault's number and `place` says where it is, each None where there is none.
     """
@@ -153,7 +153,7 @@ class TimedOut(CensusError):
 
 
 class ProgramFailed(CensusError):
-    """The program refused its command line (`status` 2), ended in a way that this module does not know, or told what was not asked.
+    """The program refused its command line (`status` 2), ended in a way that this module does not know, or answered what was not asked.
 
     `status` is its exit status, less than 0 where a signal ended it; `stderr` is what it wrote to standard error.
     """
@@ -178,7 +178,7 @@ def _place_of_text(index: Optional[int], place: Optional[str]) -> Optional[str]:
 
 @dataclass(frozen=True)
 class Pattern:
-    """What a pattern is and becomes. The names that lifelib's patterns have too mean what they mean there.
+    """What a pattern is and becomes. Names that lifelib's patterns also have mean what they mean there.
 
     Where the pattern recurs within the bound, there are `onset`, `period`, `displacement` and `apgcode`; else, where it has fallen apart,
     `onset` and `objects`; else, where it is found to grow for ever, `engines`; else, where a generation has too many cells, `large`; else
@@ -189,13 +189,13 @@ class Pattern:
     rule: str
     # of generation 0, 0 or more
     population: int
-    # width and height of the box around generation 0, in cells
+    # width and height of the bounding box of generation 0, in cells
     box: Tuple[int, int]
     # the first generation that comes again; of what has fallen apart, the first that is ash; 0 or more
     onset: Optional[int] = None
-    # after so many generations, 1 or more
+    # the number of generations after which it comes again, 1 or more
     period: Optional[int] = None
-    # moved so many cells to the right and down
+    # how many cells it has then moved to the right and down
     displacement: Optional[Tuple[int, int]] = None
     # `xs`, `xp` or `xq`, a number, `_` and the shortest text of all phases; `xs0_0` where no cell lives on
     apgcode: Optional[str] = None
@@ -233,7 +233,7 @@ class Row:
     # the first generation that comes again; of `ash`, the first that is ash
     onset: Optional[int] = None
     period: Optional[int] = None
-    # moved so far to the right
+    # how far it moves to the right
     dx: Optional[int] = None
     # and down
     dy: Optional[int] = None
@@ -241,7 +241,7 @@ class Row:
     code: Optional[str] = None
     # the first one with too many cells
     generation: Optional[int] = None
-    # the number of the RLE fault, 1 to 10; `identify` tells place and sentence. 0 where the file could not be read (`census run -k`)
+    # the number of the RLE fault, 1 to 10; `identify` gives place and sentence. 0 where the file could not be read (`census run -k`)
     fault: Optional[int] = None
     # each code of its parts with how many have it, in the order of the report; with `near`, of its objects
     parts: Optional[Tuple[Tuple[str, int], ...]] = None
@@ -251,11 +251,11 @@ class Row:
 
 @dataclass(frozen=True)
 class Engine:
-    """Engines of a pattern that grows for ever: those of which the same is told, as of guns or puffers of one kind."""
+    """Engines of a pattern that grows for ever with the same period, displacement and emissions, such as guns or puffers of one kind."""
 
-    # each comes again after so many generations, 1 to 10,000
+    # the number of generations after which each comes again, 1 to 10,000
     period: int
-    # moved so many cells to the right and down, at most one in each generation; (0, 0) of a gun
+    # how many cells it has then moved to the right and down, at most one in each generation; (0, 0) for a gun
     displacement: Tuple[int, int]
     # how many engines they are, 1 or more
     count: int
@@ -321,10 +321,10 @@ class Census:
 
     def identify(self, rle: Text, *, bound: Optional[int] = None, near: bool = False, cells: Optional[int] = None,
                  horizon: Optional[int] = None) -> Pattern:
-        """Tells of one RLE text what its pattern is and becomes within `bound` generations, 1 to 100,000 (None: 10,000).
+        """What the pattern of one RLE text is and becomes within `bound` generations, 1 to 100,000 (None: 10,000).
 
-        Of what has fallen apart the independent parts are counted; with `near` what comes within two cells is one object. `cells` is how
-        many live cells a generation may have, 1 to 4,294,967,295 (None: 1,000,000). Growth is looked for within `horizon` generations, 1 to
+        The independent parts of what has fallen apart are counted; with `near` what comes within two cells is one object. `cells` is how
+        many live cells a generation may have, 1 to 4,294,967,295 (None: 1,000,000). Growth is sought within `horizon` generations, 1 to
         10,000 (None: 1,000).
 
         Raises `PatternFault`, `TooLong`, `OutOfMemory`, `TimedOut`, `ProgramFailed`, or `CensusError` itself; `OSError` where the program
@@ -347,10 +347,10 @@ class Census:
     def identify_many(self, rles: Iterable[Text], *, bound: Optional[int] = None, near: bool = False, cells: Optional[int] = None,
                       horizon: Optional[int] = None, return_exceptions: bool = False
                       ) -> Union[List[Pattern], List[Union[Pattern, CensusError]]]:
-        """Tells of each RLE text, in their order, what `identify` tells, by one call of the program.
+        """What `identify` reports of each RLE text, in order, by one call of the program.
 
-        The texts go to files of a temporary folder. A call holds as many as the system allows, some 100,000 on Linux; more texts are told
-        by several calls in turn. No text, no call.
+        The texts go to files in a temporary folder. One call holds the number of texts that the system allows, some 100,000 on Linux; more
+        texts take several calls in turn. Without a text there is no call.
 
         Where texts have faults, the error of the first is raised; with `return_exceptions` the error of each stands in its place in the
         list instead: `PatternFault`, `TooLong`, `ReadFailed` where the text's file was taken away, or `CensusError` itself where a text has
@@ -380,17 +380,17 @@ class Census:
 
     def table(self, folders: Iterable[Path], *, objects: bool = False, near: bool = False, bound: Optional[int] = None,
               workers: Optional[int] = None, cells: Optional[int] = None, horizon: Optional[int] = None) -> List[Row]:
-        """Tells of each pattern of these folders, in their order, what it becomes: the report of `census run` or of `census objects`.
+        """What each pattern of these folders becomes, in order: the report of `census run` or of `census objects`.
 
         Each folder is a collection of its `*.rle` files, sorted bytewise. `bound` is 1 to 1,000,000 generations (None: 1,000), with
         `objects` to 100,000 (None: 10,000); `workers` 1 to 16 threads (None: 4); `cells` is how many live cells a generation may have, 1 to
         4,294,967,295 (None: any number, with `objects` 1,000,000). With `objects` the independent parts of what is left are counted, and
-        growth is told; with `near`, what comes within two cells is one object; growth is looked for within `horizon` generations, 1 to
-        10,000 (None: 1,000). `near` and `horizon` go with `objects` alone. A text with a fault is a row; `identify` says more of it. Where
-        the folders are more than one call can hold, several are made in turn. No folder, no call.
+        growth is reported; with `near`, what comes within two cells is one object; growth is sought within `horizon` generations, 1 to
+        10,000 (None: 1,000). `near` and `horizon` need `objects`. A text with a fault is a row; `identify` says more of it. Where the
+        folders are more than one call can hold, several calls are made in turn. Without a folder there is no call.
 
         Raises `FolderFault`, `TooLong`, `ReadFailed`, `OutOfMemory`, `TimedOut`, `ProgramFailed`, or `CensusError` itself; `OSError` where
-        the program can't be started. Of several folders it is found by further calls which one is at fault.
+        the program can't be started. Where there are several folders, further calls find which one is at fault.
         """
         if isinstance(folders, (str, bytes, os.PathLike)):
             raise TypeError("folders must be a list of folders")
@@ -486,7 +486,7 @@ class Census:
             raise TimedOut(expired.timeout) from None
 
     def _raise_of_folders(self, ran: subprocess.CompletedProcess[bytes], folders: List[str]) -> NoReturn:
-        """Raises what a call for these folders has told."""
+        """Raises what a call for these folders has reported."""
         line = _first_line(ran)
         place = None
         fault = re.fullmatch("census: folder fault ([0-9]+).*", line)
@@ -509,7 +509,7 @@ class Census:
 
 
 def _option(name: str, value: Optional[int]) -> List[str]:
-    """The words for an option; the program tells where its number is out of range."""
+    """The words for an option; the program reports a number that is out of range."""
     return [] if value is None else [f"--{name}={operator.index(value)}"]
 
 
@@ -580,7 +580,7 @@ def _room() -> int:
 
 
 def _batches(words: List[str]) -> Iterator[List[str]]:
-    """The words, parted into as few lists as calls are needed, each of one word or more."""
+    """The words, in one list for each call that is needed, each of one word or more."""
     room = _room()
     batch: List[str] = []
     left = room
@@ -739,7 +739,7 @@ def _index_of(name: str) -> Optional[int]:
 
 def _answers(ran: subprocess.CompletedProcess[bytes], names: List[str], bound: Optional[int], horizon: Optional[int]
              ) -> Dict[str, Union[Pattern, CensusError]]:
-    """What `census identify` has told of each of these files within bound and horizon, where `-` is standard input."""
+    """What `census identify` has reported of each of these files within bound and horizon, where `-` is standard input."""
     told: List[Tuple[str, Union[Pattern, CensusError]]] = []
     for line in ran.stderr.decode("utf-8", "replace").split("\n"):
         error = _error_of(line)
@@ -753,7 +753,7 @@ def _answers(ran: subprocess.CompletedProcess[bytes], names: List[str], bound: O
     except ValueError:
         raise _failure(ran) from None
     answers = dict(told)
-    # (what is told of no file, or twice of one, is no answer; a whole one ends with the greatest status of its lines)
+    # (a report of no file, or two of one file, is no answer; a whole answer ends with the greatest status of its lines)
     is_whole = len(told) == len(names) and all(name in answers for name in names)
     if not is_whole or ran.returncode != max(_status_of(answer) for answer in answers.values()):
         raise _failure(ran)
@@ -761,7 +761,7 @@ def _answers(ran: subprocess.CompletedProcess[bytes], names: List[str], bound: O
 
 
 def _status_of(answer: Union[Pattern, CensusError]) -> int:
-    """The exit status that the program has where it tells this last."""
+    """The exit status that the program has where it reports this last."""
     if isinstance(answer, Pattern):
         return 0
     return 4 if isinstance(answer, ReadFailed) else 1
@@ -791,12 +791,12 @@ def _period_limit(bound: int, horizon: Optional[int]) -> int:
 
 
 def _are_within(engines: List[Engine], longest: int) -> bool:
-    """Whether engines come again within so many generations, and emit what has whole codes."""
+    """Whether engines come again within a number of generations, and emit what has whole codes."""
     return all(engine.period <= longest and all(re.fullmatch(_CODE, code) for code in engine.emits) for engine in engines)
 
 
 def _engines_of(count: int, lines: List[str]) -> List[Engine]:
-    """The engines that these lines tell, so many in all; raises ValueError where they don't."""
+    """The engines that these lines give, with their number in all; raises ValueError where they don't fit."""
     told = _Engines(count)
     for line in lines:
         kind, rest = line.encode().split(b" ", 1)
@@ -815,7 +815,7 @@ def _pattern_of(block: str, bound: int, longest: int) -> Tuple[str, Pattern]:
         _demand(int(found["bound"]) == bound)
         return name, replace(pattern, unresolved=bound)
     if found["large"] is not None:
-        # (generations are looked at so far)
+        # (generations are examined up to there)
         _demand(int(found["large"]) <= 3 * bound)
         return name, replace(pattern, large=int(found["large"]))
     if found["engines"] is not None:
@@ -847,7 +847,7 @@ class _Asked:
     horizon: Optional[int]
 
     def fits(self, reading: _Reading) -> bool:
-        """Whether what was read tells of the folders, of their patterns and of each what was asked."""
+        """Whether what was read has the folders, their patterns and for each what was asked."""
         found = list(reading.ended)
         return len(reading.sizes) == 1 and [collection.name for collection in found] == list(map(os.fsencode, self.folders)) and all(
             self._fits_folder(folder, listed, collection) for folder, listed, collection in zip(self.folders, self.listed, found)
@@ -893,17 +893,17 @@ def _rows_of(ran: subprocess.CompletedProcess[bytes], asked: _Asked) -> List[Row
 
 
 def read_report(report: bytes) -> List[Row]:
-    """The rows of a report of `census run` or `census objects`, by collection and then by pattern. Of several reports that stand one after
-    another it is as of the one that `census merge` makes of them: their collections are numbered on.
+    """The rows of a report of `census run` or `census objects`, by collection and then by pattern. Several reports one after another give the
+    rows of the report that `census merge` makes of them: their collections are numbered on.
 
-    The lines of several collections may interleave. What a report is, is what `census merge` reads: numbers have no leading zeros and fit
-    64 bits, rules are as they are printed, codes begin as codes, that of an `ok` line as its period and displacement say, a name is all
-    that is left of a line and is lawful, no report has `ok` lines and `ash` or `grows` lines, right behind an `ash` line its `part` lines
-    tell all its objects in the order of codes, and the `code` lines of a collection are what its lines count, in the order of first
-    appearance. Right behind a `grows` line its `engine` lines tell all its engines, one at least, numbered from 1, in the order of period,
-    displacement and what they emit, no two the same; periods are 1 to 10,000, and an engine moves by a cell in a generation at most; right
-    behind each its `emits` lines tell what it emits, something at least, in the order of codes. Raises `ReportFault` at the line at which
-    `census merge` finds the fault.
+    The lines of several collections may interleave. A text is a report where `census merge` reads it. Numbers have no leading zeros and fit
+    64 bits. Rules are as they are printed. Codes begin as codes, that of an `ok` line as its period and displacement say. A name is the
+    rest of a line and is lawful. No report has both `ok` lines and `ash` or `grows` lines. Right after an `ash` line its `part` lines give
+    all its objects in the order of codes. The `code` lines of a collection are what its lines count, in the order of first appearance.
+    Right after a `grows` line its `engine` lines give all its engines, at least one, numbered from 1, in the order of period, displacement
+    and what they emit, no two the same. Periods are 1 to 10,000, and an engine moves by at most one cell in a generation. Right after each
+    `engine` line its `emits` lines give what it emits, at least one object, in the order of codes. Raises `ReportFault` at the line at
+    which `census merge` finds the fault.
     """
     return _read(report).rows()
 
@@ -986,7 +986,7 @@ _FIELDS: Dict[bytes, Dict[str, Callable[[bytes], Union[int, str]]]] = {
 _MOST = 65535
 # the most generations after which an engine comes again
 _LONGEST_PERIOD = 10000
-# the statuses that one command alone tells
+# the statuses that only one command reports
 _COMMANDS = {b"ok": b"run", b"ash": b"objects", b"grows": b"objects"}
 
 
@@ -1001,7 +1001,7 @@ class _Collection:
         # of each line: which objects and which engines were read
         self.parts: List[List[Tuple[str, int]]] = []
         self.engines: List[List[Engine]] = []
-        # how many objects there are of each rule and code, in the order of first appearance, and those that no `code` line has told, once
+        # how many objects there are of each rule and code, in the order of first appearance, and those that no `code` line has given, once
         # one was read
         self.counted: Dict[Tuple[Optional[str], str], int] = {}
         self.untold: Optional[Iterator[Tuple[Tuple[Optional[str], str], int]]] = None
@@ -1021,13 +1021,13 @@ class _Collection:
         self.counted[key] = self.counted.get(key, 0) + count
 
     def next_count(self) -> Optional[Tuple[Tuple[Optional[str], str], int]]:
-        """The next rule and code that a `code` line is to tell, with the number of objects; None once all are told."""
+        """The next rule and code that a `code` line has to give, with the number of objects; None once all are given."""
         if self.untold is None:
             self.untold = iter(self.counted.items())
         return next(self.untold, None)
 
     def rows(self, before: int) -> List[Row]:
-        """The rows, where so many collections come before those of its report."""
+        """The rows, after a number of collections that come before those of its report."""
         number = before + self.number
         return [
             replace(row, collection=number, parts=tuple(parts) if row.status == "ash" else None, engines=engines or None)
@@ -1036,22 +1036,22 @@ class _Collection:
 
 
 class _Engines:
-    """What `engine` and `emits` lines tell of so many engines. A line that does not fit raises ValueError."""
+    """What `engine` and `emits` lines say of a number of engines. A line that does not fit raises ValueError."""
 
     def __init__(self, left: int) -> None:
         self.found: List[Engine] = []
-        # how many no `engine` line has told
+        # how many no `engine` line has given
         self.left = left
-        # of the last: its period, how far it moves, and what it emits, each code behind its length
+        # of the last: its period, how far it moves, and what it emits, each code after its length
         self.way = (0, 0, 0)
         self.emits: List[Tuple[int, bytes, int]] = []
         # what the one before it emits, where that goes the same way
         self.before: List[Tuple[int, bytes, int]] = []
-        # whether it emits something and comes behind the one before it
+        # whether it emits something and comes after the one before it
         self.rises = True
 
     def are_told(self) -> bool:
-        """Whether all are told."""
+        """Whether all are given."""
         return self.left == 0 and self.rises
 
     def take_engine(self, rest: bytes) -> None:
@@ -1080,12 +1080,12 @@ class _Engines:
 
 
 class _Told:
-    """What the lines of a report tell together. A line that does not fit raises ValueError."""
+    """What the lines of a report say together. A line that does not fit raises ValueError."""
 
     def __init__(self) -> None:
         # of which commands they are
         self.commands: Set[bytes] = set()
-        # the collection of the last line, how many of its objects no `part` line has told, and the last code of one
+        # the collection of the last line, how many of its objects no `part` line has given, and the last code of one
         self.collection = 0
         self.left = 0
         self.last = b""
@@ -1093,7 +1093,7 @@ class _Told:
         self.engines = _Engines(0)
 
     def end_line(self) -> None:
-        """Ends what stands behind the last line."""
+        """Ends what follows the last line."""
         _demand(self.left == 0 and self.engines.are_told())
         self.engines = _Engines(0)
 
@@ -1128,7 +1128,7 @@ class _Reading:
         self.takes = {
             b"open": self._open, b"line": self._line, b"code": self._code, b"close": self._close, b"end": self._end,
         }
-        # what stands behind a line
+        # what follows a line
         self.takes_behind = {b"part": self._part, b"engine": self._engine, b"emits": self._emits}
 
     def rows(self) -> List[Row]:
@@ -1181,7 +1181,7 @@ class _Reading:
             collection.count(found["code"], 1)
 
     def _behind(self, status: bytes, rest: bytes) -> Tuple[_Collection, bytes]:
-        """The collection of a line behind one with this status, and what follows the numbers of both."""
+        """The collection of a line after one with this status, and what follows the numbers of both."""
         number, pattern, rest = rest.split(b" ", 2)
         collection = self._still_open(number)
         _demand(collection.status == status and _count(pattern) == len(collection.lines))
