@@ -6,7 +6,6 @@ use Rattle.census_bundle.specs.declared.bundle.Folder.{Folder}
 use Rattle.census_bundle.specs.Sizes.{count_limit}
 use Rattle.census_format.specs.Lines.{end_line, pattern_count}
 use Rattle.census_format.specs.Reports.{IsReport, Owned, section, section_of}
-use Rattle.census_readback.proofs.Interleaved.{reports-complete}
 use Rattle.census_readback.specs.Shapes.{AreOfCollections, IsSection, IsWholeReport, all_rows, patterns_in, rows_of}
 use Rattle.census_readback.specs.Steps.{collection_of}
 use Rattle.census_readback.specs.Texts.{AllLines, IsLine}
@@ -116,7 +115,7 @@ module _ (b : List Folder) (question : Question) (bundle : IsBundle b) (range : 
               ((few, few-patterns b bundle.0), (end-cut (length b) (pattern_count b)).flat);
           whole = report.whole ∙ ap (λ w. w ++ text_of (end_line b)) (owned-rows report.groups) ∙ ap (λ rows. text_of body ++ text_of rows) (end-is b)
               ∙ sym (text-append body (the_end ∷ []));
-          shape = reports-complete rows (record {
+          shape = record {
             reports = rows ∷ [];
             some = omega arith;
             whole = sym (append-nil rows);
@@ -125,6 +124,6 @@ module _ (b : List Folder) (question : Question) (bundle : IsBundle b) (range : 
                   (report-tells b question report.groups (length b) (pattern_count b) bundle range report.sections),
               tt,
             );
-          });
+          };
         };
       }

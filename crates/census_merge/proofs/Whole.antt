@@ -13,7 +13,7 @@ use Rattle.census_readback.specs.Steps.{Reading, first_stray, initial_reading, i
 use Rattle.census_readback.specs.Texts.{AllLines, HasNoFeed, IsStuck, SameRows}
 use Rattle.census_readback.specs.Told.{Told, nothing_told}
 use Rattle.census_readback.proofs.Alike.{stray-same}
-use Rattle.census_readback.proofs.Interleaved.{reports-complete, reports-sound}
+use Rattle.census_readback.proofs.Interleaved.{reports-sound}
 use Rattle.census_merge.specs.Feeds.{feeds}
 use Rattle.census_merge.specs.Kept.{closed_to, is_close, is_closed, is_open, kept_of, kept_rows, most, whole_count}
 use Rattle.census_merge.specs.Mended.{IsCutTo}
@@ -182,7 +182,7 @@ cut-to text made cut rows rest h fault lines whole e line kept left = record {
   unfed = h.unfed;
   fault = fault;
   count = h.count;
-  kept = record { lines = h.kept-lines; whole = e; shape = reports-complete (kept_rows rows) h.keeps-rows.reports };
+  kept = record { lines = h.kept-lines; whole = e; shape = h.keeps-rows.reports };
   line_is = line;
   kept_is = kept;
   left_is = left;

@@ -12,6 +12,7 @@ use Rattle.census_readback.specs.Shapes.{all_rows}
 use Rattle.census_readback.specs.Told.{Told, nothing_told, told_after}
 use Rattle.census_readback.specs.Reports.{IsFault, ReadsAsReports}
 use Rattle.census_readback.proofs.Alike.{stray-same}
+use Rattle.census_readback.proofs.Interleaved.{reports-complete, reports-sound}
 use Rattle.census_readback.proofs.Reached.{Reached, reached-end, reached-more, reached-start, stuck-at-end}
 use Rattle.census_readback.proofs.Rows.{lines-more, text-more}
 
@@ -126,7 +127,7 @@ module _ (text : List ℕ) (told : Told) (s : Reading) (n : ℕ) (rest : List �
         let todo = others.all reached.todo [] reached.lines reached.left stuck-at-end in
         let alike : SameRows ((w.passed.done ++ row ∷ []) ++ others.rows) (reached.old ++ reached.todo) = same-append _ _ _ _ reached.same todo.0 in
         let none : first_stray nothing_told initial_reading 1 ((w.passed.done ++ row ∷ []) ++ others.rows) ≡ Nothing =
-        stray-same nothing_told initial_reading 1 _ _ alike ∙ ap (first_stray nothing_told initial_reading 1) (sym reached.whole) ∙ reads.shape in
+        stray-same nothing_told initial_reading 1 _ _ alike ∙ ap (first_stray nothing_told initial_reading 1) (sym reached.whole) ∙ reports-complete rows reads.shape in
         let some : Nothing ≡ Some n = sym none ∙ on others.rows ∙ stray in
         absurd (cc)
 
@@ -157,7 +158,7 @@ module _ (text : List ℕ) (told : Told) (s : Reading) (n : ℕ) (rest : List �
   alike rows reads = reached-end rows [] w.passed.done rest (w.passed.all rows [] reads.lines (reads.whole ∙ sym (append-nil (text_of rows))) stuck-at-end) stuck
 
   none : (rows : List Row) → ReadsAsReports rows text → first_stray nothing_told initial_reading 1 w.passed.done ≡ Nothing
-  none rows reads = stray-same nothing_told initial_reading 1 w.passed.done rows (alike rows reads).0 ∙ reads.shape
+  none rows reads = stray-same nothing_told initial_reading 1 w.passed.done rows (alike rows reads).0 ∙ reports-complete rows reads.shape
 
   pub all-read : s.ended ≡ true → rest ≡ [] → (rows : List Row) × ReadsAsReports rows text
   all-read ended empty = (
@@ -165,7 +166,7 @@ module _ (text : List ℕ) (told : Told) (s : Reading) (n : ℕ) (rest : List �
     record {
       lines = w.passed.lines;
       whole = w.passed.whole ∙ ap (λ t. text_of w.passed.done ++ t) empty ∙ append-nil (text_of w.passed.done);
-      shape = last ∙ ap (λ (b : Bool). if b then Nothing else Some n) ended;
+      shape = reports-sound w.passed.done (last ∙ ap (λ (b : Bool). if b then Nothing else Some n) ended);
     },
   )
 

@@ -4,7 +4,6 @@ use Rattle.std.specs.Prelude.{MatchOption}
 use Rattle.std.specs.List.{AllZip}
 use Rattle.std.proofs.lemmas.List.{length-take, length-take-le, take-append-drop, take_more}
 use Rattle.census_rows.specs.declared.row.Row.{Row}
-use Rattle.census_readback.proofs.Interleaved.{reports-sound}
 use Rattle.census_readback.specs.Reports.{IsFault, ReadsAsReports}
 use Rattle.census_readback.specs.Shapes.{AreReports, AreWhole, all_rows}
 use Rattle.census_readback.proofs.Walks.{joined-append}
@@ -46,11 +45,11 @@ reports_joined : (parts : List (List Row)) (texts : List (List ℕ)) → AllZip 
 reports_joined [] [] each some = absurd (omega arith)
 reports_joined [] (t ∷ texts) each some = absurd each
 reports_joined (p ∷ parts) [] each some = absurd each
-reports_joined (p ∷ []) (t ∷ []) each some = subst AreReports (sym (append-nil p)) (reports-sound p each.0.shape)
+reports_joined (p ∷ []) (t ∷ []) each some = subst AreReports (sym (append-nil p)) each.0.shape
 reports_joined (p ∷ []) (t ∷ u ∷ texts) each some = absurd each.1
 reports_joined (p ∷ q ∷ parts) (t ∷ []) each some = absurd each.1
 reports_joined (p ∷ q ∷ parts) (t ∷ u ∷ texts) each some =
-    reports_append p (all_rows (q ∷ parts)) (reports-sound p each.0.shape) (reports_joined (q ∷ parts) (u ∷ texts) each.1 (omega arith))
+    reports_append p (all_rows (q ∷ parts)) each.0.shape (reports_joined (q ∷ parts) (u ∷ texts) each.1 (omega arith))
 
 are_reports : (rows : List Row) (texts : List (List ℕ)) → AreRowsOf rows texts → 0 < length texts → AreReports rows
 are_reports rows texts is some = subst AreReports (sym is.whole) (reports_joined is.parts texts is.each some)

@@ -9,7 +9,6 @@ use Rattle.census_rows.specs.declared.row.Row.{Row}
 use Rattle.census_rows.specs.declared.row.Row.TheVariants.{End}
 use Rattle.census_rows.specs.Lines.{line_of, text_of}
 use Rattle.census_rows.proofs.Texts.{text-append}
-use Rattle.census_readback.proofs.Interleaved.{reports-sound}
 use Rattle.census_readback.specs.Limits.{count_limit}
 use Rattle.census_readback.specs.Reports.{ReadsAsReports}
 use Rattle.census_readback.specs.Shapes.{all_rows}
@@ -29,7 +28,7 @@ few_rows : (parts : List (List Row)) (texts : List (List ℕ)) → AllZip ReadsA
 few_rows [] [] each = tt
 few_rows [] (t ∷ texts) each = absurd each
 few_rows (p ∷ parts) [] each = absurd each
-few_rows (p ∷ parts) (t ∷ texts) each = few-append p (all_rows parts) (few-reports p (reports-sound p each.0.shape)) (few_rows parts texts each.1)
+few_rows (p ∷ parts) (t ∷ texts) each = few-append p (all_rows parts) (few-reports p each.0.shape) (few_rows parts texts each.1)
 
 pub few_of : (rows : List Row) (texts : List (List ℕ)) → AreRowsOf rows texts → AreFew rows
 few_of rows texts are = subst AreFew (sym are.whole) (few_rows are.parts texts are.each)

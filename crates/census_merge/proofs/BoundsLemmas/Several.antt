@@ -4,7 +4,6 @@ use Rattle.census_bundle.specs.declared.bundle.Folder.{Folder}
 use Rattle.census_format.specs.Reports.{IsReport}
 use Rattle.census_readback.specs.Reports.{ReadsAsReports}
 use Rattle.census_readback.specs.Shapes.{AreReports, AreWhole, all_rows}
-use Rattle.census_readback.proofs.Interleaved.{reports-complete, reports-sound}
 use Rattle.census_readback.proofs.Walks.{joined-append, lines-append}
 use Rattle.census_rows.specs.Lines.{text_of}
 use Rattle.census_rows.specs.declared.row.Row.{Row}
@@ -37,7 +36,7 @@ read-append xs ys s t first second =
     record {
       lines = lines-append xs ys first.lines second.lines;
       whole = ap (λ z. z ++ t) first.whole ∙ ap (λ z. text_of xs ++ z) second.whole ∙ sym (text-append xs ys);
-      shape = reports-complete (xs ++ ys) (reports-append xs ys (reports-sound xs first.shape) (reports-sound ys second.shape));
+      shape = reports-append xs ys first.shape second.shape;
     }
 
 readable-append : (s t : List ℕ) → Readable s → Readable t → Readable (s ++ t)

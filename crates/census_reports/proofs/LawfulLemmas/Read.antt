@@ -5,7 +5,6 @@ use Rattle.std.specs.List.{AllZip}
 use Rattle.census_format.specs.Reports.{IsReport}
 use Rattle.census_folders.specs.Told.{Told}
 use Rattle.census_rows.specs.declared.row.Row.{Row}
-use Rattle.census_readback.proofs.Interleaved.{reports-complete}
 use Rattle.census_readback.specs.Reports.{ReadsAsReports}
 use Rattle.census_readback.specs.Shapes.{all_rows}
 use Rattle.census_readback.specs.Texts.{AllLines}
@@ -45,7 +44,7 @@ rows_read rows read is some =
     record {
       lines = subst AllLines (sym is.whole) all.0;
       whole = all.1 ∙ ap text_of (sym is.whole);
-      shape = reports-complete rows (at_end rows read (length read) (subst (AreRowsOf rows) (sym (take_all (length read) read (omega arith))) is) (omega arith) some);
+      shape = at_end rows read (length read) (subst (AreRowsOf rows) (sym (take_all (length read) read (omega arith))) is) (omega arith) some;
     }
 
 pub merges_lawfully : (held : List ℕ → Told) (words : List (List ℕ)) (before after : Streams) (reading : Reading) (result : Written) → reading.cut ≡ false

@@ -5,6 +5,7 @@ use Rattle.census_readback.specs.Reports.{ReadsAsReports}
 use Rattle.std.proofs.lemmas.List.{append-nil}
 use Rattle.census_rows.specs.Lines.{text_of}
 use Rattle.census_readback.proofs.Alike.{stray-same}
+use Rattle.census_readback.proofs.Interleaved.{reports-complete, reports-sound}
 use Rattle.census_readback.proofs.Reached.{stuck-at-end}
 use Rattle.census_readback.specs.Steps.{initial_reading}
 use Rattle.census_readback.specs.Told.{nothing_told}
@@ -26,7 +27,7 @@ returns-in_ok-read_rows-in-None-clause-sound c =
       record {
         lines = front.lines;
         whole = front.whole ∙ ap (λ (t : List ℕ). text_of rows ++ t) same.1 ∙ append-nil (text_of rows);
-        shape = stray-same nothing_told initial_reading 1 rows there.0 same.0 ∙ is.shape;
+        shape = reports-sound rows (stray-same nothing_told initial_reading 1 rows there.0 same.0 ∙ reports-complete there.0 is.shape);
       },
       c.in_ok-read_rows-in-None.ensures.1,
     )
