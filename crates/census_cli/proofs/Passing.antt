@@ -1,5 +1,5 @@
 -- Each element of a list, and steps of which none fails.
-use Rattle.std.proofs.Common.{◌≡◌, ◌++◌, List, [], ◌∷◌, Bool, true, false, ◌&&◌, ◌||◌, Some, refl, sym, subst, true≢false}
+use Rattle.std.proofs.Common.{◌≡◌, ◌++◌, List, [], ◌∷◌, Bool, true, false, ◌||◌, Some, refl, subst, true≢false}
 use Rattle.std.specs.Prelude.{if◌then◌else◌}
 use Rattle.std.specs.List.{find}
 use Rattle.clap.specs.Kinds.{Kinds, or_else}
@@ -35,10 +35,6 @@ neither_fails (k ∷ ks) b e = not_cons k ks e
 pub test_is_false : (b : Bool) (k : ErrorKind) (ks rest : Kinds) → (if b then k ∷ ks else rest) ≡ [] → (b ≡ false) × (rest ≡ [])
 test_is_false true k ks rest e = not_cons k ks e
 test_is_false false k ks rest e = (refl, e)
-
-pub both_true : (a b : Bool) → (a && b) ≡ true → (a ≡ true) × (b ≡ true)
-both_true true b e = (refl, e)
-both_true false b e = absurd (true≢false (sym e))
 
 pub neither_true : (a b : Bool) → (a || b) ≡ false → (a ≡ false) × (b ≡ false)
 neither_true false b e = (refl, e)

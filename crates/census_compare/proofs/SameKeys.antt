@@ -1,5 +1,6 @@
 -- Codes under rules, in order.
-use Rattle.std.proofs.Common.{◌≡◌, ℕ, Bool, true, false, ◌&&◌, ◌||◌, List, [], ◌∷◌, refl, sym, ap, ap₂, ◌∙◌, subst, arith, true≢false}
+use Rattle.std.proofs.Common.{◌≡◌, ℕ, Bool, true, false, ◌||◌, List, [], ◌∷◌, refl, sym, ap, ap₂, ◌∙◌, subst, arith, true≢false}
+use Rattle.std.proofs.lemmas.Bool.{and_parts}
 use Rattle.std.specs.Prelude.{nat_eq, slice_index_or}
 use Rattle.std.specs.Cmp.Lexicographic.{bytes_decides, pointwise, slice_cmp, texts_ties}
 use Rattle.std.specs.Cmp.{both_tied}
@@ -19,14 +20,10 @@ has_is k t =
     both_tied (pointwise nat_eq t.code.now k.0) (pointwise nat_eq t.rule.now k.1) (slice_cmp nat_cmp t.code.now k.0) (slice_cmp nat_cmp t.rule.now k.1)
     (texts_ties t.code.now k.0) (texts_ties t.rule.now k.1)
 
-pub and-both : (a b : Bool) → (a && b) ≡ true → (a ≡ true) × (b ≡ true)
-and-both true b h = (refl, h)
-and-both false b h = absurd (true≢false (sym h))
-
 -- a pattern has only one key
 pub has-key : (k : Key) (t : Told) → has_key k t ≡ true → key_of t ≡ k
 has-key k t h =
-    let b = and-both (pointwise nat_eq t.code.now k.0) (pointwise nat_eq t.rule.now k.1) h in
+    let b = and_parts (pointwise nat_eq t.code.now k.0) (pointwise nat_eq t.rule.now k.1) h in
     ap₂ (λ (c r : List ℕ). (c, r)) ((bytes_decides t.code.now k.0).0 b.0) ((bytes_decides t.rule.now k.1).0 b.1)
 
 pub key-itself : (k : Key) → key_cmp k k ≡ Equal

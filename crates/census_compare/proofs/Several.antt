@@ -3,12 +3,12 @@ use Rattle.std.proofs.Common.{◌≡◌, ◌<◌, Bool, true, false, ◌&&◌, �
 use Rattle.std.specs.Prelude.{cond, filter, nat_lt}
 use Rattle.std.specs.List.{All, list_any}
 use Rattle.std.specs.declared.cmp.Ordering.TheVariants.{Less}
-use Rattle.std.proofs.lemmas.Bool.{lt-ltb, ltb-true, ltb-false}
+use Rattle.std.proofs.lemmas.Bool.{and_parts, lt-ltb, ltb-false, ltb-true}
 use Rattle.std.proofs.lemmas.List.Elements.{All-cons, All-nil, All-tail}
 use Rattle.census_compare.specs.Order.{Key, has_key, is_among, is_key, key_cmp, keys_of, AreRising}
 use Rattle.census_compare.specs.Same.{group_text, groups_text, same_text, IsSame}
 use Rattle.census_compare.specs.declared.told.Told.{Told}
-use Rattle.census_compare.proofs.SameKeys.{and-both, keys-among, keys-rise, tied-same}
+use Rattle.census_compare.proofs.SameKeys.{keys-among, keys-rise, tied-same}
 use Rattle.census_compare.proofs.Groups.{any-filter, group-none}
 
 module _ (p : Key → Bool) where
@@ -69,7 +69,7 @@ is-same j ts = record {
   keys = filter (have_several ts) (keys_of ts);
   rising = filter-rising (have_several ts) (keys_of ts) (keys-rise ts);
   each = λ k. (
-    λ there. let more = ltb-true 1 (length (filter (has_key k) ts)) (and-both (have_several ts k) (list_any (has_key k) ts) (sym (among k) ∙ there)).0 in omega (arith, more),
+    λ there. let more = ltb-true 1 (length (filter (has_key k) ts)) (and_parts (have_several ts k) (list_any (has_key k) ts) (sym (among k) ∙ there)).0 in omega (arith, more),
     λ several. among k ∙ ap₂ (λ a b. a && b) (lt-ltb 1 (length (filter (has_key k) ts)) (omega (arith, several)))
         (any-filter (has_key k) ts ∙ any-some (filter (has_key k) ts) (omega (arith, several))),
   );

@@ -1,6 +1,6 @@
 -- Two objects are the same exactly if they are one.
-use Rattle.std.proofs.Common.{◌≡◌, ℕ, Bool, true, false, ◌&&◌, eqb, List, ◌++◌, refl, sym, ap, ◌∙◌, Decides, nat_eq}
-use Rattle.std.proofs.lemmas.Bool.{false≢true}
+use Rattle.std.proofs.Common.{◌≡◌, ℕ, true, false, ◌&&◌, eqb, List, ◌++◌, refl, sym, ap, ◌∙◌, Decides, nat_eq}
+use Rattle.std.proofs.lemmas.Bool.{and_parts, false≢true}
 use Rattle.std.proofs.lemmas.Bool.Decides.{Decides-eqb}
 use Rattle.std.proofs.lemmas.Slice.Eq.{slice_eq-Decides}
 use Rattle.std.specs.Cmp.{IsPartialEquivalence, IsEquivalence, partial_equiv_from_equiv}
@@ -8,18 +8,14 @@ use Rattle.std.specs.Cmp.Lexicographic.{pointwise}
 use Rattle.std.specs.Hash as fed
 use Rattle.census_format.specs.Objects.{Object, same_rule, same_object}
 
-both : (a b : Bool) → (a && b) ≡ true → (a ≡ true) × (b ≡ true)
-both true b e = (refl, e)
-both false b e = absurd (false≢true e)
-
 same_code : (x y : List ℕ) → Decides (pointwise nat_eq x y) (x ≡ y)
 same_code x y = slice_eq-Decides Decides-eqb x y (pointwise nat_eq x y) refl
 
 -- objects that are the same are one
 pub one_object : (k l : Object) → same_object k l ≡ true → k ≡ l
 one_object k l e =
-    let parts = both (same_rule k.rule l.rule) (pointwise nat_eq k.code l.code) e in
-    let rules = both (eqb k.rule.birth l.rule.birth) (eqb k.rule.survival l.rule.survival) parts.0 in
+    let parts = and_parts (same_rule k.rule l.rule) (pointwise nat_eq k.code l.code) e in
+    let rules = and_parts (eqb k.rule.birth l.rule.birth) (eqb k.rule.survival l.rule.survival) parts.0 in
     let births = (Decides-eqb k.rule.birth l.rule.birth).0 rules.0 in
     let survivals = (Decides-eqb k.rule.survival l.rule.survival).0 rules.1 in
     let codes = (same_code k.code l.code).0 parts.1 in

@@ -1,14 +1,13 @@
 -- The loops over rows.
 use Rattle.std.proofs.Common.{◌≡◌, ◌≢◌, ℕ, zero, suc, ◌+◌, ◌-◌, ◌<◌, ◌≤◌, Bool, true, false, ◌&&◌, ◌||◌, eqb, ltb, leb, Option, Some, None as Nothing, List, [], ◌∷◌, ◌++◌, ap, ◌∙◌, sym, refl, arith, length, take, drop, drop-cons, get_or, set, replicate, get_or-set_same, get_or-set_other, length-set, length-append, append_assoc}
 use Rattle.std.specs.Prelude.{if◌then◌else◌}
-use Rattle.std.proofs.lemmas.Bool.{eqb-true, eq-eqb, ltb-true, lt-ltb, leb-true, le-leb}
+use Rattle.std.proofs.lemmas.Bool.{and_from, and_parts, eq-eqb, eqb-true, le-leb, leb-true, lt-ltb, ltb-true}
 use Rattle.std.proofs.lemmas.List.{take_more, length-replicate, append-nil}
 use Rattle.census_rows.specs.declared.row.Row.{Row}
 use Rattle.census_rows.specs.declared.row.Row.TheVariants.{Open, Line, Part, Engine, Emits, Code, Close, End}
 use Rattle.census_readback.specs.Limits.{count_limit}
 use Rattle.census_readback.specs.Shapes.{AreOfCollections, patterns_in}
 use Rattle.census_readback.specs.Steps.{collection_of, patterns_opened}
-use Rattle.census_readback.proofs.Shaped.{and-both, both-and}
 use Rattle.census_readback.proofs.Sorted.{of-at}
 use Rattle.census_merge.specs.Kept.{closed_to, closes, is_closed, is_end, kept_of, numbered, whole_count}
 use Rattle.census_merge.specs.Numbers.{AreFlags, AreNumbers, closed_index, kept_as, kept_by, marked, number_in}
@@ -99,7 +98,7 @@ no-eq a b other =
 closes-at : (r : Row) (j : ℕ) → closed_index r ≡ Some j → ClosesAt r j
 closes-at (Close c n a b d) j h =
     let k = if-index (ltb 0 c && leb c count_limit) (c - 1) j h in
-    let both = and-both (ltb 0 c) (leb c count_limit) k.0 in
+    let both = and_parts (ltb 0 c) (leb c count_limit) k.0 in
     let low : 0 < c = ltb-true _ _ both.0 in
     let high : c ≤ count_limit = leb-true _ _ both.1 in
     let at = k.1 in
@@ -120,7 +119,7 @@ closes-none : (r : Row) (i : ℕ) → closed_index r ≡ Nothing → i < count_l
 closes-none (Close c n a b d) i h less =
     let k = if-nowhere (ltb 0 c && leb c count_limit) (c - 1) h in
     no-eq c (i + 1)
-    (λ e. (let both : (ltb 0 c && leb c count_limit) ≡ true = both-and (ltb 0 c) (leb c count_limit) (lt-ltb 0 c (omega (arith, e))) (le-leb c count_limit (omega (arith, e, less))) in
+    (λ e. (let both : (ltb 0 c && leb c count_limit) ≡ true = and_from (ltb 0 c) (leb c count_limit) (lt-ltb 0 c (omega (arith, e))) (le-leb c count_limit (omega (arith, e, less))) in
     let clash : true ≡ false = sym both ∙ k in
     absurd (cc)))
 closes-none (Open c n name) i h less = refl

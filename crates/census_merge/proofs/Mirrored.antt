@@ -2,7 +2,7 @@
 use Rattle.std.proofs.Common.{◌≡◌, ◌≢◌, ℕ, ◌+◌, ◌-◌, ◌<◌, ◌≤◌, ◌^◌, Bool, true, false, ◌&&◌, ◌||◌, eqb, ltb, Some, None as Nothing, List, [], ◌∷◌, ap, ◌∙◌, sym, refl, arith, subst, length, inl, inr}
 use Rattle.std.specs.Prelude.{◌⊎◌, if◌then◌else◌}
 use Rattle.std.specs.List.{list_all}
-use Rattle.std.proofs.lemmas.Bool.{eqb-true, eqb-false, eq-eqb, ltb-false, ltb-true}
+use Rattle.std.proofs.lemmas.Bool.{and_from, eq-eqb, eqb-false, eqb-true, ltb-false, ltb-true}
 use Rattle.census_rows.specs.declared.row.Row.{Row}
 use Rattle.census_rows.specs.declared.row.Row.TheVariants.{End}
 use Rattle.census_readback.specs.Limits.{count_limit}
@@ -12,7 +12,6 @@ use Rattle.census_readback.specs.Steps.{Reading, collection_of, is_behind, patte
 use Rattle.census_readback.specs.Told.{Told, is_told, nothing_told, told_after}
 use Rattle.census_readback.proofs.Interleaved.{Taken, all-behind, section-is-step, taking}
 use Rattle.census_readback.proofs.Kept.{put-other, put-same, put-size}
-use Rattle.census_readback.proofs.Shaped.{both-and}
 use Rattle.census_merge.specs.Kept.{closed_to, closes, is_closed, is_end, kept_of, most, numbered}
 use Rattle.census_merge.proofs.Ranks.{most-is, number-least, number-less, number-most, number-of, number-rises}
 use Rattle.census_merge.proofs.Placed.{closed-more, closes-other, collection-numbered, leads-behind, none-there, opened-numbered, place-numbered, taken}
@@ -235,7 +234,7 @@ run-ends all t u s v nought closed tells reads whole =
     let size : length v.places ≡ count = enough (ltb (length v.places) count) refl in
     let all-are : list_all is_behind v.places ≡ true = all-behind v.places (λ i less. here i (omega (arith, less, size))) in
     let pass : (list_all is_behind v.places && (eqb (length v.places) count && eqb v.patterns v.patterns)) ≡ true =
-    both-and _ _ all-are (both-and _ _ (eq-eqb _ _ size) (eq-eqb _ _ refl)) in
+    and_from _ _ all-are (and_from _ _ (eq-eqb _ _ size) (eq-eqb _ _ refl)) in
     let told-all : is_told u ≡ true =
     elim tells.told as (λ _. is_told u ≡ true) [
       | inr stale ↦ stale.0

@@ -2,7 +2,7 @@
 use Rattle.std.proofs.Common.{◌≡◌, ℕ, ◌-◌, ◌<◌, ◌≤◌, Bool, true, false, ◌&&◌, ◌||◌, not, eqb, ltb, leb, Option, Some, None as Nothing, List, [], ap, ◌∙◌, sym, refl, arith, subst, inl, inr}
 use Rattle.std.specs.Prelude.{◌⊎◌, if◌then◌else◌}
 use Rattle.std.specs.Option.{option_map}
-use Rattle.std.proofs.lemmas.Bool.{eqb-true, eq-eqb, ltb-true, leb-true}
+use Rattle.std.proofs.lemmas.Bool.{and_from, and_parts, eq-eqb, eqb-true, leb-true, ltb-true}
 use Rattle.std.specs.Ordering.{is_lt}
 use Rattle.census_rows.specs.declared.row.Row.{Row}
 use Rattle.census_rows.specs.declared.row.Row.TheVariants.{Open, Line, Part, Engine, Emits, Code, Close, End}
@@ -12,7 +12,6 @@ use Rattle.census_readback.specs.Engines.{LastEngine, after_emits, after_engine,
 use Rattle.census_readback.specs.Lawful.{is_lawful, is_way}
 use Rattle.census_readback.specs.Steps.{collection_of}
 use Rattle.census_readback.specs.Told.{Told, emits_told, engine_told, has_code, has_rows, is_told, line_told, part_told, to_tell, told_after, told_so_far, with_engine}
-use Rattle.census_readback.proofs.Shaped.{and-both, both-and}
 use Rattle.census_merge.specs.Kept.{closed_to, is_close, is_closed, is_end, numbered}
 use Rattle.life_cells.specs.TextOrder.{shorter_cmp}
 
@@ -40,7 +39,7 @@ or-mono false false h f k = k
 
 nand-mono : (p q a b : Bool) → (p ≡ true → a ≡ true) → (q ≡ true → b ≡ true) → not (a && b) ≡ true → not (p && q) ≡ true
 nand-mono true true a b f g h =
-    let both : (a && b) ≡ true = both-and a b (f refl) (g refl) in
+    let both : (a && b) ≡ true = and_from a b (f refl) (g refl) in
     let off : not true ≡ true = sym (ap not both) ∙ h in
     absurd (cc)
 nand-mono true false a b f g h = refl
@@ -86,10 +85,10 @@ module _ (all : List Row) (t w u : Told) (m : MirrorsTold all t u) where
       let now : Told = record { recurs = a; parted = b; collection = c; left = to_tell what.behind what; last = []; engine = no_engine } in
       let next : Told = record { recurs = x; parted = y; collection = closed_to all c; left = to_tell what.behind what; last = []; engine = no_engine } in
       let k = if-told (is_told t && not (a && b)) (Some now) w h in
-      let e = and-both (is_told t) (not (a && b)) k.0 in
+      let e = and_parts (is_told t) (not (a && b)) k.0 in
       let recurs = or-mono u.recurs t.recurs (has_code what) m.recurs in
       let parted = or-mono u.parted t.parted (has_rows what.behind) m.parted in
-      let pass = both-and (is_told u) (not (x && y)) (told-too all t u m e.0) (nand-mono x y a b recurs parted e.1) in (
+      let pass = and_from (is_told u) (not (x && y)) (told-too all t u m e.0) (nand-mono x y a b recurs parted e.1) in (
         next,
         if-pass (is_told u && not (x && y)) (Some next) next pass refl,
         subst (λ z. MirrorsTold all z next) (some-of now w k.1)
@@ -102,7 +101,7 @@ module _ (all : List Row) (t w u : Told) (m : MirrorsTold all t u) where
       let b = t.parted || has_rows what.behind in
       let now : Told = record { recurs = a; parted = b; collection = c; left = to_tell what.behind what; last = []; engine = no_engine } in
       let k = if-told (is_told t && not (a && b)) (Some now) w h in
-      let e = and-both (is_told t) (not (a && b)) k.0 in
+      let e = and_parts (is_told t) (not (a && b)) k.0 in
       subst (λ z. MirrorsTold all z u) (some-of now w k.1)
       (record {
         recurs = λ h. ap (λ v. v || has_code what) (m.recurs h);
@@ -143,14 +142,14 @@ module _ (all : List Row) (t w u : Told) (m : MirrorsTold all t u) where
       let now : Told = record t { left = t.left - count; last = code } in
       let next : Told = record u { left = u.left - count; last = code } in
       let k = if-told (eqb c t.collection && (leb count t.left && is_lt (shorter_cmp t.last code))) (Some now) w h in
-      let e = and-both (eqb c t.collection) (leb count t.left && is_lt (shorter_cmp t.last code)) k.0 in
-      let f = and-both (leb count t.left) (is_lt (shorter_cmp t.last code)) e.1 in
+      let e = and_parts (eqb c t.collection) (leb count t.left && is_lt (shorter_cmp t.last code)) k.0 in
+      let f = and_parts (leb count t.left) (is_lt (shorter_cmp t.last code)) e.1 in
       let own : c ≡ t.collection = eqb-true _ _ e.0 in
       let most : count ≤ t.left = leb-true _ _ f.0 in
       let same = same-told (ap (λ d. is_closed all d) (sym own) ∙ held) (λ none _. omega (arith, none, most, some)) in
       let number : closed_to all c ≡ u.collection = ap (λ d. closed_to all d) own ∙ same.collection in
       let pass : (eqb (closed_to all c) u.collection && (leb count u.left && is_lt (shorter_cmp u.last code))) ≡ true =
-      both-and _ _ (eq-eqb _ _ number) (both-and _ _ (ap (λ n. leb count n) (sym same.left) ∙ f.0) (ap (λ l. is_lt (shorter_cmp l code)) (sym same.last) ∙ f.1)) in (
+      and_from _ _ (eq-eqb _ _ number) (and_from _ _ (ap (λ n. leb count n) (sym same.left) ∙ f.0) (ap (λ l. is_lt (shorter_cmp l code)) (sym same.last) ∙ f.1)) in (
         next,
         if-pass _ (Some next) next pass refl,
         subst (λ z. MirrorsTold all z next) (some-of now w k.1)
@@ -165,7 +164,7 @@ module _ (all : List Row) (t w u : Told) (m : MirrorsTold all t u) where
   part-stays c code count off h =
       let now : Told = record t { left = t.left - count; last = code } in
       let k = if-told (eqb c t.collection && (leb count t.left && is_lt (shorter_cmp t.last code))) (Some now) w h in
-      let e = and-both (eqb c t.collection) (leb count t.left && is_lt (shorter_cmp t.last code)) k.0 in
+      let e = and_parts (eqb c t.collection) (leb count t.left && is_lt (shorter_cmp t.last code)) k.0 in
       let own : c ≡ t.collection = eqb-true _ _ e.0 in
       subst (λ z. MirrorsTold all z u) (some-of now w k.1) (stays now refl refl refl (ap (λ d. is_closed all d) (sym own) ∙ off))
 
@@ -173,7 +172,7 @@ module _ (all : List Row) (t w u : Told) (m : MirrorsTold all t u) where
       → (v : Told) × (engine_told u (closed_to all c) count (after u.engine) ≡ Some v) × MirrorsTold all w v
   engine-goes c count after held some h =
       let k = if-told (eqb c t.collection && leb count t.left) (option_map (with_engine t (t.left - count) []) (after t.engine)) w h in
-      let e = and-both (eqb c t.collection) (leb count t.left) k.0 in
+      let e = and_parts (eqb c t.collection) (leb count t.left) k.0 in
       let own : c ≡ t.collection = eqb-true _ _ e.0 in
       let most : count ≤ t.left = leb-true _ _ e.1 in
       let same = same-told (ap (λ d. is_closed all d) (sym own) ∙ held) (λ none _. omega (arith, none, most, some)) in
@@ -181,7 +180,7 @@ module _ (all : List Row) (t w u : Told) (m : MirrorsTold all t u) where
       let to = mapped (with_engine t (t.left - count) []) (after t.engine) w k.1 in
       let next : Told = with_engine u (u.left - count) [] to.0 in
       let pass : (eqb (closed_to all c) u.collection && leb count u.left) ≡ true =
-      both-and _ _ (eq-eqb _ _ number) (ap (λ n. leb count n) (sym same.left) ∙ e.1) in
+      and_from _ _ (eq-eqb _ _ number) (ap (λ n. leb count n) (sym same.left) ∙ e.1) in
       let goes : option_map (with_engine u (u.left - count) []) (after u.engine) ≡ Some next =
       ap (λ g. option_map (with_engine u (u.left - count) []) (after g)) (sym same.engine) ∙ ap (option_map (with_engine u (u.left - count) [])) to.1 in (
         next,
@@ -197,7 +196,7 @@ module _ (all : List Row) (t w u : Told) (m : MirrorsTold all t u) where
   engine-stays : (c count : ℕ) (o : Option LastEngine) → is_closed all c ≡ false → engine_told t c count o ≡ Some w → MirrorsTold all w u
   engine-stays c count o off h =
       let k = if-told (eqb c t.collection && leb count t.left) (option_map (with_engine t (t.left - count) []) o) w h in
-      let e = and-both (eqb c t.collection) (leb count t.left) k.0 in
+      let e = and_parts (eqb c t.collection) (leb count t.left) k.0 in
       let own : c ≡ t.collection = eqb-true _ _ e.0 in
       let to = mapped (with_engine t (t.left - count) []) o w k.1 in
       subst (λ z. MirrorsTold all z u) to.2 (stays (with_engine t (t.left - count) [] to.0) refl refl refl (ap (λ d. is_closed all d) (sym own) ∙ off))
@@ -207,8 +206,8 @@ module _ (all : List Row) (t w u : Told) (m : MirrorsTold all t u) where
   emits-goes c engine code count held some h =
       let after : LastEngine → Option LastEngine = λ g. after_emits g (record { code = code; count = count }) in
       let k = if-told (eqb c t.collection && (eqb engine t.engine.number && is_lt (shorter_cmp t.last code))) (option_map (with_engine t t.left code) (after t.engine)) w h in
-      let e = and-both (eqb c t.collection) (eqb engine t.engine.number && is_lt (shorter_cmp t.last code)) k.0 in
-      let f = and-both (eqb engine t.engine.number) (is_lt (shorter_cmp t.last code)) e.1 in
+      let e = and_parts (eqb c t.collection) (eqb engine t.engine.number && is_lt (shorter_cmp t.last code)) k.0 in
+      let f = and_parts (eqb engine t.engine.number) (is_lt (shorter_cmp t.last code)) e.1 in
       let own : c ≡ t.collection = eqb-true _ _ e.0 in
       let first : engine ≡ t.engine.number = eqb-true _ _ f.0 in
       let same = same-told (ap (λ d. is_closed all d) (sym own) ∙ held) (λ _ none. omega (arith, none, first, some)) in
@@ -216,8 +215,8 @@ module _ (all : List Row) (t w u : Told) (m : MirrorsTold all t u) where
       let to = mapped (with_engine t t.left code) (after t.engine) w k.1 in
       let next : Told = with_engine u u.left code to.0 in
       let pass : (eqb (closed_to all c) u.collection && (eqb engine u.engine.number && is_lt (shorter_cmp u.last code))) ≡ true =
-      both-and _ _ (eq-eqb _ _ number)
-      (both-and _ _ (ap (λ (g : LastEngine). eqb engine g.number) (sym same.engine) ∙ f.0) (ap (λ l. is_lt (shorter_cmp l code)) (sym same.last) ∙ f.1)) in
+      and_from _ _ (eq-eqb _ _ number)
+      (and_from _ _ (ap (λ (g : LastEngine). eqb engine g.number) (sym same.engine) ∙ f.0) (ap (λ l. is_lt (shorter_cmp l code)) (sym same.last) ∙ f.1)) in
       let goes : option_map (with_engine u u.left code) (after u.engine) ≡ Some next =
       ap (λ g. option_map (with_engine u u.left code) (after g)) (sym same.engine) ∙ ap (option_map (with_engine u u.left code)) to.1 in (
         next,
@@ -234,7 +233,7 @@ module _ (all : List Row) (t w u : Told) (m : MirrorsTold all t u) where
   emits-stays c engine code count off h =
       let after : LastEngine → Option LastEngine = λ g. after_emits g (record { code = code; count = count }) in
       let k = if-told (eqb c t.collection && (eqb engine t.engine.number && is_lt (shorter_cmp t.last code))) (option_map (with_engine t t.left code) (after t.engine)) w h in
-      let e = and-both (eqb c t.collection) (eqb engine t.engine.number && is_lt (shorter_cmp t.last code)) k.0 in
+      let e = and_parts (eqb c t.collection) (eqb engine t.engine.number && is_lt (shorter_cmp t.last code)) k.0 in
       let own : c ≡ t.collection = eqb-true _ _ e.0 in
       let to = mapped (with_engine t t.left code) (after t.engine) w k.1 in
       subst (λ z. MirrorsTold all z u) to.2 (stays (with_engine t t.left code to.0) refl refl refl (ap (λ d. is_closed all d) (sym own) ∙ off))
@@ -246,15 +245,15 @@ module _ (all : List Row) (t w u : Told) (m : MirrorsTold all t u) where
       let now : Told = record t { engine = no_engine } in
       let next : Told = record u { engine = no_engine } in
       let k = if-told (is_told t) (Some now) w h in
-      let e = and-both (eqb t.left 0) t.engine.rises k.0 in
-      let f = and-both (eqb u.left 0) u.engine.rises (told-too all t u m k.0) in (
+      let e = and_parts (eqb t.left 0) t.engine.rises k.0 in
+      let f = and_parts (eqb u.left 0) u.engine.rises (told-too all t u m k.0) in (
         next,
         if-pass (is_told u) (Some next) next (told-too all t u m k.0) refl,
         subst (λ z. MirrorsTold all z next) (some-of now w k.1)
             (record {
               recurs = m.recurs;
               parted = m.parted;
-              told = inr (both-and (eqb u.left 0) true f.0 refl, inr (eqb-true _ _ e.0, refl));
+              told = inr (and_from (eqb u.left 0) true f.0 refl, inr (eqb-true _ _ e.0, refl));
             }),
       )
 
@@ -262,7 +261,7 @@ module _ (all : List Row) (t w u : Told) (m : MirrorsTold all t u) where
   so-far-stays h =
       let now : Told = record t { engine = no_engine } in
       let k = if-told (is_told t) (Some now) w h in
-      let e = and-both (eqb t.left 0) t.engine.rises k.0 in
+      let e = and_parts (eqb t.left 0) t.engine.rises k.0 in
       subst (λ z. MirrorsTold all z u) (some-of now w k.1)
       (record { recurs = m.recurs; parted = m.parted; told = inr (told-too all t u m k.0, inr (eqb-true _ _ e.0, refl)) })
 
@@ -281,18 +280,18 @@ told-goes all t w u (Line c i o name) m own held h =
     (g.0, if-pass (is_lawful (Line c i o name)) (line_told u (closed_to all c) (said o)) g.0 k.0 g.1, g.2)
 told-goes all t w u (Part c i code n) m own held h =
     let k = if-told (is_lawful (Part c i code n)) (part_told t c code.now n) w h in
-    let l = and-both (is_code code.now) (ltb 0 n) k.0 in
+    let l = and_parts (is_code code.now) (ltb 0 n) k.0 in
     let g = part-goes all t w u m c code.now n held (ltb-true _ _ l.1) k.1 in
     (g.0, if-pass (is_lawful (Part c i code n)) (part_told u (closed_to all c) code.now n) g.0 k.0 g.1, g.2)
 told-goes all t w u (Engine c i e p x y n) m own held h =
     let after : LastEngine → Option LastEngine = λ g. after_engine g e (record { period = p; dx = x; dy = y }) in
     let k = if-told (is_lawful (Engine c i e p x y n)) (engine_told t c n (after t.engine)) w h in
-    let l = and-both (is_way p x y) (ltb 0 n) k.0 in
+    let l = and_parts (is_way p x y) (ltb 0 n) k.0 in
     let g = engine-goes all t w u m c n after held (ltb-true _ _ l.1) k.1 in
     (g.0, if-pass (is_lawful (Engine c i e p x y n)) (engine_told u (closed_to all c) n (after u.engine)) g.0 k.0 g.1, g.2)
 told-goes all t w u (Emits c i e code n) m own held h =
     let k = if-told (is_lawful (Emits c i e code n)) (emits_told t c e code.now n) w h in
-    let l = and-both (ltb 0 e) (is_code code.now && ltb 0 n) k.0 in
+    let l = and_parts (ltb 0 e) (is_code code.now && ltb 0 n) k.0 in
     let g = emits-goes all t w u m c e code.now n held (ltb-true _ _ l.0) k.1 in
     (g.0, if-pass (is_lawful (Emits c i e code n)) (emits_told u (closed_to all c) e code.now n) g.0 k.0 g.1, g.2)
 told-goes all t w u (Code c rule code n) m own held h =
@@ -329,8 +328,8 @@ so-far-told : (t w : Told) → told_so_far t ≡ Some w → is_told w ≡ true
 so-far-told t w h =
     let now : Told = record t { engine = no_engine } in
     let k = if-told (is_told t) (Some now) w h in
-    let e = and-both (eqb t.left 0) t.engine.rises k.0 in
-    ap is_told (sym (some-of now w k.1)) ∙ both-and (eqb t.left 0) true e.0 refl
+    let e = and_parts (eqb t.left 0) t.engine.rises k.0 in
+    ap is_told (sym (some-of now w k.1)) ∙ and_from (eqb t.left 0) true e.0 refl
 
 line-own : (t w : Told) (c : ℕ) (what : Said) → line_told t c what ≡ Some w → w.collection ≡ c
 line-own t w c what h =
@@ -344,13 +343,13 @@ part-own : (t w : Told) (c : ℕ) (code : List ℕ) (count : ℕ) → part_told 
 part-own t w c code count h =
     let now : Told = record t { left = t.left - count; last = code } in
     let k = if-told (eqb c t.collection && (leb count t.left && is_lt (shorter_cmp t.last code))) (Some now) w h in
-    let e = and-both (eqb c t.collection) (leb count t.left && is_lt (shorter_cmp t.last code)) k.0 in
+    let e = and_parts (eqb c t.collection) (leb count t.left && is_lt (shorter_cmp t.last code)) k.0 in
     ap (λ (z : Told). z.collection) (sym (some-of now w k.1)) ∙ sym (eqb-true _ _ e.0)
 
 engine-own : (t w : Told) (c count : ℕ) (o : Option LastEngine) → engine_told t c count o ≡ Some w → w.collection ≡ c
 engine-own t w c count o h =
     let k = if-told (eqb c t.collection && leb count t.left) (option_map (with_engine t (t.left - count) []) o) w h in
-    let e = and-both (eqb c t.collection) (leb count t.left) k.0 in
+    let e = and_parts (eqb c t.collection) (leb count t.left) k.0 in
     let to = mapped (with_engine t (t.left - count) []) o w k.1 in
     ap (λ (z : Told). z.collection) (sym to.2) ∙ sym (eqb-true _ _ e.0)
 
@@ -358,7 +357,7 @@ emits-own : (t w : Told) (c engine : ℕ) (code : List ℕ) (count : ℕ) → em
 emits-own t w c engine code count h =
     let o = after_emits t.engine (record { code = code; count = count }) in
     let k = if-told (eqb c t.collection && (eqb engine t.engine.number && is_lt (shorter_cmp t.last code))) (option_map (with_engine t t.left code) o) w h in
-    let e = and-both (eqb c t.collection) (eqb engine t.engine.number && is_lt (shorter_cmp t.last code)) k.0 in
+    let e = and_parts (eqb c t.collection) (eqb engine t.engine.number && is_lt (shorter_cmp t.last code)) k.0 in
     let to = mapped (with_engine t t.left code) o w k.1 in
     ap (λ (z : Told). z.collection) (sym to.2) ∙ sym (eqb-true _ _ e.0)
 

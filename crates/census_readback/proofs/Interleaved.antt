@@ -2,7 +2,7 @@
 use Rattle.std.proofs.Common.{◌≡◌, ℕ, zero, suc, ◌+◌, ◌-◌, ◌<◌, ◌≤◌, ◌^◌, Bool, true, false, ◌&&◌, eqb, ltb, leb, Option, Some, None, List, [], ◌∷◌, ◌++◌, ap, ◌∙◌, sym, refl, arith, subst, length, append_assoc}
 use Rattle.std.specs.Prelude.{if◌then◌else◌}
 use Rattle.std.specs.List.{list_all}
-use Rattle.std.proofs.lemmas.Bool.{eqb-true, eq-eqb, ltb-true, lt-ltb, leb-true, le-leb}
+use Rattle.std.proofs.lemmas.Bool.{and_from, and_parts, eq-eqb, eqb-true, le-leb, leb-true, lt-ltb, ltb-true}
 use Rattle.std.proofs.lemmas.List.{append-nil}
 use Rattle.census_rows.specs.declared.row.Row.{Row}
 use Rattle.census_rows.specs.declared.row.Row.TheVariants.{Open, Line, Part, Engine, Emits, Code, Close, End}
@@ -12,7 +12,7 @@ use Rattle.census_readback.specs.Sections.{place_after}
 use Rattle.census_readback.specs.Runs.{run}
 use Rattle.census_readback.specs.Steps.{Reading, collection_of, patterns_opened, is_behind, place_at, with_place, initial_reading, gone_on, section_step, end_step, step, first_stray}
 use Rattle.census_readback.specs.Shapes.{rows_of, AreOfCollections, patterns_in, IsWholeReport, AreWhole, all_rows, AreReports}
-use Rattle.census_readback.proofs.Shaped.{and-both, both-and, section-sound, section-complete}
+use Rattle.census_readback.proofs.Shaped.{section-sound, section-complete}
 use Rattle.census_readback.proofs.Kept.{Kept, kept-none, kept-step, run-split, rows-here, patterns-append}
 use Rattle.census_readback.specs.Limits.{count_limit}
 use Rattle.census_readback.specs.Told.{Told, nothing_told, told_after, told_by}
@@ -47,7 +47,7 @@ taken s t r h =
     let i = collection_of r - 1 in
     let o = place_after (place_at s.places i) r in
     let k = if-some (ltb 0 (collection_of r) && leb (collection_of r) count_limit) (gone_on s i (patterns_opened r) o) t h in
-    let b = and-both (ltb 0 (collection_of r)) (leb (collection_of r) count_limit) k.0 in
+    let b = and_parts (ltb 0 (collection_of r)) (leb (collection_of r) count_limit) k.0 in
     let g = gone-some s t i (patterns_opened r) o k.1 in
     record {
       place = g.0;
@@ -66,7 +66,7 @@ taking s r p low high goes fits =
     let i = collection_of r - 1 in
     let o = place_after (place_at s.places i) r in
     let u : Reading = record { places = with_place s.places i p; patterns = s.patterns + patterns_opened r; ended = false } in
-    let pass : (ltb 0 (collection_of r) && leb (collection_of r) count_limit) ≡ true = both-and _ _ (lt-ltb _ _ low) (le-leb _ _ high) in
+    let pass : (ltb 0 (collection_of r) && leb (collection_of r) count_limit) ≡ true = and_from _ _ (lt-ltb _ _ low) (le-leb _ _ high) in
     let small : ltb (s.patterns + patterns_opened r) (2 ^ 64) ≡ true = lt-ltb _ _ fits in
     ap (λ v. if v then gone_on s i (patterns_opened r) o else None) pass
     ∙ ap (λ (w : Option Place). gone_on s i (patterns_opened r) w) goes
@@ -150,8 +150,8 @@ ended-step : (s t : Reading) (n k : ℕ) → end_step s n k ≡ Some t
 ended-step s t n k h =
     let u : Reading = record { places = []; patterns = 0; ended = true } in
     let j = if-some (list_all is_behind s.places && (eqb (length s.places) n && eqb s.patterns k)) (Some u) t h in
-    let b1 = and-both (list_all is_behind s.places) (eqb (length s.places) n && eqb s.patterns k) j.0 in
-    let b2 = and-both (eqb (length s.places) n) (eqb s.patterns k) b1.1 in
+    let b1 = and_parts (list_all is_behind s.places) (eqb (length s.places) n && eqb s.patterns k) j.0 in
+    let b2 = and_parts (eqb (length s.places) n) (eqb s.patterns k) b1.1 in
     let same : t ≡ u = (let e : Some u ≡ Some t = j.1 in cc) in
     (b1.0, eqb-true _ _ b2.0, eqb-true _ _ b2.1, same)
 
@@ -270,7 +270,7 @@ body v w s n seen (r ∷ rows) rest most told kept owned few runs fits =
 
 pub all-behind : (xs : List Place) → ((i : ℕ) → i < length xs → is_behind (place_at xs i) ≡ true) → list_all is_behind xs ≡ true
 all-behind [] h = refl
-all-behind (x ∷ xs) h = both-and (is_behind x) (list_all is_behind xs) (h 0 (omega arith)) (all-behind xs (λ i less. h (suc i) (omega arith)))
+all-behind (x ∷ xs) h = and_from (is_behind x) (list_all is_behind xs) (h 0 (omega arith)) (all-behind xs (λ i less. h (suc i) (omega arith)))
 
 -- at least n places, if the first n are the ends of sections
 enough : (xs : List Place) (n : ℕ) → ((j : ℕ) → j < n → place_at xs j ≡ Behind) → n ≤ length xs
@@ -299,7 +299,7 @@ report s n rows rest kept is =
     let size : length t.places ≡ is.collections = omega arith in
     let all = all-behind t.places (λ j less. ap is_behind (here j (omega arith))) in
     let pass : (list_all is_behind t.places && (eqb (length t.places) is.collections && eqb t.patterns k)) ≡ true =
-    both-and _ _ all (both-and _ _ (eq-eqb _ _ size) (eq-eqb _ _ b.2.sum)) in
+    and_from _ _ all (and_from _ _ (eq-eqb _ _ size) (eq-eqb _ _ b.2.sum)) in
     let taken_end : step t last ≡ Some u = ap (λ v. if v then Some u else None) pass in (
       b.1 + 1,
       ap (λ w. first_stray nothing_told s n (w ++ rest)) is.whole ∙ ap (λ w. first_stray nothing_told s n w) (append_assoc is.body (last ∷ []) rest) ∙ b.3

@@ -1,7 +1,7 @@
 -- A collection is read to its end exactly if its rows have the shape of a section.
 use Rattle.std.proofs.Common.{◌≡◌, ℕ, ◌+◌, ◌<◌, ◌≤◌, Bool, true, false, ◌&&◌, eqb, ltb, leb, Option, Some, None as Nothing, List, [], ◌∷◌, ◌++◌, drop, length, ap, ◌∙◌, sym, refl, arith, subst}
 use Rattle.std.specs.Prelude.{if◌then◌else◌}
-use Rattle.std.proofs.lemmas.Bool.{eqb-true, eq-eqb, ltb-true, lt-ltb, leb-true, le-leb}
+use Rattle.std.proofs.lemmas.Bool.{and_from, and_parts, eq-eqb, eqb-true, le-leb, leb-true, lt-ltb, ltb-true}
 use Rattle.census_rows.specs.declared.kinds.Behind as rows
 use Rattle.census_rows.specs.declared.kinds.Behind.TheVariants as behind
 use Rattle.census_rows.specs.declared.kinds.Class.{Class}
@@ -23,10 +23,6 @@ use Rattle.census_readback.specs.Limits.{count_limit}
 
 abbrev one : Bool → ℕ
 one b = if b then 1 else 0
-
-pub and-both : (a b : Bool) → (a && b) ≡ true → (a ≡ true) × (b ≡ true)
-and-both true b h = (refl, h)
-and-both false b h = absurd (cc)
 
 -- the counts add up
 pub record Good (t : Tally) : Type 0 where
@@ -129,7 +125,7 @@ within-sound t (Open c n name ∷ rows) g h = absurd (cc)
 within-sound t (Line c i o name ∷ rows) g h =
     let u = with_line t o in
     let k = passed (ltb t.read t.patterns && eqb i (t.read + 1)) (Within u) rows h in
-    let b = and-both (ltb t.read t.patterns) (eqb i (t.read + 1)) k.0 in
+    let b = and_parts (ltb t.read t.patterns) (eqb i (t.read + 1)) k.0 in
     let less : t.read < t.patterns = ltb-true _ _ b.0 in
     let number : i ≡ t.read + 1 = eqb-true _ _ b.1 in
     let w = grown t o g less in
@@ -155,7 +151,7 @@ within-sound t (Line c i o name ∷ rows) g h =
 within-sound t (Part c i code m ∷ rows) g h =
     let u = with_part t code.now m in
     let k = passed (may_stand t behind.Parts i) (Within u) rows h in
-    let b = and-both (same_behind t.behind behind.Parts) (eqb i t.read) k.0 in
+    let b = and_parts (same_behind t.behind behind.Parts) (eqb i t.read) k.0 in
     let good : Good u = record { sum = g.sum; within = g.within; few = g.few } in
     let r = within-sound u rows good k.1 in
     record {
@@ -178,7 +174,7 @@ within-sound t (Part c i code m ∷ rows) g h =
     }
 within-sound t (Engine c i e p x y m ∷ rows) g h =
     let k = passed (may_stand t behind.Engines i) (Within t) rows h in
-    let b = and-both (same_behind t.behind behind.Engines) (eqb i t.read) k.0 in
+    let b = and_parts (same_behind t.behind behind.Engines) (eqb i t.read) k.0 in
     let r = within-sound t rows g k.1 in
     record {
       lines = Engine c i e p x y m ∷ r.lines;
@@ -200,7 +196,7 @@ within-sound t (Engine c i e p x y m ∷ rows) g h =
     }
 within-sound t (Emits c i e code m ∷ rows) g h =
     let k = passed (may_stand t behind.Engines i) (Within t) rows h in
-    let b = and-both (same_behind t.behind behind.Engines) (eqb i t.read) k.0 in
+    let b = and_parts (same_behind t.behind behind.Engines) (eqb i t.read) k.0 in
     let r = within-sound t rows g k.1 in
     record {
       lines = Emits c i e code m ∷ r.lines;
@@ -223,7 +219,7 @@ within-sound t (Emits c i e code m ∷ rows) g h =
 within-sound t (Code c rule code m ∷ rows) g h =
     let u = with_told t in
     let k = passed (eqb t.read t.patterns && tells_next t rule.now code.now m) (Within u) rows h in
-    let both = and-both (eqb t.read t.patterns) (tells_next t rule.now code.now m) k.0 in
+    let both = and_parts (eqb t.read t.patterns) (tells_next t rule.now code.now m) k.0 in
     let whole : t.read ≡ t.patterns = eqb-true _ _ both.0 in
     let good : Good u = record { sum = g.sum; within = g.within; few = g.few } in
     let r = within-sound u rows good k.1 in
@@ -249,11 +245,11 @@ within-sound t (Code c rule code m ∷ rows) g h =
     }
 within-sound t (Close c n a b d ∷ rows) g h =
     let k = passed (closes t (record { patterns = n; resolved = a; unresolved = b; refused = d })) Behind rows h in
-    let b1 = and-both (eqb t.read t.patterns) (eqb n t.patterns && (eqb a t.resolved && (eqb b t.unresolved && (eqb d t.refused && eqb t.told (length t.counts.sums))))) k.0 in
-    let b2 = and-both (eqb n t.patterns) (eqb a t.resolved && (eqb b t.unresolved && (eqb d t.refused && eqb t.told (length t.counts.sums)))) b1.1 in
-    let b3 = and-both (eqb a t.resolved) (eqb b t.unresolved && (eqb d t.refused && eqb t.told (length t.counts.sums))) b2.1 in
-    let b4 = and-both (eqb b t.unresolved) (eqb d t.refused && eqb t.told (length t.counts.sums)) b3.1 in
-    let b5 = and-both (eqb d t.refused) (eqb t.told (length t.counts.sums)) b4.1 in
+    let b1 = and_parts (eqb t.read t.patterns) (eqb n t.patterns && (eqb a t.resolved && (eqb b t.unresolved && (eqb d t.refused && eqb t.told (length t.counts.sums))))) k.0 in
+    let b2 = and_parts (eqb n t.patterns) (eqb a t.resolved && (eqb b t.unresolved && (eqb d t.refused && eqb t.told (length t.counts.sums)))) b1.1 in
+    let b3 = and_parts (eqb a t.resolved) (eqb b t.unresolved && (eqb d t.refused && eqb t.told (length t.counts.sums))) b2.1 in
+    let b4 = and_parts (eqb b t.unresolved) (eqb d t.refused && eqb t.told (length t.counts.sums)) b3.1 in
+    let b5 = and_parts (eqb d t.refused) (eqb t.told (length t.counts.sums)) b4.1 in
     let e1 : t.read ≡ t.patterns = eqb-true _ _ b1.0 in
     let e2 : n ≡ t.patterns = eqb-true _ _ b2.0 in
     let e3 : a ≡ t.resolved = eqb-true _ _ b3.0 in
@@ -317,10 +313,6 @@ section-sound (End n k ∷ rows) h = absurd (cc)
 
 -- # The other way
 
-pub both-and : (a b : Bool) → a ≡ true → b ≡ true → (a && b) ≡ true
-both-and true b h k = k
-both-and false b h k = absurd (cc)
-
 pass : (b : Bool) (p : Place) (rows : List Row) → b ≡ true
     → (elim (if b then Some p else Nothing) as (λ _. Option Place) [ Nothing ↦ Nothing | Some after ↦ run after rows ]) ≡ run p rows
 pass true p rows h = refl
@@ -330,7 +322,7 @@ codes-complete : (t : Tally) (codes : List Row) (c n a b d : ℕ) → AreCodes c
     → t.read ≡ t.patterns → n ≡ t.patterns → a ≡ t.resolved → b ≡ t.unresolved → d ≡ t.refused → run (Within t) (codes ++ Close c n a b d ∷ []) ≡ Some Behind
 codes-complete t [] c n a b d counts most tallied e1 e2 e3 e4 e5 =
     pass (closes t (record { patterns = n; resolved = a; unresolved = b; refused = d })) Behind []
-    (both-and _ _ (eq-eqb _ _ e1) (both-and _ _ (eq-eqb _ _ e2) (both-and _ _ (eq-eqb _ _ e3) (both-and _ _ (eq-eqb _ _ e4) (both-and _ _ (eq-eqb _ _ e5) (eq-eqb _ _ (drop-none t.counts.sums t.told most (sym tallied))))))))
+    (and_from _ _ (eq-eqb _ _ e1) (and_from _ _ (eq-eqb _ _ e2) (and_from _ _ (eq-eqb _ _ e3) (and_from _ _ (eq-eqb _ _ e4) (and_from _ _ (eq-eqb _ _ e5) (eq-eqb _ _ (drop-none t.counts.sums t.told most (sym tallied))))))))
 codes-complete t (Open c2 n2 name ∷ codes) c n a b d counts most tallied e1 e2 e3 e4 e5 = absurd counts
 codes-complete t (Line c2 i o name ∷ codes) c n a b d counts most tallied e1 e2 e3 e4 e5 = absurd counts
 codes-complete t (Part c2 i code k ∷ codes) c n a b d counts most tallied e1 e2 e3 e4 e5 = absurd counts
@@ -339,7 +331,7 @@ codes-complete t (Emits c2 i e code k ∷ codes) c n a b d counts most tallied e
 codes-complete t (Code c2 rule code k ∷ codes) c n a b d counts most tallied e1 e2 e3 e4 e5 =
     let u = with_told t in
     let next = next-drops t.counts.sums t.told (object rule.now code.now) k (counts_told codes) (sym tallied) in
-    pass (eqb t.read t.patterns && tells_next t rule.now code.now k) (Within u) (codes ++ Close c n a b d ∷ []) (both-and _ _ (eq-eqb _ _ e1) next.0)
+    pass (eqb t.read t.patterns && tells_next t rule.now code.now k) (Within u) (codes ++ Close c n a b d ∷ []) (and_from _ _ (eq-eqb _ _ e1) next.0)
     ∙ codes-complete u codes c n a b d counts next.1 next.2 e1 e2 e3 e4 e5
 codes-complete t (Close c2 n2 a2 b2 d2 ∷ codes) c n a b d counts most tallied e1 e2 e3 e4 e5 = absurd counts
 codes-complete t (End n2 k ∷ codes) c n a b d counts most tallied e1 e2 e3 e4 e5 = absurd counts
@@ -357,20 +349,20 @@ within-complete t (Line c2 i o name ∷ lines) codes c n a b d g are counts zero
     let w = grown t o g less in
     let more : AreLines u.read u.behind lines = subst (λ m. AreLines m u.behind lines) (sym w.read) (subst (λ x. AreLines (t.read + 1) x lines) (sym w.behind) are.1) in
     pass (ltb t.read t.patterns && eqb i (t.read + 1)) (Within u) (lines ++ (codes ++ Close c n a b d ∷ []))
-    (both-and _ _ (lt-ltb _ _ less) (eq-eqb _ _ are.0))
+    (and_from _ _ (lt-ltb _ _ less) (eq-eqb _ _ are.0))
     ∙ within-complete u lines codes c n a b d w.good more counts (w.told ∙ zero)
     (tallied ∙ ap (λ n. drop n (counted_by (line_counted t.counts (said o)) lines).sums) (sym w.told)) (omega (arith, w.read, w.patterns)) (e2 ∙ sym w.patterns)
     (omega (arith, w.resolved)) (omega (arith, w.unresolved)) (omega (arith, w.refused))
 within-complete t (Part c2 i code k ∷ lines) codes c n a b d g are counts zero tallied e1 e2 e3 e4 e5 =
     let u = with_part t code.now k in
     let good : Good u = record { sum = g.sum; within = g.within; few = g.few } in
-    pass (may_stand t behind.Parts i) (Within u) (lines ++ (codes ++ Close c n a b d ∷ [])) (both-and _ _ are.0 (eq-eqb _ _ are.1))
+    pass (may_stand t behind.Parts i) (Within u) (lines ++ (codes ++ Close c n a b d ∷ [])) (and_from _ _ are.0 (eq-eqb _ _ are.1))
     ∙ within-complete u lines codes c n a b d good are.2 counts zero tallied (omega arith) e2 (omega arith) (omega arith) (omega arith)
 within-complete t (Engine c2 i e p x y k ∷ lines) codes c n a b d g are counts zero tallied e1 e2 e3 e4 e5 =
-    pass (may_stand t behind.Engines i) (Within t) (lines ++ (codes ++ Close c n a b d ∷ [])) (both-and _ _ are.0 (eq-eqb _ _ are.1))
+    pass (may_stand t behind.Engines i) (Within t) (lines ++ (codes ++ Close c n a b d ∷ [])) (and_from _ _ are.0 (eq-eqb _ _ are.1))
     ∙ within-complete t lines codes c n a b d g are.2 counts zero tallied (omega arith) e2 (omega arith) (omega arith) (omega arith)
 within-complete t (Emits c2 i e code k ∷ lines) codes c n a b d g are counts zero tallied e1 e2 e3 e4 e5 =
-    pass (may_stand t behind.Engines i) (Within t) (lines ++ (codes ++ Close c n a b d ∷ [])) (both-and _ _ are.0 (eq-eqb _ _ are.1))
+    pass (may_stand t behind.Engines i) (Within t) (lines ++ (codes ++ Close c n a b d ∷ [])) (and_from _ _ are.0 (eq-eqb _ _ are.1))
     ∙ within-complete t lines codes c n a b d g are.2 counts zero tallied (omega arith) e2 (omega arith) (omega arith) (omega arith)
 within-complete t (Code c2 rule code k ∷ lines) codes c n a b d g are counts zero tallied e1 e2 e3 e4 e5 = absurd are
 within-complete t (Close c2 n2 a2 b2 d2 ∷ lines) codes c n a b d g are counts zero tallied e1 e2 e3 e4 e5 = absurd are

@@ -1,14 +1,10 @@
 -- The objects that were counted, one after another.
-use Rattle.std.proofs.Common.{◌≡◌, ℕ, zero, suc, ◌+◌, ◌≤◌, Bool, true, false, ◌&&◌, eqb, Some, None as Nothing, List, [], ◌∷◌, drop, length, slice_get, ap, ◌∙◌, sym, refl, arith}
+use Rattle.std.proofs.Common.{◌≡◌, ℕ, zero, suc, ◌+◌, ◌≤◌, true, false, ◌&&◌, eqb, Some, None as Nothing, List, [], ◌∷◌, drop, length, slice_get, ap, ◌∙◌, sym, refl, arith}
 use Rattle.std.specs.Option.{option_map_or}
-use Rattle.std.proofs.lemmas.Bool.{eqb-true, eq-eqb}
+use Rattle.std.proofs.lemmas.Bool.{and_parts, eq-eqb, eqb-true}
 use Rattle.std.proofs.Math.Seq.{drop-length}
 use Rattle.census_readback.specs.Counts.{Object, Sum, is_counted, same_object}
 use Rattle.census_readback.specs.ObjectLaws.{one_object, same_itself}
-
-both : (a b : Bool) → (a && b) ≡ true → (a ≡ true) × (b ≡ true)
-both true b h = (refl, h)
-both false b h = absurd (cc)
 
 one-sum : (sum : Sum) (n : ℕ) → option_map_or (λ m. eqb m n) sum false ≡ true → sum ≡ Some n
 one-sum Nothing n h = absurd (cc)
@@ -18,7 +14,7 @@ one-sum (Some m) n h = ap (λ (k : ℕ). Some k) (eqb-true m n h)
 pub next-counted : (es : List (Object × Sum)) (i : ℕ) (k : Object) (n : ℕ) → is_counted (slice_get es i) k n ≡ true → drop i es ≡ (k, Some n) ∷ drop (i + 1) es
 next-counted [] i k n h = absurd (cc)
 next-counted (e ∷ es) zero k n h =
-    let parts = both (same_object e.0 k) (option_map_or (λ m. eqb m n) e.1 false) h in
+    let parts = and_parts (same_object e.0 k) (option_map_or (λ m. eqb m n) e.1 false) h in
     let object = one_object e.0 k parts.0 in
     let sum = one-sum e.1 n parts.1 in
     λ i. (object i, sum i) ∷ es

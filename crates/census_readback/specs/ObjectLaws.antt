@@ -1,6 +1,6 @@
 -- Two objects are the same exactly if they are one.
-use Rattle.std.proofs.Common.{◌≡◌, ℕ, Bool, true, false, ◌&&◌, List, ◌++◌, refl, sym, ap, ◌∙◌, Decides, nat_eq}
-use Rattle.std.proofs.lemmas.Bool.{false≢true}
+use Rattle.std.proofs.Common.{◌≡◌, ℕ, true, false, ◌&&◌, List, ◌++◌, refl, sym, ap, ◌∙◌, Decides, nat_eq}
+use Rattle.std.proofs.lemmas.Bool.{and_parts, false≢true}
 use Rattle.std.proofs.lemmas.Bool.Decides.{Decides-eqb}
 use Rattle.std.proofs.lemmas.Slice.Eq.{slice_eq-Decides}
 use Rattle.std.specs.Cmp.{IsPartialEquivalence, IsEquivalence, partial_equiv_from_equiv}
@@ -8,17 +8,13 @@ use Rattle.std.specs.Cmp.Lexicographic.{pointwise}
 use Rattle.std.specs.Hash as fed
 use Rattle.census_readback.specs.Counts.{Object, same_object}
 
-both : (a b : Bool) → (a && b) ≡ true → (a ≡ true) × (b ≡ true)
-both true b e = (refl, e)
-both false b e = absurd (false≢true e)
-
 pub same_text : (x y : List ℕ) → Decides (pointwise nat_eq x y) (x ≡ y)
 same_text x y = slice_eq-Decides Decides-eqb x y (pointwise nat_eq x y) refl
 
 -- objects that are the same are one
 pub one_object : (k l : Object) → same_object k l ≡ true → k ≡ l
 one_object k l e =
-    let parts = both (pointwise nat_eq k.rule l.rule) (pointwise nat_eq k.code l.code) e in
+    let parts = and_parts (pointwise nat_eq k.rule l.rule) (pointwise nat_eq k.code l.code) e in
     let rules = (same_text k.rule l.rule).0 parts.0 in
     let codes = (same_text k.code l.code).0 parts.1 in
     λ i. record { rule = rules i; code = codes i }

@@ -1,17 +1,13 @@
 -- Texts in which some bytes are replaced, in pieces.
 use Rattle.std.proofs.Common.{◌≡◌, ℕ, zero, suc, ◌+◌, ◌-◌, ◌<◌, ◌≤◌, Bool, true, false, ◌&&◌, cond, List, [], ◌∷◌, ◌++◌, length, take, drop, get_or, refl, sym, ap, ap₂, ◌∙◌, arith, append_assoc, append-nil, length-append, length-drop, drop-cons, ⊎_elim}
 use Rattle.std.specs.Prelude.{⊤, nat_le, bytes_eq, codes}
-use Rattle.std.proofs.lemmas.Bool.{cases_Bool, cond-true, cond-false, and_from, leb-true, le-leb}
+use Rattle.std.proofs.lemmas.Bool.{and_from, and_parts, cases_Bool, cond-false, cond-true, le-leb, leb-true}
 use Rattle.std.proofs.lemmas.List.{take-append-drop, drop_all, drop-drop, take_all}
 use Rattle.std.proofs.Math.Seq.{take-append_seam}
 use Rattle.std.proofs.lemmas.Slice.Eq.{bytes_eq-Decides}
 use Rattle.bstr.specs.Find.{occurs_at, match_len, matches_from}
 use Rattle.bstr.specs.Text.{part, replaced_at}
 use Rattle.census_facts.specs.Json.Lines.{replaced, with_line_ends_escaped}
-
-pub both-parts : (a b : Bool) → (a && b) ≡ true → (a ≡ true) × (b ≡ true)
-both-parts true b h = (refl, h)
-both-parts false b h = absurd (cc)
 
 same-truth : (a b : Bool) → (a ≡ true → b ≡ true) → (b ≡ true → a ≡ true) → a ≡ b
 same-truth true b f g = sym (f refl)
@@ -24,7 +20,7 @@ starts old text = nat_le (length old) (length text) && bytes_eq (take (length ol
 
 starts-true : (old text : List ℕ) → starts old text ≡ true → (rest : List ℕ) × (text ≡ old ++ rest)
 starts-true old text h =
-    let parts = both-parts _ _ h in
+    let parts = and_parts _ _ h in
     (drop (length old) text, sym (take-append-drop (length old) text) ∙ ap (λ t. t ++ drop (length old) text) ((bytes_eq-Decides (take (length old) text) old).0 parts.1))
 
 true-starts : (old text rest : List ℕ) → text ≡ old ++ rest → starts old text ≡ true
@@ -41,9 +37,9 @@ occurs-is hay old i within =
     let far = nat_le (i + length old) (length hay) in
     let near = nat_le (length old) (length (drop i hay)) in
     same-truth (far && same) (near && same)
-    (λ h. let parts = both-parts far same h in
+    (λ h. let parts = and_parts far same h in
     and_from near same (le-leb (length old) (length (drop i hay)) (let le = leb-true (i + length old) (length hay) parts.0 in omega arith)) parts.1)
-    (λ h. let parts = both-parts near same h in
+    (λ h. let parts = and_parts near same h in
     and_from far same (le-leb (i + length old) (length hay) (let le = leb-true (length old) (length (drop i hay)) parts.0 in omega arith)) parts.1)
 
 -- each byte is 128 or more

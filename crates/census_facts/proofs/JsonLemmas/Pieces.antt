@@ -1,7 +1,7 @@
 -- JSON of objects and of arrays, in pieces.
 use Rattle.std.proofs.Common.{◌≡◌, ℕ, ℤ, ◌<◌, Bool, true, false, List, [], ◌∷◌, ◌++◌, ◌-◌, ◌≤◌, length, length-append, take, drop, suc, refl, sym, ap, ap₂, ◌∙◌, arith, append_assoc, append-nil}
 use Rattle.std.specs.Prelude.{◌&&◌, codes, nat_lt}
-use Rattle.std.proofs.lemmas.Bool.{ltb-true}
+use Rattle.std.proofs.lemmas.Bool.{and_parts, ltb-true}
 use Rattle.std.proofs.Math.Seq.{take-append_seam}
 use Rattle.bstr.specs.Find.{matches_from}
 use Rattle.bstr.specs.Text.{replaced_at}
@@ -12,7 +12,7 @@ use Rattle.serde_json.proofs.OnLiterals.{serde_json_on_literals}
 use Rattle.census_facts.specs.Json.Lines.{with_line_ends_escaped}
 use Rattle.census_facts.specs.Json.Pieces.{engines_end, engines_head, items_within, joined, members_within}
 use Rattle.census_facts.specs.Json.Values.{displacement_data, engines_data}
-use Rattle.census_facts.proofs.JsonLemmas.Escapes.{both-parts, escaped-cut}
+use Rattle.census_facts.proofs.JsonLemmas.Escapes.{escaped-cut}
 
 pub escaped-none : with_line_ends_escaped [] ≡ []
 unfolding replaced_at matches_from
@@ -30,7 +30,7 @@ escaped-first b text low = escaped-cut [] b text low ∙ ap (λ t. t ++ b ∷ wi
 pub escaped-low : (bytes text : List ℕ) → are_low bytes ≡ true → with_line_ends_escaped (bytes ++ text) ≡ bytes ++ with_line_ends_escaped text
 escaped-low [] text low = refl
 escaped-low (b ∷ bs) text low =
-    let parts = both-parts (nat_lt b 128) (are_low bs) low in
+    let parts = and_parts (nat_lt b 128) (are_low bs) low in
     escaped-first b (bs ++ text) (ltb-true b 128 parts.0) ∙ ap (λ t. b ∷ t) (escaped-low bs text parts.1)
 
 -- as do those after a text
