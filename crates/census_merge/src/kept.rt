@@ -8,26 +8,10 @@ ghost use Rattle.census_merge.specs.Numbers.{AreNumbers, CanBeKept, kept_as};
 
 use crate::ended::whole_count;
 use crate::numbering::numbers_of;
+use crate::renumber::numbered;
 use census_readback::{collection_of, patterns_opened};
 use census_rows::Row;
 use std::alloc::{AllocError, Global};
-
-// A row with this number for its collection.
-fn numbered<'a>(number: u64, mut row: Row<'a>) -> Row<'a>
-    ensures { result ≡ numbered number row.entry }
-{
-    match &mut row {
-        Row::Open { collection, .. } => *collection = number,
-        Row::Line { collection, .. } => *collection = number,
-        Row::Part { collection, .. } => *collection = number,
-        Row::Engine { collection, .. } => *collection = number,
-        Row::Emits { collection, .. } => *collection = number,
-        Row::Code { collection, .. } => *collection = number,
-        Row::Close { collection, .. } => *collection = number,
-        Row::End { .. } => {}
-    }
-    row
-}
 
 // A row as it is kept, if its collection has a number.
 fn kept_row<'a>(numbers: &[u64], row: Row<'a>) -> Option<Row<'a>>
