@@ -19,11 +19,6 @@ pub some_alike : {A : Type 0} (o : Option A) (f : A → Work) (r : Option Work) 
 some_alike None f r some none = sym (ap is_some none)
 some_alike (Some x) f r some none = sym (ap is_some some)
 
--- what follows from what holds for a `None` holds for it
-pub none_then : {X N M : Type 0} (o : Option X) → IfNone o N → (N → M) → IfNone o M
-none_then None n f = f n
-none_then (Some x) n f = n
-
 -- what holds for the value in a `Some`, and otherwise for another, holds for the one that is chosen
 pub chosen : {X N : Type 0} (P : X → Type 0) (o : Option X) {other x : X} → x ≡ unwrap_or o other → IfSome o P → IfNone o N → (N → P other) → P x
 chosen P None is some none given = subst P (sym is) (given none)

@@ -1,11 +1,6 @@
 -- What holds where nothing is found.
 use Rattle.std.proofs.Common.{◌≡◌, Option, None, Some, Result, Ok, Err, IfNone, IfOk, IfSome, subst}
 
--- what follows where nothing is found, from what holds there
-pub none_then : {X N M : Type 0} (o : Option X) → IfNone o N → (N → M) → IfNone o M
-none_then None h then = then h
-none_then (Some x) h then = tt
-
 -- what holds where nothing is found
 pub of_none : {X N : Type 0} {o : Option X} → o ≡ None → IfNone o N → N
 of_none {N = N} e h = subst (λ p. IfNone p N) e h

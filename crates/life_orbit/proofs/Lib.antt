@@ -11,3 +11,4 @@ pub mod Backwards
 pub mod Rows
 pub mod Moves
 pub mod MovedCells
+pub mod Finding

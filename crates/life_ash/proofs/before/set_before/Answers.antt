@@ -9,7 +9,7 @@ use Rattle.life_model.specs.Recurrence.{RecursBy}
 use Rattle.life_model.specs.Symmetry.{translate_of}
 use Rattle.life_objects.specs.Drift.{multiple_of}
 use Rattle.life_cells.specs.Limits.{IsWithin}
-use Rattle.life_ash.proofs.Finding.{none_then}
+use Rattle.life_orbit.proofs.Finding.{none_then}
 use Rattle.life_ash.proofs.Turning.{turned_back}
 use Rattle.life_ash.proofs.before.set_before.Goals as goal
 use Rattle.life_ash.specs.Parts.{ash_age_limit}

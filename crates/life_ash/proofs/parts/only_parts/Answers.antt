@@ -13,7 +13,7 @@ use Rattle.life_orbit.specs.Kept.{orbit_age_limit}
 use Rattle.life_ash.specs.Living.{has_cells}
 use Rattle.life_ash.specs.Parts.{AreEndsOfCourses, IsEnd, ash_age_limit}
 use Rattle.life_ash.proofs.Cores.{ash_by_ends, no_end}
-use Rattle.life_ash.proofs.Finding.{none_then}
+use Rattle.life_orbit.proofs.Finding.{none_then}
 use Rattle.life_ash.proofs.Following.{ends_within}
 use Rattle.life_ash.proofs.Places.{placed_at}
 use Rattle.life_ash.proofs.Survivors.{ends}

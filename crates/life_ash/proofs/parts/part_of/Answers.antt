@@ -10,7 +10,8 @@ use Rattle.life_objects.specs.Ash.{RecursWithin}
 use Rattle.life_orbit.specs.Course.{Course}
 use Rattle.life_ash.specs.Met.{IsMet, Terms}
 use Rattle.life_ash.specs.Parts.{IsEnd, IsFit, ash_age_limit}
-use Rattle.life_ash.proofs.Finding.{both_then, none_then, of_none, of_some}
+use Rattle.life_ash.proofs.Finding.{both_then, of_none, of_some}
+use Rattle.life_orbit.proofs.Finding.{none_then}
 use Rattle.life_ash.proofs.Turning.{end_goes_round, end_reached, end_recurs}
 use Rattle.life_ash.proofs.parts.part_of.Goals as goal
 

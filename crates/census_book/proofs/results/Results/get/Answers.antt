@@ -1,9 +1,9 @@
-use Rattle.std.proofs.Common.{◌≡◌, true, subst}
+use Rattle.std.proofs.Common.{◌≡◌, IfNone, None, Some, true, subst}
 use Rattle.std.proofs.lemmas.Option.{IfSome_then}
 use Rattle.census_bundle.specs.Tickets.{has_ticket}
 use Rattle.census_book.specs.Collecting.{HasCollection, IsResult}
 use Rattle.census_book.specs.Progress.{Taken}
-use Rattle.census_book.proofs.Kept.{none_then}
+use Rattle.census_book.specs.Slots.{result_at}
 use Rattle.census_book.proofs.Rows.{not_kept}
 use Rattle.census_book.proofs.results.Results.get.Goals as goal
 
@@ -14,6 +14,10 @@ returns-clause-found c =
 
 pub returns-clause-missing : goal.returns-clause-missing
 returns-clause-missing c =
-    none_then c.get.result c.get.ensures.none (λ none.
-    subst (λ (r : Taken). has_ticket r.taken c.args.ticket ≡ true → HasCollection r.bundle r.taken c.args.ticket.folder) c.self.view_is
-    (not_kept c.self.inside.bundle.now c.self.inside.question c.self.inside.slots c.args.ticket c.self.invariant none))
+    elim c.get.result as (λ o. IfNone o (result_at c.self.inside.slots c.args.ticket ≡ None)
+    → IfNone o (has_ticket c.args.self.now.taken c.args.ticket ≡ true → HasCollection c.args.self.now.bundle c.args.self.now.taken c.args.ticket.folder)) [
+      | None ↦ λ none.
+          subst (λ (r : Taken). has_ticket r.taken c.args.ticket ≡ true → HasCollection r.bundle r.taken c.args.ticket.folder) c.self.view_is
+          (not_kept c.self.inside.bundle.now c.self.inside.question c.self.inside.slots c.args.ticket c.self.invariant none)
+      | Some done ↦ λ other. other
+    ] c.get.ensures.none

@@ -1,8 +1,7 @@
-use Rattle.std.proofs.Common.{◌≡◌, ◌∙◌, ap, sym}
+use Rattle.std.proofs.Common.{◌≡◌, ◌∙◌, IfNone, None, ap, sym, subst}
 use Rattle.std.proofs.lemmas.Option.{IfSome_then}
 use Rattle.census_bundle.specs.Tickets.{element_at}
 use Rattle.census_book.specs.Slots.{Row, work_in, work_at}
-use Rattle.census_book.proofs.Kept.{none_then}
 use Rattle.census_book.proofs.Padding.{row_result_at}
 use Rattle.census_book.proofs.slots.Row.get.Goals as goal
 
@@ -22,4 +21,4 @@ returns-clause-none c =
     let same : work_in (work_at c.args.self.now n) ≡ work_in (element_at c.as_slice.result.now n) =
     ap (λ (r : Row). work_in (work_at r n)) (sym c.self.view_is) ∙ row_result_at c.self.inside.is_dropped c.self.inside.len results n c.self.invariant.1
     ∙ ap (λ rs. work_in (element_at rs n)) (sym c.as_slice.ensures.value) in
-    none_then c.result_in.result c.result_in.ensures.none (λ none. same ∙ none)
+    subst (λ work. IfNone c.result_in.result (work ≡ None)) (sym same) c.result_in.ensures.none

@@ -1,4 +1,4 @@
-use Rattle.std.proofs.Common.{◌≡◌, Option, None, Some, IfNone, sym, ap, subst, ◌∙◌}
+use Rattle.std.proofs.Common.{◌≡◌, sym, ap, subst, ◌∙◌}
 use Rattle.std.specs.List.{All}
 use Rattle.std.proofs.lemmas.Option.{IfSome_then}
 use Rattle.std.proofs.lemmas.Result.{IfOk-weaker}
@@ -8,12 +8,8 @@ use Rattle.life_model.specs.Symmetry.{translate_of}
 use Rattle.life_cells.specs.Limits.{IsPlace}
 use Rattle.life_orbit.specs.Past.{IsPast}
 use Rattle.life_orbit.proofs.Backwards.{phase_then}
+use Rattle.life_orbit.proofs.Finding.{none_then}
 use Rattle.life_orbit.proofs.orbit.Orbit.set_ago.Goals as goal
-
--- what follows where nothing is found, from what holds there
-none_then : {X N M : Type 0} (o : Option X) → IfNone o N → (N → M) → IfNone o M
-none_then None h then = then h
-none_then (Some x) h then = tt
 
 -- the phase, moved back, is what the set was
 moved : (c : goal.After-cells_before) (P : Generation) → IsPast c.args.ago c.args.self.now P →
