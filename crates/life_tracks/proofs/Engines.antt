@@ -23,7 +23,7 @@ use Rattle.life_objects.proofs.GrowthLemmas.Parts.{disjoint_now, rest_is_disjoin
 use Rattle.life_tracks.specs.Lines.{ComesToReturn, HasLost, ancestor, core_of}
 use Rattle.life_tracks.specs.Readings.{IsReadOff}
 use Rattle.life_tracks.specs.Tracks.{Path, way_of}
-use Rattle.life_tracks.proofs.Alike.{engine_alike}
+use Rattle.life_objects.proofs.GrowthLemmas.EnginesLemmas.Along.{engine_alike}
 use Rattle.life_tracks.proofs.Ancestors.{ancestor-before, ancestor-last, ancestor-parent, core-before, core-last}
 use Rattle.life_tracks.proofs.Backs.{AreFramesOf, core_is, made_of, next_classes, on_line, without_left}
 use Rattle.life_tracks.proofs.Classes.{class_splits, split_further}

@@ -11,7 +11,6 @@ pub mod Corners
 pub mod Placing
 pub mod Stepping
 pub mod Backs
-pub mod Alike
 pub mod Engines
 pub mod Found
 pub mod FramesLemmas

@@ -1,4 +1,5 @@
 pub mod Classes
 pub mod Tracks
+pub mod Along
 pub mod Ways
 pub mod Growths

@@ -7,18 +7,17 @@ use Rattle.life_model.specs.Rule.{Rule}
 use Rattle.life_model.specs.Generation.{Generation}
 use Rattle.life_model.specs.Symmetry.{normal, translate_of}
 use Rattle.life_model.proofs.Moves.{moved_from_normal, normal-moved}
-use Rattle.life_objects.specs.Piece.{LivesThrough}
 use Rattle.life_objects.specs.Decided.Classes.{dies_out}
 use Rattle.life_objects.specs.Decided.Tests.{each_below}
 use Rattle.life_objects.proofs.DecidedLemmas.Kept.{Contains-filter, of_filter}
 use Rattle.life_objects.proofs.DecidedLemmas.Tests.{both, each_below_by, each_below_tells, not_true, same_set-is, true_not}
 use Rattle.life_objects.proofs.DecidedLemmas.Undivided.{lives_by_test, test_by_lives}
-use Rattle.life_objects.specs.Growth.Engine.{FallsApart, IsEngine, Way}
+use Rattle.life_objects.specs.Growth.Engine.{IsEngine, Way}
 use Rattle.life_objects.specs.Growth.Onward.{LeavesCores, LeavesLefts}
-use Rattle.life_objects.specs.Growth.Unsplit.{IsUnsplit, Leaves}
 use Rattle.life_objects.proofs.GrowthLemmas.Pieces.{leaves_for_ever}
 use Rattle.life_objects.specs.Growth.Engines.Tests.{is_unsplit}
 use Rattle.life_objects.specs.Growth.Engines.Tracks.{Step, comes_back, core_along, engine_tracks, is_moved, left_along, tracks, way_along}
+use Rattle.life_objects.proofs.GrowthLemmas.EnginesLemmas.Along.{engine_alike}
 use Rattle.life_objects.proofs.GrowthLemmas.EnginesLemmas.Classes.{test_by_unsplit, unsplit_by_test}
 use Rattle.life_objects.proofs.GrowthLemmas.EnginesLemmas.Tracks.{IsTrack, test_by_track, track_by_test, track_cores, track_lefts, track_long, track_of}
 
@@ -152,31 +151,7 @@ module _ (R : Rule) (b : ℕ) (E : Generation) where
     same_left k h = track_lefts way.core way.left way.period k h
 
     engine_told : IsEngine R b E (way_along E told)
-    engine_told =
-        let e = told_long in
-        let p : ℕ = way.period in
-        let one : 1 ≤ p = engine.later in
-        let within : p ≤ b = engine.within in
-        let again : core_along E told (length told) ≡ translate_of E way.displacement =
-        ap (core_along E told) e ∙ same_core p (omega arith) ∙ engine.again in
-        record {
-          start = refl;
-          later = omega arith;
-          within = omega arith;
-          again = moved_from_normal E (core_along E told (length told)) (sym (ap normal again ∙ normal-moved E way.displacement));
-          first = λ m d h k same. engine.first m d h (omega arith) (sym (same_core m (omega arith)) ∙ same);
-          leaves = λ m h.
-              subst (λ H. Leaves R H (core_along E told (suc m)) (left_along told m)) (sym (same_core m (omega arith)))
-              (subst (λ H. Leaves R (way.core m) H (left_along told m)) (sym (same_core (suc m) (omega arith)))
-              (subst (Leaves R (way.core m) (way.core (suc m))) (sym (same_left m (omega arith)))
-              (engine.leaves m (omega arith))));
-          whole = λ m h. subst (IsUnsplit R b) (sym (same_core m (omega arith))) (engine.whole m (omega arith));
-          settles = λ m h. subst (FallsApart R b) (sym (same_left m (omega arith))) (engine.settles m (omega arith));
-          emitting =
-              let m = engine.emitting in
-              let below : m.0 < p = m.1 in
-              (m.0, omega arith, subst (LivesThrough R b) (sym (same_left m.0 m.1)) m.2);
-        }
+    engine_told = engine_alike R b E way engine E told refl told_long same_core same_left
 
     pub found_by_engine : (track : List Step) × Contains (engine_tracks R b way.period E) track ×
         IsEngine R b E (way_along E track)
