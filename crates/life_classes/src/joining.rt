@@ -10,7 +10,7 @@ use crate::labels::Labelled;
 use crate::tags::{ROW, place_of};
 
 /// If more than one cell in `MANY` is born, it is quicker to visit all cells.
-const MANY: usize = 8;
+const MANY: usize = 4;
 
 /// Where tags were found that may be near the last one, in the two rows above it.
 #[derive(Drop)]
