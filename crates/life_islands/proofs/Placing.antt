@@ -19,7 +19,7 @@ use Rattle.life_objects.specs.Parts.Groups.{IsAround}
 use Rattle.life_islands.specs.declared.colours.Seat.{Seat}
 use Rattle.life_islands.specs.Seats.{IsSeat, cell_at, listed, seat}
 use Rattle.life_islands.specs.Reach.{IsInReach, IsWithinTwo}
-use Rattle.life_islands.specs.Splits.{AreLaidOut, AreOfWholeIslands, IsSettled, IsSettledNear}
+use Rattle.life_islands.specs.Splits.{AreOfWholeIslands, IsSettled, IsSettledNear}
 use Rattle.life_islands.proofs.Neighbours.{seated}
 use Rattle.life_islands.specs.declared.labels.Labels.{Labels}
 use Rattle.life_classes.specs.Forest.{root}
@@ -152,11 +152,11 @@ reach_of_place c at =
     record { left = omega (arith, ints); right = omega (arith, ints); above = omega (arith, ints); below = omega (arith, ints) }
 
 -- each place is settled where those near each cell are
-pub held_by_cells : (R : Rule) (G : Generation) (isles sets : List Generation) (all : List Cell) → all ≡ cells G →
-    AreLaidOut G isles sets → ((k : ℕ) (d : Cell) → k < length all → IsSettledNear R G sets (get_or all k d)) →
+pub held_by_cells : (R : Rule) (G : Generation) (sets : List Generation) (all : List Cell) → all ≡ cells G →
+    AreOfWholeIslands G sets → ((k : ℕ) (d : Cell) → k < length all → IsSettledNear R G sets (get_or all k d)) →
     AreHeldApart R G sets
-held_by_cells R G isles sets all is laid settled = record {
-  islands = laid.whole;
+held_by_cells R G sets all is whole settled = record {
+  islands = whole;
   places = λ x place.
       elim (cases_Bool (list_any (contains G) (around x))) [
         | inl some ↦

@@ -15,8 +15,16 @@ use life_cells::{CellList, Rule};
 use std::alloc::{AllocError, Global};
 
 /// The label of a cell of the next generation: its own, where it stays, and otherwise that of a cell of the set that bears it.
-/// The cell is looked up near where the one before it was.
-fn heir(rule: &Rule, list: &CellList, sets: &Labels, place: (i32, i32), guess: &mut usize) -> usize
+/// The cell is looked up near where the one before it was, and what is around it near where cells were last looked for in their
+/// rows.
+fn heir(
+    rule: &Rule,
+    list: &CellList,
+    sets: &Labels,
+    place: (i32, i32),
+    guess: &mut usize,
+    near: &mut [usize; ROWS],
+) -> usize
     requires fits { Fits list.now sets.now }
     requires held { AreHeldApart rule.now list.now (sets_of list.now sets.now) }
     requires live { contains (next rule.now list.now) place ≡ true }
@@ -27,8 +35,8 @@ fn heir(rule: &Rule, list: &CellList, sets: &Labels, place: (i32, i32), guess: &
     }
     // A cell of the next generation is near one of the list, and so in reach.
     let _cells = list.as_slice();
-    let mut near = [*guess; ROWS];
-    let seats = seats_around(list, sets, sets, place, &mut near, ROWS / 2);
+    near[ROWS / 2] = *guess;
+    let seats = seats_around(list, sets, sets, place, near, ROWS / 2);
     let colours = colours_of(&seats);
     let bearing = first_bearing(rule, &seats, &colours);
     seats[bearing].set
@@ -61,8 +69,10 @@ pub fn heirs(
     let _cells = list.as_slice();
     let mut labels = Vec::with_capacity(alloc, later.len())?;
     let mut guess = 0;
+    let mut near = [0; ROWS];
     for cell in later.as_slice() {
-        labels.push(heir(rule, list, &sets, moved(*cell, by), &mut guess))?;
+        let place = moved(*cell, by);
+        labels.push(heir(rule, list, &sets, place, &mut guess, &mut near))?;
     }
     Ok(Labels {
         labels,

@@ -34,57 +34,56 @@ pub fn numbers(alloc: Global, count: usize) -> Result<Vec<usize>, AllocError>
 const STEPS: usize = 3;
 
 /// Whether the cell right before a place has a lesser number than this one, if there is one.
-fn is_past(all: &[(i32, i32)], cell: (i32, i32), at: usize) -> bool
+fn is_past(all: &[(i32, i32)], number: i64, at: usize) -> bool
     requires { at ≤ length all.now }
     ensures { IsTrue result → (d : Cell) → 0 < at →
-        int_lt (place_number (get_or all.now (at - 1) d)) (place_number cell) ≡ true }
+        int_lt (place_number (get_or all.now (at - 1) d)) number ≡ true }
 {
     if at == 0 {
         return true;
     }
-    place_number(all[at - 1]) < place_number(cell)
+    place_number(all[at - 1]) < number
 }
 
 /// Whether the cell in a place has a lesser number than this one.
-fn is_before(all: &[(i32, i32)], cell: (i32, i32), at: usize) -> bool
+fn is_before(all: &[(i32, i32)], number: i64, at: usize) -> bool
     ensures { result ≡ false → (d : Cell) → at < length all.now →
-        int_lt (place_number (get_or all.now at d)) (place_number cell) ≡ false }
+        int_lt (place_number (get_or all.now at d)) number ≡ false }
 {
     if at >= all.len() {
         return false;
     }
-    place_number(all[at]) < place_number(cell)
+    place_number(all[at]) < number
 }
 
 /// Whether the cells before a place have lesser numbers than this one, and those from it on have not.
-fn parts_at(all: &[(i32, i32)], cell: (i32, i32), at: usize) -> bool
+fn parts_at(all: &[(i32, i32)], number: i64, at: usize) -> bool
     requires rising { T (is_rising all.now) }
     requires placed { All IsPlace all.now }
-    ensures { IsTrue result → IsParting all.now (place_number cell) at }
+    ensures { IsTrue result → IsParting all.now number at }
 {
     if at > all.len() {
         return false;
     }
-    if is_before(all, cell, at) {
+    if is_before(all, number, at) {
         return false;
     }
-    is_past(all, cell, at)
+    is_past(all, number, at)
 }
 
 /// The place before which the cells have lesser numbers than this one. It is found soon where it is the guessed place or one of
 /// the next, and otherwise by halving.
-fn parting(all: &[(i32, i32)], cell: (i32, i32), guess: usize) -> usize
+pub fn parting(all: &[(i32, i32)], number: i64, guess: usize) -> usize
     requires rising { T (is_rising all.now) }
     requires placed { All IsPlace all.now }
-    ensures { IsParting all.now (place_number cell) result }
+    ensures { IsParting all.now number result }
 {
     for more in 0..STEPS {
         let at = guess.saturating_add(more);
-        if parts_at(all, cell, at) {
+        if parts_at(all, number, at) {
             return at;
         }
     }
-    let number = place_number(cell);
     all.partition_point(|one| place_number(*one) < number)
 }
 
@@ -95,7 +94,7 @@ pub fn index_near(list: &CellList, cell: (i32, i32), guess: &mut usize) -> Optio
     ensures none { IfNone result (contains list.now cell ≡ false) }
 {
     let all = list.as_slice();
-    let at = parting(all, cell, *guess);
+    let at = parting(all, place_number(cell), *guess);
     *guess = at;
     if at < all.len() && all[at] == cell {
         return Some(at);

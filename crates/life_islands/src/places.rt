@@ -13,7 +13,7 @@ ghost use Rattle.life_islands.specs.Splits.{AreLaidOut, IsSettled, IsSettledNear
 
 use crate::around::neighbour;
 use crate::colours::AROUND;
-use crate::labels::{Labels, has_in_row};
+use crate::labels::{Labels, has_in_row, parting};
 use crate::seating::{ROWS, link_at, row_of, seats_around};
 use crate::touching::{islands, join_touching};
 use life_cells::{CellList, Rule};
@@ -49,8 +49,30 @@ fn join_place(
     }
 }
 
-/// Whether all cells whose numbers are from `low` to `low + 4` have a mark.
-fn row_has(list: &CellList, sets: &Labels, low: i64, mark: usize) -> bool
+/// Where the cells of each of five rows around a cell were last looked for.
+#[derive(Drop)]
+struct Starts {
+    further: usize,
+    above: usize,
+    level: usize,
+    below: usize,
+    beyond: usize,
+}
+
+impl Starts {
+    fn new() -> Starts {
+        Starts {
+            further: 0,
+            above: 0,
+            level: 0,
+            below: 0,
+            beyond: 0,
+        }
+    }
+}
+
+/// Whether all cells whose numbers are from `low` to `low + 4` have a mark. They are looked for near a guessed place first.
+fn row_has(list: &CellList, sets: &Labels, low: i64, mark: usize, guess: &mut usize) -> bool
     requires fits { Fits list.now sets.now }
     requires low { low ≤ℤ pos (2 ^ 63 - 5) }
     ensures { OnTrue result ((k : ℕ) → k < length (generations.cells list.now) →
@@ -59,7 +81,8 @@ fn row_has(list: &CellList, sets: &Labels, low: i64, mark: usize) -> bool
         root sets.now.forest.items (get_or sets.now.labels.items k 0) ≡ mark) }
 {
     let cells = list.as_slice();
-    let start = cells.partition_point(|one| place_number(*one) < low);
+    let start = parting(cells, low, *guess);
+    *guess = start;
     for at in start..cells.len() {
         if place_number(cells[at]) > low + 4 {
             return true;
@@ -72,7 +95,7 @@ fn row_has(list: &CellList, sets: &Labels, low: i64, mark: usize) -> bool
 }
 
 /// Whether all cells at most two away from the one in a place have its mark.
-fn is_of_one(list: &CellList, sets: &Labels, n: usize) -> bool
+fn is_of_one(list: &CellList, sets: &Labels, n: usize, starts: &mut Starts) -> bool
     requires fits { Fits list.now sets.now }
     requires within { n < length (generations.cells list.now) }
     ensures { OnTrue result ((k : ℕ) → k < length (generations.cells list.now) →
@@ -81,19 +104,19 @@ fn is_of_one(list: &CellList, sets: &Labels, n: usize) -> bool
 {
     let mark = sets.mark(n);
     let low = place_number(list.as_slice()[n]) - 2;
-    if !row_has(list, sets, low - 2 * ROW, mark) {
+    if !row_has(list, sets, low - 2 * ROW, mark, &mut starts.further) {
         return false;
     }
-    if !row_has(list, sets, low - ROW, mark) {
+    if !row_has(list, sets, low - ROW, mark, &mut starts.above) {
         return false;
     }
-    if !row_has(list, sets, low, mark) {
+    if !row_has(list, sets, low, mark, &mut starts.level) {
         return false;
     }
-    if !row_has(list, sets, low + ROW, mark) {
+    if !row_has(list, sets, low + ROW, mark, &mut starts.below) {
         return false;
     }
-    if !row_has(list, sets, low + 2 * ROW, mark) {
+    if !row_has(list, sets, low + 2 * ROW, mark, &mut starts.beyond) {
         return false;
     }
     true
@@ -106,6 +129,7 @@ fn join_around(
     isles: &Labels,
     sets: &mut Labels,
     n: usize,
+    starts: &mut Starts,
     near: &mut [usize],
 ) -> bool
     requires isles { Fits list.now isles.now }
@@ -117,7 +141,7 @@ fn join_around(
     ensures settled { result ≡ false → IsSettledNear rule.now list.now (sets_of list.now sets.new)
         (get_or (generations.cells list.now) n origin) }
 {
-    if is_of_one(list, sets, n) {
+    if is_of_one(list, sets, n, starts) {
         return false;
     }
     let cell = list.as_slice()[n];
@@ -141,13 +165,31 @@ fn join_places(rule: &Rule, list: &CellList, isles: &Labels, sets: &mut Labels) 
     ensures held { result ≡ false → AreHeldApart rule.now list.now (sets_of list.now sets.new) }
 {
     let mut joined = false;
+    let mut starts = Starts::new();
     let mut near = [0; ROWS];
     for n in 0..list.len() {
-        if join_around(rule, list, isles, sets, n, &mut near) {
+        if join_around(rule, list, isles, sets, n, &mut starts, &mut near) {
             joined = true;
         }
     }
     joined
+}
+
+/// Whether all cells at most two away from each cell have its mark.
+fn are_of_one(list: &CellList, sets: &Labels) -> bool
+    requires { Fits list.now sets.now }
+    ensures { OnTrue result ((n : ℕ) → n < length (generations.cells list.now) →
+        (k : ℕ) → k < length (generations.cells list.now) →
+        IsWithinTwo (get_or (generations.cells list.now) k origin) (get_or (generations.cells list.now) n origin) →
+        root sets.now.forest.items (get_or sets.now.labels.items k 0) ≡ root sets.now.forest.items (get_or sets.now.labels.items n 0)) }
+{
+    let mut starts = Starts::new();
+    for n in 0..list.len() {
+        if !is_of_one(list, sets, n, &mut starts) {
+            return false;
+        }
+    }
+    true
 }
 
 /// Whether all labels have one root.
@@ -179,6 +221,9 @@ pub fn join_in(
 {
     let mut joined = join_touching(list, sets);
     if is_one(sets) {
+        return Ok(joined);
+    }
+    if are_of_one(list, sets) {
         return Ok(joined);
     }
     let isles = islands(alloc, list)?;

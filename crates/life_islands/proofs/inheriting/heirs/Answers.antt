@@ -4,8 +4,8 @@ use Rattle.life_model.specs.Generation.{contains}
 use Rattle.life_islands.proofs.Inherited.{heirs_fit, moved_live, next_in_reach}
 use Rattle.life_islands.proofs.inheriting.heirs.Goals as goal
 
-pub moved-requires : goal.moved-requires
-moved-requires c =
+pub moved-place-requires : goal.moved-place-requires
+moved-place-requires c =
     next_in_reach c.args.rule.now c.args.list.now c.as_slice-cells.result.now c.as_slice-cells.ensures.cells
     c.as_slice-cells.ensures.placed _
     (moved_live c.args.rule.now c.args.list.now c.args.later.now c.args.by c.requires.live c.as_slice-cell-items.result.now
@@ -13,7 +13,7 @@ moved-requires c =
 
 pub heir-requires-clause-live : goal.heir-requires-clause-live
 heir-requires-clause-live c =
-    ap (contains (next c.args.rule.now c.args.list.now)) c.moved.ensures
+    ap (contains (next c.args.rule.now c.args.list.now)) c.moved-place.ensures
     ∙ moved_live c.args.rule.now c.args.list.now c.args.later.now c.args.by c.requires.live c.as_slice-cell-items.result.now
     c.as_slice-cell-items.ensures.cells c.loop-cell.cell-index c.loop-cell-test.true
 

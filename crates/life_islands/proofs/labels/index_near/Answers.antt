@@ -1,4 +1,5 @@
-use Rattle.std.proofs.Common.{◌≡◌, ◌<◌, length, get_or, ap, ◌∙◌, arith}
+use Rattle.std.proofs.Common.{◌≡◌, ◌<◌, length, get_or, FitsSigned, w64, ap, subst, ◌∙◌, rules, arith}
+use Rattle.std.proofs.lemmas.Int.{to_z-of_z}
 use Rattle.std.proofs.lemmas.Bool.{and_from, both_ways, false_from_ne_true}
 use Rattle.std.proofs.lemmas.Bool.Decides.{Decides-int_eq}
 use Rattle.life_model.specs.Cell.{Cell, origin}
@@ -14,7 +15,9 @@ returns-clause-none c =
     let G = c.args.list.now in
     let cs = c.as_slice-all.result.now in
     let at = c.parting-at.result in
-    let point : IsParting cs (place_number c.args.cell) at = c.parting-at.ensures in
+    let fits : FitsSigned w64 c.place_number.result = search rules in
+    let point : IsParting cs (place_number c.args.cell) at =
+    subst (λ n. IsParting cs n at) (to_z-of_z w64 c.place_number.result fits ∙ c.place_number.ensures.number) c.parting-at.ensures in
     false_from_ne_true (contains G c.args.cell) (λ has.
     let there = parted_at G c.args.cell cs at c.as_slice-all.ensures.cells c.as_slice-all.ensures.rising c.as_slice-all.ensures.placed
     point.before point.after has in

@@ -11,8 +11,8 @@ returns c =
     let within = c.partition_point.ensures.bound in
     let rise = numbers_rise cs c.requires.rising c.requires.placed in
     let point =
-    IsPartitionPoint-from_clause (λ d. int_lt (place_number d) (place_number c.args.cell)) cs at c.partition_point.ensures.partitioned
-    (parted_above place_number cs rise (place_number c.args.cell)) (λ a r q k. search rules) in
+    IsPartitionPoint-from_clause (λ d. int_lt (place_number d) c.args.number) cs at c.partition_point.ensures.partitioned
+    (parted_above place_number cs rise c.args.number) (λ a r q k. search rules) in
     record {
       within = omega arith;
       before = λ k d h. point.0 k d (omega arith) h;

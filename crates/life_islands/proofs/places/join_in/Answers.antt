@@ -1,8 +1,12 @@
-use Rattle.std.proofs.Common.{subst, get_or}
-use Rattle.life_islands.specs.Labels.{AreJoinedFurther}
+use Rattle.std.proofs.Common.{get_or, inl, refl, subst}
+use Rattle.std.proofs.lemmas.List.{get_or_default}
+use Rattle.life_model.specs.Cell.{origin}
+use Rattle.life_model.specs.Generation.{cells}
+use Rattle.life_islands.specs.Labels.{AreJoinedFurther, sets_of}
+use Rattle.life_islands.specs.Reach.{IsWithinTwo}
 use Rattle.life_islands.proofs.Further.{further_more, further_fits, further_whole, kept_through}
 use Rattle.life_classes.specs.Forest.{root}
-use Rattle.life_islands.proofs.Placing.{held_as_one}
+use Rattle.life_islands.proofs.Placing.{held_as_one, held_by_cells, of_one_near}
 use Rattle.life_islands.proofs.Labelled.{make_up}
 use Rattle.life_islands.proofs.Touched.{numbered_fits}
 use Rattle.life_islands.proofs.places.join_in.Goals as goal
@@ -47,3 +51,15 @@ returns-then-is_one-clause-held c =
     let M = c.join_touching-joined.new.all in
     let fits = further_fits a.list.now a.sets.now M c.join_touching-joined.result touched.further c.requires in
     held_as_one a.rule.now a.list.now M fits touched.whole (root M.forest.items (get_or M.labels.items 0 0)) c.if-is_one.ensures
+
+pub returns-then-are_of_one-clause-held : goal.returns-then-are_of_one-clause-held
+returns-then-are_of_one-clause-held c =
+    let a = c.args in
+    let G = a.list.now in
+    let touched = c.join_touching-joined.ensures in
+    let M = c.join_touching-joined.new.all in
+    let fits = further_fits G a.sets.now M c.join_touching-joined.result touched.further c.requires in
+    held_by_cells a.rule.now G (sets_of G M) (cells G) refl touched.whole
+    (λ k d h x near place. inl (of_one_near G M fits (get_or (cells G) k d) (root M.forest.items (get_or M.labels.items k 0))
+    (λ j within near_j. c.if-are_of_one.ensures k h j within
+    (subst (λ e. IsWithinTwo (get_or (cells G) j origin) e) (get_or_default (cells G) k d origin h) near_j)) x near))

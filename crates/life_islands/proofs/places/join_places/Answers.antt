@@ -55,7 +55,7 @@ loop-n-preserved c =
 pub returns-clause-held : goal.returns-clause-held
 returns-clause-held c e =
     let a = c.args in
-    held_by_cells a.rule.now a.list.now (sets_of a.list.now a.isles.now) (sets_of a.list.now c.loop-n.sets) (cells a.list.now) refl
-    (further_laid a.list.now a.sets.now c.loop-n.sets c.loop-n.joined c.loop-n.invariant.further (sets_of a.list.now a.isles.now)
-    c.requires.sets c.requires.laid_out)
+    let laid = further_laid a.list.now a.sets.now c.loop-n.sets c.loop-n.joined c.loop-n.invariant.further (sets_of a.list.now a.isles.now)
+    c.requires.sets c.requires.laid_out in
+    held_by_cells a.rule.now a.list.now (sets_of a.list.now c.loop-n.sets) (cells a.list.now) refl laid.whole
     (λ k d h. c.loop-n.invariant.settled e k d (let past = c.loop-n-test.false in let end = c.len-n-end.ensures ∙ size-cells c.args.list.now in omega arith))
