@@ -1,8 +1,8 @@
 -- The numbers of folders and entries after lines that were read.
-use Rattle.std.proofs.Common.{◌≡◌, ℕ, ◌+◌, ◌-◌, ◌<◌, Bool, true, false, not, cond, List, [], ◌∷◌, ◌++◌, length, drop, refl, sym, ap, ◌∙◌, arith, zero-add, length-append, if◌then◌else◌}
+use Rattle.std.proofs.Common.{◌≡◌, ℕ, ◌+◌, ◌-◌, ◌<◌, Bool, true, false, not, cond, List, [], ◌∷◌, ◌++◌, length, drop, refl, sym, ap, ◌∙◌, arith, length-append, if◌then◌else◌}
 use Rattle.std.specs.List.{count_by, after_last, suffix_len, prefix_len}
 use Rattle.std.proofs.lemmas.List.{reverse-append, drop_all, drop-append-le}
-use Rattle.std.proofs.lemmas.List.Sums.{suffix_len-le-length, sum_by-append}
+use Rattle.std.proofs.lemmas.List.Sums.{suffix_len-le-length, sum_by_push}
 use Rattle.census_bundle.specs.declared.bundle.Folder.{Folder}
 use Rattle.census_bundle.specs.declared.bundle.Entry.{Entry}
 use Rattle.census_bundle.specs.Entries.{entry_of}
@@ -12,9 +12,6 @@ use Rattle.census_bundle.specs.Reading.{folder_count, entry_count}
 use Rattle.census_bundle.specs.Scan.{entry_with_text, folder_with_text, with_entry_text, after_line}
 use Rattle.census_bundle.proofs.Growth.{length-on_last}
 use Rattle.census_bundle.proofs.Lasts.{last_entries-with_folder, last_entries-on_last}
-
-count_by-push : {A : Type 0} (p : A → Bool) (xs : List A) (x : A) → count_by p (xs ++ x ∷ []) ≡ count_by p xs + cond (p x) 1 0
-count_by-push p xs x = sum_by-append (λ y. cond (p y) 1 0) xs (x ∷ []) ∙ ap (λ n. count_by p xs + n) (zero-add _)
 
 suffix_len-push : {A : Type 0} (p : A → Bool) (xs : List A) (x : A) → suffix_len p (xs ++ x ∷ []) ≡ cond (p x) (1 + suffix_len p xs) 0
 suffix_len-push p xs x = ap (prefix_len p) (reverse-append xs (x ∷ []))
@@ -41,15 +38,15 @@ follows_start = record { folders = refl; entries = refl }
 
 follows-folder : (before : List (List ℕ)) (b : List Folder) (line : List ℕ) → is_folder_line line ≡ true → Follows before b → Follows (before ++ line ∷ []) (with_folder b (line_name line))
 follows-folder before b line is was = record {
-  folders = count_by-push is_folder_line before line ∙ ap (λ v. folder_count before + cond v 1 0) is ∙ ap (λ n. n + 1) was.folders ∙ sym (length-append b _);
+  folders = sum_by_push (λ l. cond (is_folder_line l) 1 0) before line ∙ ap (λ v. folder_count before + cond v 1 0) is ∙ ap (λ n. n + 1) was.folders ∙ sym (length-append b _);
   entries = ap (count_by is_file_line) (after_last-push_yes is_folder_line before line is) ∙ sym (ap length (last_entries-with_folder b (line_name line)));
 }
 
 entry_count-push : (before : List (List ℕ)) (line : List ℕ) → is_folder_line line ≡ false → entry_count (before ++ line ∷ []) ≡ entry_count before + cond (is_file_line line) 1 0
-entry_count-push before line isnt = ap (count_by is_file_line) (after_last-push_no is_folder_line before line isnt) ∙ count_by-push is_file_line (after_last is_folder_line before) line
+entry_count-push before line isnt = ap (count_by is_file_line) (after_last-push_no is_folder_line before line isnt) ∙ sum_by_push (λ l. cond (is_file_line l) 1 0) (after_last is_folder_line before) line
 
 folder_count-push : (before : List (List ℕ)) (line : List ℕ) → is_folder_line line ≡ false → folder_count (before ++ line ∷ []) ≡ folder_count before
-folder_count-push before line isnt = count_by-push is_folder_line before line ∙ ap (λ v. folder_count before + cond v 1 0) isnt ∙ omega arith
+folder_count-push before line isnt = sum_by_push (λ l. cond (is_folder_line l) 1 0) before line ∙ ap (λ v. folder_count before + cond v 1 0) isnt ∙ omega arith
 
 pub length-with_entry : (b : List Folder) (e : Entry) → 0 < length b → length (last_entries (with_entry b e)) ≡ length (last_entries b) + 1
 length-with_entry [] e some = absurd (omega arith)

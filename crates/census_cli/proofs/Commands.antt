@@ -5,6 +5,7 @@ use Rattle.std.specs.List.{find, list_any}
 use Rattle.std.specs.Option.{option_map_or}
 use Rattle.std.specs.Str.{bytes_eq}
 use Rattle.std.proofs.lemmas.Slice.Eq.{bytes_eq-Decides}
+use Rattle.std.proofs.lemmas.Bool.{not-false, or_parts}
 use Rattle.clap.specs.Faults.{check_fault, entered_fault, level_fault}
 use Rattle.clap.specs.Kinds.{value_kinds}
 use Rattle.clap.specs.Simple.{App, Shape, built, built_leaf, entered, inherited, label_of, marked_built, names_of, rows_at, subcommand_of, with_leaf_noted}
@@ -24,7 +25,7 @@ use Rattle.census_cli.specs.declared.request.Request.TheVariants.{Census, Identi
 use Rattle.census_cli.specs.Holding.{HasAdvance, HasDraw, HasFlag, HasCells, HasIdentify, HasLimit, HasNoProgress, HasNumberIn, HasObjects, HasPage, HasReports, HasRun, HasSame, HasTable, HasText, HasVerify, IsCommand, IsLawful, AskedAreLawful}
 use Rattle.census_cli.specs.CommandLine.{census_app, command_named}
 use Rattle.census_cli.proofs.Getters.{limit_within, none_used, number_is, number_within}
-use Rattle.census_cli.proofs.Passing.{Each, found_of_each, neither_true, not_cons}
+use Rattle.census_cli.proofs.Passing.{Each, found_of_each, not_cons}
 use Rattle.census_cli.proofs.Rows.{HasFirst, Reads, reads_of, reads_or_none, row_of_id}
 use Rattle.census_cli.proofs.Uses.{RuleHolds}
 use Rattle.census_cli.proofs.Walks.{StopHolds, is_help}
@@ -402,10 +403,6 @@ flag_in Q id rows reads is = let flag = is reads.text reads.passes in (flag.0, r
 text_in : (Q : Text → Text → Type 0) (id : Text) (rows : List Row) → Reads Q id rows → HasText id rows
 text_in Q id rows reads = (reads.text, reads.first)
 
-is_true : (b : Bool) → not b ≡ false → b ≡ true
-is_true true e = refl
-is_true false e = absurd (true≢false e)
-
 false_by_default : HasFirst (codes "false" ∷ [])
 false_by_default = record { first = codes "false"; rest = []; is = refl }
 
@@ -478,7 +475,7 @@ advance_has : (words : List Text) → Passes built_advance words → HasAdvance 
 advance_has words e =
     let rows = rows_after built_advance.rules [] words in
     let checks = checks_pass built_advance rows false (read_checks AdvanceText built_advance advance_rules words e) in
-    let given = is_true (is_given (codes "generations") rows) (neither_true (not (is_given (codes "generations") rows)) false checks.1).0 in
+    let given = not-false (is_given (codes "generations") rows) (or_parts (not (is_given (codes "generations") rows)) false checks.1).0 in
     record {
       generations = number_in AdvanceText 0 generation_limit (codes "generations") _
           (read_as_given AdvanceText built_advance advance_rules words e (codes "generations") given) (λ v q. q.0 refl);
@@ -491,7 +488,7 @@ draw_has : (words : List Text) → Passes built_draw words → HasDraw (rows_aft
 draw_has words e =
     let rows = rows_after built_draw.rules [] words in
     let checks = checks_pass built_draw rows false (read_checks ExplainText built_draw draw_rules words e) in
-    let given = is_true (is_given (codes "code") rows) (neither_true (not (is_given (codes "code") rows)) false checks.1).0 in
+    let given = not-false (is_given (codes "code") rows) (or_parts (not (is_given (codes "code") rows)) false checks.1).0 in
     record {
       code = text_in ExplainText (codes "code") _ (read_as_given ExplainText built_draw draw_rules words e (codes "code") given);
       rule = text_in ExplainText (codes "rule") _
@@ -551,7 +548,7 @@ verify_has : (words : List Text) → Passes built_verify words → HasVerify (ro
 verify_has words e =
     let rows = rows_after built_verify.rules [] words in
     let checks = checks_pass built_verify rows false (read_checks ReportsText built_verify verify_rules words e) in
-    let given = is_true (is_given (codes "claims") rows) (neither_true (not (is_given (codes "claims") rows)) false checks.1).0 in
+    let given = not-false (is_given (codes "claims") rows) (or_parts (not (is_given (codes "claims") rows)) false checks.1).0 in
     record {
       claims = text_in ReportsText (codes "claims") _ (read_as_given ReportsText built_verify verify_rules words e (codes "claims") given);
       reports = reads_reports built_verify verify_rules words e (inr (inl (refl, false_by_default))) (inr (inr (inr (inl (refl, false_by_default)))))

@@ -2,6 +2,7 @@
 use Rattle.std.proofs.Common.{◌≡◌, ◌++◌, List, [], ◌∷◌, Bool, true, false, ◌||◌, Some, refl, subst, true≢false}
 use Rattle.std.specs.Prelude.{if◌then◌else◌}
 use Rattle.std.specs.List.{find}
+use Rattle.std.proofs.lemmas.Bool.{or_parts}
 use Rattle.clap.specs.Kinds.{Kinds, or_else}
 use Rattle.clap.specs.declared.error.kind.ErrorKind.{ErrorKind}
 
@@ -35,7 +36,3 @@ neither_fails (k ∷ ks) b e = not_cons k ks e
 pub test_is_false : (b : Bool) (k : ErrorKind) (ks rest : Kinds) → (if b then k ∷ ks else rest) ≡ [] → (b ≡ false) × (rest ≡ [])
 test_is_false true k ks rest e = not_cons k ks e
 test_is_false false k ks rest e = (refl, e)
-
-pub neither_true : (a b : Bool) → (a || b) ≡ false → (a ≡ false) × (b ≡ false)
-neither_true false b e = (refl, e)
-neither_true true b e = absurd (true≢false e)

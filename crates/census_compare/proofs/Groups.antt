@@ -4,9 +4,12 @@ use Rattle.std.specs.Prelude.{◌≢◌, cond, filter, slice_index_or}
 use Rattle.std.specs.List.{prefix_len, All, list_any, flat_map}
 use Rattle.std.specs.Ordering.{is_eq, is_lt}
 use Rattle.std.specs.declared.cmp.Ordering.TheVariants.{Less}
+use Rattle.std.proofs.Math.Bool.{or-false, or-true, or_assoc}
+use Rattle.std.proofs.Math.Numerals.{one-add}
 use Rattle.std.proofs.lemmas.List.{drop-drop, drop_all, length-drop, length-take-le}
 use Rattle.std.proofs.lemmas.List.Sums.{prefix_len-le-length}
 use Rattle.std.proofs.lemmas.List.Elements.{All-cons, All-nil, All-tail}
+use Rattle.census_rows.proofs.Filters.{filter-none}
 use Rattle.census_table.specs.Tables.{json_line}
 use Rattle.census_compare.specs.Order.{Key, is_among, is_key, has_key, key_cmp, key_of, keys_of, with_key, AreInOrder}
 use Rattle.census_compare.specs.Same.{group_len, group_text, groups_text, has_bytes, heading_text, members_of, same_text, several_text, line_text}
@@ -14,11 +17,6 @@ use Rattle.census_compare.specs.declared.told.Told.{Told}
 use Rattle.census_compare.proofs.SameKeys.{behind, further, has_is, has-key, key-itself, keys-all, keys-among, keys-rise, not-key, not-key-back, put_by, rising-same}
 
 -- # What is filtered
-
-filter-none : (p : Told → Bool) (ts : List Told) → All (λ t. p t ≡ false) ts → filter p ts ≡ []
-filter-none p [] none = refl
-filter-none p (t ∷ ts) none =
-    ap₂ (λ (b : Bool) (us : List Told). cond b (t ∷ us) us) (none 0 t (omega arith)) (filter-none p ts (All-tail (λ t. p t ≡ false) t ts none))
 
 pub any-filter : (p : Told → Bool) (ts : List Told) → list_any p ts ≡ list_any (λ t. true) (filter p ts)
 any-filter p [] = refl
@@ -94,15 +92,12 @@ split-end k t ts order from other = record {
     all = All-cons (λ u. key_cmp k (key_of u) ≡ Less) t ts first
         (λ i d small. further k (key_of t) (key_of (slice_index_or ts i d)) first (order.0 i d small))
 
-one-more : (n : ℕ) → suc n ≡ 1 + n
-one-more n = omega arith
-
 pub split : (k : Key) (ts : List Told) → AreInOrder ts → All (λ t. is_lt (key_cmp (key_of t) k) ≡ false) ts → Split k ts (prefix_len (has_key k) ts)
 split k [] order from = record { here = refl; behind = All-nil (λ t. key_cmp k (key_of t) ≡ Less); order = tt; keys = refl; others = λ x less. refl }
 split k (t ∷ ts) order from = go (has_key k t) refl (split k ts order.1 (All-tail (λ t. is_lt (key_cmp (key_of t) k) ≡ false) t ts from))
   where
     go : (b : Bool) → has_key k t ≡ b → Split k ts (prefix_len (has_key k) ts) → Split k (t ∷ ts) (cond b (1 + prefix_len (has_key k) ts) 0)
-    go true e s = subst (Split k (t ∷ ts)) (one-more (prefix_len (has_key k) ts)) (split-more k t ts (prefix_len (has_key k) ts) e s)
+    go true e s = subst (Split k (t ∷ ts)) (sym (one-add (prefix_len (has_key k) ts))) (split-more k t ts (prefix_len (has_key k) ts) e s)
     go false e s = split-end k t ts order (from 0 t (omega arith)) e
 
 -- # The first group, and the others
@@ -113,7 +108,7 @@ keys-first : (t : Told) (ts : List Told) → has_key (key_of t) t ≡ true → S
 keys-first t ts has s =
     s.keys
     ∙ ap (λ n. key_of t ∷ keys_of (drop n (t ∷ ts)))
-    (one-more (prefix_len (has_key (key_of t)) ts) ∙ ap (λ (b : Bool). cond b (1 + prefix_len (has_key (key_of t)) ts) 0) (sym has))
+    (sym (one-add (prefix_len (has_key (key_of t)) ts)) ∙ ap (λ (b : Bool). cond b (1 + prefix_len (has_key (key_of t)) ts) 0) (sym has))
 
 pub has-own : (t : Told) → has_key (key_of t) t ≡ true
 has-own t = has_is (key_of t) t ∙ ap is_eq (key-itself (key_of t))
@@ -188,10 +183,6 @@ group-several j (t ∷ (u ∷ us)) d many = refl
 pub group-told : (j : Bool) (ts : List Told) (first : Told) → 2 ≤ length ts → first ≡ slice_index_or ts 0 first → group_text j ts ≡ several_text j first ts
 group-told j ts first many is = group-several j ts first many ∙ ap (λ t. several_text j t ts) (sym is)
 
-or-true : (b : Bool) → (b || true) ≡ true
-or-true true = refl
-or-true false = refl
-
 heading-bytes : (t : Told) (xs : List ℕ) → has_bytes (heading_text t ++ xs) ≡ true
 heading-bytes t xs =
     has_bytes-append (heading_text t) xs
@@ -249,18 +240,10 @@ walk j ts at n group order less is count = record {
     there : drop (group_len left) left ≡ drop (at + n) ts
     there = drop-drop (group_len left) at ts ∙ ap (λ m. drop (at + m) ts) (sym size)
 
-or-assoc : (a b c : Bool) → (a || (b || c)) ≡ ((a || b) || c)
-or-assoc true b c = refl
-or-assoc false b c = refl
-
 pub any-more : (whole any group : Bool) (front left all : List ℕ) → whole ≡ (any || has_bytes all) → all ≡ front ++ left → group ≡ has_bytes front
     → whole ≡ ((any || group) || has_bytes left)
 any-more whole any group front left all is cut e =
-    is ∙ ap (λ b. any || b) (ap has_bytes cut ∙ has_bytes-append front left ∙ ap (λ b. b || has_bytes left) (sym e)) ∙ or-assoc any group (has_bytes left)
-
-or-false : (b : Bool) → (b || false) ≡ b
-or-false true = refl
-or-false false = refl
+    is ∙ ap (λ b. any || b) (ap has_bytes cut ∙ has_bytes-append front left ∙ ap (λ b. b || has_bytes left) (sym e)) ∙ sym (or_assoc any group (has_bytes left))
 
 pub nothing-left : (j : Bool) (ts : List Told) (at : ℕ) → length ts ≤ at → same_text j (drop at ts) ≡ []
 nothing-left j ts at over = ap (same_text j) (drop_all at ts over)

@@ -9,6 +9,7 @@ use Rattle.std.specs.Option.{option_cmp, option_eq, option_map}
 use Rattle.std.specs.Ordering.{is_eq, nat_cmp}
 use Rattle.std.specs.declared.cmp.Ordering.{Ordering}
 use Rattle.std.specs.declared.cmp.Ordering.TheVariants.{Less, Equal, Greater}
+use Rattle.std.proofs.Math.Bool.{or-true}
 use Rattle.std.proofs.lemmas.Cmp.{then_total}
 use Rattle.std.proofs.lemmas.List.{append-nil, map-append, take_more}
 use Rattle.std.proofs.lemmas.List.Elements.{filter-append}
@@ -165,7 +166,3 @@ has-own (claim ∷ claims) zero d less = ap (λ b. b || has_key (claims_read cla
 has-own (claim ∷ claims) (suc i) d less =
     let key = key_of (claim_read (get_or claims i d)) in
     ap (λ b. same_key (key_of (claim_read claim)) key || b) (has-own claims i d (omega arith)) ∙ or-true (same_key (key_of (claim_read claim)) key)
-  where
-    or-true : (b : Bool) → (b || true) ≡ true
-    or-true true = refl
-    or-true false = refl

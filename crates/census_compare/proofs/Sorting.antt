@@ -7,7 +7,8 @@ use Rattle.std.specs.declared.cmp.Ordering.TheVariants.{Equal}
 use Rattle.std.proofs.lemmas.List.Elements.{All-from_recursion}
 use Rattle.census_table.specs.Places.{Rises}
 use Rattle.census_table.specs.declared.place.Place.{Place}
-use Rattle.census_table.proofs.Ties.{filter-of, lt-back}
+use Rattle.census_rows.proofs.Filters.{filter-map}
+use Rattle.census_table.proofs.Ties.{lt-back}
 use Rattle.census_compare.specs.KeyLaws.{key_total}
 use Rattle.census_compare.specs.Order.{Key, has_key, key_cmp, key_of, AreInOrder}
 use Rattle.census_compare.specs.declared.told.Told.{Told}
@@ -33,4 +34,4 @@ module _ (told : Place → Told) where
 
   pub places-same : (ps qs : List Place) (key : Key) → filter (λ p. has_key key (told p)) qs ≡ filter (λ p. has_key key (told p)) ps
       → filter (has_key key) (map told qs) ≡ filter (has_key key) (map told ps)
-  places-same ps qs key same = filter-of (has_key key) told qs ∙ ap (map told) same ∙ sym (filter-of (has_key key) told ps)
+  places-same ps qs key same = filter-map (has_key key) told qs ∙ ap (map told) same ∙ sym (filter-map (has_key key) told ps)

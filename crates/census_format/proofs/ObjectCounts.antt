@@ -1,7 +1,7 @@
 -- The counts of a closing count objects.
-use Rattle.std.proofs.Common.{◌≡◌, ℕ, zero, suc, ◌+◌, ◌<◌, Bool, true, false, cond, ◌||◌, List, [], ◌∷◌, ◌++◌, Option, length, map, get_or, Ok, Err, Result, refl, sym, ap, subst, ◌∙◌, arith, Decides, ℤ, zero-add}
+use Rattle.std.proofs.Common.{◌≡◌, ℕ, zero, suc, ◌+◌, ◌<◌, Bool, true, false, cond, ◌||◌, List, [], ◌∷◌, ◌++◌, Option, length, get_or, Ok, Err, Result, refl, sym, ap, subst, ◌∙◌, arith, Decides, ℤ, zero-add}
 use Rattle.std.proofs.lemmas.Bool.{false≢true, or_right}
-use Rattle.std.proofs.lemmas.List.Folds.{list_any-append}
+use Rattle.std.proofs.lemmas.List.Folds.{list_any-append, list_any_at}
 use Rattle.std.proofs.lemmas.List.Elements.{All-map, Contains-append_right}
 use Rattle.std.specs.List.{All, Contains, list_any, count_by}
 use Rattle.census_bundle.specs.declared.bundle.Entry.{Entry}
@@ -30,7 +30,7 @@ use Rattle.census_format.specs.Objects.{Object, object, objects, outcome_objects
 use Rattle.census_format.specs.ObjectCounts.{Resolves, settled_cells, settled_object, SettlesInto, CountsObject, CodesCountObjects}
 use Rattle.census_format.specs.ObjectLaws.{one_object, same_itself}
 use Rattle.census_format.proofs.Lost.{found_answer, found_kept, kept_answer}
-use Rattle.census_format.proofs.Tallies.{objects-append, count_first, any_distinct, count_distinct}
+use Rattle.census_format.proofs.Tallies.{objects-append, count_first, count_map, any_distinct, count_distinct}
 
 -- ---- a pattern that is said to recur resolves into what is said
 
@@ -108,10 +108,6 @@ count_said : (bound : ℕ) (most : Option ℕ) (k : Object) (e : Entry) (a : Ans
 unfolding says
 count_said bound most k e (Found rule finding) rest is = count_shown k rule finding.outcome (objects rest) (no_ash bound most e rule finding is)
 count_said bound most k e (Refused number) rest is = sym (zero-add (count_by (same_object k) (objects rest)))
-
-count_map : {A B : Type 0} (f : A → B) (p : B → Bool) (xs : List A) → count_by p (map f xs) ≡ count_by (λ x. p (f x)) xs
-count_map f p [] = refl
-count_map f p (x ∷ xs) = count_first p (f x) (map f xs) ∙ ap (λ n. cond (p (f x)) 1 0 + n) (count_map f p xs) ∙ sym (count_first (λ y. p (f y)) x xs)
 
 count_of_object : (bound : ℕ) (most : Option ℕ) (k : Object) (es : List Entry) → count_by (same_object k) (objects (answers (question.Settles bound most) es)) ≡ count_by (λ (e : Entry). says k (answer_in bound most e)) es
 count_of_object bound most k [] = refl
@@ -196,17 +192,12 @@ origin bound most k (e ∷ es) holds =
     (λ r is. record { pattern = e; among = (0, omega arith, refl); resolves = r; named = is })
     (λ rest. let o = origin bound most k es rest in record { pattern = o.pattern; among = Contains-append_right (e ∷ []) es o.pattern o.among; resolves = o.resolves; named = o.named })
 
-any_at : {A : Type 0} (p : A → Bool) (xs : List A) (i : ℕ) (d : A) → i < length xs → p (get_or xs i d) ≡ true → list_any p xs ≡ true
-any_at p [] i d lt holds = absurd (omega arith)
-any_at p (x ∷ xs) zero d lt holds = ap (λ b. b || list_any p xs) holds
-any_at p (x ∷ xs) (suc i) d lt holds = ap (λ b. p x || b) (any_at p xs i d (omega arith) holds) ∙ or_right (p x) true refl
-
 each_line : (bound : ℕ) (most : Option ℕ) (es : List Entry) → All (CountsObject bound most es) (tally same_object (objects (answers (question.Settles bound most) es)))
 each_line bound most es =
     let ks = objects (answers (question.Settles bound most) es) in
     All-map (CountsObject bound most es) (λ k. (k, count_by (same_object k) ks)) (distinct_elements same_object ks) (λ i d lt.
     let k = get_or (distinct_elements same_object ks) i d in
-    let any : list_any (same_object k) ks ≡ true = sym (any_distinct same_object one_object same_itself k ks) ∙ any_at (same_object k) (distinct_elements same_object ks) i d lt (same_itself k) in
+    let any : list_any (same_object k) ks ≡ true = sym (any_distinct same_object one_object same_itself k ks) ∙ list_any_at (same_object k) (distinct_elements same_object ks) i d lt (same_itself k) in
     let o = origin bound most k es any in
     record {
       pattern = o.pattern;

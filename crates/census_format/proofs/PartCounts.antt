@@ -1,8 +1,8 @@
 -- The counts of a closing count the objects that patterns fall apart into.
-use Rattle.std.proofs.Common.{◌≡◌, ℕ, zero, suc, ◌+◌, ◌*◌, ◌<◌, ◌≤◌, min, Bool, true, false, cond, ◌||◌, List, [], ◌∷◌, ◌++◌, Option, Some, None, length, map, get_or, replicate, Ok, Err, Result, refl, sym, ap, ◌∙◌, arith, zero-add, ℤ}
-use Rattle.std.proofs.lemmas.Bool.{false≢true, or_right}
+use Rattle.std.proofs.Common.{◌≡◌, ℕ, ◌+◌, ◌*◌, ◌≤◌, min, Bool, true, false, cond, ◌||◌, List, [], ◌∷◌, ◌++◌, Option, Some, None, get_or, replicate, Ok, Err, Result, refl, sym, ap, ◌∙◌, arith, zero-add, ℤ}
+use Rattle.std.proofs.lemmas.Bool.{false≢true}
 use Rattle.std.proofs.lemmas.List.Elements.{All-map}
-use Rattle.std.proofs.lemmas.List.Folds.{sum_by-replicate}
+use Rattle.std.proofs.lemmas.List.Folds.{list_any_at, sum_by-replicate}
 use Rattle.std.proofs.lemmas.List.Sums.{sum_by-append, sum_by-cons}
 use Rattle.std.specs.List.{All, list_any, count_by}
 use Rattle.census_bundle.specs.declared.bundle.Entry.{Entry}
@@ -32,7 +32,7 @@ use Rattle.census_format.specs.Objects.{Object, object, objects, outcome_objects
 use Rattle.census_format.specs.ObjectLaws.{one_object, same_itself}
 use Rattle.census_format.specs.PartCounts.{parts_as, fallen_as, all_fallen_as, CountsParts, CodesCountParts}
 use Rattle.census_format.proofs.Lost.{found_answer}
-use Rattle.census_format.proofs.Tallies.{count_first, count_none, any_distinct, count_distinct}
+use Rattle.census_format.proofs.Tallies.{count_first, count_map, count_none, any_distinct, count_distinct}
 
 -- ---- where objects are asked for, no pattern is said to recur
 
@@ -116,15 +116,6 @@ module _ (bound : ℕ) (most : Option ℕ) (near : Bool) (horizon : ℕ) where
       ∙ ap (λ n. fallen_as k (answer_in e) + n) (count_all k es)
       ∙ sym (sum_by-cons (λ (x : Entry). fallen_as k (answer_in x)) e es)
 
-any_at : {A : Type 0} (p : A → Bool) (xs : List A) (i : ℕ) (d : A) → i < length xs → p (get_or xs i d) ≡ true → list_any p xs ≡ true
-any_at p [] i d lt holds = absurd (omega arith)
-any_at p (x ∷ xs) zero d lt holds = ap (λ b. b || list_any p xs) holds
-any_at p (x ∷ xs) (suc i) d lt holds = ap (λ b. p x || b) (any_at p xs i d (omega arith) holds) ∙ or_right (p x) true refl
-
-count_map : {A B : Type 0} (f : A → B) (p : B → Bool) (xs : List A) → count_by p (map f xs) ≡ count_by (λ x. p (f x)) xs
-count_map f p [] = refl
-count_map f p (x ∷ xs) = count_first p (f x) (map f xs) ∙ ap (λ n. cond (p (f x)) 1 0 + n) (count_map f p xs) ∙ sym (count_first (λ y. p (f y)) x xs)
-
 some_where : {A : Type 0} (p : A → Bool) (xs : List A) → list_any p xs ≡ true → 1 ≤ count_by p xs
 some_where p [] none = absurd (false≢true none)
 some_where p (x ∷ xs) some =
@@ -146,7 +137,7 @@ each_line bound most near horizon es =
     let ks = objects (answers (question.Objects bound most near horizon) es) in
     All-map (CountsParts bound most near horizon es) (λ k. (k, count_by (same_object k) ks)) (distinct_elements same_object ks) (λ i d lt.
     let k = get_or (distinct_elements same_object ks) i d in
-    let any : list_any (same_object k) ks ≡ true = sym (any_distinct same_object one_object same_itself k ks) ∙ any_at (same_object k) (distinct_elements same_object ks) i d lt (same_itself k) in
+    let any : list_any (same_object k) ks ≡ true = sym (any_distinct same_object one_object same_itself k ks) ∙ list_any_at (same_object k) (distinct_elements same_object ks) i d lt (same_itself k) in
     record { count = count_all bound most near horizon k es; some = some_where (same_object k) ks any })
 
 each_object : (bound : ℕ) (most : Option ℕ) (near : Bool) (horizon : ℕ) (es : List Entry) (k : Object) → 1 ≤ all_fallen_as bound most near horizon es k

@@ -1,7 +1,7 @@
 -- What is counted one after another.
 use Rattle.std.proofs.Common.{◌≡◌, ℕ, zero, suc, ◌+◌, ◌≤◌, Bool, true, false, cond, not, ◌||◌, List, [], ◌∷◌, ◌++◌, map, filter, Some, None, refl, sym, ap, ◌∙◌, arith, append_assoc, append-nil, zero-add, replicate}
 use Rattle.std.proofs.lemmas.Bool.{false≢true}
-use Rattle.std.proofs.lemmas.List.Sums.{sum_by-append}
+use Rattle.std.proofs.lemmas.List.Sums.{sum_by-cons, sum_by_push}
 use Rattle.std.specs.List.{list_any, count_by}
 use Rattle.std.specs.Map.{lookup}
 use Rattle.std.specs.Option.{unwrap_or}
@@ -16,11 +16,12 @@ use Rattle.std.specs.Prelude.{ℤ}
 use Rattle.life_model.specs.Rule.{Rule}
 use Rattle.census_format.specs.Objects.{Object, distinct_elements, tally, objects, outcome_objects, same_object}
 
-count_push : {A : Type 0} (p : A → Bool) (xs : List A) (x : A) → count_by p (xs ++ x ∷ []) ≡ count_by p xs + cond (p x) 1 0
-count_push p xs x = sum_by-append (λ y. cond (p y) 1 0) xs (x ∷ []) ∙ ap (λ n. count_by p xs + n) (zero-add (cond (p x) 1 0))
-
 pub count_first : {A : Type 0} (p : A → Bool) (x : A) (xs : List A) → count_by p (x ∷ xs) ≡ cond (p x) 1 0 + count_by p xs
-count_first p x xs = sum_by-append (λ y. cond (p y) 1 0) (x ∷ []) xs ∙ ap (λ n. n + count_by p xs) (zero-add (cond (p x) 1 0))
+count_first p x xs = sum_by-cons (λ y. cond (p y) 1 0) x xs
+
+pub count_map : {A B : Type 0} (f : A → B) (p : B → Bool) (xs : List A) → count_by p (map f xs) ≡ count_by (λ x. p (f x)) xs
+count_map f p [] = refl
+count_map f p (x ∷ xs) = count_first p (f x) (map f xs) ∙ ap (λ n. cond (p (f x)) 1 0 + n) (count_map f p xs) ∙ sym (count_first (λ y. p (f y)) x xs)
 
 filter_push : {A : Type 0} (p : A → Bool) (xs : List A) (x : A) → filter p (xs ++ x ∷ []) ≡ filter p xs ++ cond (p x) (x ∷ []) []
 filter_push p [] x = refl
@@ -135,8 +136,8 @@ module _ {A : Type 0} (same : A → A → Bool) (exact : (x y : A) → same x y 
       let h = λ (y : A). count_by (same y) (xs ++ k ∷ []) in
       let H = λ (ys : List A). map {B = A × ℕ} (λ y. (y, h y)) ys in
       let ds = distinct_elements same xs in
-      insert_counts (λ y. count_by (same y) xs) h k v ds (apart_distinct xs) (count_push (same k) xs k ∙ ap (λ b. count_by (same k) xs + cond b 1 0) (own k) ∙ sym is)
-      (λ y apart. count_push (same y) xs k ∙ ap (λ b. count_by (same y) xs + cond b 1 0) (swapped y k ∙ apart) ∙ omega arith)
+      insert_counts (λ y. count_by (same y) xs) h k v ds (apart_distinct xs) (sum_by_push (λ x. cond (same k x) 1 0) xs k ∙ ap (λ b. count_by (same k) xs + cond b 1 0) (own k) ∙ sym is)
+      (λ y apart. sum_by_push (λ x. cond (same y x) 1 0) xs k ∙ ap (λ b. count_by (same y) xs + cond b 1 0) (swapped y k ∙ apart) ∙ omega arith)
       ∙ ap (λ b. H (cond b ds (ds ++ k ∷ []))) (any_distinct k xs)
       ∙ ap H (sym (distinct_push k xs))
 
@@ -152,7 +153,7 @@ module _ {A : Type 0} (same : A → A → Bool) (exact : (x y : A) → same x y 
   tally_more zero xs k v is = tally_push xs k v is
   tally_more (suc n) xs k v is =
       let w = count_by (same k) xs + 1 in
-      let one : count_by (same k) (xs ++ k ∷ []) ≡ count_by (same k) xs + 1 = count_push (same k) xs k ∙ ap (λ b. count_by (same k) xs + cond b 1 0) (own k) in
+      let one : count_by (same k) (xs ++ k ∷ []) ≡ count_by (same k) xs + 1 = sum_by_push (λ x. cond (same k x) 1 0) xs k ∙ ap (λ b. count_by (same k) xs + cond b 1 0) (own k) in
       let left : v ≡ count_by (same k) (xs ++ k ∷ []) + suc n = omega arith in
       sym (insert_twice (tally same xs) k w v)
       ∙ ap (λ es. insert_entry same es k v) (tally_push xs k w refl)

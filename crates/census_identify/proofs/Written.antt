@@ -5,14 +5,11 @@ use Rattle.std.proofs.Math.Seq.{take-append-add}
 use Rattle.std.specs.Io.KnownBytes.{Appends}
 use Rattle.watched.specs.Watching.{AppendsFront}
 use Rattle.watched.specs.Streams.{PutsBytes, PutsMoreBytes, PutsPrefix, Sink, Writes, WritesBetween}
-use Rattle.watched.proofs.Telling.{front_before}
+use Rattle.watched.proofs.Telling.{front_before, front_behind}
 
 -- a prefix of the second text stands after the whole first one
 behind_whole : (a b c : Option (List ℕ)) (xs ys : List ℕ) (n : ℕ) → Appends a b xs → Appends b c (take n ys) → Appends a c (take (length xs + n) (xs ++ ys))
 behind_whole a b c xs ys n p q = subst (Appends a c) (sym (take-append-add xs ys n)) (Appends-trans a b c xs (take n ys) p q)
-
-pub front_behind : (a b c : Option (List ℕ)) (xs ys : List ℕ) → Appends a b xs → AppendsFront b c ys → AppendsFront a c (xs ++ ys)
-front_behind a b c xs ys p q = (length xs + q.0, (let h = q.1 in omega (arith, length-append xs ys)), behind_whole a b c xs ys q.0 p q.2)
 
 -- # Standard output
 

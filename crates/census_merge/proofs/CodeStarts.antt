@@ -1,13 +1,12 @@
 -- The codes of answers begin as codes.
-use Rattle.std.proofs.Common.{◌≡◌, ℕ, zero, suc, ◌+◌, ◌-◌, ◌/◌, ◌%◌, ◌<◌, Bool, true, false, not, ◌&&◌, ◌==◌, cond, eqb, leb, ltb, nat_eq, Option, Some, None as Nothing, List, [], ◌∷◌, ◌++◌, map, fold, length, length-append, position, take, codes, decimal, Ordering, Less, Equal, Greater, ap, ◌∙◌, refl, arith, append_assoc}
+use Rattle.std.proofs.Common.{◌≡◌, ℕ, suc, ◌+◌, ◌-◌, ◌<◌, Bool, true, false, not, ◌&&◌, ◌==◌, cond, eqb, ltb, nat_eq, Option, Some, None as Nothing, List, [], ◌∷◌, ◌++◌, map, fold, length, length-append, position, take, codes, decimal, Ordering, Less, Equal, Greater, ap, ◌∙◌, refl, arith, append_assoc}
 use Rattle.std.specs.Prelude.{⊤}
 use Rattle.std.specs.Cmp.Lexicographic.{pointwise}
-use Rattle.std.specs.Fmt.{digit_glyph, digits, digits_onto}
 use Rattle.std.specs.List.{AllByRecursion as Each, list_all, position_or_len}
 use Rattle.std.specs.Option.{option_map, option_map_or}
-use Rattle.std.proofs.lemmas.Bool.{eqb-true, le-leb, lt-ltb}
-use Rattle.std.proofs.lemmas.Bool.Decides.{Decides-eqb}
-use Rattle.std.proofs.lemmas.Slice.Eq.{slice_eq-Decides}
+use Rattle.std.proofs.lemmas.Bool.{and_parts, eqb-true, lt-ltb}
+use Rattle.std.proofs.lemmas.Cmp.{nat_list_eq_equiv}
+use Rattle.std.proofs.Math.Seq.{take-append_seam}
 use Rattle.census_readback.specs.Codes.{CodeStart, code_start, is_code, is_code_after, is_start, tells}
 use Rattle.life_answer.proofs.Findings.{first_from-found}
 use Rattle.life_answer.specs.Answers.{outcome_at, outcome_from, outcome_of}
@@ -23,31 +22,9 @@ use Rattle.life_model.specs.Evolution.{generation}
 use Rattle.life_model.specs.Generation.{Generation, size}
 use Rattle.life_model.specs.Rule.{Rule}
 use Rattle.life_cells.specs.TextOrder.{least_text, shorter_cmp}
-use Rattle.life_objects.proofs.DecidedLemmas.Tests.{both}
+use Rattle.life_text.proofs.HeadingLemmas.{decimal_digits}
 use Rattle.census_merge.proofs.Solid.{each-map}
 use Rattle.texts.specs.Bytes.{is_digit}
-
--- ---- digits
-
-digit-in : (d : ℕ) → d < 10 → is_digit (48 + d) ≡ true
-digit-in d small = ap (λ b. b && leb (48 + d) 57) (le-leb 48 (48 + d) (omega arith)) ∙ le-leb (48 + d) 57 (omega (arith, small))
-
-glyph-digit : (d : ℕ) → d < 10 → is_digit (digit_glyph false d) ≡ true
-glyph-digit d small = ap (λ b. is_digit (cond b (48 + d) (87 + d))) (lt-ltb d 10 small) ∙ digit-in d small
-
-onto-digits : (k n : ℕ) (acc : List ℕ) → list_all is_digit acc ≡ true → list_all is_digit (digits_onto k 10 false n acc) ≡ true
-onto-digits zero n acc h = h
-onto-digits (suc k) n acc h =
-    let more = digit_glyph false (n % 10) ∷ acc in
-    let all : list_all is_digit more ≡ true = ap (λ b. b && list_all is_digit acc) (glyph-digit (n % 10) (omega arith)) ∙ h in
-    elim (eqb (n / 10) 0) as (λ v. list_all is_digit (cond v more (digits_onto k 10 false (n / 10) more)) ≡ true) [
-      | true ↦ all
-      | false ↦ onto-digits k (n / 10) more all
-    ]
-
-decimal-digits : (n : ℕ) → list_all is_digit (decimal n) ≡ true
-unfolding digits
-decimal-digits n = onto-digits 64 n [] refl
 
 -- ---- where the first `_` is
 
@@ -57,7 +34,7 @@ no-mark c h = grind (arith)
 mark-at : (ds rest : List ℕ) → list_all is_digit ds ≡ true → position_or_len (λ b. b == 95) (ds ++ 95 ∷ rest) ≡ length ds
 mark-at [] rest h = refl
 mark-at (d ∷ ds) rest h =
-    let here = both (is_digit d) (list_all is_digit ds) h in
+    let here = and_parts (is_digit d) (list_all is_digit ds) h in
     let more = mark-at ds rest here.1 in
     let next : 1 + length ds ≡ suc (length ds) = omega arith in
     ap (λ b. cond (not b) (1 + position_or_len (λ b. b == 95) (ds ++ 95 ∷ rest)) 0) (no-mark d here.0) ∙ ap (λ n. 1 + n) more ∙ next
@@ -70,10 +47,6 @@ marked ds rest h =
     let inside : ltb (length ds) (length all) ≡ true = lt-ltb (length ds) (length all) (omega (arith, long)) in
     ap (λ n. cond (ltb n (length all)) (Some n) Nothing) at ∙ ap (λ b. cond b (Some (length ds)) Nothing) inside
 
-take-front : (ds rest : List ℕ) → take (length ds) (ds ++ rest) ≡ ds
-take-front [] rest = refl
-take-front (d ∷ ds) rest = ap (λ w. d ∷ w) (take-front ds rest)
-
 -- ---- the start of a code
 
 abbrev start : ℕ → ℕ → CodeStart
@@ -84,11 +57,8 @@ started letter n body =
     let ds = decimal n in
     let start_at : List ℕ → Option ℕ → Option CodeStart = λ text. option_map (λ at. record { letter = letter; number = take at text }) in
     ap (λ w. start_at w (position (λ b. b == 95) w)) (append_assoc ds (95 ∷ []) body)
-    ∙ ap (start_at (ds ++ 95 ∷ body)) (marked ds body (decimal-digits n))
-    ∙ ap (λ (w : List ℕ). Some (record { letter = letter; number = w })) (take-front ds (95 ∷ body))
-
-same : (ds : List ℕ) → pointwise nat_eq ds ds ≡ true
-same ds = (slice_eq-Decides Decides-eqb ds ds (pointwise nat_eq ds ds) refl).1 refl
+    ∙ ap (start_at (ds ++ 95 ∷ body)) (marked ds body (decimal_digits n))
+    ∙ ap (λ (w : List ℕ). Some (record { letter = letter; number = w })) (take-append_seam ds (95 ∷ body))
 
 abbrev pub IsAfter : Bool → ℕ → List ℕ → Type 0
 IsAfter moved period code = is_code_after moved period code ≡ true
@@ -101,18 +71,18 @@ after-start moved period letter n body some told =
 
 still-told : (population : ℕ) (body : List ℕ) → IsAfter false 1 (120 ∷ 115 ∷ ((decimal population ++ 95 ∷ []) ++ body))
 still-told population body =
-    after-start false 1 115 population body (omega arith) (ap (λ b. b && true) (decimal-digits population))
+    after-start false 1 115 population body (omega arith) (ap (λ b. b && true) (decimal_digits population))
 
 turning-told : (period : ℕ) (body : List ℕ) → 0 < period → eqb period 1 ≡ false → IsAfter false period (120 ∷ 112 ∷ ((decimal period ++ 95 ∷ []) ++ body))
 turning-told period body some other =
     after-start false period 112 period body some
-    (ap (λ b. b && tells false period (start 112 period)) (decimal-digits period)
-    ∙ ap (λ b. cond b (112 == 115) ((112 == 112) && pointwise nat_eq (decimal period) (decimal period))) other ∙ same (decimal period))
+    (ap (λ b. b && tells false period (start 112 period)) (decimal_digits period)
+    ∙ ap (λ b. cond b (112 == 115) ((112 == 112) && pointwise nat_eq (decimal period) (decimal period))) other ∙ nat_list_eq_equiv.refl (decimal period))
 
 moving-told : (period : ℕ) (body : List ℕ) → 0 < period → IsAfter true period (120 ∷ 113 ∷ ((decimal period ++ 95 ∷ []) ++ body))
 moving-told period body some =
     after-start true period 113 period body some
-    (ap (λ b. b && tells true period (start 113 period)) (decimal-digits period) ∙ same (decimal period))
+    (ap (λ b. b && tells true period (start 113 period)) (decimal_digits period) ∙ nat_list_eq_equiv.refl (decimal period))
 
 at-rest : (period population : ℕ) (body : List ℕ) → 0 < period
     → IsAfter false period ((cond (eqb period 1) (codes "xs" ++ decimal population) (codes "xp" ++ decimal period) ++ codes "_") ++ body)
@@ -141,8 +111,8 @@ pub after-code : (moved : Bool) (period : ℕ) (code : List ℕ) → IsAfter mov
 after-code moved period code h =
     (elim (code_start code) as (λ o. option_map_or (λ s. is_start s && tells moved period s) o false ≡ true → option_map_or is_start o false ≡ true) [
       | Nothing ↦ λ e. absurd (cc)
-      | Some s ↦ λ e. (both (is_start s) (tells moved period s) e).0
-    ]) (both (ltb 0 period) _ h).1
+      | Some s ↦ λ e. (and_parts (is_start s) (tells moved period s) e).0
+    ]) (and_parts (ltb 0 period) _ h).1
 
 -- ---- the codes of outcomes
 

@@ -1,6 +1,7 @@
 -- The loops over rows.
 use Rattle.std.proofs.Common.{◌≡◌, ◌≢◌, ℕ, zero, suc, ◌+◌, ◌-◌, ◌<◌, ◌≤◌, Bool, true, false, ◌&&◌, ◌||◌, eqb, ltb, leb, Option, Some, None as Nothing, List, [], ◌∷◌, ◌++◌, ap, ◌∙◌, sym, refl, arith, length, take, drop, drop-cons, get_or, set, replicate, get_or-set_same, get_or-set_other, length-set, length-append, append_assoc}
 use Rattle.std.specs.Prelude.{if◌then◌else◌}
+use Rattle.std.proofs.Math.Bool.{or-false, or-true, or_assoc}
 use Rattle.std.proofs.lemmas.Bool.{and_from, and_parts, eq-eqb, eqb-true, le-leb, leb-true, lt-ltb, ltb-true}
 use Rattle.std.proofs.lemmas.List.{take_more, length-replicate, append-nil}
 use Rattle.census_rows.specs.declared.row.Row.{Row}
@@ -52,18 +53,11 @@ count-end rows n d some most last h =
 -- # Which collections are closed
 
 closed-append : (xs : List Row) (r : Row) (c : ℕ) → is_closed (xs ++ r ∷ []) c ≡ (is_closed xs c || closes c r)
-closed-append [] r c = elim (closes c r) as (λ b. (b || false) ≡ (false || b)) [ true ↦ refl | false ↦ refl ]
-closed-append (x ∷ xs) r c =
-    let assoc : (a b d : Bool) → (a || (b || d)) ≡ ((a || b) || d) = λ a b d. elim a as (λ a. (a || (b || d)) ≡ ((a || b) || d)) [ true ↦ refl | false ↦ refl ] in
-    ap (λ b. closes c x || b) (closed-append xs r c) ∙ assoc (closes c x) (is_closed xs c) (closes c r)
-
-or-true : (b : Bool) → true ≡ (b || true)
-or-true true = refl
-or-true false = refl
+closed-append [] r c = or-false (closes c r)
+closed-append (x ∷ xs) r c = ap (λ b. closes c x || b) (closed-append xs r c) ∙ sym (or_assoc (closes c x) (is_closed xs c) (closes c r))
 
 or-none : (b v : Bool) → v ≡ false → b ≡ (b || v)
-or-none true v e = refl
-or-none false v e = sym e
+or-none b v e = sym (ap (λ v. b || v) e ∙ or-false b)
 
 get-none : (n i : ℕ) → get_or (replicate n false) i false ≡ false
 get-none zero i = refl
@@ -151,7 +145,7 @@ module _ (rows : List Row) (n : ℕ) (d : Row) (flags : List Bool) (less : n < l
               | true ↦ λ e.
                   (let same : i ≡ j = eqb-true _ _ e in
                   ap (λ k. get_or (set flags j true) k false) same ∙ get_or-set_same flags j true false (let inside = at.inside in let size = are.size in omega (arith, inside, size))
-                  ∙ or-true (is_closed (take n rows) (j + 1)) ∙ ap (λ b. is_closed (take n rows) (j + 1) || b) (sym at.own)
+                  ∙ sym (or-true (is_closed (take n rows) (j + 1))) ∙ ap (λ b. is_closed (take n rows) (j + 1) || b) (sym at.own)
                   ∙ sym (closed-next (j + 1)) ∙ ap (λ k. is_closed (take (n + 1) rows) (k + 1)) (sym same))
               | false ↦ λ e.
                   (let other : i ≢ j = λ same. (let clash : true ≡ false = sym (eq-eqb _ _ same) ∙ e in absurd (cc)) in

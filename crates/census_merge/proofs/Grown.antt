@@ -1,11 +1,10 @@
 -- Rows can report growth, if it is in range.
-use Rattle.std.proofs.Common.{◌≡◌, ℕ, suc, ◌+◌, ◌<◌, ◌≤◌, ℤ, pos, negsuc, neg_ℤ, ◌≤ℤ◌, true, ◌&&◌, leb, Bool, Some, List, [], ◌∷◌, ◌++◌, map, length, Less, refl, sym, ap, subst, ◌∙◌, arith}
+use Rattle.std.proofs.Common.{◌≡◌, ℕ, suc, ◌+◌, ◌<◌, ◌≤◌, true, ◌&&◌, leb, Bool, Some, List, [], ◌∷◌, ◌++◌, map, length, Less, refl, sym, ap, subst, ◌∙◌, arith}
 use Rattle.std.specs.Prelude.{unsigned_abs}
 use Rattle.std.specs.Cmp.Lexicographic.{slice_cmp}
 use Rattle.std.specs.List.{AllByRecursion as Each, AllPairs}
 use Rattle.std.specs.Ordering.{ordering_then}
 use Rattle.std.proofs.lemmas.Bool.{le-leb, lt-ltb}
-use Rattle.std.proofs.lemmas.Int.{ints}
 use Rattle.std.proofs.lemmas.List.Elements.{All-head}
 use Rattle.census_format.specs.Lines.{engine_rows, rows_of_engines}
 use Rattle.census_readback.specs.Engines.{emitted_cmp, no_engine, way_cmp}
@@ -24,6 +23,7 @@ use Rattle.life_answer.proofs.Ranges.{some_engines}
 use Rattle.life_answer.proofs.Told.{growth_is_so}
 use Rattle.life_model.specs.Generation.{Generation}
 use Rattle.life_model.specs.Rule.{Rule}
+use Rattle.life_objects.proofs.DecidedLemmas.Tests.{small_abs}
 use Rattle.life_objects.proofs.Lists.{AllPairs-head, AllPairs-tail}
 use Rattle.census_merge.specs.Ranges.{FitsEmitted, FitsEngines, IsCodedPart}
 use Rattle.census_merge.proofs.CodeStarts.{IsCodePart}
@@ -97,15 +97,11 @@ first-behind (line ∷ lines) rise fits = (
 
 -- ---- each is lawful
 
-within-abs : (z : ℤ) (n : ℕ) → neg_ℤ (pos n) ≤ℤ z → z ≤ℤ pos n → unsigned_abs z ≤ n
-within-abs (pos k) n low high = omega (arith, ints, high)
-within-abs (negsuc k) n low high = omega (arith, ints, low)
-
 goes : (line : Engines) → FitsEngines line → is_way line.tale.period line.tale.dx line.tale.dy ≡ true
 goes line h =
     let t = line.tale in
-    let across = within-abs t.dx t.period h.0.left h.0.right in
-    let down = within-abs t.dy t.period h.0.above h.0.below in
+    let across = small_abs t.dx t.period h.0.left h.0.right in
+    let down = small_abs t.dy t.period h.0.above h.0.below in
     ap (λ b. b && (leb t.period period_limit && (leb (unsigned_abs t.dx) t.period && leb (unsigned_abs t.dy) t.period))) (lt-ltb 0 t.period h.0.later)
     ∙ ap (λ b. b && (leb (unsigned_abs t.dx) t.period && leb (unsigned_abs t.dy) t.period)) (le-leb t.period period_limit h.0.soon)
     ∙ ap (λ b. b && leb (unsigned_abs t.dy) t.period) (le-leb (unsigned_abs t.dx) t.period across)

@@ -2,6 +2,7 @@
 use Rattle.std.proofs.Common.{◌≡◌, ◌≢◌, ℕ, ◌+◌, ◌-◌, ◌<◌, ◌≤◌, ◌^◌, Bool, true, false, ◌&&◌, ◌||◌, eqb, ltb, Some, None as Nothing, List, [], ◌∷◌, ap, ◌∙◌, sym, refl, arith, subst, length, inl, inr}
 use Rattle.std.specs.Prelude.{◌⊎◌, if◌then◌else◌}
 use Rattle.std.specs.List.{list_all}
+use Rattle.std.proofs.Math.Bool.{or-false, or_assoc}
 use Rattle.std.proofs.lemmas.Bool.{and_from, eq-eqb, eqb-false, eqb-true, ltb-false, ltb-true}
 use Rattle.census_rows.specs.declared.row.Row.{Row}
 use Rattle.census_rows.specs.declared.row.Row.TheVariants.{End}
@@ -18,21 +19,15 @@ use Rattle.census_merge.proofs.Placed.{closed-more, closes-other, collection-num
 use Rattle.census_merge.proofs.Standing.{NoEnds, Stand, ended_reading}
 use Rattle.census_merge.proofs.Tellings.{MirrorsTold, ready, told-goes, told-stays, told-too}
 
-or-assoc : (a b c : Bool) → ((a || b) || c) ≡ (a || (b || c))
-or-assoc true b c = refl
-or-assoc false b c = refl
-
 -- # Which collections are closed in the end
 
 pub closed-then : (t u : Told) (s v : Reading) (rows : List Row) (c : ℕ) → NoEnds rows → Stand t s rows u v → 0 < c
     → is_behind (place_at v.places (c - 1)) ≡ (is_behind (place_at s.places (c - 1)) || is_closed rows c)
 closed-then t u s v [] c none h low =
-    let b = is_behind (place_at s.places (c - 1)) in
-    let same : b ≡ (b || false) = elim b as (λ b. b ≡ (b || false)) [ true ↦ refl | false ↦ refl ] in
-    ap (λ (x : Reading). is_behind (place_at x.places (c - 1))) (sym h.1) ∙ same
+    ap (λ (x : Reading). is_behind (place_at x.places (c - 1))) (sym h.1) ∙ sym (or-false (is_behind (place_at s.places (c - 1))))
 closed-then t u s v (r ∷ rows) c none h low =
     let one = closed-more s h.1 r c (taken s h.1 r none.0 h.3) low in
-    closed-then h.0 u h.1 v rows c none.1 h.4 low ∙ ap (λ b. b || is_closed rows c) one ∙ or-assoc (is_behind (place_at s.places (c - 1))) (closes c r) (is_closed rows c)
+    closed-then h.0 u h.1 v rows c none.1 h.4 low ∙ ap (λ b. b || is_closed rows c) one ∙ or_assoc (is_behind (place_at s.places (c - 1))) (closes c r) (is_closed rows c)
 
 -- the rows have numbers of collections
 pub owned : (t u : Told) (s v : Reading) (rows : List Row) → NoEnds rows → Stand t s rows u v → AreOfCollections count_limit rows

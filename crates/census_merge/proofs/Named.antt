@@ -3,6 +3,7 @@ use Rattle.std.proofs.Common.{◌≡◌, ℕ, zero, suc, ◌*◌, ◌-◌, ◌<�
 use Rattle.std.specs.Fmt.{signed_decimal}
 use Rattle.std.specs.List.{AllByRecursion as Each, list_all}
 use Rattle.std.proofs.lemmas.Option.{slice_get_past}
+use Rattle.std.proofs.lemmas.Bool.{and_parts}
 use Rattle.census_bundle.specs.declared.bundle.Entry.{Entry}
 use Rattle.census_bundle.specs.declared.bundle.Folder.{Folder}
 use Rattle.census_bundle.specs.Names.{IsNamedEntry, IsNamedFolder, is_name, is_name_byte}
@@ -26,7 +27,6 @@ use Rattle.life_answer.specs.CountedTales.{engines_in}
 use Rattle.life_answer.specs.Parts.{objects_in}
 use Rattle.life_cells.specs.Rules.{rule_text}
 use Rattle.life_model.specs.Rule.{Rule}
-use Rattle.life_objects.proofs.DecidedLemmas.Tests.{both}
 use Rattle.census_merge.specs.Joining.{IsBundle}
 use Rattle.census_merge.proofs.Rowed.{close_row, code-is, code_groups, code_row, counted_in, open_row, row_outcome, section-is}
 use Rattle.census_merge.proofs.Coded.{IsCoded, IsCodedAnswer, IsSolidEngines, IsSolidObject, IsSolidPart, entry-coded, tally-coded}
@@ -38,11 +38,11 @@ use Rattle.census_merge.proofs.Solid.{decimal-solid, each-append, rule-solid, si
 no-feeds : (bytes : List ℕ) → list_all is_name_byte bytes ≡ true → HasNoFeed bytes
 no-feeds [] e = tt
 no-feeds (b ∷ bytes) e =
-    let each = both (is_name_byte b) (list_all is_name_byte bytes) e in
+    let each = and_parts (is_name_byte b) (list_all is_name_byte bytes) e in
     (λ is. (let no : false ≡ true = sym (ap is_name_byte is) ∙ each.0 in absurd (cc)), no-feeds bytes each.1)
 
 name-flat : (name : List ℕ) → is_name name ≡ true → HasNoFeed name
-name-flat name e = no-feeds name (both _ _ (both _ _ (both _ _ e).1).1).0
+name-flat name e = no-feeds name (and_parts _ _ (and_parts _ _ (and_parts _ _ e).1).1).0
 
 pub each-of : {X : Type 0} (P : X → Type 0) (xs : List X) → All P xs → Each P xs
 each-of P [] h = tt

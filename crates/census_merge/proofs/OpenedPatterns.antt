@@ -1,8 +1,9 @@
 -- How many patterns rows open, by their collections.
-use Rattle.std.proofs.Common.{◌≡◌, ℕ, zero, suc, ◌+◌, ◌<◌, ◌≤◌, Bool, true, false, eqb, if◌then◌else◌, inl, inr, Option, Some, None, List, [], ◌∷◌, length, slice_get, ap, ◌∙◌, sym, refl, arith}
+use Rattle.std.proofs.Common.{◌≡◌, ℕ, zero, suc, ◌+◌, ◌<◌, ◌≤◌, true, false, eqb, inl, inr, Option, Some, None, List, [], ◌∷◌, length, slice_get, ap, ◌∙◌, sym, refl, arith}
 use Rattle.std.proofs.lemmas.Bool.{cases_Bool}
 use Rattle.census_bundle.specs.declared.bundle.Folder.{Folder}
 use Rattle.census_format.specs.Lines.{pattern_count}
+use Rattle.census_readback.proofs.Kept.{rows-one}
 use Rattle.census_readback.specs.Shapes.{AreCodes, AreLines, AreOfCollections, patterns_in, rows_of}
 use Rattle.census_readback.specs.Steps.{collection_of, patterns_opened}
 use Rattle.census_rows.specs.Kinds.{said}
@@ -40,9 +41,6 @@ total first (suc count) rows = patterns_in (rows_of first rows) + total (suc fir
 total-nil : (first count : ℕ) → total first count [] ≡ 0
 total-nil first zero = refl
 total-nil first (suc count) = let e = total-nil (suc first) count in omega (arith, e)
-
-rows-one : (c : ℕ) (r : Row) (rows : List Row) (b : Bool) → eqb (collection_of r) c ≡ b → rows_of c (r ∷ rows) ≡ if b then r ∷ rows_of c rows else rows_of c rows
-rows-one c r rows b e = ap (λ (x : Bool). if x then r ∷ rows_of c rows else rows_of c rows) e
 
 total-passed : (first count : ℕ) (r : Row) (rows : List Row) → collection_of r < first → total first count (r ∷ rows) ≡ total first count rows
 total-passed first zero r rows less = refl

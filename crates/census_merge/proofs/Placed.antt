@@ -1,6 +1,7 @@
 -- The places of collections.
 use Rattle.std.proofs.Common.{◌≡◌, ◌≢◌, ℕ, ◌+◌, ◌-◌, ◌<◌, Bool, true, false, ◌&&◌, ◌||◌, eqb, ltb, leb, Some, None, List, [], ◌∷◌, ap, ◌∙◌, sym, refl, arith, length}
 use Rattle.std.specs.Prelude.{if◌then◌else◌}
+use Rattle.std.proofs.Math.Bool.{or-false}
 use Rattle.std.proofs.lemmas.Bool.{eqb-true, eqb-false}
 use Rattle.census_rows.specs.declared.row.Row.{Row}
 use Rattle.census_rows.specs.declared.row.Row.TheVariants.{Open, Line, Part, Engine, Emits, Code, Close, End}
@@ -137,10 +138,6 @@ closes-other c (Code d rule code k) h = refl
 closes-other c (Close d m a b e) h = h
 closes-other c (End m k) h = refl
 
-or-false : (b : Bool) → b ≡ (b || false)
-or-false true = refl
-or-false false = refl
-
 -- after a row the collections that were closed are closed, and so is the one that it closes
 pub closed-more : (s t : Reading) (r : Row) (c : ℕ) → Taken s t r → 0 < c → is_behind (place_at t.places (c - 1)) ≡ (is_behind (place_at s.places (c - 1)) || closes c r)
 closed-more s t r c h low =
@@ -164,7 +161,7 @@ closed-more s t r c h low =
           let apart : (c - 1) ≢ (d - 1) = λ k. other (omega (arith, k, low, low2)) in
           ap (λ xs. is_behind (place_at xs (c - 1))) were
           ∙ ap is_behind (put-other s.places (d - 1) (c - 1) h.place apart)
-          ∙ or-false (is_behind (place_at s.places (c - 1)))
+          ∙ sym (or-false (is_behind (place_at s.places (c - 1))))
           ∙ ap (λ v. is_behind (place_at s.places (c - 1)) || v) (sym (closes-other c r e)))
     ] in
     on (eqb d c) refl

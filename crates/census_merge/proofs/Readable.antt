@@ -62,7 +62,7 @@ formed-at question c [] k less few range = absurd (omega arith)
 formed-at question c (f ∷ b) zero less few range = section-formed question c f (few 0 f refl) range.0.1
 formed-at question c (f ∷ b) (suc k) less few range = formed-at question c b k (omega arith) (λ j g. few (suc j) g) range.1
 
-opens-at : (question : Question) (c : ℕ) (o : Option Folder) → patterns_in (all_rows (section_of question c o)) ≡ size_of o
+pub opens-at : (question : Question) (c : ℕ) (o : Option Folder) → patterns_in (all_rows (section_of question c o)) ≡ size_of o
 opens-at question c Nothing = refl
 opens-at question c (Some f) = section-opens question c f
 

@@ -5,7 +5,7 @@ use Rattle.std.specs.Int.{bit_at}
 use Rattle.std.specs.List.{AllByRecursion as Each, list_all, range_with_len}
 use Rattle.std.specs.Option.{option_and_then, option_map_or}
 use Rattle.std.proofs.Math.Pow.{pow-lt}
-use Rattle.std.proofs.lemmas.Bool.{le-leb}
+use Rattle.std.proofs.lemmas.Bool.{le-leb, and_parts}
 use Rattle.std.proofs.lemmas.Bool.Decides.{nat_tests}
 use Rattle.std.proofs.lemmas.Nat.{or_lt}
 use Rattle.std.proofs.lemmas.Nat.Bits.{bit_at_lowest}
@@ -24,7 +24,7 @@ use Rattle.life_cells.specs.Forms.{HasForm, IsDigits}
 use Rattle.life_cells.specs.Rules.{digits_by_form, is_count, life, members, rule_of, rule_of_digits, rule_text, set_text}
 use Rattle.life_cells.specs.declared.rule.RuleFault.{RuleFault}
 use Rattle.life_cells.specs.declared.rule.RuleFault.TheVariants.{HasB0}
-use Rattle.life_cells.proofs.FormLemmas.{and_left, and_right, form_found}
+use Rattle.life_cells.proofs.FormLemmas.{form_found}
 use Rattle.life_cells.proofs.PrintLemmas.{members_are, printed_rule}
 use Rattle.life_cells.proofs.RuleLemmas.{count_range}
 use Rattle.life_model.specs.Rule.{Rule}
@@ -105,10 +105,10 @@ survival-digits text birth survival (inr (inr form)) = form.digits
 members-below : (digits : List ℕ) (set : ℕ) → IsDigits digits → set < 512 → fold (λ set c. bit_or set (2 ^ (c - 48))) set digits < 512
 members-below [] set h small = small
 members-below (c ∷ digits) set h small =
-    let high = (count_range c (and_left (is_count c) (list_all is_count digits) h)).1 in
+    let high = (count_range c (and_parts (is_count c) (list_all is_count digits) h).0).1 in
     let few : c - 48 < 9 = omega (arith, high) in
     let below : 2 ^ (c - 48) < 2 ^ 9 = pow-lt few in
-    members-below digits (bit_or set (2 ^ (c - 48))) (and_right (is_count c) (list_all is_count digits) h) (or_lt 9 set (2 ^ (c - 48)) small below)
+    members-below digits (bit_or set (2 ^ (c - 48))) (and_parts (is_count c) (list_all is_count digits) h).1 (or_lt 9 set (2 ^ (c - 48)) small below)
 
 digits-fair : (birth survival : List ℕ) → IsDigits birth → IsDigits survival → IsFair (rule_of_digits (Some (birth, survival)))
 digits-fair birth survival digits others =

@@ -46,27 +46,31 @@ none-next rest (q ∷ left) lines text stuck = absurd (stuck q (text_of left) li
 
 -- ---- sums
 
+pub added : (s more all : Sums) → with_more s more ≡ Some all → all ≡ sums_plus s more
+added s more all is = by (nat_le more.collections (count_limit - s.collections) && nat_le more.patterns (2 ^ 64 - 1 - s.patterns)) is
+  where
+    by : (b : Bool) → (if b then Some (sums_plus s more) else Nothing) ≡ Some all → all ≡ sums_plus s more
+    by true h = (let f : Some (sums_plus s more) ≡ Some all = h in cc)
+    by false h = absurd (cc)
+
 sum_more : (s more all : Sums) → with_more s more ≡ Some all → s.collections ≤ count_limit → (all ≡ sums_plus s more) × (s.collections + more.collections ≤ count_limit)
-sum_more s more all is few = by_case (nat_le more.collections (count_limit - s.collections) && nat_le more.patterns (2 ^ 64 - 1 - s.patterns)) refl
+sum_more s more all is few = (added s more all is, by_case (nat_le more.collections (count_limit - s.collections) && nat_le more.patterns (2 ^ 64 - 1 - s.patterns)) refl)
   where
     by_case : (b : Bool) → (nat_le more.collections (count_limit - s.collections) && nat_le more.patterns (2 ^ 64 - 1 - s.patterns)) ≡ b
-        → (all ≡ sums_plus s more) × (s.collections + more.collections ≤ count_limit)
-    by_case true e = (
-      (let f : Some (sums_plus s more) ≡ Some all = sym (ap (λ (b : Bool). if b then Some (sums_plus s more) else Nothing) e) ∙ is in cc),
-      (let f : nat_le more.collections (count_limit - s.collections) ≡ true = grind arith in grind arith),
-    )
+        → s.collections + more.collections ≤ count_limit
+    by_case true e = let f : nat_le more.collections (count_limit - s.collections) ≡ true = grind arith in grind arith
     by_case false e = absurd (let f : Nothing ≡ Some all = sym (ap (λ (b : Bool). if b then Some (sums_plus s more) else Nothing) e) ∙ is in cc)
 
 few-more : (s more all : Sums) → with_more s more ≡ Some all → s.collections ≤ count_limit → all.collections ≤ count_limit
 few-more s more all is few = let sum = sum_more s more all is few in subst (λ (t : Sums). t.collections ≤ count_limit) (sym sum.0) sum.1
 
-abbrev sums_from : Sums → List Row → Option Sums → Sums
+abbrev pub sums_from : Sums → List Row → Option Sums → Sums
 sums_from s rows o = elim o as (λ _. Sums) [ Nothing ↦ sums_in s rows | Some more ↦ sums_in (sums_plus s more) rows ]
 
-abbrev excess_with : ℕ → List Row → Option Sums → Option ℕ
+abbrev pub excess_with : ℕ → List Row → Option Sums → Option ℕ
 excess_with n rows o = elim o as (λ _. Option ℕ) [ Nothing ↦ Some n | Some all ↦ first_excess (n + 1) all rows ]
 
-abbrev excess_from : ℕ → Sums → List Row → Option Sums → Option ℕ
+abbrev pub excess_from : ℕ → Sums → List Row → Option Sums → Option ℕ
 excess_from n s rows o = elim o as (λ _. Option ℕ) [ Nothing ↦ first_excess n s rows | Some more ↦ excess_with n rows (with_more s more) ]
 
 abbrev numbered_from : Sums → Row → List Row → Option Sums → List Row

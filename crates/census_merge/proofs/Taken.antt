@@ -3,13 +3,11 @@ use Rattle.std.proofs.Common.{◌≡◌, ◌++◌, true, cond, Option, Some, Non
 use Rattle.std.specs.Prelude.{⊤}
 use Rattle.std.specs.declared.cmp.Ordering.TheVariants.{Less}
 use Rattle.census_readback.specs.Lawful.{is_lawful}
+use Rattle.census_readback.proofs.Telling.{and_then}
 use Rattle.census_readback.specs.Told.{Told, told_after, told_by, told_next}
 use Rattle.census_rows.specs.declared.row.Row.{Row}
 use Rattle.life_answer.specs.declared.part.Part as part
 use Rattle.life_cells.specs.TextOrder.{shorter_cmp}
-
-abbrev pub and_then : Option Told → (Told → Option Told) → Option Told
-and_then o go = elim o as (λ _. Option Told) [ Nothing ↦ Nothing | Some u ↦ go u ]
 
 pub told-one : (t u : Told) (row : Row) (rows : List Row) → told_after t row ≡ Some u → told_by t (row ∷ rows) ≡ told_by u rows
 told-one t u row rows h = ap (λ o. and_then o (λ v. told_by v rows)) h

@@ -1,6 +1,6 @@
 -- Patterns that have codes, by the places of their rows.
 use Rattle.std.proofs.Common.{◌≡◌, ℕ, suc, ◌+◌, ◌<◌, ◌≤◌, Bool, true, false, if◌then◌else◌, Option, List, [], ◌∷◌, ◌++◌, length, get_or, drop, map, refl, sym, ap, ap₂, ◌∙◌, subst, arith, inl, inr, true≢false, drop-cons, append_assoc}
-use Rattle.std.specs.Prelude.{cond, filter, Some, None as Nothing, is_some, ◌⊎◌}
+use Rattle.std.specs.Prelude.{Some, None as Nothing, is_some, ◌⊎◌}
 use Rattle.std.specs.Cmp.{IsStrictWeakOrder}
 use Rattle.std.specs.List.{All, cons_option}
 use Rattle.std.specs.List.Sorted.{ties, IsPartitionedBy, IsPartitionPoint, IsPermutation, IsSortedBy, IsStableBy}
@@ -8,13 +8,14 @@ use Rattle.std.specs.Option.{unwrap_or}
 use Rattle.std.specs.Ordering.{is_lt}
 use Rattle.std.proofs.lemmas.Bool.{cases_Bool}
 use Rattle.std.proofs.lemmas.List.{get_or-map, length-map, map-append, get_or_default, get_or_past}
-use Rattle.std.proofs.lemmas.List.Elements.{All-cons, All-map}
+use Rattle.std.proofs.lemmas.List.Elements.{All-cons, All-map, filter_agree}
 use Rattle.std.proofs.lemmas.List.Sorted.{All-permutation, ranks_by}
 use Rattle.census_rows.specs.declared.kinds.Behind.TheVariants as behind
 use Rattle.census_rows.specs.declared.row.Outcome.TheVariants.{Found, Bad}
 use Rattle.census_rows.specs.declared.row.Row.{Row}
 use Rattle.census_rows.specs.declared.row.Row.TheVariants.{Open, Line, Part, Engine, Emits, Code, Close, End}
 use Rattle.census_rows.specs.Kinds.{said_of}
+use Rattle.census_rows.proofs.Filters.{filter-map, filter-none}
 use Rattle.census_readback.specs.Sections.{same_behind}
 use Rattle.census_rows.specs.Store.Placed.{row_numbered}
 use Rattle.census_page.specs.Held.{held_at, holder_at, holders_at, line_after, naming_at, nobody}
@@ -23,7 +24,7 @@ use Rattle.census_page.specs.Order.{AreInOrder, holder_key, key_cmp}
 use Rattle.census_page.specs.declared.holder.Holder.{Holder}
 use Rattle.census_page.specs.declared.holder.Naming.{Naming}
 use Rattle.census_page.specs.declared.place.Place.{Place}
-use Rattle.census_page.proofs.Places.{having-none, key_total, tied-with}
+use Rattle.census_page.proofs.Places.{key_total, tied-with}
 
 -- # The walk over the rows
 
@@ -136,19 +137,6 @@ in-order rows places up k d low small =
     ap₂ (λ one other. is_lt (key_cmp (holder_key one) (holder_key other))) (get_or-map (held_at rows) places (k + 1) nowhere d few) (get_or-map (held_at rows) places k nowhere d (omega arith))
     ∙ up k nowhere low few
 
-filter-map : {X Y : Type 0} (p : Y → Bool) (f : X → Y) (xs : List X) → filter p (map f xs) ≡ map f (filter (λ x. p (f x)) xs)
-filter-map p f [] = refl
-filter-map p f (x ∷ xs) = go (p (f x)) (filter-map p f xs)
-  where
-    go : (b : Bool) → filter p (map f xs) ≡ map f (filter (λ y. p (f y)) xs)
-        → cond b (f x ∷ filter p (map f xs)) (filter p (map f xs)) ≡ map f (cond b (x ∷ filter (λ y. p (f y)) xs) (filter (λ y. p (f y)) xs))
-    go true rest = ap (λ ys. f x ∷ ys) rest
-    go false rest = rest
-
-filter-same : {X : Type 0} (p q : X → Bool) (xs : List X) → ((x : X) → p x ≡ q x) → filter p xs ≡ filter q xs
-filter-same p q [] same = refl
-filter-same p q (x ∷ xs) same = ap₂ (λ (b : Bool) (ys : List _). cond b (x ∷ ys) ys) (same x) (filter-same p q xs same)
-
 -- one of these passes a test, or none does
 some-or-none : {X : Type 0} (p : X → Bool) (xs : List X) → ((x : X) × (p x ≡ true)) ⊎ All (λ x. p x ≡ false) xs
 some-or-none p [] = inr (λ k d small. absurd (omega arith))
@@ -170,11 +158,11 @@ same-held rows old new stable moved rule code =
           let alike : (place : Place) → ties (place_lt rows) found.0 place ≡ has place =
           λ place. tied-with rule code (held_at rows found.0) (held_at rows place) found.1 in
           filter-map (has_code rule code) (held_at rows) new
-          ∙ ap (map (held_at rows)) (sym (filter-same (ties (place_lt rows) found.0) has new alike) ∙ stable found.0 ∙ filter-same (ties (place_lt rows) found.0) has old alike)
+          ∙ ap (map (held_at rows)) (sym (filter_agree (ties (place_lt rows) found.0) has alike new) ∙ stable found.0 ∙ filter_agree (ties (place_lt rows) found.0) has alike old)
           ∙ sym (filter-map (has_code rule code) (held_at rows) old)
       | inr none ↦
-          having-none rule code (holders_at rows new) (All-map (λ h. has_code rule code h ≡ false) (held_at rows) new (All-permutation (λ place. has place ≡ false) old new moved none))
-          ∙ sym (having-none rule code (holders_at rows old) (All-map (λ h. has_code rule code h ≡ false) (held_at rows) old none))
+          filter-none (has_code rule code) (holders_at rows new) (All-map (λ h. has_code rule code h ≡ false) (held_at rows) new (All-permutation (λ place. has place ≡ false) old new moved none))
+          ∙ sym (filter-none (has_code rule code) (holders_at rows old) (All-map (λ h. has_code rule code h ≡ false) (held_at rows) old none))
     ]
 
 -- # Lists of what is at places

@@ -1,4 +1,3 @@
-pub mod Behind
 pub mod Appending
 pub mod Divisors
 pub mod Engines

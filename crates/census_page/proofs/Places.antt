@@ -8,10 +8,11 @@ use Rattle.std.specs.List.Sorted.{ties, IsPartitionedBy, IsPartitionPoint}
 use Rattle.std.specs.Ordering.{is_eq, is_lt, nat_cmp, ordering_reverse}
 use Rattle.std.specs.declared.cmp.Ordering.{Ordering}
 use Rattle.std.specs.declared.cmp.Ordering.TheVariants.{Less, Equal, Greater}
+use Rattle.std.proofs.lemmas.Bool.{true_from_ne_false}
 use Rattle.std.proofs.lemmas.Cmp.{then_total}
 use Rattle.std.proofs.lemmas.List.{get_or-drop}
-use Rattle.std.proofs.lemmas.List.Elements.{All-tail}
 use Rattle.std.proofs.lemmas.List.Sorted.{ranks_by, sorted_far}
+use Rattle.census_rows.proofs.Filters.{filter-none}
 use Rattle.census_page.specs.Holders.{has_code, having}
 use Rattle.census_page.specs.Order.{holder_key, is_before, key_cmp, AreInOrder}
 use Rattle.census_page.specs.declared.holder.Holder.{Holder}
@@ -61,11 +62,6 @@ having-more rule code h hs e = ap (λ (b : Bool). cond b (h ∷ having rule code
 having-less : (rule code : List ℕ) (h : Holder) (hs : List Holder) → has_code rule code h ≡ false → having rule code (h ∷ hs) ≡ having rule code hs
 having-less rule code h hs e = ap (λ (b : Bool). cond b (h ∷ having rule code hs) (having rule code hs)) e
 
-pub having-none : (rule code : List ℕ) (hs : List Holder) → All (λ h. has_code rule code h ≡ false) hs → having rule code hs ≡ []
-having-none rule code [] none = refl
-having-none rule code (h ∷ hs) none =
-    having-less rule code h hs (none 0 h (omega arith)) ∙ having-none rule code hs (All-tail (λ h. has_code rule code h ≡ false) h hs none)
-
 -- the patterns that come before a code don't have it
 having-drop : (rule code : List ℕ) (at : ℕ) (hs : List Holder) → ((k : ℕ) (d : Holder) → k < at → is_before rule code (get_or hs k d) ≡ true) → at ≤ length hs
     → having rule code hs ≡ having rule code (drop at hs)
@@ -78,7 +74,7 @@ having-drop rule code (suc at) (h ∷ hs) before within =
 -- the patterns that have it come first, and none comes after these
 having-take : (rule code : List ℕ) (n : ℕ) (hs : List Holder) → IsPartitionPoint (λ h. has_code rule code h ≡ true) (λ h. has_code rule code h ≡ false) hs n
     → n ≤ length hs → take n hs ≡ having rule code hs
-having-take rule code zero hs parted within = sym (having-none rule code hs (λ k d small. parted.1 k d (omega arith) small))
+having-take rule code zero hs parted within = sym (filter-none (has_code rule code) hs (λ k d small. parted.1 k d (omega arith) small))
 having-take rule code (suc n) [] parted within = absurd (omega arith)
 having-take rule code (suc n) (h ∷ hs) parted within =
     ap (λ ks. h ∷ ks)
@@ -121,23 +117,9 @@ order-drop n hs order k d low small =
 -- what `partition_point` requires
 pub before-parted : (rule code : List ℕ) (hs : List Holder) → AreInOrder hs → IsPartitionedBy (is_before rule code) hs
 before-parted rule code hs order i j d low small before =
-    lower (code, rule) (holder_key (get_or hs i d)) (holder_key (get_or hs j d)) before
-    (sorted_far (λ one two. is_lt (key_cmp (holder_key one) (holder_key two))) (ranks_by key_total holder_key) hs order i j d low small)
-  where
-    lower : (k x y : List ℕ × List ℕ) → is_lt (key_cmp y k) ≡ true → is_lt (key_cmp y x) ≡ false → is_lt (key_cmp x k) ≡ true
-    lower k x y under up = go (key_cmp y x) refl up
-      where
-        less : (r : Ordering) → is_lt r ≡ true → r ≡ Less
-        less Less h = refl
-        less Equal h = absurd (true≢false (sym h))
-        less Greater h = absurd (true≢false (sym h))
-
-        go : (r : Ordering) → key_cmp y x ≡ r → is_lt r ≡ false → is_lt (key_cmp x k) ≡ true
-        go Less e h = absurd (true≢false h)
-        go Equal e h = ap is_lt (sym (key_total.congr y x k e)) ∙ under
-        go Greater e h =
-            let after : key_cmp x y ≡ Less = key_total.antisymm x y ∙ ap ordering_reverse e in
-            ap is_lt (key_total.trans x y k after (less (key_cmp y k) under))
+    let up = sorted_far (λ one two. is_lt (key_cmp (holder_key one) (holder_key two))) (ranks_by key_total holder_key) hs order i j d low small in
+    true_from_ne_false (is_before rule code (get_or hs i d))
+    (λ e. true≢false (sym before ∙ (ranks_by key_total (λ k. k)).chain (holder_key (get_or hs j d)) (holder_key (get_or hs i d)) (code, rule) up e))
 
 -- # Patterns that are put in order
 

@@ -12,6 +12,7 @@ use Rattle.census_readback.specs.Sections.{place_after}
 use Rattle.census_readback.specs.Runs.{run}
 use Rattle.census_readback.specs.Steps.{Reading, collection_of, patterns_opened, is_behind, place_at, with_place, initial_reading, gone_on, section_step, end_step, step, first_stray}
 use Rattle.census_readback.specs.Shapes.{rows_of, AreOfCollections, patterns_in, IsWholeReport, AreWhole, all_rows, AreReports}
+use Rattle.census_readback.proofs.Alike.{stepping, telling}
 use Rattle.census_readback.proofs.Shaped.{section-sound, section-complete}
 use Rattle.census_readback.proofs.Kept.{Kept, kept-none, kept-step, run-split, rows-here, patterns-append}
 use Rattle.census_readback.specs.Limits.{count_limit}
@@ -84,12 +85,6 @@ section-is-step s (Close c n a b d) h = refl
 section-is-step s (End n k) h = absurd (omega arith)
 
 -- # From steps to reports
-
-abbrev stepping : Told → ℕ → List Row → Option Reading → Option ℕ
-stepping u n rows o = elim o as (λ _. Option ℕ) [ None ↦ Some n | Some t ↦ first_stray u t (n + 1) rows ]
-
-abbrev telling : Reading → ℕ → Row → List Row → Option Told → Option ℕ
-telling s n r rows o = elim o as (λ _. Option ℕ) [ None ↦ Some n | Some u ↦ stepping u n rows (step s r) ]
 
 step-some : (u : Told) (n : ℕ) (rows : List Row) (o : Option Reading) → stepping u n rows o ≡ None → (t : Reading) × (o ≡ Some t) × (first_stray u t (n + 1) rows ≡ None)
 step-some u n rows None h = absurd (cc)

@@ -1,5 +1,5 @@
 -- How far the rows of a text have been looked at.
-use Rattle.std.proofs.Common.{◌≡◌, ◌≢◌, ℕ, ◌+◌, ◌≤◌, Bool, true, false, eqb, inl, inr, Option, Some, None as Nothing, List, [], ◌∷◌, ◌++◌, length, length-append, append_assoc, ap, ◌∙◌, sym, refl, arith, subst}
+use Rattle.std.proofs.Common.{◌≡◌, ◌≢◌, ℕ, ◌+◌, ◌≤◌, Bool, true, false, eqb, inl, inr, Some, None as Nothing, List, [], ◌∷◌, ◌++◌, length, length-append, append_assoc, ap, ◌∙◌, sym, refl, arith, subst}
 use Rattle.std.proofs.lemmas.List.{append-nil}
 use Rattle.std.proofs.lemmas.Bool.{eqb-true}
 use Rattle.std.specs.Prelude.{◌⊎◌, MatchOption, if◌then◌else◌}
@@ -8,10 +8,10 @@ use Rattle.census_rows.specs.Lines.{SameRow, row_text, line_of, text_of}
 use Rattle.census_rows.proofs.Texts.{text-append}
 use Rattle.census_readback.specs.Texts.{AllLines, Ends, IsLine, IsStuck, SameRows}
 use Rattle.census_readback.specs.Steps.{Reading, first_stray, initial_reading, step}
-use Rattle.census_readback.specs.Shapes.{all_rows}
+use Rattle.census_readback.specs.Shapes.{AreReports, AreWhole, all_rows}
 use Rattle.census_readback.specs.Told.{Told, nothing_told, told_after}
 use Rattle.census_readback.specs.Reports.{IsFault, ReadsAsReports}
-use Rattle.census_readback.proofs.Alike.{stray-same}
+use Rattle.census_readback.proofs.Alike.{stepping, stray-same, telling}
 use Rattle.census_readback.proofs.Interleaved.{reports-complete, reports-sound}
 use Rattle.census_readback.proofs.Reached.{Reached, reached-end, reached-more, reached-start, stuck-at-end}
 use Rattle.census_readback.proofs.Rows.{lines-more, text-more}
@@ -59,6 +59,18 @@ pub joined-append : (xs ys : List (List Row)) → all_rows (xs ++ ys) ≡ all_ro
 joined-append [] ys = refl
 joined-append (x ∷ xs) ys = ap (λ z. x ++ z) (joined-append xs ys) ∙ sym (append_assoc x (all_rows xs) (all_rows ys))
 
+whole-append : (xs ys : List (List Row)) → AreWhole xs → AreWhole ys → AreWhole (xs ++ ys)
+whole-append [] ys first second = second
+whole-append (x ∷ xs) ys first second = (first.0, whole-append xs ys first.1 second)
+
+pub reports-append : (xs ys : List Row) → AreReports xs → AreReports ys → AreReports (xs ++ ys)
+reports-append xs ys first second = record {
+  reports = first.reports ++ second.reports;
+  some = (let some = first.some in omega (arith, length-append first.reports second.reports));
+  whole = ap (λ z. z ++ ys) first.whole ∙ ap (λ z. all_rows first.reports ++ z) second.whole ∙ sym (joined-append first.reports second.reports);
+  each = whole-append first.reports second.reports first.each second.each;
+}
+
 same-append : (xs ys zs ws : List Row) → SameRows xs ys → SameRows zs ws → SameRows (xs ++ zs) (ys ++ ws)
 same-append [] [] zs ws h k = k
 same-append [] (y ∷ ys) zs ws h k = absurd h
@@ -80,12 +92,6 @@ walked-start text told s e f = record {
   same = λ others. ap (λ t. first_stray t initial_reading 1 others) (sym e) ∙ ap (λ r. first_stray told r 1 others) (sym f);
   within = omega arith;
 }
-
-abbrev stepping : Told → ℕ → List Row → Option Reading → Option ℕ
-stepping u n rows o = elim o as (λ _. Option ℕ) [ Nothing ↦ Some n | Some t ↦ first_stray u t (n + 1) rows ]
-
-abbrev telling : Reading → ℕ → Row → List Row → Option Told → Option ℕ
-telling s n row rows o = elim o as (λ _. Option ℕ) [ Nothing ↦ Some n | Some u ↦ stepping u n rows (step s row) ]
 
 module _ (text : List ℕ) (told : Told) (s : Reading) (n : ℕ) (rest : List ℕ) (w : Walked text told s n rest) (row : Row) (behind : List ℕ)
     (is : IsLine row) (e : rest ≡ line_of row ++ behind) (all : (q : Row) (b : List ℕ) → IsLine q → rest ≡ line_of q ++ b → SameRow row q × (behind ≡ b)) where

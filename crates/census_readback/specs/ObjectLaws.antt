@@ -1,43 +1,26 @@
 -- Two objects are the same exactly if they are one.
-use Rattle.std.proofs.Common.{◌≡◌, ℕ, true, false, ◌&&◌, List, ◌++◌, refl, sym, ap, ◌∙◌, Decides, nat_eq}
-use Rattle.std.proofs.lemmas.Bool.{and_parts, false≢true}
-use Rattle.std.proofs.lemmas.Bool.Decides.{Decides-eqb}
-use Rattle.std.proofs.lemmas.Slice.Eq.{slice_eq-Decides}
-use Rattle.std.specs.Cmp.{IsPartialEquivalence, IsEquivalence, partial_equiv_from_equiv}
-use Rattle.std.specs.Cmp.Lexicographic.{pointwise}
+use Rattle.std.proofs.Common.{◌≡◌, true, ◌++◌, refl, ap, Decides}
+use Rattle.std.proofs.lemmas.Bool.Decides.{Decides-and, Decides-like}
+use Rattle.std.specs.Cmp.Lexicographic.{bytes_decides}
+use Rattle.std.specs.Cmp.{IsPartialEquivalence, IsEquivalence, decided, partial_equiv_from_equiv}
 use Rattle.std.specs.Hash as fed
 use Rattle.census_readback.specs.Counts.{Object, same_object}
 
-pub same_text : (x y : List ℕ) → Decides (pointwise nat_eq x y) (x ≡ y)
-same_text x y = slice_eq-Decides Decides-eqb x y (pointwise nat_eq x y) refl
+same_object-is : (k l : Object) → Decides (same_object k l) (k ≡ l)
+same_object-is k l =
+    Decides-like {P = (k.rule ≡ l.rule) × (k.code ≡ l.code)} {Q = k ≡ l} _
+    (λ e i. record { rule = e.0 i; code = e.1 i }) (λ e. (ap (λ o. o.rule) e, ap (λ o. o.code) e))
+    (Decides-and _ _ (bytes_decides k.rule l.rule) (bytes_decides k.code l.code))
 
 -- objects that are the same are one
 pub one_object : (k l : Object) → same_object k l ≡ true → k ≡ l
-one_object k l e =
-    let parts = and_parts (pointwise nat_eq k.rule l.rule) (pointwise nat_eq k.code l.code) e in
-    let rules = (same_text k.rule l.rule).0 parts.0 in
-    let codes = (same_text k.code l.code).0 parts.1 in
-    λ i. record { rule = rules i; code = codes i }
+one_object k l = (same_object-is k l).0
 
 pub same_itself : (k : Object) → same_object k k ≡ true
-same_itself k = ap (λ b. b && pointwise nat_eq k.code k.code) ((same_text k.rule k.rule).1 refl) ∙ (same_text k.code k.code).1 refl
-
-same_swapped : (k l : Object) → same_object k l ≡ same_object l k
-same_swapped k l =
-    elim (same_object k l) as (λ b. same_object k l ≡ b → b ≡ same_object l k) [
-      | true ↦ λ e. sym (ap (λ z. same_object l z) (one_object k l e) ∙ same_itself l)
-      | false ↦ λ e. elim (same_object l k) as (λ b. same_object l k ≡ b → false ≡ b) [
-        | true ↦ λ f. absurd (false≢true (sym e ∙ ap (λ z. same_object k z) (one_object l k f) ∙ same_itself k))
-        | false ↦ λ _. refl
-      ] refl
-    ] refl
+same_itself k = (same_object-is k k).1 refl
 
 pub same_object_equivalence : IsEquivalence same_object
-same_object_equivalence = record {
-  refl = same_itself;
-  symm = same_swapped;
-  congr = λ k l m e. ap (λ z. same_object z m) (one_object k l e);
-}
+same_object_equivalence = decided same_object same_object-is
 
 pub same_object_partial : IsPartialEquivalence same_object
 same_object_partial = partial_equiv_from_equiv same_object_equivalence

@@ -1,12 +1,12 @@
 -- The rows of one more text.
-use Rattle.std.proofs.Common.{◌≡◌, ℕ, suc, ◌+◌, ◌<◌, ◌≤◌, List, [], ◌∷◌, ◌++◌, length, take, drop, get_or, refl, sym, ap, subst, ◌∙◌, append-nil, drop-cons, length-append, Option, Some, None, Result, Err, MatchResult, arith}
+use Rattle.std.proofs.Common.{◌≡◌, ℕ, suc, ◌+◌, ◌<◌, ◌≤◌, List, [], ◌∷◌, ◌++◌, length, take, drop, get_or, refl, sym, ap, subst, ◌∙◌, append-nil, drop-cons, Option, Some, None, Result, Err, MatchResult, arith}
 use Rattle.std.specs.Prelude.{MatchOption}
 use Rattle.std.specs.List.{AllZip}
 use Rattle.std.proofs.lemmas.List.{length-take, length-take-le, take-append-drop, take_more}
 use Rattle.census_rows.specs.declared.row.Row.{Row}
 use Rattle.census_readback.specs.Reports.{IsFault, ReadsAsReports}
-use Rattle.census_readback.specs.Shapes.{AreReports, AreWhole, all_rows}
-use Rattle.census_readback.proofs.Walks.{joined-append}
+use Rattle.census_readback.specs.Shapes.{AreReports, all_rows}
+use Rattle.census_readback.proofs.Walks.{joined-append, reports-append}
 use Rattle.census_reports.specs.Rows.{AreRowsOf, HasReportFault}
 
 pub rows_none : AreRowsOf [] []
@@ -29,18 +29,6 @@ rows_more rows own all texts text before is e = record {
 
 -- # Several reports
 
-whole_append : (xs ys : List (List Row)) → AreWhole xs → AreWhole ys → AreWhole (xs ++ ys)
-whole_append [] ys p q = q
-whole_append (x ∷ xs) ys p q = (p.0, whole_append xs ys p.1 q)
-
-reports_append : (xs ys : List Row) → AreReports xs → AreReports ys → AreReports (xs ++ ys)
-reports_append xs ys p q = record {
-  reports = p.reports ++ q.reports;
-  some = (let s = p.some in omega (arith, length-append p.reports q.reports));
-  whole = ap (λ l. l ++ ys) p.whole ∙ ap (λ l. all_rows p.reports ++ l) q.whole ∙ sym (joined-append p.reports q.reports);
-  each = whole_append p.reports q.reports p.each q.each;
-}
-
 reports_joined : (parts : List (List Row)) (texts : List (List ℕ)) → AllZip ReadsAsReports parts texts → 0 < length texts → AreReports (all_rows parts)
 reports_joined [] [] each some = absurd (omega arith)
 reports_joined [] (t ∷ texts) each some = absurd each
@@ -49,7 +37,7 @@ reports_joined (p ∷ []) (t ∷ []) each some = subst AreReports (sym (append-n
 reports_joined (p ∷ []) (t ∷ u ∷ texts) each some = absurd each.1
 reports_joined (p ∷ q ∷ parts) (t ∷ []) each some = absurd each.1
 reports_joined (p ∷ q ∷ parts) (t ∷ u ∷ texts) each some =
-    reports_append p (all_rows (q ∷ parts)) each.0.shape (reports_joined (q ∷ parts) (u ∷ texts) each.1 (omega arith))
+    reports-append p (all_rows (q ∷ parts)) each.0.shape (reports_joined (q ∷ parts) (u ∷ texts) each.1 (omega arith))
 
 are_reports : (rows : List Row) (texts : List (List ℕ)) → AreRowsOf rows texts → 0 < length texts → AreReports rows
 are_reports rows texts is some = subst AreReports (sym is.whole) (reports_joined is.parts texts is.each some)

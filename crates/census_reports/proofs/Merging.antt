@@ -1,5 +1,5 @@
 -- Texts that are merged one after another.
-use Rattle.std.proofs.Common.{◌≡◌, ℕ, suc, ◌+◌, ◌<◌, ◌≤◌, ◌-◌, ◌^◌, Bool, true, false, ◌&&◌, nat_le, if◌then◌else◌, Option, Some, None as Nothing, List, [], ◌∷◌, ◌++◌, drop, get_or, length, ap, subst, sym, refl, ◌∙◌, append-nil, drop-cons, arith}
+use Rattle.std.proofs.Common.{◌≡◌, ℕ, suc, ◌+◌, ◌<◌, ◌≤◌, true, Option, Some, None as Nothing, List, [], ◌∷◌, ◌++◌, drop, get_or, length, ap, subst, sym, refl, ◌∙◌, append-nil, drop-cons, arith}
 use Rattle.std.specs.Prelude.{MatchOption}
 use Rattle.std.specs.List.{AllZip}
 use Rattle.std.proofs.lemmas.List.{drop_all}
@@ -20,6 +20,7 @@ use Rattle.census_merge.specs.Merged.{AreFew, merged_rows, numbered_on, renumber
 use Rattle.census_merge.specs.Putting.{PutsRows}
 use Rattle.census_merge.specs.Sums.{first_excess, no_sums, sums_in, sums_of, sums_plus, with_more}
 use Rattle.census_merge.proofs.Few.{few-append, few-reports}
+use Rattle.census_merge.proofs.Steps.{added, excess_from, excess_with, sums_from}
 use Rattle.census_reports.specs.Rows.{AreRowsOf}
 
 -- ---- rows after rows
@@ -55,22 +56,6 @@ numbered_append s (x ∷ xs) ys =
       | Nothing ↦ ap (λ rs. renumbered_row s.collections x ∷ rs) (numbered_append s xs ys)
       | Some more ↦ numbered_append (sums_plus s more) xs ys
     ]
-
-abbrev excess_with : ℕ → List Row → Option Sums → Option ℕ
-excess_with n rows o = elim o as (λ _. Option ℕ) [ Nothing ↦ Some n | Some all ↦ first_excess (n + 1) all rows ]
-
-pub added : (s more all : Sums) → with_more s more ≡ Some all → all ≡ sums_plus s more
-added s more all is = by (nat_le more.collections (count_limit - s.collections) && nat_le more.patterns (2 ^ 64 - 1 - s.patterns)) is
-  where
-    by : (b : Bool) → (if b then Some (sums_plus s more) else Nothing) ≡ Some all → all ≡ sums_plus s more
-    by true h = (let f : Some (sums_plus s more) ≡ Some all = h in cc)
-    by false h = absurd (cc)
-
-abbrev excess_from : ℕ → Sums → List Row → Option Sums → Option ℕ
-excess_from n s rows o = elim o as (λ _. Option ℕ) [ Nothing ↦ first_excess n s rows | Some more ↦ excess_with n rows (with_more s more) ]
-
-abbrev sums_from : Sums → List Row → Option Sums → Sums
-sums_from s rows o = elim o as (λ _. Sums) [ Nothing ↦ sums_in s rows | Some more ↦ sums_in (sums_plus s more) rows ]
 
 split_more : (n : ℕ) (s more : Sums) (xs ys : List Row)
     → ((m : ℕ) (t : Sums) → first_excess m t (xs ++ ys) ≡ Nothing → (first_excess m t xs ≡ Nothing) × (k : ℕ) × (first_excess k (sums_in t xs) ys ≡ Nothing))

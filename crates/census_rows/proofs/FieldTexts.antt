@@ -1,5 +1,5 @@
 -- Fields after one another.
-use Rattle.std.proofs.Common.{◌≡◌, ℕ, List, [], ◌∷◌, ◌++◌, append_assoc, ap, ◌∙◌, sym, refl, length, suc, arith}
+use Rattle.std.proofs.Common.{◌≡◌, ℕ, List, [], ◌∷◌, ◌++◌, append_assoc, ap, ◌∙◌, sym, refl}
 use Rattle.std.proofs.lemmas.List.{append-nil}
 use Rattle.census_rows.specs.Lines.{fields_text, EndsField}
 
@@ -21,11 +21,6 @@ first-field a fs x r e = e ∙ ap (λ w. 32 ∷ w) (append_assoc a (fields_text 
 pub ends-behind : (fs : List (List ℕ)) (r : List ℕ) → EndsField r → EndsField (fields_text fs ++ r)
 ends-behind [] r h = h
 ends-behind (f ∷ fs) r h = refl
-
--- a list of no length
-pub none-left : (xs : List ℕ) → length xs ≡ 0 → xs ≡ []
-none-left [] h = refl
-none-left (x ∷ xs) h = absurd (let e : suc (length xs) ≡ 0 = h in omega arith)
 
 -- some fields, and then more
 pub fields-then : (xs ys : List (List ℕ)) (x y : List ℕ) → x ≡ fields_text xs ++ y → y ≡ fields_text ys → x ≡ fields_text (xs ++ ys)

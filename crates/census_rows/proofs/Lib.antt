@@ -5,3 +5,4 @@ pub mod Told
 pub mod Texts
 pub mod Signs
 pub mod StoreLemmas
+pub mod Filters

@@ -2,6 +2,7 @@
 use Rattle.std.proofs.Common.{◌≡◌, ℕ, zero, suc, ◌+◌, ◌<◌, ◌≤◌, List, [], ◌∷◌, ◌++◌, ap, ◌∙◌, sym, refl, arith, subst, length, append_assoc}
 use Rattle.std.specs.List.{filter_map}
 use Rattle.std.specs.Borrow.{Bor}
+use Rattle.std.proofs.Math.Numerals.{one-add}
 use Rattle.std.proofs.lemmas.List.{length-append}
 use Rattle.census_rows.specs.declared.row.Row.{Row}
 use Rattle.census_rows.specs.declared.row.Row.TheVariants.{Open, Line, Part, Engine, Emits, Code, Close, End}
@@ -14,16 +15,13 @@ use Rattle.census_table.specs.Entries.{all_entries, entries_of, entry_of_row, se
 zero-plus : (n : ℕ) → n ≡ 0 + n
 zero-plus n = omega arith
 
-one-plus : (n : ℕ) → suc n ≡ 1 + n
-one-plus n = omega arith
-
 lines-add : AddsUp (lines_that any_outcome)
 lines-add = record { none = refl; more = λ r rows. omega arith }
 
 under-size : (m n k : ℕ) (title : Bor (List ℕ)) (rows : List Row) → length (filter_map (entry_of_row m (Open n k title)) rows) ≡ lines_that any_outcome rows
 under-size m n k title [] = refl
 under-size m n k title (Open c p name ∷ rows) = under-size m n k title rows ∙ zero-plus (lines_that any_outcome rows)
-under-size m n k title (Line c i o name ∷ rows) = ap (λ x. suc x) (under-size m n k title rows) ∙ one-plus (lines_that any_outcome rows)
+under-size m n k title (Line c i o name ∷ rows) = ap (λ x. suc x) (under-size m n k title rows) ∙ sym (one-add (lines_that any_outcome rows))
 under-size m n k title (Part c i code p ∷ rows) = under-size m n k title rows ∙ zero-plus (lines_that any_outcome rows)
 under-size m n k title (Engine c i e q x y p ∷ rows) = under-size m n k title rows ∙ zero-plus (lines_that any_outcome rows)
 under-size m n k title (Emits c i e code p ∷ rows) = under-size m n k title rows ∙ zero-plus (lines_that any_outcome rows)

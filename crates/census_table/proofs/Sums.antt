@@ -9,7 +9,7 @@ use Rattle.std.specs.Ordering.{eq_by_cmp, is_eq, is_gt, is_lt, nat_cmp, ordering
 use Rattle.std.specs.declared.cmp.Ordering.{Ordering}
 use Rattle.std.specs.declared.cmp.Ordering.TheVariants.{Less, Equal, Greater}
 use Rattle.std.proofs.lemmas.Cmp.{eq_by_cmp_equiv, nat_cmp_total, on_total, then_total}
-use Rattle.std.proofs.lemmas.List.Elements.{All-cons, All-from_recursion, All-nil, All-tail}
+use Rattle.std.proofs.lemmas.List.Elements.{All-cons, All-from_recursion, All-nil, All-tail, filter_agree}
 use Rattle.std.proofs.lemmas.List.Sorted.{All-permutation, IsPermutation-reverse, IsPermutation-sym, IsPermutation-trans, ranks_by, sum_by-IsPermutation}
 use Rattle.std.proofs.lemmas.List.Sums.{sum_by-cons}
 use Rattle.std.proofs.lemmas.List.{get_or-map, length-map}
@@ -20,7 +20,7 @@ use Rattle.census_table.specs.Places.{Rises}
 use Rattle.census_table.specs.declared.entry.Entry.{Entry}
 use Rattle.census_table.specs.declared.object.Object.{Object}
 use Rattle.census_table.specs.declared.place.Place.{Place}
-use Rattle.census_table.proofs.Ties.{filter-of}
+use Rattle.census_rows.proofs.Filters.{filter-map, filter-none}
 
 -- ---- the order
 
@@ -208,14 +208,6 @@ once-grouped os h = λ k d small.
 
 -- ---- what is counted
 
-filter-alike : {X : Type 0} (p q : X → Bool) (xs : List X) → ((x : X) → p x ≡ q x) → filter p xs ≡ filter q xs
-filter-alike p q [] h = refl
-filter-alike {X} p q (x ∷ xs) h = ap₂ (λ (b : Bool) (ys : List X). cond b (x ∷ ys) ys) (h x) (filter-alike p q xs h)
-
-filter-none : (p : Object → Bool) (xs : List Object) → All (λ x. p x ≡ false) xs → filter p xs ≡ []
-filter-none p [] h = refl
-filter-none p (x ∷ xs) h = ap₂ (λ (b : Bool) (ys : List Object). cond b (x ∷ ys) ys) (h 0 x (omega arith)) (filter-none p xs (All-tail (λ x. p x ≡ false) x xs h))
-
 capped-sum : (a b : ℕ) → capped (a + capped b) ≡ capped (a + b)
 capped-sum a b = grind arith
 
@@ -307,7 +299,7 @@ each-more o p ps h rest = subst (λ kinds. All (IsCounted (o ∷ (p ∷ ps))) (w
           first = o;
           others = first.first ∷ first.others;
           told = ap (λ (b : Bool). cond b (o ∷ filter (same_kind o) (p ∷ ps)) (filter (same_kind o) (p ∷ ps))) (same-itself o)
-              ∙ ap (λ os. o ∷ os) (filter-alike (same_kind o) (same_kind head.kind) (p ∷ ps) (λ x. same-alike o head.kind x e) ∙ first.told);
+              ∙ ap (λ os. o ∷ os) (filter_agree (same_kind o) (same_kind head.kind) (λ x. same-alike o head.kind x e) (p ∷ ps) ∙ first.told);
           is = counts-more o first.first first.others head.kind first.is;
         })
         (all-behind o (p ∷ ps) head.others
@@ -338,11 +330,6 @@ each-grouped (o ∷ (p ∷ ps)) h = each-more o p ps h (each-grouped (p ∷ ps) 
 
 -- ---- sorts
 
-lt_back : (r : Ordering) → is_lt (ordering_reverse r) ≡ is_gt r
-lt_back Less = refl
-lt_back Equal = refl
-lt_back Greater = refl
-
 -- objects at places, in the order of their kinds
 module _ (told : Place → Object) where
   pub places-in-kinds : (ps : List Place) → Rises (λ p q. is_gt (kind_cmp (told p) (told q)) ≡ false) ps → AreInKinds (map told ps)
@@ -361,7 +348,7 @@ module _ (told : Place → Object) where
 
   pub places-stable : (ps qs : List Place) (kind : Object) → filter (λ p. same_kind kind (told p)) qs ≡ filter (λ p. same_kind kind (told p)) ps
       → filter (same_kind kind) (map told qs) ≡ filter (same_kind kind) (map told ps)
-  places-stable ps qs kind same = filter-of (same_kind kind) told qs ∙ ap (map told) same ∙ sym (filter-of (same_kind kind) told ps)
+  places-stable ps qs kind same = filter-map (same_kind kind) told qs ∙ ap (map told) same ∙ sym (filter-map (same_kind kind) told ps)
 
 -- ---- the order of kinds by how many objects they have
 

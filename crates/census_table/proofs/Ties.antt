@@ -1,5 +1,5 @@
 -- Lists in an order of two parts: what is level in the first part is in the order of the second.
-use Rattle.std.proofs.Common.{◌≡◌, ◌⊎◌, inl, inr, ℕ, ◌+◌, zero, suc, ◌<◌, ◌≤◌, take, drop, Bool, true, false, not, cond, List, [], ◌∷◌, ◌++◌, filter, map, length, get_or, set, swap, refl, sym, ap, ap₂, ◌∙◌, subst, arith, append_assoc, true≢false}
+use Rattle.std.proofs.Common.{◌≡◌, ◌⊎◌, inl, inr, ℕ, ◌+◌, zero, suc, ◌<◌, ◌≤◌, take, drop, Bool, true, false, not, cond, List, [], ◌∷◌, ◌++◌, filter, length, get_or, set, swap, refl, sym, ap, ap₂, ◌∙◌, subst, arith, append_assoc, true≢false}
 use Rattle.std.specs.Cmp.{IsStrictWeakOrder, IsTotalOrder}
 use Rattle.std.specs.List.{prefix_len, AllByRecursion}
 use Rattle.std.specs.List.Sorted.{IsPermutation, IsSortedBy}
@@ -7,6 +7,8 @@ use Rattle.std.specs.Ordering.{is_eq, is_gt, is_lt, ordering_reverse, ordering_t
 use Rattle.std.specs.declared.cmp.Ordering.{Ordering}
 use Rattle.std.specs.declared.cmp.Ordering.TheVariants.{Less, Equal, Greater}
 use Rattle.census_table.specs.Places.{Rises}
+use Rattle.census_rows.proofs.Filters.{filter-none}
+pub use Rattle.census_rows.proofs.Filters.{filter-map as filter-of}
 use Rattle.std.proofs.lemmas.Cmp.{alike_right, tied_itself}
 use Rattle.std.proofs.lemmas.List.{append-nil, length-append, length-take-le, take-append-drop, take_all}
 use Rattle.std.proofs.lemmas.List.Elements.{recursion_from_All, All-from_recursion}
@@ -60,21 +62,7 @@ module _ {X : Type 0} where
   filter-all p [] h = refl
   filter-all p (x ∷ xs) h = rw (h.0, filter-all p xs h.1)
 
-  filter-none : (p : X → Bool) (xs : List X) → AllByRecursion (λ x. p x ≡ false) xs → filter p xs ≡ []
-  filter-none p [] h = refl
-  filter-none p (x ∷ xs) h = rw (h.0, filter-none p xs h.1)
-
 -- ---- a filter and another order
-
--- the values of a function that pass a test
-pub filter-of : {A B : Type 0} (test : B → Bool) (f : A → B) (xs : List A) → filter test (map f xs) ≡ map f (filter (λ x. test (f x)) xs)
-filter-of test f [] = refl
-filter-of {A} test f (x ∷ xs) = go (test (f x)) (filter-of test f xs)
-  where
-    go : (b : Bool) → filter test (map f xs) ≡ map f (filter (λ y. test (f y)) xs)
-        → cond b (f x ∷ filter test (map f xs)) (filter test (map f xs)) ≡ map f (cond b (x ∷ filter (λ y. test (f y)) xs) (filter (λ y. test (f y)) xs))
-    go true e = ap (λ ys. f x ∷ ys) e
-    go false e = e
 
 -- A relation holds along each permutation if it is reflexive and transitive, and holds under a common head and for an
 -- exchange of two heads.
@@ -157,7 +145,7 @@ module _ {X : Type 0} (cmp : X → X → Ordering) (total : IsTotalOrder cmp) wh
       go false e more = rw e (ap (λ l. y ∷ l) more)
       go true e more =
           let above = all-weaker _ (λ z. is-above x z ≡ true) (λ z. still-above x y z e) ys up.0 in
-          rw (e, filter-none _ ys (all-weaker _ (λ z. not (is-above x z) ≡ false) (λ z h. ap not h) ys above), filter-all _ ys above)
+          rw (e, filter-none (λ z. not (is-above x z)) ys (All-from_recursion (λ z. not (is-above x z) ≡ false) ys (all-weaker _ (λ z. not (is-above x z) ≡ false) (λ z h. ap not h) ys above)), filter-all _ ys above)
 
   alone : (x : X) (ys : List X) → IsPermutation (x ∷ []) ys → ys ≡ x ∷ []
   alone x [] moved = absurd (omega (arith, length_permutation _ _ moved))
@@ -172,7 +160,7 @@ module _ {X : Type 0} (cmp : X → X → Ordering) (total : IsTotalOrder cmp) wh
       let here : is-above x x ≡ false = ap is_lt (tied_itself total x) in
       let above = all-weaker _ (λ z. is-above x z ≡ true) (λ z h. ap is_lt h) xs strict.0 in
       let first : filter (λ z. not (is-above x z)) (x ∷ xs) ≡ x ∷ [] =
-      rw (here, filter-none _ xs (all-weaker _ (λ z. not (is-above x z) ≡ false) (λ z h. ap not h) xs above)) in
+      rw (here, filter-none (λ z. not (is-above x z)) xs (All-from_recursion (λ z. not (is-above x z) ≡ false) xs (all-weaker _ (λ z. not (is-above x z) ≡ false) (λ z h. ap not h) xs above))) in
       let later : filter (is-above x) (x ∷ xs) ≡ xs = rw (here, filter-all _ xs above) in
       let head = alone x _ (subst (λ l. IsPermutation l (filter (λ z. not (is-above x z)) ys)) first (filter-permutation (λ z. not (is-above x z)) _ _ moved)) in
       let tail = one-order xs _ strict.1 (subst (λ l. IsPermutation l (filter (is-above x) ys)) later (filter-permutation (is-above x) _ _ moved)) (rises-filter AtMost _ ys up) in

@@ -2,7 +2,7 @@
 use Rattle.std.proofs.Common.{◌≡◌, ℕ, ◌+◌, Bool, true, false, cond, ◌&&◌, List, [], ◌∷◌, ◌++◌, map, count_by, fold, Ordering, Less, Equal, Greater, inl, inr, sym, refl, ap, ◌∙◌, arith}
 use Rattle.std.specs.Cmp as cmp
 use Rattle.std.specs.List.{All, Contains, list_any}
-use Rattle.std.proofs.lemmas.Bool.{and_from}
+use Rattle.std.proofs.lemmas.Bool.{and_from, and_parts}
 use Rattle.std.proofs.lemmas.List.Elements.{All-append, All-contains, All-cons, All-head, All-nil, All-tail, All-weaker, Contains-append_cases, Contains-append_left, Contains-append_right}
 use Rattle.std.proofs.lemmas.List.Sorted.{sum_by-IsPermutation}
 use Rattle.life_model.specs.Rule.{Rule}
@@ -11,9 +11,9 @@ use Rattle.life_objects.specs.Ash.{IsObject, RecursWithin}
 use Rattle.life_objects.specs.Kinds.{AreAlike, IsKind}
 use Rattle.life_objects.specs.Limits.{objects_bound_limit}
 use Rattle.life_objects.proofs.Lists.{Contains-head, Contains-later}
-use Rattle.life_objects.proofs.DecidedLemmas.Tests.{both}
 use Rattle.life_objects.specs.Independent.Independent.{independent_parts_of}
 use Rattle.life_objects.proofs.GrowthLemmas.MeetingLemmas.Reach.{any_by, any_tells}
+use Rattle.life_objects.proofs.IndependentLemmas.Counting.{count_by-cons}
 use Rattle.life_cells.specs.TextOrder.{shorter_cmp}
 use Rattle.life_cells.proofs.TextOrders.{shorter_exact}
 use Rattle.life_answer.specs.Census.{counted_parts, part_code}
@@ -24,7 +24,7 @@ use Rattle.life_answer.specs.declared.part.Part.{Part}
 use Rattle.life_answer.proofs.AlikeCounts.{is_text, same_object, text_itself, text_tells, within_more}
 use Rattle.life_answer.proofs.CountedSets.{come_again_tells}
 use Rattle.life_answer.proofs.CountsOfOne.{wider_codes}
-use Rattle.life_answer.proofs.Permuted.{count_by-cons, same_counts}
+use Rattle.life_answer.proofs.Permuted.{same_counts}
 
 -- ---- how many have a code
 
@@ -90,7 +90,7 @@ module _ (R : Rule) where
         cmp.both_ways (has (code P)) (kind P)
         (λ h.
         let q = any_tells (λ Q. is_text (code P) (code Q) && kind Q) all h in
-        let parts = both (is_text (code P) (code q.0)) (kind q.0) q.2 in
+        let parts = and_parts (is_text (code P) (code q.0)) (kind q.0) q.2 in
         of_kind P q.0 (each P one) (each q.0 q.1) (text_tells (code P) (code q.0) parts.0) ∙ parts.1)
         (λ h. any_by (λ Q. is_text (code P) (code Q) && kind Q) all P one
         (and_from (is_text (code P) (code P)) (kind P) (text_itself (code P)) h))

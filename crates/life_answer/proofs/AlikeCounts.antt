@@ -16,6 +16,7 @@ use Rattle.life_model.proofs.Recurrences.{generation-zero}
 use Rattle.life_objects.specs.Ash.{IsObject, RecursWithin}
 use Rattle.life_objects.specs.Kinds.{AreAlike, IsKind}
 use Rattle.life_objects.proofs.Lists.{Contains-head, Contains-later}
+use Rattle.life_objects.proofs.IndependentLemmas.Counting.{count_by-cons}
 use Rattle.life_cells.specs.TextOrder.{shorter_cmp}
 use Rattle.life_cells.proofs.TextOrders.{shorter_exact, shorter_total}
 use Rattle.life_answer.specs.Census.{counted_parts, part_code}
@@ -24,7 +25,6 @@ use Rattle.life_answer.proofs.Codes.{codes_tell_objects}
 use Rattle.life_answer.proofs.CountedSets.{codes_as, codes_of_each, counted_in_any_order}
 use Rattle.life_answer.proofs.CountsOfOne.{same_counts_as}
 use Rattle.life_answer.proofs.PartCodes.{from_start, one_code, part_code-is}
-use Rattle.life_answer.proofs.Permuted.{count_by-cons}
 use Rattle.life_answer.proofs.Tallying.{counted_permutation}
 
 -- ---- texts

@@ -7,15 +7,13 @@ use Rattle.std.proofs.lemmas.List.Elements.{at_from_Contains}
 use Rattle.std.proofs.lemmas.List.Sorted.{IsPermutation-cons, IsPermutation-refl, IsPermutation-remove, IsPermutation-sym, IsPermutation-trans, sum_by-IsPermutation}
 use Rattle.std.proofs.lemmas.List.Sums.{sum_by-append, sum_by-cons}
 use Rattle.life_objects.proofs.Lists.{Contains-later}
+use Rattle.life_objects.proofs.IndependentLemmas.Counting.{count_by-cons}
 
 module _ {X : Type 0} (p : X → Bool) where
-  pub count_by-cons : (x : X) (xs : List X) → count_by p (x ∷ xs) ≡ cond (p x) 1 0 + count_by p xs
-  count_by-cons x xs = sum_by-cons (λ (y : X). cond (p y) 1 0) x xs
-
   pub count_by-map : {Y : Type 0} (f : Y → X) (ys : List Y) → count_by p (map f ys) ≡ count_by (λ y. p (f y)) ys
   count_by-map f [] = refl
   count_by-map {Y} f (y ∷ ys) =
-      count_by-cons (f y) (map f ys) ∙ ap (λ n. cond (p (f y)) 1 0 + n) (count_by-map f ys)
+      count_by-cons p (f y) (map f ys) ∙ ap (λ n. cond (p (f y)) 1 0 + n) (count_by-map f ys)
       ∙ sym (sum_by-cons (λ (z : Y). cond (p (f z)) 1 0) y ys)
 
 pub sum_by-map : {X Y : Type 0} (g : X → ℕ) (f : Y → X) (ys : List Y) → sum_by g (map f ys) ≡ sum_by (λ y. g (f y)) ys

@@ -18,6 +18,7 @@ use Rattle.life_orbit.specs.declared.hull.Hull.{Hull}
 use Rattle.life_orbit.proofs.HullLemmas.{before_left, before_top, past_bottom, past_right}
 use Rattle.life_apart.specs.Spans.{AreApartInOrder, ArePlacesApart, AreRisingSpans, HasBands, IsBandOf, IsNext, IsPast, span_at}
 use Rattle.life_apart.specs.declared.span.Span.{Span}
+use Rattle.life_classes.proofs.Lookups.{either}
 
 -- ---- spans in order
 
@@ -68,15 +69,6 @@ none_after ss rising n m k d e before after within past next =
 
 -- ---- boxes
 
-cases_le : (x y : ℤ) → (x ≤ℤ y) ⊎ (y <ℤ x)
-cases_le x y =
-    let by : (r : Ordering) → MatchOrdering r (x <ℤ y) (x ≡ y) (y <ℤ x) → (x ≤ℤ y) ⊎ (y <ℤ x) = elim [
-      | Less ↦ λ h. inl (omega (arith, ints))
-      | Equal ↦ λ h. inl (omega (arith, ints))
-      | Greater ↦ λ h. inr h
-    ] in
-    by (int_cmp x y) (int_ranked x y (int_cmp x y) refl)
-
 -- boxes with rows, each beginning no more than two columns and rows after the end of the other
 pub record AreClose (g h : Hull) : Type 0 where
   pub left : h.left ≤ℤ (g.right +ℤ pos 2)
@@ -101,17 +93,17 @@ module _ (g h : Hull) where
 
   pub far_or_close : AreFar g origin h ⊎ AreClose g h
   far_or_close =
-      elim (cases_le h.left (g.right +ℤ pos 2)) [
+      elim (either h.left (g.right +ℤ pos 2)) [
         | inr gap ↦ inl (before_left g h origin (omega (arith, ints)))
-        | inl left ↦ elim (cases_le g.left (h.right +ℤ pos 2)) [
+        | inl left ↦ elim (either g.left (h.right +ℤ pos 2)) [
           | inr gap ↦ inl (past_right g h origin (omega (arith, ints)))
-          | inl right ↦ elim (cases_le h.top (g.bottom +ℤ pos 2)) [
+          | inl right ↦ elim (either h.top (g.bottom +ℤ pos 2)) [
             | inr gap ↦ inl (before_top g h origin (omega (arith, ints)))
-            | inl above ↦ elim (cases_le g.top (h.bottom +ℤ pos 2)) [
+            | inl above ↦ elim (either g.top (h.bottom +ℤ pos 2)) [
               | inr gap ↦ inl (past_bottom g h origin (omega (arith, ints)))
-              | inl below ↦ elim (cases_le g.top (g.bottom +ℤ pos 2)) [
+              | inl below ↦ elim (either g.top (g.bottom +ℤ pos 2)) [
                 | inr gap ↦ inl (no_first gap)
-                | inl first ↦ elim (cases_le h.top (h.bottom +ℤ pos 2)) [
+                | inl first ↦ elim (either h.top (h.bottom +ℤ pos 2)) [
                   | inr gap ↦ inl (no_second gap)
                   | inl second ↦ inr (record {
                     left = left;

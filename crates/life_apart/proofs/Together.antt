@@ -1,28 +1,17 @@
 -- The cells of sets together.
-use Rattle.std.proofs.Common.{◌≡◌, ◌↔◌, ◌&&◌, Bool, ◌+◌, ◌<◌, ℕ, T, List, [], ◌∷◌, ◌++◌, flat_map, IsTrue, get_or, length, take, sym, ap, ◌∙◌}
-use Rattle.std.specs.Bool.{Decides}
+use Rattle.std.proofs.Common.{◌≡◌, ◌↔◌, Bool, ◌+◌, ◌<◌, ℕ, T, List, [], ◌∷◌, ◌++◌, flat_map, IsTrue, get_or, length, take, sym, ap, ◌∙◌}
 use Rattle.std.specs.Cmp.Lexicographic.{pointwise, pointwise_decides}
-use Rattle.std.specs.Ordering.{int_eq}
-use Rattle.std.proofs.lemmas.Bool.Decides.{Decides-and, Decides-int_eq, Decides-like}
 use Rattle.std.proofs.lemmas.Grind.{flat_map-append}
 use Rattle.std.proofs.lemmas.List.{append-nil, map_more}
 use Rattle.life_model.specs.Cell.{Cell}
 use Rattle.life_model.specs.Generation.{Generation, cells, from_list, is_rising}
-use Rattle.life_model.proofs.Cells.{pair}
 use Rattle.life_model.proofs.Generations.{cells-from_list, from_list-cells}
 use Rattle.life_objects.specs.Union.{union_of}
 use Rattle.life_classes.proofs.Groups.{union_from_cells}
 use Rattle.life_orbit.specs.Course.{Course}
 use Rattle.life_apart.specs.Sets.{sets_of}
-
-abbrev pub same_places : Cell → Cell → Bool
-same_places a b = int_eq a.0 b.0 && int_eq a.1 b.1
-
-pub same_places-is : (a b : Cell) → Decides (same_places a b) (a ≡ b)
-same_places-is a b =
-    Decides-like {P = (a.0 ≡ b.0) × (a.1 ≡ b.1)} {Q = a ≡ b} _ (λ e. pair e.0 e.1)
-    (λ e. (ap (λ c. c.0) e, ap (λ c. c.1) e))
-    (Decides-and _ _ (Decides-int_eq a.0 b.0) (Decides-int_eq a.1 b.1))
+use Rattle.life_cells.specs.Alike.{same_places}
+use Rattle.life_cells.proofs.Sorted.{same_places-is}
 
 -- Cells in order show whether they make up a set.
 pub together_test : (r : Bool) (Ps : List Generation) (G : Generation) (cs sorted ds : List Cell) → T (is_rising sorted) →

@@ -11,6 +11,7 @@ use Rattle.life_plane.specs.Rows.{IsRowSumsOf}
 use Rattle.life_plane.specs.declared.row_sums.RowSums.{RowSums}
 use Rattle.life_plane.proofs.Joining.{area_first, area_second, area_third}
 use Rattle.life_plane.proofs.OneCell.{zero_in}
+use Rattle.life_plane.proofs.Counting.{at_most_eight}
 use Rattle.life_slots.specs.Slots.{empty_tile}
 use Rattle.life_board.specs.Squares.{alone, around_in, IsVoidOutside}
 
@@ -53,12 +54,9 @@ pub counted : (above beside below : RowSums) (a b c : ℕ) → IsRowSumsOf above
 counted above beside below a b c up mid down x ones twos wide sum =
     summed _ _ _ _ _ _ _ _ _ _ _ _ _ _ _ _ (up.three x wide) (mid.two x wide) (down.three x wide) sum
 
-eight : (a b c d e f g h : ℕ) → a < 2 → b < 2 → c < 2 → d < 2 → e < 2 → f < 2 → g < 2 → h < 2 → a + b + c + d + e + f + g + h ≤ 8
-eight a b c d e f g h as_ bs cs ds es fs gs hs = omega arith
-
 pub eight_around : (a b c x : ℕ) → around_in a b c x ≤ 8
 eight_around a b c x =
-    eight _ _ _ _ _ _ _ _
+    at_most_eight _ _ _ _ _ _ _ _
     (bit_at-lt a (x + 63)) (bit_at-lt a (x + 64)) (bit_at-lt a (x + 65))
     (bit_at-lt b (x + 63)) (bit_at-lt b (x + 65))
     (bit_at-lt c (x + 63)) (bit_at-lt c (x + 64)) (bit_at-lt c (x + 65))

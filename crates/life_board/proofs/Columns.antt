@@ -8,12 +8,7 @@ use Rattle.life_plane.specs.declared.tile.Tile.{Tile}
 use Rattle.life_slots.proofs.EndCells.{one_is_not_none}
 use Rattle.life_slots.proofs.Lists.{set_there}
 use Rattle.life_board.specs.Squares.{AreColumnsOf}
-
-both_none : (a b : ℕ) → max a b ≡ 0 → (a ≡ 0) × (b ≡ 0)
-both_none a b none = (omega arith, omega arith)
-
-none_of_both : (a b : ℕ) → a ≡ 0 → b ≡ 0 → max a b ≡ 0
-none_of_both a b p q = omega arith
+use Rattle.life_model.proofs.Numbers.{max_zero, zero_max}
 
 -- no row so far has a live cell in the columns whose bit is not set
 abbrev pub AreColumnsTo : ℕ → List ℕ → ℕ → Type 0
@@ -32,11 +27,11 @@ columns_more rows columns y row before = λ x wide.
     let old : (k : ℕ) → k < y → bit_at (slice_index (slice_set rows y row) k) x ≡ bit_at (slice_index rows k) x =
     λ k less. (let apart : k ≢ y = omega arith in ap (λ w. bit_at w x) (set_there rows y k row 0 apart)) in (
       λ none.
-          let both = both_none (bit_at columns x) (bit_at (slice_index (slice_set rows y row) y) x) (sym is ∙ none) in
+          let both = zero_max (bit_at columns x) (bit_at (slice_index (slice_set rows y row) y) x) (sym is ∙ none) in
           below_more (λ (k : ℕ). bit_at (slice_index (slice_set rows y row) k) x ≡ 0) y (λ k less. old k less ∙ (before x wide).0 both.0 k less) both.1,
       λ dead.
           is
-          ∙ none_of_both (bit_at columns x) (bit_at (slice_index (slice_set rows y row) y) x)
+          ∙ max_zero (bit_at columns x) (bit_at (slice_index (slice_set rows y row) y) x)
           ((before x wide).1 (λ k less. sym (old k less) ∙ dead k (omega arith))) (dead y (omega arith)),
     )
 

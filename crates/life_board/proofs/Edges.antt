@@ -1,14 +1,11 @@
 -- Tiles whose edge has no live cell.
 use Rattle.std.proofs.Common.{◌≡◌, ℕ, ◌<◌, Bool, true, false, ◌||◌, ◌↔◌, slice_index, refl, arith, true≢false}
 use Rattle.std.specs.Int.{bit_at}
+use Rattle.std.proofs.lemmas.Bool.{or_parts}
 use Rattle.life_plane.specs.Area.{tile_cell}
 use Rattle.life_plane.specs.declared.tile.Tile.{Tile}
 use Rattle.life_slots.specs.Rims.{IsEdge, IsRimOf, IsStill}
 use Rattle.life_board.specs.Squares.{IsInner}
-
-pub neither : (a b : Bool) → (a || b) ≡ false → (a ≡ false) × (b ≡ false)
-neither false b is = (refl, is)
-neither true b is = absurd (true≢false is)
 
 first_edge : (side : ℕ) → side ≡ 0 → IsEdge side 0
 first_edge side is = record { first = λ _. refl; last = λ never. absurd (omega arith) }

@@ -1,6 +1,7 @@
 -- Cells put into a square one after another.
-use Rattle.std.proofs.Common.{◌≡◌, ◌≢◌, ℕ, ℤ, pos, ◌+ℤ◌, ◌<◌, ⊎_elim, ◌⊎◌, inl, inr, Bool, true, false, ◌||◌, [], refl, sym, subst, ap, ◌∙◌, ◌≤◌, ◌+◌, min, max, List, slice_index, arith}
+use Rattle.std.proofs.Common.{◌≡◌, ◌≢◌, ℕ, ℤ, pos, ◌+ℤ◌, ◌<◌, ⊎_elim, ◌⊎◌, inl, inr, true, false, ◌||◌, [], refl, sym, subst, ap, ◌∙◌, ◌≤◌, ◌+◌, min, max, List, slice_index, arith}
 use Rattle.std.proofs.lemmas.Bool.{cases_eq}
+use Rattle.std.proofs.Math.Bool.{or-true}
 use Rattle.std.specs.Cmp.{both_ways}
 use Rattle.life_model.specs.Cell.{Cell, same_cell}
 use Rattle.life_model.specs.Generation.{Generation, contains, empty, from_list, insert}
@@ -36,15 +37,11 @@ shown_empty left top tile is =
     (λ (dead : contains (shown left top tile) q ≡ false). dead ∙ sym (contains-empty q))
     (true_or_false (contains (shown left top tile) q)))
 
-inserted_here : (G : Generation) (c : Cell) → contains (insert G c) c ≡ true
+pub inserted_here : (G : Generation) (c : Cell) → contains (insert G c) c ≡ true
 inserted_here G c = contains-insert G c c ∙ ap (λ b. b || contains G c) ((same_cell-is c c).1 refl)
 
 inserted_there : (G : Generation) (c q : Cell) → contains G q ≡ true → contains (insert G c) q ≡ true
-inserted_there G c q is = contains-insert G c q ∙ ap (λ b. same_cell q c || b) is ∙ or_true (same_cell q c)
-  where
-    or_true : (b : Bool) → (b || true) ≡ true
-    or_true true = refl
-    or_true false = refl
+inserted_there G c q is = contains-insert G c q ∙ ap (λ b. same_cell q c || b) is ∙ or-true (same_cell q c)
 
 -- one cell made live
 pub shown_put : (left top : ℤ) (before after : Tile) (x y : ℕ) (c : Cell) → x < 64 → y < 64 → c ≡ (left +ℤ pos x, top +ℤ pos y) →

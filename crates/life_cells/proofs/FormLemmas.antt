@@ -1,9 +1,9 @@
 -- A rule text's digits are those of its form.
-use Rattle.std.proofs.Common.{◌≡◌, ℕ, suc, ◌+◌, Bool, true, false, cond, ◌&&◌, List, [], ◌∷◌, ◌++◌, codes, take, drop, Option, Some, None, if◌then◌else◌, ◌⊎◌, inl, inr, sym, ap, ◌∙◌, refl, arith}
+use Rattle.std.proofs.Common.{◌≡◌, ℕ, suc, ◌+◌, Bool, true, false, cond, List, [], ◌∷◌, ◌++◌, codes, take, drop, Option, Some, None, if◌then◌else◌, ◌⊎◌, inl, inr, sym, ap, ◌∙◌, refl, arith}
 use Rattle.std.specs.List.{list_all, prefix_len}
 use Rattle.std.specs.Option.{option_or, option_map}
 use Rattle.std.proofs.lemmas.List.{take-append-drop}
-use Rattle.std.proofs.lemmas.Bool.{false≢true}
+use Rattle.std.proofs.lemmas.Bool.{and_parts}
 use Rattle.std.proofs.lemmas.Bool.Decides.{nat_tests}
 use Rattle.texts.specs.Bytes.{is_in, after_one_of, ◌>>=◌}
 use Rattle.life_cells.specs.Rules.{is_count, digits_of, after_digits, runs_with, digits_by_slash, after_slash_and, digits_by_letters, reversed_pair, digits_by_form}
@@ -150,23 +150,15 @@ form_found text birth survival h = by_birth (digits_by_letters (codes "Bb") (cod
 
 -- # The function finds what is there
 
-pub and_left : (a b : Bool) → (a && b) ≡ true → a ≡ true
-and_left true b h = refl
-and_left false b h = absurd (false≢true h)
-
-pub and_right : (a b : Bool) → (a && b) ≡ true → b ≡ true
-and_right true b h = h
-and_right false b h = absurd (false≢true h)
-
 -- digits before a byte that is no digit
 digits_end : (one : List ℕ) (c : ℕ) (rest : List ℕ) → IsDigits one → is_count c ≡ false → (digits_of (one ++ c ∷ rest) ≡ one) × (after_digits (one ++ c ∷ rest) ≡ c ∷ rest)
 digits_end [] c rest h stop =
     let none : prefix_len is_count (c ∷ rest) ≡ 0 = ap (λ b. cond b (1 + prefix_len is_count rest) 0) stop in
     (ap (λ k. take k (c ∷ rest)) none, ap (λ k. drop k (c ∷ rest)) none)
 digits_end (d ∷ one) c rest h stop =
-    let ih = digits_end one c rest (and_right (is_count d) (list_all is_count one) h) stop in
+    let ih = digits_end one c rest (and_parts (is_count d) (list_all is_count one) h).1 stop in
     let more : prefix_len is_count (d ∷ (one ++ c ∷ rest)) ≡ suc (prefix_len is_count (one ++ c ∷ rest)) =
-    ap (λ b. cond b (1 + prefix_len is_count (one ++ c ∷ rest)) 0) (and_left (is_count d) (list_all is_count one) h) ∙ omega arith in
+    ap (λ b. cond b (1 + prefix_len is_count (one ++ c ∷ rest)) 0) (and_parts (is_count d) (list_all is_count one) h).0 ∙ omega arith in
     (ap (λ k. take k (d ∷ (one ++ c ∷ rest))) more ∙ ap (λ t. d ∷ t) ih.0, ap (λ k. drop k (d ∷ (one ++ c ∷ rest))) more ∙ ih.1)
 
 one_of_yes : (bytes : List ℕ) (c : ℕ) (rest : List ℕ) → is_in bytes c ≡ true → after_one_of bytes (c ∷ rest) ≡ Some rest
@@ -236,7 +228,7 @@ digit_no_letter n h = (grind (arith, nat_tests), grind (arith, nat_tests))
 slashed_no_letter : (one other : List ℕ) → IsDigits one → (digits_by_letters (codes "Bb") (codes "Ss") (one ++ 47 ∷ other) ≡ None) × (digits_by_letters (codes "Ss") (codes "Bb") (one ++ 47 ∷ other) ≡ None)
 slashed_no_letter [] other h = (refl, refl)
 slashed_no_letter (d ∷ one) other h =
-    let no = digit_no_letter d (and_left (is_count d) (list_all is_count one) h) in
+    let no = digit_no_letter d (and_parts (is_count d) (list_all is_count one) h).0 in
     (not_lettered (codes "Bb") (codes "Ss") d (one ++ 47 ∷ other) no.0, not_lettered (codes "Ss") (codes "Bb") d (one ++ 47 ∷ other) no.1)
 
 -- a text of a form is found as one

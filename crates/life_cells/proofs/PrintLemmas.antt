@@ -1,9 +1,11 @@
 -- Sets of digits and their bits, and the rule that a printed rule means.
-use Rattle.std.proofs.Common.{◌≡◌, ◌≢◌, ℕ, zero, suc, ◌+◌, ◌-◌, ◌^◌, ◌<◌, ◌≤◌, ◌%◌, ◌==◌, max, Bool, true, false, cond, ◌||◌, ◌&&◌, List, [], ◌∷◌, ◌++◌, codes, fold, filter, map, nat_eq, Ok, Err, if◌then◌else◌, bit_or, sym, ap, ◌∙◌, refl, arith, inl, inr, append_assoc, add-one}
+use Rattle.std.proofs.Common.{◌≡◌, ◌≢◌, ℕ, zero, suc, ◌+◌, ◌-◌, ◌^◌, ◌<◌, ◌≤◌, ◌%◌, ◌==◌, max, Bool, true, false, cond, ◌||◌, ◌&&◌, List, [], ◌∷◌, ◌++◌, codes, fold, filter, map, nat_eq, Ok, Err, bit_or, sym, ap, ◌∙◌, refl, arith, inl, inr, append_assoc, add-one, if◌then◌else◌}
 use Rattle.std.proofs.Math.Pow.{pow-lt}
+use Rattle.std.proofs.Math.Bool.{or-false, or_assoc}
 use Rattle.std.proofs.lemmas.Nat.{or_lt}
 use Rattle.std.proofs.lemmas.Nat.Bits.{bit_at-zero, bit_at-lt, bit_at_or, bit_at-pow_same, bit_at-pow_other, bit_at_lowest, same_from_bits_below}
 use Rattle.std.proofs.lemmas.Bool.Decides.{nat_tests}
+use Rattle.std.proofs.lemmas.Bool.{and_parts}
 use Rattle.std.proofs.lemmas.List.{map-append}
 use Rattle.std.proofs.lemmas.List.Elements.{filter-append}
 use Rattle.std.specs.Int.{bit_at}
@@ -14,7 +16,7 @@ use Rattle.texts.specs.Bytes.{is_in}
 use Rattle.life_cells.specs.Rules.{is_count, members, set_text, rule_text, rule_of, rule_of_digits}
 use Rattle.life_cells.specs.Forms.{IsDigits, HasForm}
 use Rattle.life_cells.proofs.RuleLemmas.{count_range}
-use Rattle.life_cells.proofs.FormLemmas.{form_is, and_left, and_right}
+use Rattle.life_cells.proofs.FormLemmas.{form_is}
 
 -- # A set of digits
 
@@ -42,19 +44,11 @@ bit_with set c n lo =
     ∙ either_bit (bit_at set n) (bit_at (2 ^ (c - 48)) n) (bit_at-lt set n) (bit_at-lt (2 ^ (c - 48)) n)
     ∙ ap (λ b. has_bit set n || b) (place_of c n lo)
 
-or_assoc : (a b c : Bool) → ((a || b) || c) ≡ (a || (b || c))
-or_assoc true b c = refl
-or_assoc false b c = refl
-
 members_from : (digits : List ℕ) (set n : ℕ) → IsDigits digits → has_bit (fold with set digits) n ≡ (has_bit set n || is_in digits (48 + n))
-members_from [] set n h = or_none (has_bit set n)
-  where
-    or_none : (b : Bool) → b ≡ (b || false)
-    or_none true = refl
-    or_none false = refl
+members_from [] set n h = sym (or-false (has_bit set n))
 members_from (c ∷ digits) set n h =
-    let lo = (count_range c (and_left (is_count c) (list_all is_count digits) h)).0 in
-    members_from digits (with set c) n (and_right (is_count c) (list_all is_count digits) h)
+    let lo = (count_range c (and_parts (is_count c) (list_all is_count digits) h).0).0 in
+    members_from digits (with set c) n (and_parts (is_count c) (list_all is_count digits) h).1
     ∙ ap (λ b. b || is_in digits (48 + n)) (bit_with set c n lo)
     ∙ or_assoc (has_bit set n) (nat_eq c (48 + n)) (is_in digits (48 + n))
 
@@ -64,10 +58,10 @@ members_are digits n h = members_from digits 0 n h ∙ ap (λ k. (k == 1) || is_
 members_below : (digits : List ℕ) (set : ℕ) → IsDigits digits → set < 512 → fold with set digits < 512
 members_below [] set h small = small
 members_below (c ∷ digits) set h small =
-    let hi = (count_range c (and_left (is_count c) (list_all is_count digits) h)).1 in
+    let hi = (count_range c (and_parts (is_count c) (list_all is_count digits) h).0).1 in
     let few : c - 48 < 9 = omega arith in
     let below : 2 ^ (c - 48) < 2 ^ 9 = pow-lt few in
-    members_below digits (with set c) (and_right (is_count c) (list_all is_count digits) h) (or_lt 9 set (2 ^ (c - 48)) small below)
+    members_below digits (with set c) (and_parts (is_count c) (list_all is_count digits) h).1 (or_lt 9 set (2 ^ (c - 48)) small below)
 
 -- # The printed digits of a set
 
@@ -131,7 +125,7 @@ pub range_more : (a n : ℕ) → range_with_len a (suc n) ≡ range_with_len a n
 range_more a zero = let same : a ≡ a + 0 = omega arith in ap (λ k. k ∷ []) same
 range_more a (suc n) = let same : a + 1 + n ≡ a + suc n = omega arith in ap (λ ks. a ∷ ks) (range_more (a + 1) n ∙ ap (λ k. range_with_len (a + 1) n ++ k ∷ []) same)
 
-range_one_more : (n : ℕ) → range_with_len 0 (n + 1) ≡ range_with_len 0 n ++ n ∷ []
+pub range_one_more : (n : ℕ) → range_with_len 0 (n + 1) ≡ range_with_len 0 n ++ n ∷ []
 range_one_more n = let same : 0 + n ≡ n = omega arith in rw add-one (range_more 0 n ∙ ap (λ k. range_with_len 0 n ++ k ∷ []) same)
 
 pub digits_more : (set n : ℕ) → digits_from set 0 (n + 1) ≡ digits_from set 0 n ++ cond (bit_at set n == 1) ((48 + n) ∷ []) []

@@ -1,5 +1,5 @@
 -- Lists that were sorted, without repeats.
-use Rattle.std.proofs.Common.{◌≡◌, Bool, true, false, cond, ◌&&◌, ◌||◌, T, List, [], ◌∷◌, Ordering, Less, Equal, Greater, Decides, int_eq, slice_index_or, sym, refl, ap, subst, ◌∙◌, arith}
+use Rattle.std.proofs.Common.{◌≡◌, Bool, true, false, cond, ◌&&◌, ◌||◌, T, List, [], ◌∷◌, Ordering, Less, Equal, Greater, Decides, slice_index_or, sym, refl, ap, subst, ◌∙◌, arith}
 use Rattle.std.specs.Prelude.{ℕ, ◌+◌, ◌<◌, IsTrue, length, ◌==◌}
 use Rattle.std.specs.List as lists
 use Rattle.std.specs.List.{list_any, dedup, AllByRecursion}
@@ -17,6 +17,7 @@ use Rattle.life_model.proofs.Generations.{same_members, cells-from_list, from_li
 use Rattle.life_model.proofs.Tests.{first_holds, second_holds}
 use Rattle.life_model.specs.Cell.{Cell, cell_cmp, same_cell}
 use Rattle.life_model.specs.Generation.{Generation, below_all, cells, empty, from_list, is_rising}
+use Rattle.life_cells.specs.Alike.{same_places}
 
 pub both_hold : (a b : Bool) → T a → T b → T (a && b)
 both_hold true b h k = k
@@ -51,34 +52,34 @@ module _ (same : Cell → Cell → Bool) (exact : (a b : Cell) → same a b ≡ 
   list_any-dedup [] = refl
   list_any-dedup (c ∷ cs) = list_any-dedup_from c cs
 
-abbrev same_pair : Cell → Cell → Bool
-same_pair a b = int_eq a.0 b.0 && int_eq a.1 b.1
-
-same_pair-is : (a b : Cell) → Decides (same_pair a b) (a ≡ b)
-same_pair-is a b =
+pub same_places-is : (a b : Cell) → Decides (same_places a b) (a ≡ b)
+same_places-is a b =
     Decides-like {P = (a.0 ≡ b.0) × (a.1 ≡ b.1)} {Q = a ≡ b} _ (λ e. pair e.0 e.1) (λ e. (ap (λ c. c.0) e, ap (λ c. c.1) e))
     (Decides-and _ _ (Decides-int_eq a.0 b.0) (Decides-int_eq a.1 b.1))
 
 -- what a sort and `dedup` leave
-module _ (sorted : List Cell) (left : List Cell) (filtered : IsFiltered (DiffersFromLast same_pair) [] sorted left) where
-  pub left_is : left ≡ dedup same_pair sorted
-  left_is = dedup_is same_pair sorted left filtered
+module _ (sorted : List Cell) (left : List Cell) (filtered : IsFiltered (DiffersFromLast same_places) [] sorted left) where
+  pub left_is : left ≡ dedup same_places sorted
+  left_is = dedup_is same_places sorted left filtered
 
   pub left_rises : IsSorted cell_cmp sorted → T (is_rising left)
   left_rises h =
       subst (λ cs. T (is_rising cs)) (sym left_is)
-      (rising_from_sorted _ (IsStrictlySortedBy-dedup cell_cmp_total (λ a b. same_from_decides _ _ (same_pair-is a b) (same_cell-is a b)) sorted h))
+      (rising_from_sorted _ (IsStrictlySortedBy-dedup cell_cmp_total (λ a b. same_from_decides _ _ (same_places-is a b) (same_cell-is a b)) sorted h))
 
   pub left_has : (c : Cell) → list_any (same_cell c) left ≡ list_any (same_cell c) sorted
-  left_has c = ap (list_any (same_cell c)) left_is ∙ list_any-dedup same_pair (λ a b. (same_pair-is a b).0) (same_cell c) sorted
+  left_has c = ap (list_any (same_cell c)) left_is ∙ list_any-dedup same_places (λ a b. (same_places-is a b).0) (same_cell c) sorted
 
   pub left_all : (P : Cell → Type 0) → All P sorted → All P left
-  left_all P all = subst (λ cs. All P cs) (sym left_is) (All-dedup same_pair P sorted all)
+  left_all P all = subst (λ cs. All P cs) (sym left_is) (All-dedup same_places P sorted all)
 
-is_less : (r : Ordering) → T (is_lt r) → r ≡ Less
+pub is_less : (r : Ordering) → T (is_lt r) → r ≡ Less
 is_less Less h = refl
 is_less Equal h = absurd h
 is_less Greater h = absurd h
+
+pub less_from : (r : Ordering) → is_lt r ≡ true → r ≡ Less
+less_from r h = is_less r (subst T (sym h) tt)
 
 all_from_below : (c : Cell) (cs : List Cell) → T (below_all c cs) → AllByRecursion (λ d. cell_cmp c d ≡ Less) cs
 all_from_below c [] h = tt

@@ -18,6 +18,7 @@ use Rattle.life_model.specs.Cell.{Cell, cell_cmp}
 use Rattle.life_model.specs.Generation.{Generation, cells, contains, below_all, is_rising}
 use Rattle.life_model.specs.Symmetry.{normal}
 use Rattle.life_model.proofs.Tests.{first_holds, second_holds}
+use Rattle.life_model.proofs.Moves.{le_le}
 use Rattle.life_cells.specs.Limits.{extent_limit}
 use Rattle.life_cells.specs.Wechsler.{column_value, strips_text, body}
 use Rattle.life_cells.proofs.Members.{member_has, all_members}
@@ -35,12 +36,9 @@ not_under a b Greater s m h = absurd h
 less_not_under : (a b : Cell) → T (is_lt (cell_cmp a b)) → a.1 ≤ℤ b.1
 less_not_under a b h = not_under a.1 b.1 (int_cmp a.1 b.1) (int_cmp a.0 b.0) (int_ranks a.1 b.1) h
 
-under : (a b c : ℤ) → a ≤ℤ b → b ≤ℤ c → a ≤ℤ c
-under a b c h k = omega (arith, ints)
-
 all_under : (row : ℤ) (c : Cell) (cs : List Cell) → row ≤ℤ c.1 → T (below_all c cs) → AllByRecursion (λ d. row ≤ℤ d.1) cs
 all_under row c [] h k = tt
-all_under row c (d ∷ ds) h k = (under _ _ _ h (less_not_under c d (first_holds _ _ k)), all_under row c ds h (second_holds (is_lt (cell_cmp c d)) _ k))
+all_under row c (d ∷ ds) h k = (le_le _ _ _ h (less_not_under c d (first_holds _ _ k)), all_under row c ds h (second_holds (is_lt (cell_cmp c d)) _ k))
 
 pub rising_drop : (n : ℕ) (cs : List Cell) → T (is_rising cs) → T (is_rising (drop n cs))
 rising_drop zero cs h = h

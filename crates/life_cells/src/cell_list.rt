@@ -1,8 +1,8 @@
 //! Finite sets of cells as lists in order.
-ghost use Rattle.std.specs.Prelude.{◌≡◌, ◌↔◌, ◌≤◌, All, IfOk, IsTrue, List, OnOk, T, ℤ};
+ghost use Rattle.std.specs.Prelude.{◌≡◌, ◌+◌, ◌↔◌, ◌≤◌, ◌≤ℤ◌, neg_ℤ, pos, All, IfOk, IsTrue, List, OnOk, T, ℤ};
 ghost use Rattle.life_model.specs.Generation.{Generation, empty, from_list, is_rising};
 ghost use Rattle.life_model.specs.Generation as generation;
-ghost use Rattle.life_cells.specs.Limits.{IsPlace, IsWithin};
+ghost use Rattle.life_cells.specs.Limits.{IsPlace, IsWithin, age_limit, last_pattern_place};
 ghost use Rattle.life_cells.specs.declared.cell_list.CellFault.TheVariants.{OutOfField};
 
 use crate::limits::{COORDINATE_LIMIT, PLACE_LIMIT};
@@ -65,12 +65,24 @@ fn is_place(cell: (i32, i32)) -> bool
         && cell.1 < COORDINATE_LIMIT
 }
 
-/// Whether both coordinates of a cell are from 0 to 1,048,575.
-fn is_in_field(cell: (i32, i32)) -> bool
-    ensures { IsTrue result ↔ IsWithin 0 cell }
+/// Whether a coordinate is from -`age` to 1,048,575 + `age`.
+fn is_between(place: i32, age: u32) -> bool
+    requires { age ≤ age_limit }
+    ensures { IsTrue result ↔ (neg_ℤ (pos age) ≤ℤ place × place ≤ℤ pos (last_pattern_place + age)) }
 {
-    let limit = PLACE_LIMIT as i32;
-    0 <= cell.0 && cell.0 < limit && 0 <= cell.1 && cell.1 < limit
+    let past = PLACE_LIMIT as i32 + age as i32;
+    if place >= past {
+        return false;
+    }
+    -(age as i32) <= place
+}
+
+/// Whether both coordinates of a cell are from -`age` to 1,048,575 + `age`.
+fn is_in_field(cell: (i32, i32), age: u32) -> bool
+    requires { age ≤ age_limit }
+    ensures { IsTrue result ↔ IsWithin age cell }
+{
+    is_between(cell.0, age) && is_between(cell.1, age)
 }
 
 /// Whether all cells are within the range of a list of cells.
@@ -85,12 +97,13 @@ fn are_places(cells: &[(i32, i32)]) -> bool
     true
 }
 
-/// Whether all coordinates of the cells are from 0 to 1,048,575.
-fn are_in_field(cells: &[(i32, i32)]) -> bool
-    ensures { IsTrue result ↔ All (IsWithin 0) cells.now }
+/// Whether all coordinates of the cells are from -`age` to 1,048,575 + `age`.
+fn are_in_field(cells: &[(i32, i32)], age: u32) -> bool
+    requires { age ≤ age_limit }
+    ensures { IsTrue result ↔ All (IsWithin age) cells.now }
 {
     for cell in cells {
-        if !is_in_field(*cell) {
+        if !is_in_field(*cell, age) {
             return false;
         }
     }
@@ -170,6 +183,15 @@ impl CellList {
     pub fn fits(&self) -> bool
         ensures { IsTrue result ↔ All (IsWithin 0) (generation.cells self.now) }
     {
-        are_in_field(self.as_slice())
+        self.fits_at(0)
+    }
+
+    /// Whether every coordinate is from -`age` to 1,048,575 + `age`: where a pattern's cells may be in that generation. The age is at
+    /// most 4,194,304.
+    pub fn fits_at(&self, age: u32) -> bool
+        requires { age ≤ age_limit }
+        ensures { IsTrue result ↔ All (IsWithin age) (generation.cells self.now) }
+    {
+        are_in_field(self.as_slice(), age)
     }
 }

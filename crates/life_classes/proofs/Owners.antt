@@ -1,7 +1,7 @@
 -- Which one of several sets that are apart a cell of the next generation comes from.
 use Rattle.std.proofs.Common.{◌≡◌, ◌<◌, true, List, [], ◌∷◌, inl, inr, sym, ap, ◌∙◌}
 use Rattle.std.proofs.Common.{arith}
-use Rattle.std.proofs.lemmas.Bool.{and_from}
+use Rattle.std.proofs.lemmas.Bool.{and_from, and_parts}
 use Rattle.std.specs.List.{AllPairs, Contains}
 use Rattle.life_model.specs.Cell.{Cell, IsNear}
 use Rattle.life_model.specs.Rule.{Rule}
@@ -13,7 +13,6 @@ use Rattle.life_objects.specs.Apart.{AreApart}
 use Rattle.life_objects.specs.Union.{union, union_of}
 use Rattle.life_objects.proofs.Alone.{next-union}
 use Rattle.life_objects.proofs.Distances.{apart_from_union_of, near_through}
-use Rattle.life_objects.proofs.DecidedLemmas.Tests.{both}
 use Rattle.life_objects.proofs.Lists.{AllPairs-head, AllPairs-tail, head_or_later}
 use Rattle.life_objects.proofs.Members.{in_list_now, next_within}
 use Rattle.life_objects.proofs.Sides.{within_each_other}
@@ -57,7 +56,7 @@ module _ (R : Rule) where
   next_by_touch Ps far P one =
       within_each_other _ _
       (λ c h.
-      let parts = both (contains (next R (union_of Ps)) c) (reaches 1 P c)
+      let parts = and_parts (contains (next R (union_of Ps)) c) (reaches 1 P c)
       (sym (contains-keep (next R (union_of Ps)) (reaches 1 P) c) ∙ h) in
       let g = touched_by P c parts.1 in
       owner Ps far P one c g.0 parts.0 g.1 g.2)

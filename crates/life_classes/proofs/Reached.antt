@@ -4,11 +4,11 @@ use Rattle.std.proofs.Common.{arith}
 use Rattle.std.specs.Prelude.{nat_le, unsigned_abs}
 use Rattle.std.specs.List.{list_any}
 use Rattle.std.proofs.lemmas.Int.{ints}
-use Rattle.std.proofs.lemmas.Bool.{false_from_ne_true, leb-true, le-leb, and_from}
+use Rattle.std.proofs.lemmas.Bool.{false_from_ne_true, leb-true, le-leb, and_from, and_parts}
 use Rattle.life_model.specs.Cell.{Cell, IsNear}
 use Rattle.life_model.specs.Generation.{Generation, cells, contains}
 use Rattle.life_classes.specs.Nearness.{are_within, reaches}
-use Rattle.life_objects.proofs.DecidedLemmas.Tests.{abs_small, both, member_passes, passing_member, small_abs}
+use Rattle.life_objects.proofs.DecidedLemmas.Tests.{abs_small, member_passes, passing_member, small_abs}
 
 -- c and d are at most r from each other in both directions
 pub record AreWithin (r : ℕ) (c d : Cell) : Type 0 where
@@ -19,7 +19,7 @@ pub record AreWithin (r : ℕ) (c d : Cell) : Type 0 where
 
 pub within_by_test : (r : ℕ) (c d : Cell) → are_within r c d ≡ true → AreWithin r c d
 within_by_test r c d h =
-    let parts = both (nat_le (unsigned_abs (c.0 -ℤ d.0)) r) (nat_le (unsigned_abs (c.1 -ℤ d.1)) r) h in
+    let parts = and_parts (nat_le (unsigned_abs (c.0 -ℤ d.0)) r) (nat_le (unsigned_abs (c.1 -ℤ d.1)) r) h in
     let across = abs_small (c.0 -ℤ d.0) r (leb-true (unsigned_abs (c.0 -ℤ d.0)) r parts.0) in
     let along = abs_small (c.1 -ℤ d.1) r (leb-true (unsigned_abs (c.1 -ℤ d.1)) r parts.1) in
     record {

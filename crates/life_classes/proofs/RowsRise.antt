@@ -1,6 +1,6 @@
 -- Cells in order have rows and numbers that don't fall. Those with other rows or numbers can be left out.
 use Rattle.std.proofs.Common.{◌≡◌, ℕ, zero, suc, ◌+◌, ◌-◌, ◌<◌, ◌≤◌, ℤ, ◌≤ℤ◌, ◌<ℤ◌, Bool, true}
-use Rattle.std.proofs.Common.{false, cond, ◌||◌, ◌⊎◌, inl, inr, T, List, [], ◌∷◌}
+use Rattle.std.proofs.Common.{false, cond, ◌||◌, inl, inr, T, List, [], ◌∷◌}
 use Rattle.std.proofs.Common.{length, get_or, take, drop, filter, int_le, int_lt, Ordering}
 use Rattle.std.proofs.Common.{Less, Equal, Greater, int_cmp}
 use Rattle.std.proofs.Common.{sym, refl, ap, ◌∙◌, get_or-drop, length-drop, arith}
@@ -16,7 +16,7 @@ use Rattle.std.proofs.lemmas.List.{get_or_default}
 use Rattle.std.proofs.lemmas.List.Folds.{Any-from_list_any}
 use Rattle.life_model.specs.Cell.{Cell, cell_cmp, same_cell}
 use Rattle.life_model.specs.Generation.{is_rising}
-use Rattle.life_model.proofs.Cells.{same_cell-is}
+use Rattle.life_model.proofs.Cells.{same_cell-is, later_cell}
 use Rattle.life_cells.specs.Limits.{IsPlace}
 use Rattle.life_cells.proofs.Sorted.{sorted_from_rising}
 use Rattle.life_classes.specs.Tags.{place_number}
@@ -29,21 +29,13 @@ not_below x y Greater s h e = cc
 row_not_below : (a b : Cell) → cell_cmp a b ≡ Less → a.1 ≤ℤ b.1
 row_not_below a b e = not_below a.1 b.1 (int_cmp a.1 b.1) (int_cmp a.0 b.0) (int_ranks a.1 b.1) e
 
-lower : (x y u v : ℤ) (r s : Ordering) → MatchOrdering r (x <ℤ y) (x ≡ y) (y <ℤ x) →
-    MatchOrdering s (u <ℤ v) (u ≡ v) (v <ℤ u) → ordering_then r s ≡ Less → (x <ℤ y) ⊎ ((x ≡ y) × (u ≤ℤ v))
-lower x y u v Less s h k e = inl h
-lower x y u v Equal Less h k e = inr (h, omega (arith, ints))
-lower x y u v Equal Equal h k e = inr (h, omega (arith, ints))
-lower x y u v Equal Greater h k e = cc
-lower x y u v Greater s h k e = cc
-
 number_not_below : (a b : Cell) → cell_cmp a b ≡ Less → IsPlace a → IsPlace b → place_number a ≤ℤ place_number b
 number_not_below a b e p q =
     let left = p.left in
     let right = p.right in
     let left_too = q.left in
     let right_too = q.right in
-    elim (lower a.1 b.1 a.0 b.0 (int_cmp a.1 b.1) (int_cmp a.0 b.0) (int_ranks a.1 b.1) (int_ranks a.0 b.0) e) [
+    elim (later_cell a b e) [
       | inl above ↦ omega (arith, ints)
       | inr beside ↦
           let row = beside.0 in

@@ -1,6 +1,6 @@
 -- The first byte of a text, by which most texts of one length are told apart.
 use Rattle.std.proofs.Common.{◌≡◌, ℕ, zero, suc, ◌+◌, ◌<◌, ◌≤◌, Bool, true, false, cond, List, [], ◌∷◌, ◌++◌, length, get_or, take, drop, Some, Ordering, Less, Equal, Greater, sym, refl, ap, ◌∙◌, arith, true≢false, append_assoc, append-nil, length-append}
-use Rattle.std.specs.Ordering.{nat_cmp, ordering_then, is_eq, is_gt, is_lt}
+use Rattle.std.specs.Ordering.{nat_cmp, ordering_then, is_eq, is_gt}
 use Rattle.std.specs.Cmp.{nat_cmp_is, nat_cmp_total}
 use Rattle.std.specs.Cmp as cmp
 use Rattle.std.specs.Cmp.Lexicographic.{slice_cmp}
@@ -56,11 +56,6 @@ then_less : (r q p : Ordering) → ordering_then r q ≡ Less → (q ≡ Less �
 then_less Less q p e f = refl
 then_less Equal q p e f = f e
 then_less Greater q p e f = e
-
-pub less_from : (r : Ordering) → is_lt r ≡ true → r ≡ Less
-less_from Less h = refl
-less_from Equal h = absurd (true≢false (sym h))
-less_from Greater h = absurd (true≢false (sym h))
 
 begun_less : (text start rest : List ℕ) → length start ≤ length text → slice_cmp nat_cmp (take (length start) text) start ≡ Less → slice_cmp nat_cmp text (start ++ rest) ≡ Less
 begun_less text [] rest h e = absurd (equal_less e)

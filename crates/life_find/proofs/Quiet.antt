@@ -3,31 +3,23 @@ use Rattle.std.proofs.Common.{◌≡◌, ℕ, zero, suc, ℤ, pos, ◌+◌, ◌<
 use Rattle.std.specs.List.{Contains}
 use Rattle.std.proofs.lemmas.Int.{ints}
 use Rattle.std.proofs.lemmas.List.Elements.{All-contains, Contains-get_or}
-use Rattle.std.proofs.lemmas.Map.Views.{Contains-from_any, list_any-from_Contains}
-use Rattle.std.proofs.lemmas.Cmp.{eq_by_cmp_equiv}
 use Rattle.life_model.specs.Cell.{Cell, IsNear, origin, plus, opposite}
 use Rattle.life_model.specs.Rule.{Rule}
 use Rattle.life_model.specs.Generation.{Generation, cells, contains}
 use Rattle.life_model.specs.Evolution.{generation, next}
 use Rattle.life_model.specs.Symmetry.{translate_of, normal}
-use Rattle.life_model.proofs.Cells.{cell_cmp_total, pair, same_cell-is}
-use Rattle.life_model.proofs.Generations.{contains-cells}
+use Rattle.life_model.proofs.Cells.{plus-opposite}
 use Rattle.life_model.proofs.Moves.{normal_decides}
 use Rattle.life_model.proofs.Near.{next_near}
 use Rattle.life_model.proofs.Recurrences.{generation-add, generation-next, generation-zero}
 use Rattle.life_model.proofs.Symmetries.{contains-moved}
+use Rattle.life_model.proofs.Members.{from_cells, in_cells}
 use Rattle.life_find.specs.Quiet.{IsReachedBy, IsMissed, IsAway, IsQuiet}
 
 -- ---- members and places of a list
 
-listed : (G : Generation) (c : Cell) → contains G c ≡ true → Contains (cells G) c
-listed G c h = Contains-from_any (λ x y e. (same_cell-is x y).0 e) c (cells G) (sym (contains-cells G c) ∙ h)
-
-member : (G : Generation) (c : Cell) → Contains (cells G) c → contains G c ≡ true
-member G c h = contains-cells G c ∙ list_any-from_Contains (eq_by_cmp_equiv cell_cmp_total) c (cells G) h
-
 of_member : (P : Cell → Type 0) (G : Generation) (cs : List Cell) → cs ≡ cells G → All P cs → (c : Cell) → contains G c ≡ true → P c
-of_member P G cs e all c h = All-contains P cs c all (subst (λ (xs : List Cell). Contains xs c) (sym e) (listed G c h))
+of_member P G cs e all c h = All-contains P cs c all (subst (λ (xs : List Cell). Contains xs c) (sym e) (in_cells G c h))
 
 -- ---- where the cells of later generations come from
 
@@ -53,11 +45,8 @@ from_before R G (suc n) c h =
 
 -- ---- a set that is away
 
-moved_back : (c d : Cell) → plus (plus c d) (opposite d) ≡ c
-moved_back c d = pair (omega (arith, ints)) (omega (arith, ints))
-
 stands_there : (A H : Generation) (d c : Cell) → H ≡ translate_of A d → contains A c ≡ true → contains H (plus c d) ≡ true
-stands_there A H d c e h = ap (λ X. contains X (plus c d)) e ∙ contains-moved A d (plus c d) ∙ ap (contains A) (moved_back c d) ∙ h
+stands_there A H d c e h = ap (λ X. contains X (plus c d)) e ∙ contains-moved A d (plus c d) ∙ ap (contains A) (plus-opposite c d) ∙ h
 
 -- the first cell is moved next to g and the missed one next to h, so h is next to where it would be beside g
 reached_there : (n m : ℕ) (r : ℤ) (first c d g h : Cell) → n ≤ m → r ≡ pos (m + m) → IsReachedBy (pos n) (plus first d) g → IsReachedBy (pos n) (plus c d) h
@@ -71,7 +60,7 @@ reached_there n m r first c d g h small e one other = record {
 
 module _ (A H : Generation) (list others : List Cell) (e : list ≡ cells A) (f : others ≡ cells H) where
   at_place : (i : ℕ) → i < length list → contains A (slice_index_or list i origin) ≡ true
-  at_place i inside = member A _ (subst (λ (xs : List Cell). Contains xs (slice_index_or list i origin)) e (Contains-get_or list i origin inside))
+  at_place i inside = from_cells A _ (subst (λ (xs : List Cell). Contains xs (slice_index_or list i origin)) e (Contains-get_or list i origin inside))
 
   pub quiet_while_away : (m : ℕ) (r : ℤ) → r ≡ pos (m + m) → 0 < length list → IsAway r list others → (R : Rule) (k : ℕ) → k ≤ m →
       normal A ≡ normal (generation R H k) → ⊥

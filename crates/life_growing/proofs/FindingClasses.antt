@@ -17,7 +17,8 @@ use Rattle.life_objects.proofs.GrowthLemmas.Endless.{IsUnsplit-wider}
 use Rattle.life_tracks.specs.declared.frames.film.Film.{Film}
 use Rattle.life_tracks.specs.Frames.Frames.{IsFilm, classes_at}
 use Rattle.life_tracks.proofs.Classes.{class_is_unsplit}
-use Rattle.life_apart.proofs.Together.{same_places, same_places-is}
+use Rattle.life_cells.specs.Alike.{same_places}
+use Rattle.life_cells.proofs.Sorted.{same_places-is}
 
 -- sets with equal lists of cells are one
 pub same_by_cells : (r : Bool) (cs ds : List Cell) (G H : Generation) → r ≡ pointwise same_places cs ds → r ≡ true →

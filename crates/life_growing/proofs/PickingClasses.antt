@@ -12,26 +12,17 @@ use Rattle.life_classes.specs.declared.class.Class.{Class}
 use Rattle.life_classes.specs.Tracking.{first_sets}
 use Rattle.life_objects.proofs.DecidedLemmas.Orders.{pairs_to_front}
 use Rattle.life_objects.proofs.Dividing.{AreApartFor-swap}
-use Rattle.life_objects.proofs.Lists.{AllPairs-append, AllPairs-head, AllPairs-nil, Contains-head, head_or_later}
+use Rattle.life_objects.proofs.Lists.{AllPairs-append, AllPairs-head, AllPairs-nil, Contains-head}
 use Rattle.life_objects.proofs.Sides.{split_disjoint}
 use Rattle.life_objects.specs.Growth.Engine.{IsEngineWithin}
 use Rattle.life_growing.specs.Emissions.{Emission}
 use Rattle.life_growing.specs.Growths.{IsEngineFound, start_of, starts_of}
 use Rattle.life_growing.specs.Picking.{ArePicks}
-
--- nothing is in an empty list
-in_none : {X : Type 0} (x : X) → Contains [] x → ⊥
-in_none x one = let less : one.0 < 0 = one.1 in absurd (omega arith)
+use Rattle.life_tracks.proofs.Adding.{the_only_one}
 
 -- one set alone
 alone : {X : Type 0} (S : X → X → Type 0) (x : X) → AllPairs S (x ∷ [])
 alone S x i j d less within = absurd (omega arith)
-
-only : {X : Type 0} (x y : X) → Contains (x ∷ []) y → x ≡ y
-only x y one = elim (head_or_later x y [] one.0 one.1 one.2) [
-  | inl here ↦ here
-  | inr later ↦ absurd (in_none y later)
-]
 
 -- an engine has a cell
 pub engine_has_cell : (R : Rule) (b : ℕ) (P : Generation) → IsEngineWithin R b P → P ≢ empty
@@ -75,7 +66,7 @@ module _ (R : Rule) (b far : ℕ) where
       subst (λ es. ArePicks R b far [] es others) (sym first)
       (subst (λ os. ArePicks R b far [] [] os) (sym second) (record {
         found = All-nil (IsEngineFound R b);
-        either = λ P one. absurd (in_none P one);
+        either = λ P one. let less : one.0 < 0 = one.1 in absurd (omega arith);
         engines_of = λ P one. one;
         others_of = λ P one. one;
         once = AllPairs-nil (λ P Q. P ≢ Q);
@@ -111,7 +102,7 @@ module _ (R : Rule) (b far : ℕ) where
           once = subst (AllPairs (λ F H. F ≢ H)) (sym starts)
               (AllPairs-append (λ F H. F ≢ H) (starts_of engines) (P ∷ []) are.once (alone (λ F H. F ≢ H) P)
               (λ F H one two.
-              subst (λ K. F ≢ K) (only P H two) (before_differs R far Ps P later apart some F (are.engines_of F one))));
+              subst (λ K. F ≢ K) (the_only_one P H two) (before_differs R far Ps P later apart some F (are.engines_of F one))));
           none = are.none;
         }
 

@@ -2,7 +2,7 @@
 use Rattle.std.proofs.Common.{◌≡◌, ◌⊎◌, ℕ, ◌+◌, ◌<◌, ◌≤◌, Bool, true, false, ◌||◌, List, length, get_or, map, inl, inr, refl, sym, ap, subst, ◌∙◌, arith}
 use Rattle.std.specs.Prelude.{set, replicate}
 use Rattle.std.specs.List.{All}
-use Rattle.std.proofs.lemmas.Bool.{cases_eq, cases_lt}
+use Rattle.std.proofs.lemmas.Bool.{cases_eq, cases_lt, or_right}
 use Rattle.std.proofs.lemmas.Grind.{get_or-set_at}
 use Rattle.std.proofs.lemmas.List.{get_or_default, get_or-map, get_or-replicate, get_or-set_other, length-map, length-replicate}
 use Rattle.std.proofs.Common.{length-set}
@@ -157,10 +157,6 @@ module _ (labels forest marks : List ℕ) (are : marks ≡ map (root forest) lab
 
 pub read_twice : (l : List ℕ) (n a b : ℕ) → n < length l → a ≡ get_or l n a → b ≡ get_or l n b → a ≡ b
 read_twice l n a b h e f = e ∙ get_or_default l n a b h ∙ sym f
-
-pub or_true : (a b : Bool) → b ≡ true → (a || b) ≡ true
-or_true true b e = refl
-or_true false b e = e
 
 pub or_same : (a b : Bool) → b ≡ false → a ≡ (a || b)
 or_same true b e = refl

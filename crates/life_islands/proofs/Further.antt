@@ -1,8 +1,8 @@
 -- Labels of which more are joined.
 use Rattle.std.proofs.Common.{◌≡◌, ℕ, ◌<◌, ◌≤◌, Bool, true, false, ◌||◌, List, length, inl, inr, sym, refl, ap, subst, ◌∙◌, arith, true≢false}
 use Rattle.std.specs.List.{All, sum}
-use Rattle.std.proofs.lemmas.Bool.{cases_Bool}
-use Rattle.life_model.proofs.Tests.{or-false}
+use Rattle.std.proofs.lemmas.Bool.{cases_Bool, or_parts}
+use Rattle.std.proofs.Math.Bool.{or-false, or-true}
 use Rattle.life_model.specs.Cell.{Cell}
 use Rattle.life_model.specs.Rule.{Rule}
 use Rattle.life_model.specs.Generation.{Generation, cells}
@@ -25,10 +25,6 @@ either : (a b : Bool) (A : Type 0) → (a ≡ true → A) → (b ≡ true → A)
 either true b A f g e = f refl
 either false b A f g e = g e
 
-neither : (a b : Bool) → (a || b) ≡ false → (a ≡ false) × (b ≡ false)
-neither true b e = absurd (true≢false e)
-neither false b e = (refl, e)
-
 pub no_greater : (L M : Labels) (b : Bool) → AreJoinedFurther L M b → sum M.forest.items ≤ sum L.forest.items
 no_greater L M b f = elim (cases_Bool b) [
   | inl h ↦ let less = f.less h in omega arith
@@ -40,7 +36,7 @@ further_through L M N a b f g = record {
   labels = g.labels ∙ f.labels;
   long = g.long ∙ f.long;
   coarser = λ k l h. g.coarser k l (f.coarser k l h);
-  same = λ e. let n = neither a b e in g.same n.1 ∙ f.same n.0;
+  same = λ e. let n = or_parts a b e in g.same n.1 ∙ f.same n.0;
   less = λ e.
       let f_most = no_greater L M a f in
       let g_most = no_greater M N b g in
@@ -48,13 +44,9 @@ further_through L M N a b f g = record {
       (λ h. let less = f.less h in omega arith) (λ h. let less = g.less h in omega arith) e;
 }
 
-or_true : (b : Bool) → (b || true) ≡ true
-or_true true = refl
-or_true false = refl
-
 -- with one more step, at which something is joined, or nothing
 pub further_more : (L M N : Labels) (a : Bool) → AreJoinedFurther L M a → AreJoinedFurther M N true → AreJoinedFurther L N true
-further_more L M N a f g = subst (AreJoinedFurther L N) (or_true a) (further_through L M N a true f g)
+further_more L M N a f g = subst (AreJoinedFurther L N) (or-true a) (further_through L M N a true f g)
 
 pub further_no_more : (L M N : Labels) (a : Bool) → AreJoinedFurther L M a → AreJoinedFurther M N false → AreJoinedFurther L N a
 further_no_more L M N a f g = subst (AreJoinedFurther L N) (or-false a) (further_through L M N a false f g)

@@ -1,10 +1,9 @@
 -- The place of a cell in a list of cells, and numbers in order.
-use Rattle.std.proofs.Common.{◌≡◌, ℕ, ◌+◌, ◌-◌, ◌<◌, ◌≤◌, ℤ, ◌≤ℤ◌, true, false, T, List, [], ◌∷◌, ◌++◌, length, get_or, int_lt, inl, inr, sym, ap, subst, ◌∙◌, arith}
-use Rattle.std.specs.List.{All, list_any, range_with_len}
+use Rattle.std.proofs.Common.{◌≡◌, ℕ, ◌-◌, ◌<◌, ◌≤◌, ℤ, ◌≤ℤ◌, true, false, T, List, length, get_or, int_lt, inl, inr, sym, ap, subst, ◌∙◌, arith}
+use Rattle.std.specs.List.{All, list_any}
 use Rattle.std.proofs.lemmas.Bool.{cases_lt}
 use Rattle.std.proofs.lemmas.Int.{ints}
-use Rattle.std.proofs.lemmas.List.{get_or_default, map-id}
-use Rattle.std.proofs.lemmas.List.FromFn.{map-range_with_len_more}
+use Rattle.std.proofs.lemmas.List.{get_or_default}
 use Rattle.std.proofs.lemmas.List.Folds.{Any-from_list_any}
 use Rattle.life_model.specs.Cell.{Cell, same_cell}
 use Rattle.life_model.specs.Generation.{Generation, cells, contains, is_rising}
@@ -15,12 +14,6 @@ use Rattle.life_classes.specs.Tags.{place_number}
 use Rattle.life_islands.specs.Labels.{IsParting}
 use Rattle.life_classes.proofs.Numbers.{cell_by_number}
 use Rattle.life_classes.proofs.RowsRise.{numbers_rise}
-
--- one number more
-pub range_more : (n : ℕ) → range_with_len 0 (n + 1) ≡ range_with_len 0 n ++ n ∷ []
-range_more n =
-    sym (map-id (range_with_len 0 (n + 1))) ∙ map-range_with_len_more (λ k. k) 0 n n (omega arith)
-    ∙ ap (λ xs. xs ++ n ∷ []) (map-id (range_with_len 0 n))
 
 not_less_itself : (x y : ℤ) → x ≡ y → int_lt x y ≡ true → ⊥
 not_less_itself x y e h = grind (arith, ints)

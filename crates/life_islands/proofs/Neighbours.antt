@@ -1,16 +1,10 @@
 -- A cell near another is one of the eight around it.
-use Rattle.std.proofs.Common.{◌≡◌, ◌⊎◌, ℕ, zero, suc, ◌<◌, ℤ, pos, negsuc, neg_ℤ, ◌-ℤ◌, ◌≤ℤ◌, inl, inr, refl, arith}
+use Rattle.std.proofs.Common.{◌≡◌, ℕ, ◌<◌, ◌-ℤ◌, inl, inr, arith}
 use Rattle.std.proofs.lemmas.Int.{ints}
 use Rattle.life_model.specs.Cell.{Cell, IsNear}
 use Rattle.life_model.proofs.Cells.{pair}
 use Rattle.life_islands.specs.Seats.{cell_at}
-
-pub small : (z : ℤ) → neg_ℤ (pos 1) ≤ℤ z → z ≤ℤ pos 1 → (z ≡ neg_ℤ (pos 1)) ⊎ ((z ≡ pos 0) ⊎ (z ≡ pos 1))
-small (pos zero) h k = inr (inl refl)
-small (pos (suc zero)) h k = inr (inr refl)
-small (pos (suc (suc n))) h k = absurd (omega (arith, ints))
-small (negsuc zero) h k = inl refl
-small (negsuc (suc n)) h k = absurd (omega (arith, ints))
+use Rattle.life_objects.proofs.PartsLemmas.Ring.{three}
 
 -- a cell near a place other than it is one of the eight around
 pub seated : (x c : Cell) → IsNear c x → (c ≡ x → ⊥) → (n : ℕ) × (n < 8) × (cell_at x n ≡ c)
@@ -19,8 +13,8 @@ seated x c near other =
     let right = near.right in
     let above = near.above in
     let below = near.below in
-    let dx = small (c.0 -ℤ x.0) (omega (arith, ints)) (omega (arith, ints)) in
-    let dy = small (c.1 -ℤ x.1) (omega (arith, ints)) (omega (arith, ints)) in
+    let dx = three (c.0 -ℤ x.0) (omega (arith, ints)) (omega (arith, ints)) in
+    let dy = three (c.1 -ℤ x.1) (omega (arith, ints)) (omega (arith, ints)) in
     elim dx [
       | inl a ↦ elim dy [
         | inl b ↦ (0, omega arith, pair (omega (arith, ints)) (omega (arith, ints)))

@@ -4,12 +4,14 @@ use Rattle.std.specs.List.{All, range_with_len}
 use Rattle.std.proofs.lemmas.Bool.{both_ways, cases_Bool}
 use Rattle.std.proofs.lemmas.Int.{ints}
 use Rattle.std.proofs.lemmas.List.FromFn.{get_or-range_with_len, length-range_with_len}
+use Rattle.std.proofs.Math.Bool.{or-false, or-true}
 use Rattle.life_model.specs.Cell.{Cell, IsNear, origin, same_cell}
 use Rattle.life_model.specs.Rule.{Rule}
 use Rattle.life_model.specs.Generation.{Generation, cells, contains}
 use Rattle.life_model.proofs.Cells.{pair, same_cell-is}
 use Rattle.life_cells.specs.Limits.{IsPlace}
 use Rattle.life_objects.specs.Parts.Ties.{AreTied, swapped, through, touching}
+use Rattle.life_objects.proofs.PartsLemmas.Ring.{three}
 use Rattle.life_islands.specs.declared.labels.Labels.{Labels}
 use Rattle.life_classes.specs.Forest.{IsJoined, root}
 use Rattle.life_islands.specs.Labels.{AreJoinedByTouch, AreJoinedFurther, AreJoinedWithin, AreNumbered, AreOne, Fits, HasMet, KeepsTied, mark_of, sets_of}
@@ -19,7 +21,6 @@ use Rattle.life_islands.specs.Splits.{AreIslands, AreJoined, AreOfWholeIslands, 
 use Rattle.life_classes.proofs.Forests.{root-stays}
 use Rattle.life_islands.proofs.Further.{further_by_join, further_itself, further_through, joined_so, kept_itself, kept_through}
 use Rattle.life_islands.proofs.Labelled.{length-sets, listed_cell, make_up, mark_by_whole, mark-at, of_set, place_in_list, whole_by_mark}
-use Rattle.life_islands.proofs.Neighbours.{small}
 
 pub in_reach : (c : Cell) → IsPlace c → IsInReach c
 in_reach c p =
@@ -46,8 +47,8 @@ first_four x c near other =
     let right = near.right in
     let above = near.above in
     let below = near.below in
-    let dx = small (c.0 -ℤ x.0) (omega (arith, ints)) (omega (arith, ints)) in
-    let dy = small (c.1 -ℤ x.1) (omega (arith, ints)) (omega (arith, ints)) in
+    let dx = three (c.0 -ℤ x.0) (omega (arith, ints)) (omega (arith, ints)) in
+    let dy = three (c.1 -ℤ x.1) (omega (arith, ints)) (omega (arith, ints)) in
     elim dx [
       | inl a ↦ elim dy [
         | inl b ↦ inl (0, omega arith, pair (omega (arith, ints)) (omega (arith, ints)))
@@ -88,23 +89,15 @@ by_touch_through G L M N a b f g = record {
 }
 
 -- where one more join is new, and where it is not
-either_new : (a : Bool) → (a || true) ≡ true
-either_new true = refl
-either_new false = refl
-
-none_new : (a : Bool) → (a || false) ≡ a
-none_new true = refl
-none_new false = refl
-
 pub by_touch_new : (G : Generation) (L M N : Labels) (a b d : Bool) → AreJoinedByTouch G L M a → AreJoinedByTouch G M N b → b ≡ true →
     d ≡ true → AreJoinedByTouch G L N d
 by_touch_new G L M N a b d f g e is =
-    subst (AreJoinedByTouch G L N) (ap (λ x. a || x) e ∙ either_new a ∙ sym is) (by_touch_through G L M N a b f g)
+    subst (AreJoinedByTouch G L N) (ap (λ x. a || x) e ∙ or-true a ∙ sym is) (by_touch_through G L M N a b f g)
 
 pub by_touch_old : (G : Generation) (L M N : Labels) (a b d : Bool) → AreJoinedByTouch G L M a → AreJoinedByTouch G M N b → b ≡ false →
     d ≡ a → AreJoinedByTouch G L N d
 by_touch_old G L M N a b d f g e is =
-    subst (AreJoinedByTouch G L N) (ap (λ x. a || x) e ∙ none_new a ∙ sym is) (by_touch_through G L M N a b f g)
+    subst (AreJoinedByTouch G L N) (ap (λ x. a || x) e ∙ or-false a ∙ sym is) (by_touch_through G L M N a b f g)
 
 -- what is one stays one
 pub one_further : (L M : Labels) (b : Bool) → AreJoinedFurther L M b → (m k : ℕ) → AreOne L m k → AreOne M m k

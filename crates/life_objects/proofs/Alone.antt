@@ -2,8 +2,9 @@
 use Rattle.std.proofs.Common.{◌≡◌, ◌+◌, Bool, true, false, cond, ◌||◌, List, [], ◌∷◌, count_by, inl, inr, sym, refl}
 use Rattle.std.proofs.Common.{ap, ◌∙◌, true≢false}
 use Rattle.std.specs.List.{list_any}
-use Rattle.std.proofs.lemmas.Bool.{cases_Bool, false_from_ne_true}
+use Rattle.std.proofs.lemmas.Bool.{cases_Bool, false_from_ne_true, or_parts}
 use Rattle.std.proofs.lemmas.List.Sums.{sum_by-cons}
+use Rattle.std.proofs.Math.Bool.{or-false, or_comm}
 use Rattle.life_model.specs.Cell.{Cell, around}
 use Rattle.life_model.specs.Rule.{Rule, born, stays}
 use Rattle.life_model.specs.Generation.{Generation, contains, empty}
@@ -11,15 +12,10 @@ use Rattle.life_model.specs.Evolution.{count_at, lives, next}
 use Rattle.life_model.proofs.Evolution.{contains-next, lives_near}
 use Rattle.life_model.proofs.Generations.{contains-empty, same_members}
 use Rattle.life_model.proofs.Near.{near_live, next_near}
-use Rattle.life_model.proofs.Tests.{or-false, or-comm}
 use Rattle.life_objects.specs.Apart.{AreDisjoint, AreApart}
 use Rattle.life_objects.specs.Union.{union}
 use Rattle.life_objects.proofs.Distances.{near_through}
 use Rattle.life_objects.proofs.Unions.{contains-union, in_empty}
-
-neither : (a b : Bool) → (a || b) ≡ false → (a ≡ false) × (b ≡ false)
-neither true b e = absurd (true≢false e)
-neither false b e = (refl, e)
 
 -- whether c or a cell around it passes the test
 abbrev is_close : (Cell → Bool) → Cell → Bool
@@ -32,7 +28,7 @@ count_by-or : {X : Type 0} (p q : X → Bool) (xs : List X) → list_any q xs �
     count_by (λ x. p x || q x) xs ≡ count_by p xs
 count_by-or p q [] none = refl
 count_by-or {X} p q (x ∷ xs) none =
-    let parts = neither (q x) (list_any q xs) none in
+    let parts = or_parts (q x) (list_any q xs) none in
     sum_by-cons (λ (y : X). cond (p y || q y) 1 0) x xs
     ∙ (λ i. cond (or-none (p x) (q x) parts.0 i) 1 0 + count_by-or p q xs parts.1 i)
     ∙ sym (sum_by-cons (λ (y : X). cond (p y) 1 0) x xs)
@@ -42,7 +38,7 @@ module _ (R : Rule) where
   lives-or : (p q : Cell → Bool) (c : Cell) → is_close q c ≡ false → lives R (λ x. p x || q x) c ≡ lives R p c
   unfolding lives
   lives-or p q c none =
-      let parts = neither (q c) (list_any q (around c)) none in
+      let parts = or_parts (q c) (list_any q (around c)) none in
       let here : (p c || q c) ≡ p c = or-none (p c) (q c) parts.0 in
       let counts : count_at (λ x. p x || q x) c ≡ count_at p c = count_by-or p q (around c) parts.1 in
       λ i. cond (here i) (stays R (counts i)) (born R (counts i))
@@ -55,7 +51,7 @@ module _ (R : Rule) where
   lives_alone p q c none = lives-or p q c none ∙ sym (or-none (lives R p c) (lives R q c) (lives-none q c none))
 
   lives_swapped : (p q : Cell → Bool) (c : Cell) → lives R (λ x. p x || q x) c ≡ lives R (λ x. q x || p x) c
-  lives_swapped p q c = ap (λ (live : Cell → Bool). lives R live c) (λ i x. or-comm (p x) (q x) i)
+  lives_swapped p q c = ap (λ (live : Cell → Bool). lives R live c) (λ i x. or_comm (p x) (q x) i)
 
   module _ (P Q : Generation) (far : AreApart P Q) where
     -- no cell is close to both
@@ -72,7 +68,7 @@ module _ (R : Rule) where
           | inl h ↦ lives_alone (contains P) (contains Q) c (false_from_ne_true _ (close_to_one c h))
           | inr none ↦
               lives_swapped (contains P) (contains Q) c ∙ lives_alone (contains Q) (contains P) c none
-              ∙ or-comm (lives R (contains Q) c) (lives R (contains P) c)
+              ∙ or_comm (lives R (contains Q) c) (lives R (contains P) c)
         ]
 
     pub next-union : next R (union P Q) ≡ union (next R P) (next R Q)

@@ -1,5 +1,6 @@
 -- Where one set falls into two in two ways, of two sets each that keep apart, all four crossings evolve alone.
 use Rattle.std.proofs.Common.{◌≡◌, ℕ, zero, suc, Bool, true, false, ◌&&◌, ◌||◌, sym, refl, ap, ◌∙◌}
+use Rattle.std.proofs.Math.Bool.{and_comm}
 use Rattle.life_model.specs.Cell.{Cell}
 use Rattle.life_model.specs.Rule.{Rule}
 use Rattle.life_model.specs.Generation.{Generation, contains, keep}
@@ -35,12 +36,6 @@ split_other true false r s h = refl
 split_other false true r s h = h
 split_other false false r s h = refl
 
-and-comm : (a b : Bool) → (a && b) ≡ (b && a)
-and-comm true true = refl
-and-comm true false = refl
-and-comm false true = refl
-and-comm false false = refl
-
 module _ (P P_rest Q Q_rest : Generation) (same : union P P_rest ≡ union Q Q_rest) where
   at_cell : (c : Cell) → (contains P c || contains P_rest c) ≡ (contains Q c || contains Q_rest c)
   at_cell c = sym (contains-union P P_rest c) ∙ ap (λ H. contains H c) same ∙ contains-union Q Q_rest c
@@ -56,12 +51,12 @@ module _ (P P_rest Q Q_rest : Generation) (same : union P P_rest ≡ union Q Q_r
         ∙ sym (contains-union (meet P_rest Q) (meet P_rest Q_rest) c));
     second = same_members _ _ (λ c.
         split _ _ _ _ (sym (at_cell c))
-        ∙ (λ i. and-comm (contains Q c) (contains P c) i || and-comm (contains Q c) (contains P_rest c) i)
+        ∙ (λ i. and_comm (contains Q c) (contains P c) i || and_comm (contains Q c) (contains P_rest c) i)
         ∙ (λ i. sym (contains-meet P Q c) i || sym (contains-meet P_rest Q c) i)
         ∙ sym (contains-union (meet P Q) (meet P_rest Q) c));
     second_rest = same_members _ _ (λ c.
         split_other _ _ _ _ (sym (at_cell c))
-        ∙ (λ i. and-comm (contains Q_rest c) (contains P c) i || and-comm (contains Q_rest c) (contains P_rest c) i)
+        ∙ (λ i. and_comm (contains Q_rest c) (contains P c) i || and_comm (contains Q_rest c) (contains P_rest c) i)
         ∙ (λ i. sym (contains-meet P Q_rest c) i || sym (contains-meet P_rest Q_rest c) i)
         ∙ sym (contains-union (meet P Q_rest) (meet P_rest Q_rest) c));
   }

@@ -3,12 +3,12 @@ use Rattle.std.proofs.Common.{◌≡◌, ◌+◌, true, false, ◌||◌, T, List
 use Rattle.std.specs.List.{list_any}
 use Rattle.std.proofs.lemmas.Bool.{false_from_ne_true, or_cases, or_left, or_right}
 use Rattle.std.proofs.lemmas.List.Folds.{list_any-append}
-use Rattle.std.proofs.Math.Bool.{or_assoc}
+use Rattle.std.proofs.Math.Bool.{or_assoc, or-false, or_comm}
 use Rattle.life_model.specs.Cell.{Cell, same_cell}
 use Rattle.life_model.specs.Generation.{Generation, below_all, contains, empty, cells, from_list, is_rising, size}
 use Rattle.life_model.proofs.Generations.{cells-rise, contains-empty, contains-from_list, contains-cells, from_list-cells, none_below, same_members, size-cells, size-insert}
 use Rattle.life_model.proofs.Moves.{same_cell_itself}
-use Rattle.life_model.proofs.Tests.{first_holds, or-false, or-comm, second_holds}
+use Rattle.life_model.proofs.Tests.{first_holds, second_holds}
 use Rattle.life_objects.specs.Apart.{AreDisjoint}
 use Rattle.life_objects.specs.Union.{union, union_of}
 
@@ -30,7 +30,7 @@ union_of-append Ps Qs = same_members _ _ (λ c.
 
 pub union-comm : (P Q : Generation) → union P Q ≡ union Q P
 union-comm P Q = same_members _ _ (λ c.
-    contains-union P Q c ∙ or-comm (contains P c) (contains Q c) ∙ sym (contains-union Q P c))
+    contains-union P Q c ∙ or_comm (contains P c) (contains Q c) ∙ sym (contains-union Q P c))
 
 pub union-assoc : (P Q S : Generation) → union (union P Q) S ≡ union P (union Q S)
 union-assoc P Q S = same_members _ _ (λ c.

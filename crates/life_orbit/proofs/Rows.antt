@@ -1,16 +1,16 @@
 -- Cells in order, and those of one row among them.
 use Rattle.std.proofs.Common.{◌≡◌, ℕ, zero, suc, ◌+◌, ◌<◌, ◌≤◌, ℤ, pos, ◌+ℤ◌, ◌-ℤ◌, ◌≤ℤ◌, ◌<ℤ◌, true, false, cond}
-use Rattle.std.proofs.Common.{◌⊎◌, inl, inr, T, List, [], ◌∷◌, length, get_or, int_lt, Ordering}
-use Rattle.std.proofs.Common.{Less, Equal, Greater, int_cmp, sym, refl, ap, subst, ◌∙◌, true≢false, arith}
-use Rattle.std.specs.Cmp.{int_ranks}
+use Rattle.std.proofs.Common.{◌⊎◌, inl, inr, T, List, [], ◌∷◌, length, get_or, int_lt}
+use Rattle.std.proofs.Common.{Less, sym, refl, ap, subst, ◌∙◌, true≢false, arith}
 use Rattle.std.specs.List.Sorted.{IsPartitionedBy, IsStrictlySortedBy}
-use Rattle.std.specs.Ordering.{int_eq, ordering_then, MatchOrdering}
+use Rattle.std.specs.Ordering.{int_eq}
 use Rattle.std.proofs.lemmas.Bool.{cases_lt}
 use Rattle.std.proofs.lemmas.Bool.Decides.{Decides-int_eq}
 use Rattle.std.proofs.lemmas.Int.{by_lt_z, ints}
 use Rattle.std.proofs.lemmas.List.Elements.{All-from_recursion}
 use Rattle.life_model.specs.Cell.{Cell, cell_cmp, plus}
 use Rattle.life_model.specs.Generation.{is_rising}
+use Rattle.life_model.proofs.Cells.{later_cell}
 use Rattle.life_cells.proofs.Sorted.{sorted_from_rising}
 use Rattle.life_objects.specs.Apart.{AreNear}
 use Rattle.life_objects.proofs.Distances.{AreNear-alike, AreNear-swap}
@@ -23,18 +23,6 @@ use Rattle.life_orbit.proofs.Watching.{further}
 abbrev pub IsFrom : Cell → Cell → Type 0
 IsFrom a b = (a.1 <ℤ b.1) ⊎ ((a.1 ≡ b.1) × (a.0 ≤ℤ b.0))
 
-from_ranks : (x y u v : ℤ) (r s : Ordering) → MatchOrdering r (x <ℤ y) (x ≡ y) (y <ℤ x) →
-    MatchOrdering s (u <ℤ v) (u ≡ v) (v <ℤ u) → ordering_then r s ≡ Less → (x <ℤ y) ⊎ ((x ≡ y) × (u ≤ℤ v))
-from_ranks x y u v Less s h k e = inl h
-from_ranks x y u v Equal Less h k e = inr (h, omega (arith, ints))
-from_ranks x y u v Equal Equal h k e = inr (h, omega (arith, ints))
-from_ranks x y u v Equal Greater h k e = cc
-from_ranks x y u v Greater s h k e = cc
-
-from_cmp : (a b : Cell) → cell_cmp a b ≡ Less → IsFrom a b
-from_cmp a b e =
-    from_ranks a.1 b.1 a.0 b.0 (int_cmp a.1 b.1) (int_cmp a.0 b.0) (int_ranks a.1 b.1) (int_ranks a.0 b.0) e
-
 abbrev pub Rise : List Cell → Type 0
 Rise cs = (i j : ℕ) (d : Cell) → i ≤ j → j < length cs → IsFrom (get_or cs i d) (get_or cs j d)
 
@@ -43,7 +31,7 @@ unfolding IsStrictlySortedBy
 sorted_rise [] h i j d k l = absurd (omega arith)
 sorted_rise (c ∷ cs) h zero zero d k l = inr (refl, omega (arith, ints))
 sorted_rise (c ∷ cs) h zero (suc j) d k l =
-    from_cmp c (get_or cs j d) (All-from_recursion (λ y. cell_cmp c y ≡ Less) cs h.0 j d (omega arith))
+    later_cell c (get_or cs j d) (All-from_recursion (λ y. cell_cmp c y ≡ Less) cs h.0 j d (omega arith))
 sorted_rise (c ∷ cs) h (suc i) zero d k l = absurd (omega arith)
 sorted_rise (c ∷ cs) h (suc i) (suc j) d k l = sorted_rise cs h.1 i j d (omega arith) (omega arith)
 

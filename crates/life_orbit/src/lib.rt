@@ -19,4 +19,3 @@ mod watch;
 pub use hull::{Hull, hull_of};
 pub use near::are_clear;
 pub use orbit::{BOUND_LIMIT, Orbit};
-pub use shift::repeated;

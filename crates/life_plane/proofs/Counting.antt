@@ -34,7 +34,7 @@ counted sums window is x y column row ones twos sum =
     ∙ (λ j. window_cell window (x + 63) (y + 2) + window_cell window (one_on j) (y + 2) + window_cell window (two_on j) (y + 2)))
     sum
 
-at_most_eight : (a b c d e f g h : ℕ) → a < 2 → b < 2 → c < 2 → d < 2 → e < 2 → f < 2 → g < 2 → h < 2 → a + b + c + d + e + f + g + h ≤ 8
+pub at_most_eight : (a b c d e f g h : ℕ) → a < 2 → b < 2 → c < 2 → d < 2 → e < 2 → f < 2 → g < 2 → h < 2 → a + b + c + d + e + f + g + h ≤ 8
 at_most_eight a b c d e f g h as_ bs cs ds es fs gs hs = omega arith
 
 -- no cell has more than eight live neighbours

@@ -1,7 +1,8 @@
 -- Bits in which words differ.
-use Rattle.std.proofs.Common.{◌≡◌, ℕ, ◌+◌, ◌<◌, ◌%◌, ◌↔◌, bit_or, bit_xor, max, sym, ap, ◌∙◌, arith, below_more}
+use Rattle.std.proofs.Common.{◌≡◌, ℕ, ◌+◌, ◌<◌, ◌%◌, ◌↔◌, bit_or, bit_xor, sym, ap, ◌∙◌, arith, below_more}
 use Rattle.std.specs.Int.{bit_at}
 use Rattle.std.proofs.lemmas.Nat.Bits.{bit_at_or, bit_at_xor, bit_at-lt}
+use Rattle.life_model.proofs.Numbers.{max_zero, zero_max}
 
 differ : (old new : ℕ) → old < 2 → new < 2 → (old + new) % 2 ≡ 0 → new ≡ old
 differ old new p q is = omega arith
@@ -16,26 +17,17 @@ same_where_clear old new x = (
   λ is. bit_at_xor old new x ∙ agree _ _ (bit_at-lt old x) is,
 )
 
-left_none : (a b : ℕ) → max a b ≡ 0 → a ≡ 0
-left_none a b is = omega arith
-
-right_none : (a b : ℕ) → max a b ≡ 0 → b ≡ 0
-right_none a b is = omega arith
-
-both_none : (a b : ℕ) → a ≡ 0 → b ≡ 0 → max a b ≡ 0
-both_none a b p q = omega arith
-
 -- one more row
 pub same_so_far : (old new : ℕ → ℕ) (all row y x : ℕ) → row ≡ old y →
     (bit_at all x ≡ 0) ↔ ((n : ℕ) → n < y → bit_at (new n) x ≡ bit_at (old n) x) →
     (bit_at (bit_or all (bit_xor row (new y))) x ≡ 0) ↔ ((n : ℕ) → n < y + 1 → bit_at (new n) x ≡ bit_at (old n) x)
 same_so_far old new all row y x is before = (
   λ clear.
-      let parts : max (bit_at all x) (bit_at (bit_xor row (new y)) x) ≡ 0 = sym (bit_at_or all (bit_xor row (new y)) x) ∙ clear in
-      below_more (λ n. bit_at (new n) x ≡ bit_at (old n) x) y (before.0 (left_none _ _ parts))
-      ((same_where_clear row (new y) x).0 (right_none _ _ parts) ∙ ap (λ w. bit_at w x) is),
+      let parts = zero_max (bit_at all x) (bit_at (bit_xor row (new y)) x) (sym (bit_at_or all (bit_xor row (new y)) x) ∙ clear) in
+      below_more (λ n. bit_at (new n) x ≡ bit_at (old n) x) y (before.0 parts.0)
+      ((same_where_clear row (new y) x).0 parts.1 ∙ ap (λ w. bit_at w x) is),
   λ same.
       bit_at_or all (bit_xor row (new y)) x
-      ∙ both_none _ _ (before.1 (λ n less. same n (omega arith)))
+      ∙ max_zero _ _ (before.1 (λ n less. same n (omega arith)))
       ((same_where_clear row (new y) x).1 (same y (omega arith) ∙ sym (ap (λ w. bit_at w x) is))),
 )

@@ -11,6 +11,7 @@ use Rattle.life_model.proofs.Lists.{moved-from_list}
 use Rattle.life_model.proofs.Moves.{moved-empty}
 use Rattle.life_plane.specs.Offsets.{AreNotTranslates, IsOffset}
 use Rattle.std.proofs.lemmas.Int.{ints}
+use Rattle.std.proofs.lemmas.Bool.{not-false, not-true}
 
 pub plus_back : (c d : Cell) → plus (plus c d) (opposite c) ≡ d
 plus_back c d = pair (omega (arith, ints)) (omega (arith, ints))
@@ -53,25 +54,17 @@ offset_of_none [] (d ∷ ds) e f = absurd (omega arith)
 
 -- ---- the test of two moves
 
-not_true : (b : Bool) → not b ≡ true → b ≡ false
-not_true true e = absurd (true≢false (sym e))
-not_true false e = refl
-
 both_tests : (a b : Cell) → Decides (int_eq a.0 b.0 && int_eq a.1 b.1) ((a.0 ≡ b.0) × (a.1 ≡ b.1))
 both_tests a b = Decides-and _ _ (Decides-int_eq a.0 b.0) (Decides-int_eq a.1 b.1)
 
 pub differ_by_test : (a b : Cell) (t : Bool) → t ≡ not (int_eq a.0 b.0 && int_eq a.1 b.1) → t ≡ true → a ≢ b
 differ_by_test a b t is passed e =
-    let unlike : (int_eq a.0 b.0 && int_eq a.1 b.1) ≡ false = not_true _ (sym is ∙ passed) in
+    let unlike : (int_eq a.0 b.0 && int_eq a.1 b.1) ≡ false = not-true _ (sym is ∙ passed) in
     true≢false (sym ((both_tests a b).1 (ap (λ c. c.0) e, ap (λ c. c.1) e)) ∙ unlike)
-
-not_false : (b : Bool) → not b ≡ false → b ≡ true
-not_false true e = refl
-not_false false e = absurd (true≢false e)
 
 pub same_by_test : (a b : Cell) (t : Bool) → t ≡ not (int_eq a.0 b.0 && int_eq a.1 b.1) → t ≡ false → a ≡ b
 same_by_test a b t is failed =
-    let parts = (both_tests a b).0 (not_false _ (sym is ∙ failed)) in
+    let parts = (both_tests a b).0 (not-false _ (sym is ∙ failed)) in
     pair parts.0 parts.1
 
 -- ---- of two sets, by their lists

@@ -33,10 +33,10 @@ strip_high left row right i below =
     ∙ ap (bit_at (right % 2 ^ 64)) (omega arith)
     ∙ bit_at_mod right 64 i below
 
-max_zero_left : (a b c : ℕ) → a ≡ 0 → b ≡ c → max a b ≡ c
+pub max_zero_left : (a b c : ℕ) → a ≡ 0 → b ≡ c → max a b ≡ c
 max_zero_left a b c p q = omega arith
 
-max_zero_right : (a b c : ℕ) → b ≡ 0 → a ≡ c → max a b ≡ c
+pub max_zero_right : (a b c : ℕ) → b ≡ 0 → a ≡ c → max a b ≡ c
 max_zero_right a b c p q = omega arith
 
 halved : (row : ℕ) → row * 2 % 2 ^ 64 / 2 ≡ row % 2 ^ 63

@@ -1,5 +1,5 @@
 -- Where a walk along a list of cells in order ends.
-use Rattle.std.proofs.Common.{◌≡◌, ℕ, zero, suc, ◌-◌, ◌<◌, ◌≤◌, true, false, true≢false, not, T, List, [], ◌∷◌, length, Ordering, Less, Equal, Greater, get_or, ⊎_elim, sym, refl, ap, subst, ◌∙◌, arith}
+use Rattle.std.proofs.Common.{◌≡◌, ℕ, zero, suc, ◌-◌, ◌<◌, ◌≤◌, false, true≢false, not, T, List, [], ◌∷◌, length, Ordering, Less, Equal, Greater, get_or, ⊎_elim, sym, refl, ap, subst, ◌∙◌, arith}
 use Rattle.std.specs.Ordering.{is_lt, is_eq, ordering_index, ordering_reverse}
 use Rattle.std.specs.List.Sorted.{IsSorted, IsStrictlySortedBy}
 use Rattle.std.proofs.lemmas.Bool.{cases_lt}
@@ -11,7 +11,7 @@ use native.Mathlib.Numerals.{add-one}
 use Rattle.life_model.specs.Cell.{Cell, cell_cmp, same_cell}
 use Rattle.life_model.specs.Generation.{is_rising}
 use Rattle.life_model.proofs.Cells.{cell_cmp_total}
-use Rattle.life_cells.proofs.Sorted.{sorted_from_rising}
+use Rattle.life_cells.proofs.Sorted.{sorted_from_rising, less_from}
 use Rattle.life_plane.specs.Field.{HasReached, IsBehind, has}
 
 next_is_later : (cs : List Cell) → IsStrictlySortedBy cell_cmp cs → (k : ℕ) (d : Cell) → suc k < length cs → cell_cmp (get_or cs k d) (get_or cs (suc k) d) ≡ Less
@@ -28,11 +28,6 @@ sorted_strictly cs h k d low within =
 
 other_cell : (c d : Cell) (r : Ordering) → is_eq (ordering_reverse r) ≡ false → cell_cmp d c ≡ r → same_cell c d ≡ false
 other_cell c d r h e = ap is_eq (cell_cmp_total.antisymm c d ∙ ap ordering_reverse e) ∙ h
-
-is_less : (r : Ordering) → is_lt r ≡ true → r ≡ Less
-is_less Less e = refl
-is_less Equal e = absurd (true≢false (sym e))
-is_less Greater e = absurd (true≢false (sym e))
 
 least : (r : Ordering) → ordering_index r ≤ 0 → r ≡ Less
 least Less h = refl
@@ -52,7 +47,7 @@ module _ (cs : List Cell) (c : Cell) (i : ℕ) (h : T (is_rising cs)) (behind : 
   none_before : (k : ℕ) (d : Cell) → i ≤ length cs → k < i → same_cell c (get_or cs k d) ≡ false
   none_before k d within below =
       other_cell c (get_or cs k d) Less refl
-      (least _ (subst (λ n. ordering_index (cell_cmp (get_or cs k d) c) ≤ n) (ap ordering_index (is_less _ (behind (i - 1) d (omega arith)))) (rise k (i - 1) d (omega arith) (omega arith))))
+      (least _ (subst (λ n. ordering_index (cell_cmp (get_or cs k d) c) ≤ n) (ap ordering_index (less_from _ (behind (i - 1) d (omega arith)))) (rise k (i - 1) d (omega arith) (omega arith))))
 
   -- beyond the end
   pub walked_past : i ≡ length cs → has cs c ≡ false

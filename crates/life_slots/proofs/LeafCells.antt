@@ -4,6 +4,7 @@ use Rattle.std.specs.List.{list_any}
 use Rattle.std.proofs.lemmas.Bool.{cases_eq, cases_lt}
 use Rattle.std.proofs.lemmas.List.Folds.{list_any_more}
 use Rattle.std.proofs.lemmas.Nat.Bits.{bit_at_above}
+use Rattle.std.proofs.Math.Bool.{or-false, or-true}
 use Rattle.life_model.specs.Cell.{Cell, same_cell}
 use Rattle.life_model.specs.Generation.{Generation, contains}
 use Rattle.life_model.proofs.Cells.{same_cell-is}
@@ -32,7 +33,7 @@ turned_back : (cells : List Cell) (q : Cell) → Has (reverse cells) q → Has c
 unfolding Has
 turned_back cells q is = sym (list_any-reverse (same_cell q) cells) ∙ is
 
-live_from : (b : Bool) → as_bit b ≡ 1 → b ≡ true
+pub live_from : (b : Bool) → as_bit b ≡ 1 → b ≡ true
 live_from true is = refl
 live_from false is = absurd (omega arith)
 
@@ -76,14 +77,6 @@ pub none_added : (G : Generation) (place : Cell) (cells : List Cell) → AddsCel
 none_added G place cells = record { kept = λ q is. is; all = λ x y column row is. absurd (omega arith); only = λ q is. inl is }
 
 -- one cell more of a list
-or_true : (a : Bool) → (a || true) ≡ true
-or_true true = refl
-or_true false = refl
-
-or_false : (a : Bool) → (a || false) ≡ a
-or_false true = refl
-or_false false = refl
-
 module _ (cells : List Cell) (i : ℕ) (none : Cell) (inside : i < length cells) (q : Cell) where
   abbrev before : Bool
   before = list_any (same_cell q) (take i cells)
@@ -92,7 +85,7 @@ module _ (cells : List Cell) (i : ℕ) (none : Cell) (inside : i < length cells)
   more = list_any_more (same_cell q) cells i none inside
 
   pub cell_here : get_or cells i none ≡ q → list_any (same_cell q) (take (i + 1) cells) ≡ true
-  cell_here same = more ∙ ap (λ (b : Bool). before || b) ((same_cell-is q (get_or cells i none)).1 (sym same)) ∙ or_true before
+  cell_here same = more ∙ ap (λ (b : Bool). before || b) ((same_cell-is q (get_or cells i none)).1 (sym same)) ∙ or-true before
 
   pub cell_elsewhere : get_or cells i none ≢ q → list_any (same_cell q) (take (i + 1) cells) ≡ before
   cell_elsewhere other =
@@ -100,7 +93,7 @@ module _ (cells : List Cell) (i : ℕ) (none : Cell) (inside : i < length cells)
       ⊎_elim (λ (same : same_cell q (get_or cells i none) ≡ true). absurd (other (sym ((same_cell-is q (get_or cells i none)).0 same))))
       (λ (not : same_cell q (get_or cells i none) ≡ false). not)
       (true_or_false (same_cell q (get_or cells i none))) in
-      more ∙ ap (λ (b : Bool). before || b) apart ∙ or_false before
+      more ∙ ap (λ (b : Bool). before || b) apart ∙ or-false before
 
 -- whether two cells are one
 pub one_or_other : (a b : Cell) → (a ≡ b) ⊎ (a ≢ b)

@@ -5,7 +5,7 @@ use Rattle.std.specs.List.{list_any}
 use Rattle.std.specs.Map.{lookup}
 use Rattle.std.specs.Ordering.{is_eq}
 use Rattle.std.specs.Cmp.{Equal-is, tied_itself}
-use Rattle.std.proofs.lemmas.Bool.{cases_eq}
+use Rattle.std.proofs.lemmas.Bool.{cases_eq, or_right}
 use Rattle.std.specs.BTreeMap.{is_at}
 use Rattle.life_plane.specs.declared.tile.Tile.{Tile}
 use Rattle.life_slots.specs.Places.{place_cmp, start_at}
@@ -21,17 +21,13 @@ Has cells q = list_any (same_cell q) cells ≡ true
 true_left : (a b : Bool) → a ≡ true → (a || b) ≡ true
 true_left a b is = ap (λ c. c || b) is
 
-true_right : (a b : Bool) → b ≡ true → (a || b) ≡ true
-true_right true b is = refl
-true_right false b is = is
-
 pub has_head : (q : ℤ × ℤ) (cells : List (ℤ × ℤ)) → Has (q ∷ cells) q
 unfolding Has
 has_head q cells = true_left _ _ (ap is_eq (tied_itself cell_cmp_total q))
 
 pub has_tail : (p q : ℤ × ℤ) (cells : List (ℤ × ℤ)) → Has cells q → Has (p ∷ cells) q
 unfolding Has
-has_tail p q cells is = true_right _ _ is
+has_tail p q cells is = or_right _ _ is
 
 pub has_cases : (p q : ℤ × ℤ) (cells : List (ℤ × ℤ)) → Has (p ∷ cells) q → (q ≡ p) ⊎ Has cells q
 unfolding Has

@@ -7,6 +7,7 @@ use Rattle.std.proofs.lemmas.Int.{ints}
 use Rattle.std.proofs.lemmas.List.{reverse-append, take_more, take-append-drop, take-take, drop-take}
 use Rattle.std.proofs.lemmas.List.Elements.{All-push}
 use Rattle.std.proofs.lemmas.List.Folds.{list_any-append}
+use Rattle.std.proofs.Math.Bool.{or-false, or_assoc, or_comm}
 use Rattle.life_model.specs.Cell.{Cell, same_cell}
 use Rattle.life_model.proofs.Tests.{list_any-alike, list_any-or, list_any-reverse}
 use Rattle.life_plane.specs.declared.tile.Tile.{Tile}
@@ -21,20 +22,6 @@ use Rattle.life_slots.proofs.Listed.{shown_none}
 use Rattle.life_slots.proofs.Members.{Has, BlockHas, block_has}
 use Rattle.life_slots.proofs.Orders.{true_or_false}
 use Rattle.life_slots.proofs.Pushed.{row_set, row_short, row_none, block_none, tiles_none}
-
-pub or_grouped : (a b c : Bool) → ((a || b) || c) ≡ (a || (b || c))
-or_grouped true b c = refl
-or_grouped false b c = refl
-
-or_turned : (a b : Bool) → (a || b) ≡ (b || a)
-or_turned true true = refl
-or_turned true false = refl
-or_turned false true = refl
-or_turned false false = refl
-
-pub or_none : (a : Bool) → (a || false) ≡ a
-or_none true = refl
-or_none false = refl
 
 -- ---- the bits of a row, from west to east
 
@@ -72,7 +59,7 @@ pub seat_more : (p : Seat → Bool) (seats : List Seat) (i : ℕ) (d : Seat) →
 seat_more p seats i d inside =
     ap (list_any p) (take_more seats i d inside)
     ∙ list_any-append p (take i seats) (get_or seats i d ∷ [])
-    ∙ ap (λ b. list_any p (take i seats) || b) (or_none (p (get_or seats i d)))
+    ∙ ap (λ b. list_any p (take i seats) || b) (or-false (p (get_or seats i d)))
 
 -- row by row
 rows_step : (tiles : List Tile) (y : ℕ) (q : Cell) (seat : Seat) → has_rows tiles (suc y) q seat ≡ (has_rows tiles y q seat || has_line tiles y q seat)
@@ -81,7 +68,7 @@ rows_step tiles y q seat =
     list_any-append (same_cell q)
     (row_cells (start_at seat.column) (start_at seat.row +ℤ pos y) (slice_index (tile_of tiles seat.slot).rows y) 64)
     (block_cells (start_at seat.column) (start_at seat.row) (tile_of tiles seat.slot).rows y)
-    ∙ or_turned (has_line tiles y q seat) (has_rows tiles y q seat)
+    ∙ or_comm (has_line tiles y q seat) (has_rows tiles y q seat)
 
 pub rows_more : (tiles : List Tile) (y : ℕ) (q : Cell) (seats : List Seat) →
     list_any (has_rows tiles (y + 1) q) seats ≡ (list_any (has_rows tiles y q) seats || list_any (has_line tiles y q) seats)
@@ -110,7 +97,7 @@ rows_past tiles q seat n (suc m) void =
     ap (λ (k : ℕ). has_rows tiles k q seat) next
     ∙ rows_step tiles (n + m) q seat
     ∙ ap (λ b. has_rows tiles (n + m) q seat || b) (line_void tiles (n + m) q seat (void (n + m) (omega arith) (omega arith)))
-    ∙ or_none (has_rows tiles (n + m) q seat)
+    ∙ or-false (has_rows tiles (n + m) q seat)
     ∙ rows_past tiles q seat n m (λ y from less. void y from (omega arith))
 
 pub rows_above : (tiles : List Tile) (q : Cell) (first end : ℕ) (seats : List Seat) → All (IsBetween tiles first end) seats →
@@ -212,8 +199,8 @@ seat_taken tiles q e all rest seats new is pushed =
     let before = list_any (has_tile tiles q) seats in
     let later = list_any (same_cell q) (tiles_cells (placed_tiles rest tiles)) in
     ap (λ (ss : List Seat). list_any (has_tile tiles q) ss || later) pushed
-    ∙ ap (λ b. b || later) (list_any-append (has_tile tiles q) seats (seat_of e ∷ []) ∙ ap (λ b. before || b) (or_none (has_tile tiles q (seat_of e))))
-    ∙ or_grouped before (has_tile tiles q (seat_of e)) later
+    ∙ ap (λ b. b || later) (list_any-append (has_tile tiles q) seats (seat_of e ∷ []) ∙ ap (λ b. before || b) (or-false (has_tile tiles q (seat_of e))))
+    ∙ or_assoc before (has_tile tiles q (seat_of e)) later
     ∙ ap (λ b. before || b) (sym (tiles_first tiles q e rest) ∙ ap (λ (es : List Entry). list_any (same_cell q) (tiles_cells (placed_tiles es tiles))) (sym is))
 
 void_has : (tile : Tile) (left top : ℤ) (q : Cell) → IsVoid tile → list_any (same_cell q) (block_cells left top tile.rows 64) ≡ false
@@ -242,7 +229,7 @@ seat_void tiles q e all rest seats is void =
 pub no_more : (tiles : List Tile) (q : Cell) (all : List Entry) (seats : List Seat) → all ≡ [] →
     list_any (has_tile tiles q) seats ≡ (list_any (has_tile tiles q) seats || list_any (same_cell q) (tiles_cells (placed_tiles all tiles)))
 no_more tiles q all seats is =
-    sym (or_none (list_any (has_tile tiles q) seats))
+    sym (or-false (list_any (has_tile tiles q) seats))
     ∙ ap (λ b. list_any (has_tile tiles q) seats || b) (sym (ap (list_any (same_cell q)) (tiles_none (placed_tiles all tiles) (shown_none tiles all is))))
 
 -- the seat that is pushed is the entry's, since its place fits into 32 bits

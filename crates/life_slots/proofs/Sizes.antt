@@ -8,6 +8,7 @@ use Rattle.life_model.specs.Cell.{Cell, cell_cmp}
 use Rattle.life_model.specs.Generation.{Generation, contains, cells, size, below_all, is_rising}
 use Rattle.life_model.proofs.Generations.{contains-cells, cells-rise, size-cells}
 use Rattle.life_cells.specs.Limits.{IsWithin, age_limit}
+use Rattle.life_cells.proofs.Sorted.{is_less}
 use Rattle.life_slots.specs.Cells.{row_cells, block_cells}
 use Rattle.life_slots.proofs.Members.{Has, has_none, has_head, has_tail, has_cases, has_parts, RowHas, row_has, BlockHas, block_has}
 use Rattle.life_slots.proofs.Counted.{IsFresh}
@@ -80,17 +81,12 @@ pub both_hold : (a b : Bool) → T (a && b) → T a × T b
 both_hold true b h = (tt, h)
 both_hold false b h = absurd h
 
-less_is : (r : Ordering) → T (is_lt r) → r ≡ Less
-less_is Less h = refl
-less_is Equal h = absurd h
-less_is Greater h = absurd h
-
 pub below_has : (c : Cell) (cs : List Cell) → T (below_all c cs) → (q : Cell) → Has cs q → cell_cmp c q ≡ Less
 below_has c [] below q has = absurd (has_none q has)
 below_has c (d ∷ ds) below q has =
     let parts = both_hold (is_lt (cell_cmp c d)) (below_all c ds) below in
     ⊎_elim
-    (λ same. ap (cell_cmp c) same ∙ less_is (cell_cmp c d) parts.0)
+    (λ same. ap (cell_cmp c) same ∙ is_less (cell_cmp c d) parts.0)
     (λ later. below_has c ds parts.1 q later)
     (has_cases d q ds has)
 

@@ -1,5 +1,5 @@
 -- The nine tiles around a place show the plane from 64 columns west to 127 columns east of it, and so the next generation.
-use Rattle.std.proofs.Common.{◌≡◌, ℕ, ℤ, pos, neg_ℤ, Bool, true, false, cond, List, [], ◌∷◌, count_by, refl, ◌+ℤ◌, ◌-ℤ◌, ◌+◌, ◌-◌, ◌<◌, ◌≤◌, ◌≤ℤ◌, ⊎_elim, slice_index, nat_lt, sym, ap, ◌∙◌, arith}
+use Rattle.std.proofs.Common.{◌≡◌, ℕ, ℤ, pos, neg_ℤ, Bool, true, false, cond, List, [], ◌∷◌, count_by, refl, ◌+ℤ◌, ◌-ℤ◌, ◌+◌, ◌-◌, ◌<◌, ◌≤◌, ◌≤ℤ◌, ⊎_elim, slice_index, sym, ap, ◌∙◌, arith}
 use Rattle.std.specs.Int.{bit_at}
 use Rattle.std.proofs.lemmas.Int.{ints}
 use lib.Signed.{le_z_yes}
@@ -12,9 +12,10 @@ use Rattle.life_model.specs.Evolution.{count_at, lives, next}
 use Rattle.life_model.proofs.Evolution.{contains-next}
 use Rattle.life_plane.specs.declared.tile.Tile.{Tile}
 use Rattle.life_plane.specs.Bits.{next_state}
-use Rattle.life_plane.specs.Area.{Nine, three_wide, area_row, area_cell, sum_around, tile_cell, next_in_area}
+use Rattle.life_plane.specs.Area.{Nine, three_wide, area_cell, sum_around, tile_cell, next_in_area}
 use Rattle.life_plane.specs.Flags.{as_bit}
 use Rattle.life_plane.proofs.Strips.{strip_low, strip_middle, strip_high}
+use Rattle.life_plane.proofs.Joining.{area_first, area_second, area_third}
 use Rattle.life_slots.specs.Places.{start_at}
 use Rattle.life_slots.specs.Cells.{state_at}
 
@@ -35,21 +36,6 @@ nine_around at column row = record {
 -- the tiles at each place show a generation
 pub record Shows (G : Generation) (at : ℤ → ℤ → Tile) : Type 0 where
   pub state : (column row : ℤ) (x y : ℕ) → x < 64 → y < 64 → state_at G (start_at column +ℤ pos x) (start_at row +ℤ pos y) ≡ tile_cell (at column row) x y
-
-first_row : (nine : Nine) (b : ℕ) → b < 64 → area_row nine b ≡ three_wide nine.north_west nine.north nine.north_east b
-first_row nine b less = let test : nat_lt b 64 ≡ true = grind arith in rw test
-
-second_row : (nine : Nine) (b : ℕ) → 64 ≤ b → b < 128 → area_row nine b ≡ three_wide nine.west nine.here nine.east (b - 64)
-second_row nine b more less =
-    let past : nat_lt b 64 ≡ false = grind arith in
-    let test : nat_lt b 128 ≡ true = grind arith in
-    rw (past, test)
-
-third_row : (nine : Nine) (b : ℕ) → 128 ≤ b → area_row nine b ≡ three_wide nine.south_west nine.south nine.south_east (b - 128)
-third_row nine b more =
-    let past : nat_lt b 64 ≡ false = grind arith in
-    let past_both : nat_lt b 128 ≡ false = grind arith in
-    rw (past, past_both)
 
 pub bit_is : (b : Bool) → (cond b 1 0) ≡ as_bit b
 bit_is true = refl
@@ -127,19 +113,19 @@ module _ (G : Generation) (at : ℤ → ℤ → Tile) (shows : Shows G at) where
       (λ (first : b < 64).
       let e : down ≡ (start_at (row -ℤ pos 1) +ℤ pos b) = omega (arith, ints) in
       three_tiles column (row -ℤ pos 1) a b across down wide first across_is e
-      ∙ sym (ap (λ w. bit_at w a) (first_row (nine_around at column row) b first)))
+      ∙ sym (ap (λ w. bit_at w a) (area_first (nine_around at column row) b first)))
       (λ (past_first : 64 ≤ b).
       ⊎_elim
       (λ (second : b < 128).
       let inside : b - 64 < 64 = omega arith in
       let e : down ≡ (start_at row +ℤ pos (b - 64)) = omega (arith, ints) in
       three_tiles column row a (b - 64) across down wide inside across_is e
-      ∙ sym (ap (λ w. bit_at w a) (second_row (nine_around at column row) b past_first second)))
+      ∙ sym (ap (λ w. bit_at w a) (area_second (nine_around at column row) b past_first second)))
       (λ (past_second : 128 ≤ b).
       let inside : b - 128 < 64 = omega arith in
       let e : down ≡ (start_at (row +ℤ pos 1) +ℤ pos (b - 128)) = omega (arith, ints) in
       three_tiles column (row +ℤ pos 1) a (b - 128) across down wide inside across_is e
-      ∙ sym (ap (λ w. bit_at w a) (third_row (nine_around at column row) b past_second)))
+      ∙ sym (ap (λ w. bit_at w a) (area_third (nine_around at column row) b past_second)))
       (cases_lt b 128))
       (cases_lt b 64)
 

@@ -2,6 +2,7 @@
 use Rattle.std.proofs.Common.{◌≡◌, ℕ, zero, suc, ◌+◌, ◌-◌, ◌<◌, ◌≤◌, Bool, true, false, not, cond, List, [], ◌∷◌, ◌++◌, length, get_or, drop, take, if◌then◌else◌, ◌==◌, subst, sym, ap, ◌∙◌, refl, arith, append_assoc, append-nil, Option, Some, None, Result, Ok, Err, ℤ}
 use Rattle.std.specs.List.{prefix_len, before_first, after_first}
 use Rattle.std.proofs.lemmas.List.{take_all, take_more, get_or-drop, length-drop}
+use Rattle.std.proofs.lemmas.Bool.{false_from_ne_true}
 use Rattle.memchr.specs.Find.{IsFirstByte, is_byte}
 use Rattle.texts.specs.Bytes.{is_space, without_front}
 use Rattle.life_text.specs.Rle.{comments_as_blanks, from_header, body, body_place, body_tokens, lexemes, tokens}
@@ -84,11 +85,7 @@ goes_on text start plain (suc n) le none =
 pub goes_without : (text : List ℕ) (start : ℕ) → (start < length text → plain_at text start ≡ get_or text start 0 ∷ plain_at text (start + 1))
     → (n : ℕ) → start + n ≤ length text → ((k : ℕ) → k < n → (get_or (drop start text) k 0 == 10) ≡ true → ⊥) → GoesOn text start (start + n)
 goes_without text start plain n le none =
-    goes_on text start plain n le (λ k lt. ap (λ b. b == 10) (sym (get_or-drop start text k 0)) ∙ is_false (get_or (drop start text) k 0 == 10) (none k lt))
-  where
-    is_false : (b : Bool) → (b ≡ true → ⊥) → b ≡ false
-    is_false true h = absurd (h refl)
-    is_false false h = refl
+    goes_on text start plain n le (λ k lt. ap (λ b. b == 10) (sym (get_or-drop start text k 0)) ∙ false_from_ne_true (get_or (drop start text) k 0 == 10) (none k lt))
 
 -- it ends at LF
 pub ends_at : (text : List ℕ) (start next : ℕ) → next < length text → (get_or text next 0 == 10) ≡ true → GoesOn text start next

@@ -6,10 +6,10 @@ use Rattle.std.proofs.lemmas.List.{take_all}
 use Rattle.std.proofs.lemmas.List.Folds.{list_all-append}
 use Rattle.std.proofs.lemmas.List.Sums.{suffix_len_is, AllPass-from_list_all}
 use Rattle.std.proofs.lemmas.Bool.Decides.{nat_tests}
+use Rattle.std.proofs.lemmas.Bool.{and_parts}
 use Rattle.life_model.specs.Rule.{Rule}
 use Rattle.texts.specs.Bytes.{is_blank, is_digit, is_space, without_front, without_ends, ◌>>=◌}
 use Rattle.life_cells.specs.Rules.{is_count, set_text, rule_text, rule_of}
-use Rattle.life_cells.proofs.FormLemmas.{and_left, and_right}
 use Rattle.life_cells.proofs.PrintLemmas.{printed_set, printed_rule}
 use Rattle.life_text.specs.Filled.{filled_lines}
 use Rattle.life_text.specs.Rle.{comments_as_blanks, from_header, header_rule, body, part, after_size, after_sizes, rule_or_fault, rule_behind, line_rule}
@@ -24,7 +24,7 @@ use Rattle.life_text.proofs.LexedLemmas.{Written, written_number}
 
 all_more : (p q : ℕ → Bool) → ((c : ℕ) → p c ≡ true → q c ≡ true) → (s : List ℕ) → list_all p s ≡ true → list_all q s ≡ true
 all_more p q f [] h = refl
-all_more p q f (c ∷ s) h = ap (λ b. b && list_all q s) (f c (and_left (p c) (list_all p s) h)) ∙ all_more p q f s (and_right (p c) (list_all p s) h)
+all_more p q f (c ∷ s) h = ap (λ b. b && list_all q s) (f c (and_parts (p c) (list_all p s) h).0) ∙ all_more p q f s (and_parts (p c) (list_all p s) h).1
 
 all_joined : (p : ℕ → Bool) (s t : List ℕ) → list_all p s ≡ true → list_all p t ≡ true → list_all p (s ++ t) ≡ true
 all_joined p s t h k = list_all-append p s t ∙ ap (λ b. b && list_all p t) h ∙ k
@@ -48,7 +48,7 @@ digit_inline : (c : ℕ) → is_digit c ≡ true → is_inline c ≡ true
 digit_inline c h = grind (arith, nat_tests)
 
 word_clean : (c : ℕ) → is_word c ≡ true → is_clean c ≡ true
-word_clean c h = and_right (not (is_space c)) (is_clean c) h
+word_clean c h = (and_parts (not (is_space c)) (is_clean c) h).1
 
 word_inline : (c : ℕ) → is_word c ≡ true → is_inline c ≡ true
 word_inline c h = grind (arith, nat_tests)
@@ -95,7 +95,7 @@ onto_digits (suc k) n acc h = by_rest (n / 10 == 0) (onto_digits k (n / 10) (dig
     by_rest true rest = more
     by_rest false rest = rest
 
-decimal_digits : (n : ℕ) → list_all is_digit (decimal n) ≡ true
+pub decimal_digits : (n : ℕ) → list_all is_digit (decimal n) ≡ true
 unfolding digits
 decimal_digits n = onto_digits 64 n [] refl
 
@@ -106,8 +106,8 @@ behind_digits : (ds : List ℕ) (c : ℕ) (rest : List ℕ) → list_all is_digi
 behind_digits [] c rest h stop = ap (λ b. drop (cond b (1 + prefix_len is_digit rest) 0) (c ∷ rest)) stop
 behind_digits (d ∷ ds) c rest h stop =
     let more : prefix_len is_digit (d ∷ (ds ++ c ∷ rest)) ≡ suc (prefix_len is_digit (ds ++ c ∷ rest)) =
-    ap (λ b. cond b (1 + prefix_len is_digit (ds ++ c ∷ rest)) 0) (and_left (is_digit d) (list_all is_digit ds) h) ∙ omega arith in
-    ap (λ k. drop k (d ∷ (ds ++ c ∷ rest))) more ∙ behind_digits ds c rest (and_right (is_digit d) (list_all is_digit ds) h) stop
+    ap (λ b. cond b (1 + prefix_len is_digit (ds ++ c ∷ rest)) 0) (and_parts (is_digit d) (list_all is_digit ds) h).0 ∙ omega arith in
+    ap (λ k. drop k (d ∷ (ds ++ c ∷ rest))) more ∙ behind_digits ds c rest (and_parts (is_digit d) (list_all is_digit ds) h).1 stop
 
 digit_no_blank : (c : ℕ) → is_digit c ≡ true → is_blank c ≡ false
 digit_no_blank c h = grind (arith, nat_tests)
@@ -115,7 +115,7 @@ digit_no_blank c h = grind (arith, nat_tests)
 -- a size, and what follows it
 size_found : (ds : List ℕ) (n c : ℕ) (rest : List ℕ) → Written ds n → is_digit c ≡ false → after_size (32 ∷ (ds ++ c ∷ rest)) ≡ Some (c ∷ rest)
 size_found ds n c rest w stop =
-    let is = and_left (is_digit w.first) (list_all is_digit w.others) w.digits in
+    let is = (and_parts (is_digit w.first) (list_all is_digit w.others) w.digits).0 in
     let some : (prefix_len is_digit (w.first ∷ (w.others ++ c ∷ rest)) == 0) ≡ false =
     ap (λ b. cond b (1 + prefix_len is_digit (w.others ++ c ∷ rest)) 0 == 0) is ∙ no_zero (prefix_len is_digit (w.others ++ c ∷ rest)) in
     ap (λ s. after_size (32 ∷ (s ++ c ∷ rest))) w.whole
@@ -159,9 +159,9 @@ line_is a b w h R one two birth survival even =
 blanked_clean : (s : List ℕ) (before : ℕ) → list_all is_clean s ≡ true → comments_as_blanks false before s ≡ s
 blanked_clean [] before h = refl
 blanked_clean (c ∷ s) before h =
-    let clean = and_left (is_clean c) (list_all is_clean s) h in
+    let clean = (and_parts (is_clean c) (list_all is_clean s) h).0 in
     ap (λ b. (if b && not (c == 10) then 32 else c) ∷ comments_as_blanks b c s) (outside (before == 10) clean)
-    ∙ ap (λ t. c ∷ t) (blanked_clean s c (and_right (is_clean c) (list_all is_clean s) h))
+    ∙ ap (λ t. c ∷ t) (blanked_clean s c (and_parts (is_clean c) (list_all is_clean s) h).1)
   where
     outside : (b : Bool) → is_clean c ≡ true → (if b then c == 35 else false) ≡ false
     outside true clean = grind (arith, nat_tests)
@@ -171,9 +171,9 @@ blanked_clean (c ∷ s) before h =
 line_split : (line rest : List ℕ) → list_all is_inline line ≡ true → (before_first is_line_feed (line ++ 10 ∷ rest) ≡ line) × (after_first is_line_feed (line ++ 10 ∷ rest) ≡ rest)
 line_split [] rest h = line_ends 10 rest refl
 line_split (c ∷ line) rest h =
-    let no = no_feed c (and_left (is_inline c) (list_all is_inline line) h) in
+    let no = no_feed c (and_parts (is_inline c) (list_all is_inline line) h).0 in
     let more = line_more c (line ++ 10 ∷ rest) no in
-    let ih = line_split line rest (and_right (is_inline c) (list_all is_inline line) h) in
+    let ih = line_split line rest (and_parts (is_inline c) (list_all is_inline line) h).1 in
     (more.0 ∙ ap (λ s. c ∷ s) ih.0, more.1 ∙ ih.1)
   where
     no_feed : (d : ℕ) → is_inline d ≡ true → (d == 10) ≡ false

@@ -4,10 +4,9 @@ use Rattle.std.specs.List.{list_all, prefix_len, take_while}
 use Rattle.std.specs.Str.Parse.{digits_value, AllDigits, IsNumeral}
 use Rattle.std.proofs.lemmas.Str.Parse.{tells_digits}
 use Rattle.std.proofs.lemmas.Fmt.{decimal_is_IsNumeral}
-use Rattle.std.proofs.lemmas.Bool.{false≢true}
+use Rattle.std.proofs.lemmas.Bool.{false≢true, and_parts}
 use Rattle.std.proofs.lemmas.Bool.Decides.{nat_tests}
 use Rattle.texts.specs.Bytes.{is_digit, is_space}
-use Rattle.life_cells.proofs.FormLemmas.{and_left, and_right}
 use Rattle.life_text.specs.Filled.{filled_lines}
 use Rattle.life_text.specs.Rle.{Lexeme, Count, Tag, Token, lexemes, tokens}
 use Rattle.life_text.specs.RleText.{token_text}
@@ -42,8 +41,8 @@ front_digits : (ds : List ℕ) (c : ℕ) (rest : List ℕ) → list_all is_digit
 front_digits [] c rest h stop = ap (λ b. take (cond b (1 + prefix_len is_digit rest) 0) (c ∷ rest)) stop
 front_digits (d ∷ ds) c rest h stop =
     let more : prefix_len is_digit (d ∷ (ds ++ c ∷ rest)) ≡ suc (prefix_len is_digit (ds ++ c ∷ rest)) =
-    ap (λ b. cond b (1 + prefix_len is_digit (ds ++ c ∷ rest)) 0) (and_left (is_digit d) (list_all is_digit ds) h) ∙ omega arith in
-    ap (λ k. take k (d ∷ (ds ++ c ∷ rest))) more ∙ ap (λ t. d ∷ t) (front_digits ds c rest (and_right (is_digit d) (list_all is_digit ds) h) stop)
+    ap (λ b. cond b (1 + prefix_len is_digit (ds ++ c ∷ rest)) 0) (and_parts (is_digit d) (list_all is_digit ds) h).0 ∙ omega arith in
+    ap (λ k. take k (d ∷ (ds ++ c ∷ rest))) more ∙ ap (λ t. d ∷ t) (front_digits ds c rest (and_parts (is_digit d) (list_all is_digit ds) h).1 stop)
 
 -- # Lexemes
 
@@ -60,8 +59,8 @@ record Tagged (ls : List Lexeme) (c : ℕ) (rest : List ℕ) : Type 0 where
 digits_found : (ds : List ℕ) (at c : ℕ) (rest : List ℕ) → list_all is_digit ds ≡ true → is_space c ≡ false → is_digit c ≡ false → Tagged (lexemes true at (ds ++ c ∷ rest)) c rest
 digits_found [] at c rest h space digit = record { place = at; same = tag_found true at c rest space digit }
 digits_found (d ∷ ds) at c rest h space digit =
-    let is = and_left (is_digit d) (list_all is_digit ds) h in
-    let f = digits_found ds (at + 1) c rest (and_right (is_digit d) (list_all is_digit ds) h) space digit in
+    let is = (and_parts (is_digit d) (list_all is_digit ds) h).0 in
+    let f = digits_found ds (at + 1) c rest (and_parts (is_digit d) (list_all is_digit ds) h).1 space digit in
     record {
       place = f.place;
       same = ap (λ b. (if b then [] else (if not (is_digit d) then Tag at d ∷ [] else [])) ++ lexemes (is_digit d) (at + 1) (ds ++ c ∷ rest)) (digit_no_space d is)
@@ -71,7 +70,7 @@ digits_found (d ∷ ds) at c rest h space digit =
 count_found : (d : ℕ) (ds : List ℕ) (at c : ℕ) (rest : List ℕ) → list_all is_digit (d ∷ ds) ≡ true → is_digit c ≡ false
     → lexemes false at (d ∷ (ds ++ c ∷ rest)) ≡ Count at (digits_value 10 (d ∷ ds)) ∷ lexemes true (at + 1) (ds ++ c ∷ rest)
 count_found d ds at c rest h digit =
-    let is = and_left (is_digit d) (list_all is_digit ds) h in
+    let is = (and_parts (is_digit d) (list_all is_digit ds) h).0 in
     ap (λ b. (if b then [] else (if not (is_digit d) then Tag at d ∷ [] else Count at (digits_value 10 (take_while is_digit (d ∷ (ds ++ c ∷ rest)))) ∷ [])) ++ lexemes (is_digit d) (at + 1) (ds ++ c ∷ rest)) (digit_no_space d is)
     ∙ ap (λ b. (if not b then Tag at d ∷ [] else Count at (digits_value 10 (take_while is_digit (d ∷ (ds ++ c ∷ rest)))) ∷ []) ++ lexemes b (at + 1) (ds ++ c ∷ rest)) is
     ∙ ap (λ s. Count at (digits_value 10 s) ∷ lexemes true (at + 1) (ds ++ c ∷ rest)) (front_digits (d ∷ ds) c rest h digit)
@@ -98,7 +97,7 @@ lexed n tag at rest space digit small = by_count (n == 1) refl
     by_count true e = record { at = at; next = at; behind = at + 1; count = None; times = grind (arith, nat_tests); single = λ _. refl; same = ap tokens (tag_found false at tag rest space digit) }
     by_count false e =
         let d = written_number n small in
-        let t = digits_found d.others (at + 1) tag rest (and_right (is_digit d.first) (list_all is_digit d.others) d.digits) space digit in
+        let t = digits_found d.others (at + 1) tag rest (and_parts (is_digit d.first) (list_all is_digit d.others) d.digits).1 space digit in
         record {
           at = at;
           next = t.place;

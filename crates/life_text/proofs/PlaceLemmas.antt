@@ -51,9 +51,6 @@ column_order a b k h l = omega (arith, ints)
 row_apart : (a b k : ℤ) → k ≤ℤ a → a <ℤ b → nat_abs (b +ℤ neg_ℤ k) ≡ nat_abs (a +ℤ neg_ℤ k) → ⊥
 row_apart a b k h l e = omega (arith, ints)
 
-lt_le : (a b : ℤ) → a <ℤ b → a ≤ℤ b
-lt_le a b h = omega (arith, ints)
-
 -- # All cells
 
 first_of : (c d : Cell) (ds : List Cell) → T (below_all c (d ∷ ds)) → T (is_lt (cell_cmp c d))
@@ -79,7 +76,7 @@ cells_behind k c (d ∷ ds) rising all =
     (row ahead order, column ahead order, cells_behind k d ds parts.1 others)
   where
     row : IsAhead k c → IsBefore c d → (place_from k c).1 ≤ (place_from k d).1
-    row ahead (inl h) = row_order c.1 d.1 k.1 ahead.1 (lt_le c.1 d.1 h)
+    row ahead (inl h) = row_order c.1 d.1 k.1 ahead.1 (omega (arith, ints))
     row ahead (inr h) = row_order c.1 d.1 k.1 ahead.1 (same_le c.1 d.1 h.0)
 
     column : IsAhead k c → IsBefore c d → (place_from k d).1 ≡ (place_from k c).1 → (place_from k c).0 + 1 ≤ (place_from k d).0
@@ -108,7 +105,7 @@ top c (d ∷ ds) rising =
     ap (int_min c.1) (top d ds parts.1) ∙ min_first c.1 d.1 (row (before c d (first_of c d ds parts.0)))
   where
     row : IsBefore c d → c.1 ≤ℤ d.1
-    row (inl h) = lt_le c.1 d.1 h
+    row (inl h) = omega (arith, ints)
     row (inr h) = same_le c.1 d.1 h.0
 
 no_distance : (a k : ℤ) → k ≡ a → nat_abs (a +ℤ neg_ℤ k) ≡ 0

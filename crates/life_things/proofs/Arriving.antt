@@ -6,12 +6,12 @@ use Rattle.life_model.specs.Cell.{Cell}
 use Rattle.life_model.specs.Generation.{Generation}
 use Rattle.life_objects.specs.Growth.Meeting.Sums.{Step, and_then, times}
 use Rattle.life_objects.proofs.GrowthLemmas.RelationsLemmas.Singles.{same_product}
+use Rattle.life_objects.proofs.GrowthLemmas.RelationsLemmas.Signed.{times-scaled}
 use Rattle.life_things.specs.Clear.{IsClear, StaysClear}
 use Rattle.life_things.specs.Fields.{IsFieldOf}
 use Rattle.life_things.specs.Lattice.Short.{IsWithin}
 use Rattle.life_things.specs.declared.field.Field.{Field}
 use Rattle.life_things.proofs.Going.{at_another_time, at_no_step, by_numbers, each_number, no_step_at}
-use Rattle.life_things.proofs.LatticeLemmas.Within.{times_is}
 
 same_rounds : (m n : ℕ) (z : ℤ) → z ≢ pos 0 → (pos m *ℤ z) ≡ (pos n *ℤ z) → m ≡ n
 same_rounds m n (pos zero) some e = absurd (some refl)
@@ -19,7 +19,7 @@ same_rounds m n (pos (suc a)) some e = same_product m n (suc a) (omega arith) (o
 same_rounds m n (negsuc a) some e = same_product m n (suc a) (omega arith) (omega (arith, ints))
 
 time_then : (s u : Step) (n : ℕ) → (and_then s (times n u)).0 ≡ (s.0 +ℤ (pos n *ℤ u.0))
-time_then s u n = ap (λ (v : Step). s.0 +ℤ v.0) (times_is n u)
+time_then s u n = ap (λ (v : Step). s.0 +ℤ v.0) (times-scaled n u)
 
 -- the step comes to the time once at most
 one_time : (s u : Step) (m n : ℕ) → u.0 ≢ pos 0 → (and_then s (times m u)).0 ≡ pos 0 →

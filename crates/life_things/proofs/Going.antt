@@ -7,6 +7,7 @@ use Rattle.life_model.specs.Cell.{Cell}
 use Rattle.life_model.specs.Generation.{Generation}
 use Rattle.life_objects.specs.Growth.Meeting.Sums.{Step, and_then, rest_after, stay, sum_of, times}
 use Rattle.life_objects.proofs.GrowthLemmas.MeetingLemmas.Reach.{step_is}
+use Rattle.life_objects.proofs.GrowthLemmas.MeetingLemmas.Blocks.{no_numbers}
 use Rattle.life_objects.specs.Growth.Relations.Relations.{product}
 use Rattle.life_objects.proofs.GrowthLemmas.RelationsLemmas.Products.{product-stay, product-then, product-times}
 use Rattle.life_things.specs.Fields.{IsFieldOf, IsInField}
@@ -35,10 +36,6 @@ rest_is s u d =
     step_is (rest_after (left_to s d) u) (left_to (and_then s u) d) (omega (arith, ints)) (omega (arith, ints))
     (omega (arith, ints))
 
-none_made : (us : List Step) → sum_of us [] ≡ stay
-none_made [] = refl
-none_made (u ∷ us) = refl
-
 module _ (P Q : Generation) (s u : Step) (us : List Step) where
   abbrev Here : ℕ → Type 0
   Here n = StaysClear P Q (and_then s (times n u)) us
@@ -49,7 +46,7 @@ module _ (P Q : Generation) (s u : Step) (us : List Step) where
 
   none_first : (d : Cell) → stay ≡ left_to s d → Here 0 → IsClear P d Q
   none_first d e here =
-      here d ([], none_made us ∙ left_after s (times 0 u) stay d (step_is (and_then stay stay) stay refl refl refl ∙ e))
+      here d ([], no_numbers us ∙ left_after s (times 0 u) stay d (step_is (and_then stay stay) stay refl refl refl ∙ e))
 
   pub by_numbers : ((n : ℕ) → Here n) → StaysClear P Q s (u ∷ us)
   by_numbers each d ([], e) = none_first d e (each 0)

@@ -6,12 +6,12 @@ use Rattle.std.proofs.lemmas.Int.{ints, unsigned_abs-mul}
 use Rattle.life_model.specs.Generation.{Generation}
 use Rattle.life_objects.specs.Growth.Meeting.Sums.{Step, sum_of, times}
 use Rattle.life_objects.proofs.GrowthLemmas.RelationsLemmas.Products.{spreads}
+use Rattle.life_objects.proofs.GrowthLemmas.RelationsLemmas.Signed.{times-scaled}
 use Rattle.life_things.specs.Clear.{StaysClear}
 use Rattle.life_things.specs.Times.{DividesTimes}
 use Rattle.life_things.proofs.LatticeLemmas.Likeness.{Times, whole}
 use Rattle.life_things.proofs.LatticeLemmas.Lowering.{regrouped}
 use Rattle.life_things.proofs.LatticeLemmas.Rising.{no_rest}
-use Rattle.life_things.proofs.LatticeLemmas.Within.{times_is}
 
 in_turn : (k g : ℕ) (z : ℤ) → (pos k *ℤ (pos g *ℤ z)) ≡ (pos g *ℤ (pos k *ℤ z))
 in_turn k g z = sym (regrouped (pos k) (pos g) z) ∙ ap (λ a. a *ℤ z) (*ℤ_comm (pos k) (pos g)) ∙ regrouped (pos g) (pos k) z
@@ -23,7 +23,7 @@ sum_whole g (u ∷ us) (k ∷ often) divides =
     let here = whole g u.0 divides.0 in
     let rest = sum_whole g us often divides.1 in
     let first : (times k u).0 ≡ (pos g *ℤ (pos k *ℤ here.0)) =
-    ap (λ (v : Step). v.0) (times_is k u) ∙ ap (λ a. pos k *ℤ a) here.1 ∙ in_turn k g here.0 in
+    ap (λ (v : Step). v.0) (times-scaled k u) ∙ ap (λ a. pos k *ℤ a) here.1 ∙ in_turn k g here.0 in
     ((pos k *ℤ here.0) +ℤ rest.0, (λ i. first i +ℤ rest.1 i) ∙ sym (spreads (pos g) (pos k *ℤ here.0) rest.0))
 
 -- where the difference of the times isn't divided, they never stand together

@@ -15,10 +15,10 @@ use Rattle.life_slots.specs.Indexes.{IsSlotOf}
 use Rattle.life_slots.proofs.Shown.{empty_cell, shown_state, same_states}
 use Rattle.life_slots.proofs.Splits.{Split, split}
 use Rattle.life_slots.proofs.Places.{slot_cases, slot_of_place}
+use Rattle.life_slots.proofs.LeafCells.{live_from}
 use Rattle.life_tile.specs.declared.tile_store.TileStore.{TileStore}
 use Rattle.life_tile.specs.TileStores.{IsKept, IsTileAt, IsSameBut, cell_of, members_of}
 use Rattle.life_tile.proofs.Put.{kept_fresh, busy_fresh, stirred_fresh}
-use Rattle.life_tile.proofs.Kept.{flag_from_bit}
 
 module _ (s u : TileStore) (k : ℕ) (tile : Tile) (place : ℤ × ℤ) (kept : IsKept s) (lacks_previous : s.lacks_previous ≡ true) (slot : IsSlotOf s.slots.items place k)
     (count : length u.current.items ≡ length s.current.items) (apart : (j : ℕ) → j ≢ k → tile_of u.current.items j ≡ tile_of s.current.items j)
@@ -70,7 +70,7 @@ module _ (s u : TileStore) (k : ℕ) (tile : Tile) (place : ℤ × ℤ) (kept : 
       (within x y wide high
       (sym (tile_shown x y wide high)
       ∙ ap (λ (q : ℤ × ℤ). state_at (generation_shown s.index u.current.items) (cell_of q x y).0 (cell_of q x y).1) (sym is) ∙ live)))
-      (λ other. kept.within (cell_of p x y) (flag_from_bit _ (sym (else_shown p x y wide high other) ∙ live)))
+      (λ other. kept.within (cell_of p x y) (live_from _ (sym (else_shown p x y wide high other) ∙ live)))
       (cases_eq (slot_at s.index p) k)
 
   within_all : (c : Cell) → contains (generation_shown s.index u.current.items) c ≡ true → IsWithin s.age c
@@ -175,5 +175,5 @@ module _ (s : TileStore) (kept : IsKept s) where
   pub within_slot : (n x y : ℕ) → 0 < n → n < length s.slots.items → x < 64 → y < 64 → tile_cell (tile_of s.current.items n) x y ≡ 1 → IsWithin s.age (cell_of (place_of s.slots.items n) x y)
   within_slot n x y later inside wide high live =
       kept.within (cell_of (place_of s.slots.items n) x y)
-      (flag_from_bit _ (shown_state s.index s.current.items kept.whole.indexed.ordered kept.whole.current_none (place_of s.slots.items n).0 (place_of s.slots.items n).1 x y wide high
+      (live_from _ (shown_state s.index s.current.items kept.whole.indexed.ordered kept.whole.current_none (place_of s.slots.items n).0 (place_of s.slots.items n).1 x y wide high
       ∙ ap (λ j. tile_cell (tile_of s.current.items j) x y) (slot_of_place s.index s.slots.items kept.whole.indexed n later inside) ∙ live))

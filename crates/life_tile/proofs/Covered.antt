@@ -1,5 +1,5 @@
 -- Rows of bits that start anywhere in a tile.
-use Rattle.std.proofs.Common.{◌≡◌, ◌≢◌, ℕ, ℤ, pos, ◌+ℤ◌, length, refl, subst, ◌+◌, ◌-◌, ◌*◌, ◌/◌, ◌%◌, ◌^◌, ◌<◌, ◌≤◌, ◌⊎◌, inl, inr, ⊎_elim, nat_eq, bit_and, bit_or, min, max, w64, sym, ap, ◌∙◌, arith}
+use Rattle.std.proofs.Common.{◌≡◌, ◌≢◌, ℕ, ℤ, pos, ◌+ℤ◌, length, refl, subst, ◌+◌, ◌-◌, ◌*◌, ◌/◌, ◌%◌, ◌^◌, ◌<◌, ◌≤◌, ◌⊎◌, inl, inr, ⊎_elim, nat_eq, bit_and, bit_or, min, w64, sym, ap, ◌∙◌, arith}
 use Rattle.std.specs.Bool.{IsTrue}
 use Rattle.std.specs.Int.{bit_at, bit_not}
 use Rattle.std.proofs.lemmas.Bool.{cases_eq, cases_lt}
@@ -10,7 +10,7 @@ use Rattle.std.proofs.lemmas.Nat.Bits.{bit_at_and, bit_at_or, bit_at_not, bit_at
 use Rattle.life_model.specs.Cell.{Cell, plus}
 use Rattle.life_model.specs.Generation.{Generation}
 use Rattle.life_cells.specs.Limits.{IsPlace, age_limit}
-use Rattle.life_plane.proofs.Strips.{bit_at_mod}
+use Rattle.life_plane.proofs.Strips.{bit_at_mod, max_zero_left, max_zero_right}
 use Rattle.life_slots.specs.Ends.{IsMember}
 use Rattle.life_slots.specs.Places.{start_at}
 use Rattle.life_slots.specs.Slots.{place_of, tile_of, IsReached}
@@ -19,12 +19,6 @@ use Rattle.life_tile.specs.declared.tile_store.TileStore.{TileStore}
 use Rattle.life_tile.specs.Reach.{corner_at, IsTileIn}
 use Rattle.life_tile.specs.TileStores.{IsKept, members_of}
 use Rattle.life_tile.proofs.Edges.{member_live, live_member}
-
-first_alone : (a b c : ℕ) → a ≡ c → b ≡ 0 → max a b ≡ c
-first_alone a b c p q = omega arith
-
-second_alone : (a b c : ℕ) → a ≡ 0 → b ≡ c → max a b ≡ c
-second_alone a b c p q = omega arith
 
 no_more : (n : ℕ) → n ≡ n + 0
 no_more n = omega arith
@@ -41,13 +35,13 @@ moved_high n k j small above =
 pub joined_near : (west east s j : ℕ) → s < 64 → s + j < 64 → bit_at (bit_or (west / 2 ^ s) (east * 2 ^ (64 - s) % 2 ^ 64)) j ≡ bit_at west (s + j)
 joined_near west east s j small near =
     bit_at_or (west / 2 ^ s) (east * 2 ^ (64 - s) % 2 ^ 64) j
-    ∙ first_alone _ _ _ (bit_at_rest west s j) (moved_low east (64 - s) j (omega arith) (omega arith))
+    ∙ max_zero_right _ _ _ (moved_low east (64 - s) j (omega arith) (omega arith)) (bit_at_rest west s j)
 
 pub joined_far : (west east s j : ℕ) → west < 2 ^ 64 → s < 64 → j < 64 → 64 ≤ s + j → bit_at (bit_or (west / 2 ^ s) (east * 2 ^ (64 - s) % 2 ^ 64)) j ≡ bit_at east (s + j - 64)
 joined_far west east s j fits small inside far =
     let at : j - (64 - s) ≡ s + j - 64 = omega arith in
     bit_at_or (west / 2 ^ s) (east * 2 ^ (64 - s) % 2 ^ 64) j
-    ∙ second_alone _ _ _ (bit_at_rest west s j ∙ bit_at_above west 64 (s + j) fits far) (moved_high east (64 - s) j inside (omega arith) ∙ ap (bit_at east) at)
+    ∙ max_zero_left _ _ _ (bit_at_rest west s j ∙ bit_at_above west 64 (s + j) fits far) (moved_high east (64 - s) j inside (omega arith) ∙ ap (bit_at east) at)
 
 -- the bits of one word that are not those of another
 pub bits_left : (word row j : ℕ) → row < 2 ^ 64 → j < 64 → bit_and word (bit_not w64 row) ≡ 0 → bit_at word j ≡ 1 → bit_at row j ≡ 1

@@ -1,5 +1,5 @@
 -- What a store keeps as it grows.
-use Rattle.std.proofs.Common.{◌≡◌, ◌≢◌, ℕ, ℤ, pos, ◌+ℤ◌, ◌-ℤ◌, ◌+◌, ◌%◌, ◌/◌, ◌<◌, ◌≤◌, ◌≤ℤ◌, ◌⊎◌, inl, inr, ⊎_elim, Bool, true, false, List, ◌++◌, length, take, drop, refl, sym, subst, ap, ◌∙◌, arith}
+use Rattle.std.proofs.Common.{◌≡◌, ◌≢◌, ℕ, ℤ, pos, ◌+ℤ◌, ◌-ℤ◌, ◌+◌, ◌%◌, ◌/◌, ◌<◌, ◌≤◌, ◌≤ℤ◌, ◌⊎◌, inl, inr, ⊎_elim, true, List, ◌++◌, length, take, drop, refl, sym, subst, ap, ◌∙◌, arith}
 use Rattle.std.specs.Option.{unwrap_or}
 use Rattle.std.specs.BTreeMap.{get, is_at}
 use Rattle.std.specs.Map.{keys_of, lookup}
@@ -12,7 +12,6 @@ use Rattle.life_model.specs.Generation.{Generation, contains}
 use Rattle.life_model.specs.Evolution.{next}
 use Rattle.life_cells.specs.Limits.{IsWithin, age_limit, place_limit}
 use Rattle.life_plane.specs.declared.tile.Tile.{Tile}
-use Rattle.life_plane.specs.Flags.{as_bit}
 use Rattle.life_plane.specs.Area.{tile_cell}
 use Rattle.life_slots.specs.Places.{place_cmp, IsInside, start_at}
 use Rattle.life_slots.proofs.Splits.{not_one}
@@ -25,6 +24,7 @@ use Rattle.life_slots.specs.Cells.{state_at}
 use Rattle.life_slots.specs.Indexes.{IsClosed}
 use Rattle.life_slots.proofs.Shown.{empty_cell, shown_state, same_states}
 use Rattle.life_slots.proofs.Places.{state_of_slot}
+use Rattle.life_slots.proofs.LeafCells.{live_from}
 use Rattle.life_tile.specs.declared.tile_store.TileStore.{TileStore}
 use Rattle.life_tile.specs.TileStores.{IsTileStore, members_of, earlier_of, IsSettled, IsKept, IsAlike, IsExtended}
 
@@ -230,17 +230,13 @@ high_side age side x s wide small edge high =
     (λ (other : side ≢ 2). omega (arith, ints))
     (cases_eq side 2)
 
-pub flag_from_bit : (b : Bool) → as_bit b ≡ 1 → b ≡ true
-flag_from_bit true is = refl
-flag_from_bit false is = absurd (omega arith)
-
 module _ (s : TileStore) (kept : IsKept s) (k m : ℕ) (later : 0 < k) (inside : k < length s.slots.items) (small : m < 9) where
   reached_by : (x y : ℕ) → x < 64 → y < 64 → IsAtEdge m x y → tile_cell (tile_of s.current.items k) x y ≡ 1 → IsReached s.age (neighbour_at (place_of s.slots.items k) m)
   reached_by x y wide high edge one =
       let c : ℤ = (place_of s.slots.items k).0 in
       let r : ℤ = (place_of s.slots.items k).1 in
       let live : contains (members_of s) (start_at c +ℤ pos x, start_at r +ℤ pos y) ≡ true =
-      flag_from_bit _ (state_of_slot s.index s.slots.items kept.whole.indexed s.current.items kept.whole.current_none k later inside x y wide high ∙ one) in
+      live_from _ (state_of_slot s.index s.slots.items kept.whole.indexed s.current.items kept.whole.current_none k later inside x y wide high ∙ one) in
       let within : IsWithin s.age (start_at c +ℤ pos x, start_at r +ℤ pos y) = kept.within (start_at c +ℤ pos x, start_at r +ℤ pos y) live in
       let column_small : m % 3 < 3 = omega arith in
       let row_small : m / 3 < 3 = omega arith in

@@ -14,7 +14,7 @@ use Rattle.life_tracks.specs.Returns.{AreReturns, IsBackIn, IsWithReturns, IsWit
 abbrev pub no_line : Line
 no_line = record { origin = 0; is_back = false; has_left = false; is_return = false }
 
-the_only_one : {X : Type 0} (x y : X) → Contains (x ∷ []) y → x ≡ y
+pub the_only_one : {X : Type 0} (x y : X) → Contains (x ∷ []) y → x ≡ y
 the_only_one x y one =
     elim (head_or_later x y [] one.0 one.1 one.2) [
       | inl e ↦ e

@@ -25,6 +25,22 @@ const BLINKERS: &[(i32, i32)] = &[(0, 0), (1, 0), (2, 0), (0, 4), (1, 4), (2, 4)
 // Two cells that die, and a block.
 const SPARK: &[(i32, i32)] = &[(0, 0), (1, 0), (9, 9), (10, 9), (9, 10), (10, 10)];
 
+// A blinker, a glider and a block. The glider comes near the block after 75 generations.
+const HIT: &[(i32, i32)] = &[
+    (200, 0),
+    (201, 0),
+    (202, 0),
+    (1, 0),
+    (2, 1),
+    (0, 2),
+    (1, 2),
+    (2, 2),
+    (23, 20),
+    (24, 20),
+    (23, 21),
+    (24, 21),
+];
+
 /// Cells, a bound, and how many cells each class has at first, and at last.
 type Case = (&'static [(i32, i32)], u32, &'static [(usize, usize)]);
 
@@ -36,6 +52,9 @@ const CASES: &[Case] = &[
     (&[], 3, &[]),
     // What dies stays listed.
     (SPARK, 3, &[(2, 0), (4, 4)]),
+    // Each class is followed by itself.
+    (HIT, 70, &[(3, 3), (4, 4), (5, 5)]),
+    (HIT, 120, &[(3, 3), (9, 91)]),
 ];
 
 #[test]

@@ -1,6 +1,7 @@
 -- Writing a list of bytes front by front.
 use Rattle.std.proofs.Common.{◌≡◌, ℕ, ◌+◌, List, [], ◌∷◌, ◌++◌, length, take, drop, refl, sym, ap, subst, ◌∙◌, append_assoc, append-nil, length-append, arith, Option}
 use Rattle.std.proofs.KnownBytes.{Appends-nil, Appends-trans, Appends-kept}
+use Rattle.std.proofs.Math.Seq.{take-append_seam}
 use Rattle.std.proofs.lemmas.List.{take-append-drop}
 use Rattle.std.specs.Io.KnownBytes.{Appends, Keeps}
 use Rattle.watched.specs.Watching.{AppendsFront}
@@ -21,15 +22,11 @@ front_more old mid new bytes rest rest' n w more e = record {
   written = Appends-trans old mid new w.front (take n rest) w.written more;
 }
 
-take_front : (front rest : List ℕ) → take (length front) (front ++ rest) ≡ front
-take_front [] rest = refl
-take_front (x ∷ front) rest = ap (λ xs. x ∷ xs) (take_front front rest)
-
 pub front_err : (old mid new : Option (List ℕ)) (bytes rest : List ℕ) → IsFrontWritten old mid bytes rest → Keeps mid new → AppendsFront old new bytes
 front_err old mid new bytes rest w kept = (
   length w.front,
   (let e : length bytes ≡ length w.front + length rest = ap length w.whole ∙ length-append w.front rest in omega arith),
-  subst (Appends old new) (sym (take_front w.front rest) ∙ ap (take (length w.front)) (sym w.whole)) (Appends-kept old mid new w.front w.written kept),
+  subst (Appends old new) (sym (take-append_seam w.front rest) ∙ ap (take (length w.front)) (sym w.whole)) (Appends-kept old mid new w.front w.written kept),
 )
 
 pub front_all : (old new : Option (List ℕ)) (bytes rest : List ℕ) → length rest ≡ 0 → IsFrontWritten old new bytes rest → Appends old new bytes

@@ -70,18 +70,36 @@ module _ (whole head inner end : List ℕ) (is : whole ≡ head ++ (inner ++ end
   pub front_around : TellsFront inner b c → TellsFront whole a c
   front_around front = front_first whole (head ++ inner) end a c (is ∙ sym (append_assoc head inner end)) (front_more head inner a b c first front)
 
--- texts of elements, one after another
-module _ {X : Type 0} (one : X → List ℕ) (all : List X → List ℕ) (cons : (x : X) (xs : List X) → all (x ∷ xs) ≡ one x ++ all xs) (xs : List X) (i : ℕ) (a b : Sheet)
-    (upto : TellsUpTo (all xs) (all (drop i xs)) a b) where
-  each_cut : (d : X) → i < length xs → all (drop i xs) ≡ one (get_or xs i d) ++ all (drop (i + 1) xs)
-  each_cut d less =
+-- texts of elements one after another, each written with the elements after it
+module _ {X : Type 0} (one : X → List X → List ℕ) (all : List X → List ℕ) (cons : (x : X) (xs : List X) → all (x ∷ xs) ≡ one x xs ++ all xs)
+    (xs : List X) (i : ℕ) (a b : Sheet) (upto : TellsUpTo (all xs) (all (drop i xs)) a b) where
+  cut : (d : X) → i < length xs → all (drop i xs) ≡ one (get_or xs i d) (drop (i + 1) xs) ++ all (drop (i + 1) xs)
+  cut d less =
       ap all (drop-cons xs i d less ∙ ap (λ k. get_or xs i d ∷ drop k xs) (let e : suc i ≡ i + 1 = omega arith in e)) ∙ cons (get_or xs i d) (drop (i + 1) xs)
 
+  pub behind_more : (d : X) (rest : List X) (c : Sheet) → rest ≡ drop (i + 1) xs → i < length xs → TellsAfter (one (get_or xs i d) rest) b c
+      → TellsUpTo (all xs) (all (drop (i + 1) xs)) a c
+  behind_more d rest c e less told =
+      up_to_more (all xs) (all (drop i xs)) (one (get_or xs i d) rest) (all (drop (i + 1) xs)) a b c upto
+      (cut d less ∙ ap (λ ys. one (get_or xs i d) ys ++ all (drop (i + 1) xs)) (sym e)) told
+
+  pub behind_front : (d : X) (rest : List X) (c : Sheet) → rest ≡ drop (i + 1) xs → i < length xs → TellsFront (one (get_or xs i d) rest) b c
+      → TellsFront (all xs) a c
+  behind_front d rest c e less front =
+      up_to_front (all xs) (all (drop i xs)) (one (get_or xs i d) rest) (all (drop (i + 1) xs)) a b c upto
+      (cut d less ∙ ap (λ ys. one (get_or xs i d) ys ++ all (drop (i + 1) xs)) (sym e)) front
+
+  pub behind_end : length xs ≤ i → all [] ≡ [] → TellsAfter (all xs) a b
+  behind_end over none = up_to_end (all xs) (all (drop i xs)) a b upto (ap all (drop_all i xs over) ∙ none)
+
+-- and each written by itself
+module _ {X : Type 0} (one : X → List ℕ) (all : List X → List ℕ) (cons : (x : X) (xs : List X) → all (x ∷ xs) ≡ one x ++ all xs) (xs : List X) (i : ℕ) (a b : Sheet)
+    (upto : TellsUpTo (all xs) (all (drop i xs)) a b) where
   pub each_more : (d : X) (c : Sheet) → i < length xs → TellsAfter (one (get_or xs i d)) b c → TellsUpTo (all xs) (all (drop (i + 1) xs)) a c
-  each_more d c less told = up_to_more (all xs) (all (drop i xs)) (one (get_or xs i d)) (all (drop (i + 1) xs)) a b c upto (each_cut d less) told
+  each_more d c less told = behind_more (λ x rest. one x) all cons xs i a b upto d (drop (i + 1) xs) c refl less told
 
   pub each_front : (d : X) (c : Sheet) → i < length xs → TellsFront (one (get_or xs i d)) b c → TellsFront (all xs) a c
-  each_front d c less front = up_to_front (all xs) (all (drop i xs)) (one (get_or xs i d)) (all (drop (i + 1) xs)) a b c upto (each_cut d less) front
+  each_front d c less front = behind_front (λ x rest. one x) all cons xs i a b upto d (drop (i + 1) xs) c refl less front
 
   pub each_end : length xs ≤ i → all [] ≡ [] → TellsAfter (all xs) a b
-  each_end over none = up_to_end (all xs) (all (drop i xs)) a b upto (ap all (drop_all i xs over) ∙ none)
+  each_end = behind_end (λ x rest. one x) all cons xs i a b upto

@@ -8,8 +8,8 @@ use Rattle.watched.specs.Watching.{AppendsFront}
 use Rattle.watched.specs.Telling.{IsToldAfter, Sheet, TellsAfter}
 
 -- a prefix of the second text comes after the whole first one
-behind_whole : (a b c : Option (List ℕ)) (xs ys : List ℕ) → Appends a b xs → AppendsFront b c ys → AppendsFront a c (xs ++ ys)
-behind_whole a b c xs ys p q = (
+pub front_behind : (a b c : Option (List ℕ)) (xs ys : List ℕ) → Appends a b xs → AppendsFront b c ys → AppendsFront a c (xs ++ ys)
+front_behind a b c xs ys p q = (
   length xs + q.0,
   (let h = q.1 in omega (arith, length-append xs ys)),
   subst (Appends a c) (sym (take-append-add xs ys q.0)) (Appends-trans a b c xs (take q.0 ys) p q.2),
@@ -71,7 +71,7 @@ module _ (bytes all : List ℕ) (first aw bw : Option (List ℕ)) (told ap' : Li
       (is.0 ++ all, whole_by is.0 is.1 ∙ sym (append-nil (is.0 ++ all)), Appends-trans first aw bw is.0 all is.2 written)
   sent_by (Ok x) false true failed stays uncalled written is = absurd (cc)
   sent_by (Err x) false true failed stays uncalled written is =
-      subst (AppendsFront first bw) (sym (whole_by is.0 is.1)) (behind_whole first aw bw is.0 all is.2 written)
+      subst (AppendsFront first bw) (sym (whole_by is.0 is.1)) (front_behind first aw bw is.0 all is.2 written)
   sent_by (Err x) false false failed stays uncalled written is = absurd (cc)
 
 pub tells_sent : (bytes all : List ℕ) (a b : Sheet) {A B : Type 0} (r : Result A B) → all ≡ a.pending ++ bytes → b.pending ≡ []

@@ -5,15 +5,12 @@ use Rattle.std.specs.Str.Lossy.{utf8_lossy}
 use Rattle.std.specs.Cmp.Lexicographic.{slice_cmp}
 use Rattle.std.specs.declared.cmp.Ordering.{Ordering}
 use Rattle.std.specs.declared.cmp.Ordering.TheVariants.{Less, Equal, Greater}
+use Rattle.std.proofs.lemmas.Bool.{or_parts}
 use Rattle.serde_json.specs.Data.{Data, Members, array, member, no_members, number, put, string, unsigned}
 use Rattle.serde_json.specs.Find.{of_integer}
 use Rattle.serde_json.specs.View.{items_of}
 use Rattle.serde_json.specs.Written.{has_float, items_have_float, members_have_float}
 use Rattle.census_facts.specs.Json.Values.{counted_data, displacement_data, engines_data, with_text}
-
-neither : (a b : Bool) → (a || b) ≡ false → (a ≡ false) × (b ≡ false)
-neither true b h = absurd (cc)
-neither false b h = (refl, h)
 
 both : (a b : Bool) → a ≡ false → b ≡ false → (a || b) ≡ false
 both true b h g = absurd (cc)
@@ -29,7 +26,7 @@ choose Greater a b c x y z = z
 pub put-floatless : (k : List ℕ) (d : Data) (ms : Members) → has_float d ≡ false → members_have_float ms ≡ false → members_have_float (put k d ms) ≡ false
 put-floatless k d no_members x y = both (has_float d) false x refl
 put-floatless k d (member l e ms) x y =
-    let parts = neither (has_float e) (members_have_float ms) y in
+    let parts = or_parts (has_float e) (members_have_float ms) y in
     choose (slice_cmp nat_cmp k l) (member k d (member l e ms)) (member l d ms) (member l e (put k d ms))
     (both (has_float d) (members_have_float (member l e ms)) x y)
     (both (has_float d) (members_have_float ms) x parts.1)

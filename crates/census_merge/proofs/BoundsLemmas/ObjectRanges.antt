@@ -36,8 +36,6 @@ use Rattle.life_objects.specs.Limits.{objects_bound_limit}
 use Rattle.life_text.specs.Picture.{picture_of}
 use Rattle.life_text.specs.Rle.{Token, body_tokens, cells_after, first_fault, header_rule, unless_fault, with_body}
 use Rattle.life_text.specs.declared.rle.RleFault.{RleFault}
-use Rattle.life_text.specs.Faults.{fault_number}
-use Rattle.life_text.proofs.FaultLemmas.{fault_number-most}
 use Rattle.life_text.proofs.PictureLemmas.{placed_rises, placed_within}
 use Rattle.life_text.proofs.RisingLemmas.{meaning_rises}
 use Rattle.census_readback.specs.Limits.{period_limit}
@@ -50,6 +48,7 @@ use Rattle.census_merge.specs.Ranges.{FitsOutcome, InRange, IsToldAnswer, IsTold
 use Rattle.census_merge.proofs.BoundsLemmas.Codes.{counted-coded}
 use Rattle.census_merge.proofs.BoundsLemmas.GrowthRanges.{FitsGrowth, growth-fits}
 use Rattle.census_merge.proofs.BoundsLemmas.CountedCells.{few_counted}
+use Rattle.census_merge.proofs.BoundsLemmas.SettledRanges.{fault-small}
 use Rattle.census_merge.proofs.Solid.{each-map}
 
 -- ---- what is found of a set
@@ -129,9 +128,6 @@ module _ (R : Rule) (G : Generation) (b : ℕ) (few : b ≤ objects_bound_limit)
 
 -- ---- what is found of a text
 
-fault-fits : (fault : RleFault) → fault_number fault < 2 ^ 64
-fault-fits fault = let few = fault_number-most fault in omega arith
-
 module _ (bound : ℕ) (limit : Option ℕ) (near : Bool) (horizon : ℕ) (answered : IsAnswered (Objects bound limit near horizon)) where
   abbrev question : Question
   question = Objects bound limit near horizon
@@ -145,11 +141,11 @@ module _ (bound : ℕ) (limit : Option ℕ) (near : Bool) (horizon : ℕ) (answe
       (subst (All (IsWithin 0)) (sym (cells-from_list (map cell_of_pair places) (placed_rises 0 0 places rises)))
       (placed_within 0 0 places rises))
       limit near horizon answered.2.1
-  body-ranged r ts (Some fault) e = fault-fits fault
+  body-ranged r ts (Some fault) e = fault-small fault
 
   rule-ranged : (r : Result Rule RleFault) (ts : List Token) → IsRangedAnswer (answer_to question (picture_of (with_body r ts)))
   rule-ranged (Ok r) ts = body-ranged r ts (first_fault [] ts) refl
-  rule-ranged (Err fault) ts = fault-fits fault
+  rule-ranged (Err fault) ts = fault-small fault
 
   text-ranged : (text : List ℕ) → IsRangedAnswer (answer_to_question question text)
   unfolding answer_to_question

@@ -3,8 +3,7 @@ use Rattle.std.proofs.Common.{ℕ, ◌<◌, List, [], ◌∷◌, ◌++◌, lengt
 use Rattle.census_bundle.specs.declared.bundle.Folder.{Folder}
 use Rattle.census_format.specs.Reports.{IsReport}
 use Rattle.census_readback.specs.Reports.{ReadsAsReports}
-use Rattle.census_readback.specs.Shapes.{AreReports, AreWhole, all_rows}
-use Rattle.census_readback.proofs.Walks.{joined-append, lines-append}
+use Rattle.census_readback.proofs.Walks.{lines-append, reports-append}
 use Rattle.census_rows.specs.Lines.{text_of}
 use Rattle.census_rows.specs.declared.row.Row.{Row}
 use Rattle.life_answer.specs.declared.question.Question.{Question}
@@ -13,23 +12,6 @@ use Rattle.census_rows.proofs.Texts.{text-append}
 use Rattle.census_merge.specs.Bounds.Merging.{AreMade}
 use Rattle.census_merge.specs.Joining.{AreBundles, EachIsReport, IsBundle, texts}
 use Rattle.census_merge.specs.Ranges.{Readable}
-
-whole-append : (xs ys : List (List Row)) → AreWhole xs → AreWhole ys → AreWhole (xs ++ ys)
-whole-append [] ys first second = second
-whole-append (x ∷ xs) ys first second = (first.0, whole-append xs ys first.1 second)
-
-some-append : (xs ys : List (List Row)) → 0 < length xs → 0 < length (xs ++ ys)
-some-append [] ys some = absurd (omega (arith, some))
-some-append (x ∷ xs) ys some = omega arith
-
-reports-append : (xs ys : List Row) → AreReports xs → AreReports ys → AreReports (xs ++ ys)
-reports-append xs ys first second =
-    record {
-      reports = first.reports ++ second.reports;
-      some = some-append first.reports second.reports first.some;
-      whole = ap (λ z. z ++ ys) first.whole ∙ ap (λ z. all_rows first.reports ++ z) second.whole ∙ sym (joined-append first.reports second.reports);
-      each = whole-append first.reports second.reports first.each second.each;
-    }
 
 read-append : (xs ys : List Row) (s t : List ℕ) → ReadsAsReports xs s → ReadsAsReports ys t → ReadsAsReports (xs ++ ys) (s ++ t)
 read-append xs ys s t first second =

@@ -1,23 +1,19 @@
 -- Groups that are the sections of a bundle: whose rows they are, and how many patterns they open.
-use Rattle.std.proofs.Common.{◌≡◌, ℕ, suc, ◌<◌, ◌≤◌, Some, None as Nothing, Option, List, [], ◌∷◌, length, slice_get, ap, ◌∙◌, sym, subst, refl}
+use Rattle.std.proofs.Common.{◌≡◌, ℕ, suc, ◌<◌, ◌≤◌, List, [], ◌∷◌, length, slice_get, ap, ◌∙◌, sym, subst}
 use Rattle.std.specs.List.{AllByRecursion as Each}
 use Rattle.census_bundle.specs.declared.bundle.Folder.{Folder}
 use Rattle.census_format.specs.Lines.{Group, pattern_count}
-use Rattle.census_format.specs.Reports.{Owned, lines_of, section, section_of}
+use Rattle.census_format.specs.Reports.{Owned, lines_of, section}
 use Rattle.census_readback.specs.Shapes.{AreOfCollections, all_rows, patterns_in, rows_of}
 use Rattle.census_readback.specs.Steps.{collection_of}
 use Rattle.census_rows.specs.declared.row.Row.{Row}
 use Rattle.life_answer.specs.declared.question.Question.{Question}
 use Rattle.census_merge.specs.Telling.{rows_in}
-use Rattle.census_merge.proofs.OpenedPatterns.{patterns-counted, size_of}
-use Rattle.census_merge.proofs.Formed.{section-opens}
+use Rattle.census_merge.proofs.OpenedPatterns.{patterns-counted}
 use Rattle.census_merge.proofs.Grouped.{EachIn, IsIn, each-then, in-groups, in-rows, rows-grouped}
+use Rattle.census_merge.proofs.Readable.{opens-at}
 use Rattle.census_merge.proofs.CutsLemmas.Groups.{owners-in}
 use Rattle.census_merge.proofs.CutsLemmas.Sections.{IsOf, IsWithin, groups-within, sections-within}
-
-opens-at : (question : Question) (c : ℕ) (o : Option Folder) → patterns_in (all_rows (section_of question c o)) ≡ size_of o
-opens-at question c Nothing = refl
-opens-at question c (Some f) = section-opens question c f
 
 -- the row's collection is one of n
 abbrev pub IsOfMany : ℕ → Row → Type 0

@@ -10,6 +10,7 @@ use Rattle.census_readback.specs.Shapes.{all_rows}
 use Rattle.census_readback.specs.Texts.{AllLines}
 use Rattle.census_rows.specs.Lines.{text_of}
 use Rattle.census_rows.proofs.Texts.{text-append}
+use Rattle.census_readback.proofs.Walks.{lines-append}
 use Rattle.census_reports.specs.Mending.{AreLookedAt}
 use Rattle.census_reports.specs.Outcomes.{WritesReports}
 use Rattle.census_reports.specs.Rows.{AreRowsOf}
@@ -23,17 +24,13 @@ use Rattle.census_merge.specs.Joining.{bundles, texts}
 use Rattle.census_merge.proofs.ReadBack.{merged-report}
 use Rattle.census_reports.specs.Lawful.Lawful.{MergesLawfully}
 
-lines_append : (xs ys : List Row) → AllLines xs → AllLines ys → AllLines (xs ++ ys)
-lines_append [] ys h k = k
-lines_append (x ∷ xs) ys h k = (h.0, lines_append xs ys h.1 k)
-
 read_joined : (parts : List (List Row)) (read : List (List ℕ)) → AllZip ReadsAsReports parts read → AllLines (all_rows parts) × (texts read ≡ text_of (all_rows parts))
 read_joined [] [] each = (tt, refl)
 read_joined [] (t ∷ read) each = absurd each
 read_joined (p ∷ parts) [] each = absurd each
 read_joined (p ∷ parts) (t ∷ read) each =
     let more = read_joined parts read each.1 in (
-      lines_append p (all_rows parts) each.0.lines more.0,
+      lines-append p (all_rows parts) each.0.lines more.0,
       ap (λ w. w ++ texts read) each.0.whole ∙ ap (λ w. text_of p ++ w) more.1 ∙ sym (text-append p (all_rows parts)),
     )
 

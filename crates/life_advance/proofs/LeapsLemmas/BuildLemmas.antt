@@ -6,7 +6,7 @@ use Rattle.std.proofs.lemmas.List.{take_more}
 use Rattle.std.specs.Cmp.{both_ways}
 use Rattle.life_model.specs.Cell.{Cell}
 use Rattle.life_model.specs.Generation.{Generation, contains, from_list, insert}
-use Rattle.life_model.proofs.Cells.{cells_differ, pair, same_cell-is}
+use Rattle.life_model.proofs.Cells.{cells_differ, pair}
 use Rattle.life_model.proofs.Generations.{contains-insert, contains-empty}
 use Rattle.life_plane.specs.Flags.{as_bit}
 use Rattle.life_slots.specs.Kernels.Rows.{state}
@@ -23,6 +23,7 @@ use Rattle.life_advance.proofs.LeapsLemmas.RowLemmas.{moved, made, from_made}
 use Rattle.life_advance.proofs.LeapsLemmas.CellLemmas.{Overlap, agree, from_has, overlap, shows_none, to_has}
 use Rattle.life_advance.proofs.LeapsLemmas.Growth.{forth}
 use Rattle.life_advance.specs.Leaps.Places.{empty_at}
+use Rattle.life_board.proofs.Puts.{inserted_here}
 
 pub listed_has : (cs : List Cell) (q : Cell) → IsListed cs q → Has cs q
 unfolding Has
@@ -33,9 +34,6 @@ unfolding Has
 has_listed cs q h = h
 
 -- ---- a leaf
-
-inserted_here : (G : Generation) (c : Cell) → contains (insert G c) c ≡ true
-inserted_here G c = contains-insert G c c ∙ ap (λ b. b || contains G c) ((same_cell-is c c).1 refl)
 
 inserted_else : (G : Generation) (c q : Cell) → (q ≡ c → ⊥) → contains (insert G c) q ≡ contains G q
 inserted_else G c q other = contains-insert G c q ∙ ap (λ b. b || contains G q) (cells_differ q c other)

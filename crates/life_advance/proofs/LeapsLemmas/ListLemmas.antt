@@ -6,6 +6,7 @@ use Rattle.std.specs.Cmp.{both_ways}
 use Rattle.std.proofs.lemmas.List.Folds.{list_any-append}
 use Rattle.std.proofs.lemmas.Nat.Bits.{bit_at_above}
 use Rattle.std.proofs.lemmas.Int.{ints}
+use Rattle.std.proofs.Math.Bool.{or-false}
 use Rattle.life_model.proofs.Cells.{pair}
 use Rattle.life_slots.specs.declared.leaf.Leaf.{Leaf}
 use Rattle.life_model.specs.Cell.{Cell, same_cell}
@@ -65,13 +66,9 @@ row_pushed first old new left top rows y word is fits pushed before q =
     ∙ ap (λ w. list_any (same_cell q) first || list_any (same_cell q) (row_cells left (top +ℤ pos y) w 32 ++ rows_cells left top rows y)) is
     ∙ ap (λ k. list_any (same_cell q) first || list_any (same_cell q) (rows_cells left top rows k)) (sym (add-one y))
 
-or_false : (b : Bool) → b ≡ (b || false)
-or_false true = refl
-or_false false = refl
-
 pub rows_none : (first : List Cell) (left top : ℤ) (rows : List ℕ) (q : Cell) → list_any (same_cell q) first ≡ (list_any (same_cell q) first || list_any (same_cell q) (rows_cells left top rows 0))
 unfolding rows_cells
-rows_none first left top rows q = or_false (list_any (same_cell q) first)
+rows_none first left top rows q = sym (or-false (list_any (same_cell q) first))
 
 -- the empty squares have no cell
 pub none_listed : (v : View) → IsKept v → (n : ℕ) → n ≤ 21 → (p q : Cell) → list_any (same_cell q) (cells_of v n (empty_at n) p) ≡ false
@@ -92,7 +89,7 @@ none_listed v kept n few p q =
 pub none_added : (v : View) → IsKept v → (n i : ℕ) → n ≤ 21 → i ≡ empty_at n → (p : Cell) (first : List Cell) (q : Cell) →
     list_any (same_cell q) first ≡ (list_any (same_cell q) first || list_any (same_cell q) (cells_of v n i p))
 none_added v kept n i few is p first q =
-    or_false (list_any (same_cell q) first)
+    sym (or-false (list_any (same_cell q) first))
     ∙ ap (λ b. list_any (same_cell q) first || b) (sym (ap (λ k. list_any (same_cell q) (cells_of v n k p)) is ∙ none_listed v kept n few p q))
 
 or_assoc : (a b c d e : Bool) → ((((a || b) || c) || d) || e) ≡ (a || (b || (c || (d || e))))

@@ -7,6 +7,7 @@ use Rattle.std.proofs.lemmas.Int.{ints, fold-int_min_bounds, fold-int_min_reache
 use Rattle.std.proofs.lemmas.List.{take_more, map-append, get_or-map, length-map}
 use Rattle.std.proofs.lemmas.List.Sums.{fold-append}
 use Rattle.std.proofs.lemmas.List.Elements.{recursion_from_All}
+use Rattle.std.proofs.Math.Nat.{le_antisymm}
 use Rattle.life_model.specs.Cell.{Cell, same_cell, origin, plus, opposite}
 use Rattle.life_model.specs.Generation.{Generation, contains, from_list}
 use Rattle.life_model.specs.Symmetry.{corner, Orientation, Same, FlipX, FlipY, Half, Swap, SwapFlipX, SwapFlipY, SwapHalf, turn, image_under}
@@ -164,9 +165,6 @@ corner_framed G f h =
       topmost_at = h.down.lowest_at;
     })
 
-both_le : (a b : ℕ) → a ≤ b → b ≤ a → a ≡ b
-both_le a b h k = omega arith
-
 within_size : (z low high : ℤ) → low ≤ℤ z → z ≤ℤ high → z <ℤ (low +ℤ pos (nat_abs (high -ℤ low) + 1))
 within_size z low high h k = omega (arith, ints)
 
@@ -179,7 +177,7 @@ range_ordered g G low high r = subst (λ z. z ≤ℤ high) r.lowest_at (r.below 
 pub width_framed : (G : Generation) (f : Frame) → Framed G f → width G ≡ wide_of f
 width_framed G f h =
     let w = h.across.highest in
-    both_le _ _
+    le_antisymm
     (width_within G f.left (wide_of f) (λ c e. (h.across.above c e, within_size c.0 f.left f.right (h.across.above c e) (h.across.below c e))))
     (size_within w.0 (corner G).0 f.left f.right (width G) (range_ordered (λ c. c.0) G _ _ h.across) h.across.highest_at (ap (λ c. c.0) (corner_framed G f h))
     (normal_in_box G (plus w (opposite (corner G))) (contains-normal_back G w ∙ h.across.highest_in)).right)
@@ -187,7 +185,7 @@ width_framed G f h =
 pub height_framed : (G : Generation) (f : Frame) → Framed G f → height G ≡ nat_abs (f.bottom -ℤ f.top) + 1
 height_framed G f h =
     let w = h.down.highest in
-    both_le _ _
+    le_antisymm
     (height_within G f.top (nat_abs (f.bottom -ℤ f.top) + 1) (λ c e. (h.down.above c e, within_size c.1 f.top f.bottom (h.down.above c e) (h.down.below c e))))
     (size_within w.1 (corner G).1 f.top f.bottom (height G) (range_ordered (λ c. c.1) G _ _ h.down) h.down.highest_at (ap (λ c. c.1) (corner_framed G f h))
     (normal_in_box G (plus w (opposite (corner G))) (contains-normal_back G w ∙ h.down.highest_in)).below)

@@ -9,10 +9,12 @@ use Rattle.std.proofs.lemmas.Int.{ints}
 use Rattle.std.proofs.lemmas.List.{get_or-set_other, get_or-set_same, length-set, map-append, take_more}
 use Rattle.std.proofs.lemmas.List.Folds.{list_any-append}
 use Rattle.std.proofs.lemmas.Nat.Bits.{bit_at-zero, bit_at_or, bit_at_set_same, bit_at_set_other}
+use Rattle.std.proofs.Math.Bool.{or-false}
 use Rattle.life_model.specs.Cell.{Cell, same_cell, origin}
 use Rattle.life_model.proofs.Cells.{cells_differ, same_cell-is}
 use Rattle.life_model.proofs.Symmetries.{AreInverse, same_cell-forth}
-use Rattle.life_model.proofs.Tests.{list_any-map, list_any-alike, or-false}
+use Rattle.life_model.proofs.Tests.{list_any-map, list_any-alike}
+use Rattle.life_model.proofs.Numbers.{max_zero, zero_max}
 use Rattle.life_cells.proofs.Weights.{live_value}
 use Rattle.life_codes.specs.Lengths.Words.{AreZeroTogether, HoldsRows, AreWithinColumns, five_rows, is_at}
 use Rattle.life_codes.proofs.LengthsLemmas.ColumnMarks.{HoldsMarks, upside_down}
@@ -86,12 +88,6 @@ module _ (ds : List Cell) (rows : List ℕ) (p r : ℕ) (column : p < 64) (room 
 zero_if : (t : Bool) (n : ℕ) → 0 < n → AreZeroTogether (if t then 1 else 0) (if t then n else 0)
 zero_if true n h = (λ e. absurd (omega arith), λ e. absurd (omega arith))
 zero_if false n h = (λ e. refl, λ e. refl)
-
-zero_max : (a b : ℕ) → max a b ≡ 0 → (a ≡ 0) × (b ≡ 0)
-zero_max a b e = (omega arith, omega arith)
-
-max_zero : (a b : ℕ) → a ≡ 0 → b ≡ 0 → max a b ≡ 0
-max_zero a b e f = omega arith
 
 five_together : (a b c d e v w x y z n : ℕ) → AreZeroTogether a v → AreZeroTogether b w → AreZeroTogether c x → AreZeroTogether d y → AreZeroTogether e z → n ≡ v + w + x + y + z → AreZeroTogether (max (max (max (max a b) c) d) e) n
 five_together a b c d e v w x y z n one two three four five sum = (

@@ -2,7 +2,7 @@
 use Rattle.std.proofs.Common.{◌≡◌, ℕ, ◌≤◌, Bool, true, false, not, ◌&&◌, cond, nat_lt, List, get_or, inl, inr}
 use Rattle.std.proofs.Common.{Option, Some, None, sym, ap, subst, ◌∙◌, arith}
 use Rattle.std.specs.List.{list_all}
-use Rattle.std.proofs.lemmas.Bool.{and_from, cases_Bool, ltb-true, lt-ltb}
+use Rattle.std.proofs.lemmas.Bool.{and_from, cases_Bool, ltb-true, lt-ltb, and_parts}
 use Rattle.std.proofs.lemmas.List.Elements.{All-weaker}
 use Rattle.std.proofs.lemmas.List.Sums.{AllPass-from_list_all, list_all-from_AllPass}
 use Rattle.life_model.specs.Rule.{Rule}
@@ -19,7 +19,7 @@ use Rattle.life_objects.specs.Decided.Decided.{ash_of, candidate_parts, is_ash, 
 use Rattle.life_objects.proofs.DecidedLemmas.Candidates.{candidates_are_ash}
 use Rattle.life_objects.proofs.DecidedLemmas.Passing.{ever_by_test, test_by_ever}
 use Rattle.life_objects.proofs.DecidedLemmas.Periods.{period_found, recurs_within}
-use Rattle.life_objects.proofs.DecidedLemmas.Tests.{both, each_pair_by, each_pair_tells}
+use Rattle.life_objects.proofs.DecidedLemmas.Tests.{each_pair_by, each_pair_tells}
 use Rattle.life_objects.proofs.DecidedLemmas.Tests.{not_true}
 use Rattle.life_objects.proofs.DecidedLemmas.Tests.{same_set-is, true_not}
 use Rattle.life_objects.proofs.DecidedLemmas.Undivided.{one_piece_by_test, test_by_one_piece}
@@ -33,14 +33,14 @@ module _ (R : Rule) (b : ℕ) where
 
   object_period : (P : Generation) → is_object R b P ≡ true → 1 ≤ period R b P
   object_period P h =
-      let parts = both (not (same_set P empty)) (has_period P && stays_whole P) h in
-      let more = both (has_period P) (stays_whole P) parts.1 in
+      let parts = and_parts (not (same_set P empty)) (has_period P && stays_whole P) h in
+      let more = and_parts (has_period P) (stays_whole P) parts.1 in
       ltb-true 0 (period R b P) more.0
 
   object_by_test : (P : Generation) → is_object R b P ≡ true → IsObject R b P
   object_by_test P h =
-      let parts = both (not (same_set P empty)) (has_period P && stays_whole P) h in
-      let more = both (has_period P) (stays_whole P) parts.1 in
+      let parts = and_parts (not (same_set P empty)) (has_period P && stays_whole P) h in
+      let more = and_parts (has_period P) (stays_whole P) parts.1 in
       let again = recurs_within R P b (object_period P h) in
       record {
         nonempty = λ none. not_true (same_set P empty) parts.0 ((same_set-is P empty).1 none);
@@ -65,8 +65,8 @@ module _ (R : Rule) (b : ℕ) where
     ash_by_test : is_ash R b G parts ≡ true → IsAsh R b G parts
     unfolding is_ash
     ash_by_test h =
-        let first = both (same_set (union_of parts) G) (of_objects && which_stay_apart) h in
-        let rest = both of_objects which_stay_apart first.1 in
+        let first = and_parts (same_set (union_of parts) G) (of_objects && which_stay_apart) h in
+        let rest = and_parts of_objects which_stay_apart first.1 in
         let objects = AllPass-from_list_all (is_object R b) parts rest.0 in
         let pairs = each_pair_tells (stay_apart R b) parts rest.1 in
         record {

@@ -76,9 +76,6 @@ module _ (f : Cell → ℤ) (axis : IsAxis f) where
       (axis.high (m + reach Q) back_q (reached_later R Q m back_q was_q))
       (before_move c (multiple_of k d)) (before_move q (multiple_of k e)) (times_wider k d e faster) enough h
 
-lt_le : (a b : ℤ) → a <ℤ b → a ≤ℤ b
-lt_le a b h = omega (arith, ints)
-
 swapped_sum : (a b n k : ℕ) → a + b + 2 * n + 3 ≤ k → b + a + 2 * n + 3 ≤ k
 swapped_sum a b n k h = omega arith
 
@@ -86,13 +83,13 @@ module _ (R : Rule) (n k : ℕ) where
   passed : (P Q : Generation) (d e : Cell) → RecursBy R P n d → RecursBy R Q n e →
       reach P + reach Q + 2 * n + 3 ≤ k → AreApartBefore R (k * n) P Q → e.0 <ℤ d.0 → AreApartForEver R P Q
   passed P Q d e r s enough far faster =
-      apart_by_right R (k * n) n P Q d e r s far (lt_le e.0 d.0 faster)
+      apart_by_right R (k * n) n P Q d e r s far (omega (arith, ints))
       (λ m h. gap_then (λ c. c.0) x_axis R n k P Q d e r s enough faster m h)
 
   passed_down : (P Q : Generation) (d e : Cell) → RecursBy R P n d → RecursBy R Q n e →
       reach P + reach Q + 2 * n + 3 ≤ k → AreApartBefore R (k * n) P Q → e.1 <ℤ d.1 → AreApartForEver R P Q
   passed_down P Q d e r s enough far faster =
-      apart_by_below R (k * n) n P Q d e r s far (lt_le e.1 d.1 faster)
+      apart_by_below R (k * n) n P Q d e r s far (omega (arith, ints))
       (λ m h. gap_then (λ c. c.1) y_axis R n k P Q d e r s enough faster m h)
 
 -- k rounds are enough

@@ -5,7 +5,7 @@ use Rattle.std.proofs.Common.{arith}
 use Rattle.std.specs.Prelude.{nat_le, unsigned_abs}
 use Rattle.std.specs.List.{AllPairs, list_all, list_any}
 use Rattle.std.proofs.lemmas.Int.{ints}
-use Rattle.std.proofs.lemmas.Bool.{and_from, cases_lt, leb-true, le-leb}
+use Rattle.std.proofs.lemmas.Bool.{and_from, cases_lt, leb-true, le-leb, and_parts}
 use Rattle.std.proofs.lemmas.Bool.Decides.{Decides-like}
 use Rattle.std.proofs.lemmas.List.Folds.{Any-from_list_any, list_any_at}
 use Rattle.std.proofs.lemmas.List.Sums.{AllPass-from_list_all, list_all-from_AllPass}
@@ -18,10 +18,6 @@ use Rattle.life_model.proofs.Generations.{contains-cells, from_list-cells}
 use Rattle.life_objects.specs.Apart.{AreApart, AreNear}
 use Rattle.life_objects.proofs.Lists.{AllPairs-head, AllPairs-nil, AllPairs-tail}
 use Rattle.life_objects.specs.Decided.Tests.{are_near, each_below, each_pair, meet, same_set}
-
-pub both : (a b : Bool) → (a && b) ≡ true → (a ≡ true) × (b ≡ true)
-both true b h = (refl, h)
-both false b h = absurd (true≢false (sym h))
 
 pub not_true : (a : Bool) → not a ≡ true → a ≡ true → ⊥
 not_true true h k = true≢false (sym h)
@@ -37,7 +33,7 @@ module _ (test : ℕ → Bool) where
   pub each_below_tells : (n m : ℕ) → each_below test n ≡ true → m < n → test m ≡ true
   each_below_tells zero m h l = absurd (omega arith)
   each_below_tells (suc n) m h l =
-      let parts = both (test n) (each_below test n) h in
+      let parts = and_parts (test n) (each_below test n) h in
       elim (cases_lt m n) [
         | inl below ↦ each_below_tells n m parts.1 below
         | inr last ↦ ap test (let e : m ≡ n = omega arith in e) ∙ parts.0
@@ -52,7 +48,7 @@ module _ {X : Type 0} (test : X → X → Bool) where
   pub each_pair_tells : (xs : List X) → each_pair test xs ≡ true → AllPairs (λ x y. test x y ≡ true) xs
   each_pair_tells [] h = AllPairs-nil (λ x y. test x y ≡ true)
   each_pair_tells (x ∷ xs) h =
-      let parts = both (list_all (test x) xs) (each_pair test xs) h in
+      let parts = and_parts (list_all (test x) xs) (each_pair test xs) h in
       AllPairs-cons (λ x y. test x y ≡ true) x xs (AllPass-from_list_all (test x) xs parts.0)
       (each_pair_tells xs parts.1)
 
@@ -87,7 +83,7 @@ pub within_tells : (r : ℕ) (c d : Cell) → within r c d ≡ true →
     ((neg_ℤ (pos r) ≤ℤ (c.0 -ℤ d.0)) × ((c.0 -ℤ d.0) ≤ℤ pos r)) ×
     ((neg_ℤ (pos r) ≤ℤ (c.1 -ℤ d.1)) × ((c.1 -ℤ d.1) ≤ℤ pos r))
 within_tells r c d h =
-    let parts = both (nat_le (unsigned_abs (c.0 -ℤ d.0)) r) (nat_le (unsigned_abs (c.1 -ℤ d.1)) r) h in
+    let parts = and_parts (nat_le (unsigned_abs (c.0 -ℤ d.0)) r) (nat_le (unsigned_abs (c.1 -ℤ d.1)) r) h in
     (abs_small (c.0 -ℤ d.0) r (leb-true (unsigned_abs (c.0 -ℤ d.0)) r parts.0), abs_small (c.1 -ℤ d.1) r (leb-true (unsigned_abs (c.1 -ℤ d.1)) r parts.1))
 
 pub within_by : (r : ℕ) (c d : Cell) →

@@ -1,47 +1,25 @@
 -- How many cells the union of two sets has that share no cell.
-use Rattle.std.proofs.Common.{◌≡◌, ◌≢◌, ◌+◌, ◌<◌, ◌≤◌, Bool, true, false, ◌&&◌, T, List, [], ◌∷◌, ◌++◌, length, inl, inr, sym, ap, subst, ◌∙◌, true≢false, arith}
-use Rattle.std.specs.List.{All, Contains, list_any}
+use Rattle.std.proofs.Common.{◌≡◌, ◌≢◌, ◌+◌, ◌<◌, ◌≤◌, Bool, true, false, ◌&&◌, T, List, [], ◌∷◌, ◌++◌, length, inl, inr, sym, ap, subst, ◌∙◌, arith}
+use Rattle.std.specs.List.{All}
 use Rattle.std.specs.List.Sorted.{IsPermutation}
 use Rattle.std.specs.Ordering.{is_lt}
 use Rattle.std.specs.Cmp as cmp
-use Rattle.std.proofs.lemmas.Bool.{or_cases, or_left, or_right}
 use Rattle.std.proofs.lemmas.List.{length-append}
 use Rattle.std.proofs.lemmas.List.Elements.{All-nil, All-cons, Contains-append_cases, Contains-append_left, Contains-append_right}
 use Rattle.std.proofs.lemmas.List.Kept.{AllPairs-cons}
 use Rattle.std.proofs.lemmas.List.Sorted.{length_permutation}
-use Rattle.life_model.specs.Cell.{Cell, cell_cmp, same_cell}
+use Rattle.life_model.specs.Cell.{Cell, cell_cmp}
 use Rattle.life_model.specs.Generation.{Generation, contains, empty, cells, size, below_all, is_rising}
-use Rattle.life_model.proofs.Cells.{cell_cmp_total, same_cell-is}
-use Rattle.life_model.proofs.Generations.{cells-rise, contains-cells, size-cells}
+use Rattle.life_model.proofs.Cells.{cell_cmp_total}
+use Rattle.life_model.proofs.Generations.{cells-rise, size-cells}
 use Rattle.life_model.proofs.Moves.{nothing_or_some}
+use Rattle.life_model.proofs.Members.{from_cells, in_cells}
 use Rattle.life_objects.specs.Apart.{AreDisjoint}
 use Rattle.life_objects.specs.Union.{union}
-use Rattle.life_objects.proofs.Lists.{AllDiffer, AllPairs-append, AllPairs-nil, Contains-head, Contains-later, head_or_later, same_elements}
+use Rattle.life_objects.proofs.Lists.{AllDiffer, AllPairs-append, AllPairs-nil, same_elements}
 use Rattle.life_objects.proofs.Unions.{in_union, in_first, in_second}
 
 -- ---- the cells of a set, as a list
-
-listed : (c : Cell) (cs : List Cell) → list_any (same_cell c) cs ≡ true → Contains cs c
-listed c [] h = absurd (true≢false (sym h))
-listed c (d ∷ ds) h =
-    elim (or_cases (same_cell c d) (list_any (same_cell c) ds) h) [
-      | inl same ↦ subst (Contains (d ∷ ds)) (sym ((same_cell-is c d).0 same)) (Contains-head d ds)
-      | inr later ↦ Contains-later d c ds (listed c ds later)
-    ]
-
-unlisted : (c : Cell) (cs : List Cell) → Contains cs c → list_any (same_cell c) cs ≡ true
-unlisted c [] one = let none : one.0 < 0 = one.1 in absurd (omega arith)
-unlisted c (d ∷ ds) one =
-    elim (head_or_later d c ds one.0 one.1 one.2) [
-      | inl e ↦ or_left _ _ ((same_cell-is c d).1 (sym e))
-      | inr later ↦ or_right _ _ (unlisted c ds later)
-    ]
-
-in_cells : (G : Generation) (c : Cell) → contains G c ≡ true → Contains (cells G) c
-in_cells G c h = listed c (cells G) (sym (contains-cells G c) ∙ h)
-
-from_cells : (G : Generation) (c : Cell) → Contains (cells G) c → contains G c ≡ true
-from_cells G c one = contains-cells G c ∙ unlisted c (cells G) one
 
 both : (a b : Bool) → T (a && b) → T a × T b
 both true b h = (tt, h)

@@ -1,7 +1,7 @@
 -- What groups make up: a cell is put into one of them, or into one of its own.
 use Rattle.std.proofs.Common.{◌≡◌, ◌≢◌, ◌<◌, Bool, true, false, ◌||◌, T, List, [], ◌∷◌, get_or, map, inl, inr, sym, refl, ap, subst, ◌∙◌, arith}
 use Rattle.std.specs.List.{All, AllPairs, Contains}
-use Rattle.std.proofs.Math.Bool.{or_assoc}
+use Rattle.std.proofs.Math.Bool.{or_assoc, or_comm}
 use Rattle.std.proofs.lemmas.Bool.{both_ways, cases_Bool, false_from_ne_true, or_cases, or_left}
 use Rattle.std.proofs.lemmas.List.Elements.{All-cons, All-contains, All-head, All-nil, All-tail, Contains-get_or}
 use Rattle.std.proofs.lemmas.List.Kept.{AllPairs-cons}
@@ -10,7 +10,7 @@ use Rattle.life_model.specs.Generation.{Generation, below_all, contains, empty, 
 use Rattle.life_model.proofs.Cells.{same_cell-is}
 use Rattle.life_model.proofs.Generations.{contains-from_list, contains-insert, none_below, same_members}
 use Rattle.life_model.proofs.Moves.{same_cell_itself}
-use Rattle.life_model.proofs.Tests.{first_holds, or-comm, second_holds}
+use Rattle.life_model.proofs.Tests.{first_holds, second_holds}
 use Rattle.life_objects.specs.Apart.{AreDisjoint}
 use Rattle.life_objects.specs.Union.{union, union_of}
 use Rattle.life_objects.proofs.Lists.{AllPairs-head, AllPairs-nil, AllPairs-tail, Contains-head, Contains-later, head_or_later}
@@ -85,7 +85,7 @@ union-insert Q S c = same_members _ _ (λ y.
     ∙ sym (contains-insert (union Q S) c y ∙ ap (λ b. same_cell y c || b) (contains-union Q S y)))
 
 or-turned : (a b c : Bool) → (a || (b || c)) ≡ (b || (a || c))
-or-turned a b c = sym (or_assoc a b c) ∙ ap (λ x. x || c) (or-comm a b) ∙ or_assoc b a c
+or-turned a b c = sym (or_assoc a b c) ∙ ap (λ x. x || c) (or_comm a b) ∙ or_assoc b a c
 
 insert-union : (Q S : Generation) (c : Cell) → union Q (insert S c) ≡ insert (union Q S) c
 insert-union Q S c = same_members _ _ (λ y.

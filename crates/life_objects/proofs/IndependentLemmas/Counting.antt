@@ -7,14 +7,14 @@ use Rattle.std.proofs.lemmas.List.Sums.{sum_by-cons}
 use Rattle.life_objects.proofs.Lists.{AllPairs-head, AllPairs-tail, Contains-head, Contains-later, head_or_later}
 
 module _ {X : Type 0} (p : X → Bool) where
-  count-cons : (x : X) (xs : List X) → count_by p (x ∷ xs) ≡ cond (p x) 1 0 + count_by p xs
-  count-cons x xs = sum_by-cons (λ (y : X). cond (p y) 1 0) x xs
+  pub count_by-cons : (x : X) (xs : List X) → count_by p (x ∷ xs) ≡ cond (p x) 1 0 + count_by p xs
+  count_by-cons x xs = sum_by-cons (λ (y : X). cond (p y) 1 0) x xs
 
   pub one_more : (x : X) (xs : List X) → p x ≡ true → count_by p (x ∷ xs) ≡ 1 + count_by p xs
-  one_more x xs h = count-cons x xs ∙ ap (λ b. cond b 1 0 + count_by p xs) h
+  one_more x xs h = count_by-cons x xs ∙ ap (λ b. cond b 1 0 + count_by p xs) h
 
   pub no_more : (x : X) (xs : List X) → p x ≡ false → count_by p (x ∷ xs) ≡ 0 + count_by p xs
-  no_more x xs h = count-cons x xs ∙ ap (λ b. cond b 1 0 + count_by p xs) h
+  no_more x xs h = count_by-cons x xs ∙ ap (λ b. cond b 1 0 + count_by p xs) h
 
   pub count-some : (xs : List X) (x : X) → Contains xs x → p x ≡ true → 1 ≤ count_by p xs
   count-some [] x one h = let none : one.0 < 0 = one.1 in absurd (omega arith)

@@ -6,7 +6,7 @@ use lib.Signed.{le_z_yes}
 use Rattle.life_model.specs.Cell.{Cell, IsNear, around, plus}
 use Rattle.life_model.proofs.Cells.{pair}
 
-three : (z : ℤ) → neg_ℤ (pos 1) ≤ℤ z → z ≤ℤ pos 1 → (z ≡ neg_ℤ (pos 1)) ⊎ ((z ≡ pos 0) ⊎ (z ≡ pos 1))
+pub three : (z : ℤ) → neg_ℤ (pos 1) ≤ℤ z → z ≤ℤ pos 1 → (z ≡ neg_ℤ (pos 1)) ⊎ ((z ≡ pos 0) ⊎ (z ≡ pos 1))
 three (pos zero) low high = inr (inl refl)
 three (pos (suc zero)) low high = inr (inr refl)
 three (pos (suc (suc n))) low high = absurd (omega (arith, ints))

@@ -1,11 +1,12 @@
 -- A set that has the cells of given rows of bits.
-use Rattle.std.proofs.Common.{◌≡◌, ◌≢◌, ℕ, zero, suc, ℤ, pos, ◌+ℤ◌, ◌-ℤ◌, ◌<◌, ◌≤◌, ⊎_elim, Bool, true, false, cond, ◌&&◌, ◌||◌, ◌==◌, if◌then◌else◌, List, [], ◌∷◌, ◌++◌, sym, refl, subst, ap, ◌∙◌, arith}
+use Rattle.std.proofs.Common.{◌≡◌, ◌≢◌, ℕ, zero, suc, ℤ, pos, ◌+ℤ◌, ◌-ℤ◌, ◌<◌, ◌≤◌, ⊎_elim, Bool, true, false, cond, ◌&&◌, ◌||◌, ◌==◌, List, [], ◌∷◌, ◌++◌, sym, refl, subst, ap, ◌∙◌, arith, if◌then◌else◌}
 use Rattle.std.specs.Int.{bit_at}
 use Rattle.std.specs.List.{list_any}
 use Rattle.std.proofs.lemmas.Bool.{cases_eq}
 use Rattle.std.proofs.lemmas.Int.{ints}
 use Rattle.std.proofs.lemmas.List.Folds.{list_any-append}
 use Rattle.std.proofs.lemmas.Nat.Bits.{bit_at-lt}
+use Rattle.std.proofs.Math.Bool.{or-false}
 use Rattle.life_model.specs.Cell.{Cell, same_cell}
 use Rattle.life_model.specs.Generation.{Generation, from_list}
 use Rattle.life_model.proofs.Cells.{cells_differ, same_cell-is}
@@ -87,17 +88,13 @@ lines_at start first rows wide (suc n) a b column row =
     (λ (last : b ≡ n).
     (λ i. list_any (same_cell (start +ℤ pos a, first +ℤ pos (last i))) (line start (first +ℤ pos n) (rows n) wide)
     || lines_past start first rows wide n (start +ℤ pos a) b (omega arith) i)
-    ∙ or_false _
+    ∙ or-false _
     ∙ line_at start (first +ℤ pos n) (rows n) wide a column
     ∙ ap (λ (k : ℕ). bit_at (rows k) a == 1) (sym last))
     (λ (other : b ≢ n).
     (λ i. in_other_row start (first +ℤ pos n) (rows n) wide (start +ℤ pos a, first +ℤ pos b) (λ same. absurd (omega (arith, ints))) i
     || lines_at start first rows wide n a b column (omega arith) i))
     (cases_eq b n)
-  where
-    or_false : (b : Bool) → (b || false) ≡ b
-    or_false true = refl
-    or_false false = refl
 
 bit_of : (bit : ℕ) → bit < 2 → bit ≡ as_bit (bit == 1)
 bit_of zero small = refl

@@ -1,14 +1,14 @@
 -- Numbers and steps that are not too long, and their sums and products.
 use mir.Syntax.{w128}
 use mir.Val.{SFits, of_z, to_z}
-use Rattle.std.proofs.Common.{◌≡◌, ℕ, zero, suc, ℤ, pos, ◌+ℤ◌, ◌+◌, ◌*◌, ◌≤◌, ◌<◌, ◌^◌, sym, ap, ◌∙◌, subst, arith}
+use Rattle.std.proofs.Common.{◌≡◌, ℕ, ℤ, pos, ◌+ℤ◌, ◌+◌, ◌*◌, ◌≤◌, ◌<◌, ◌^◌, sym, ap, ◌∙◌, subst, arith}
 use Rattle.std.specs.Prelude.{unsigned_abs}
-use Rattle.std.proofs.Math.IntN.{◌*ℤ◌, ◌-ℤ◌, suc_ℤ-*ℤ, zero-*ℤ}
+use Rattle.std.proofs.Math.IntN.{◌*ℤ◌, ◌-ℤ◌}
 use Rattle.std.proofs.Math.Nat.{mul-le-mul}
 use Rattle.std.proofs.lemmas.Int.{ints, to_z-of_z, unsigned_abs-mul}
-use Rattle.life_objects.specs.Growth.Meeting.Sums.{Step, and_then, stay, times}
-use Rattle.life_objects.proofs.GrowthLemmas.MeetingLemmas.Reach.{step_is}
-use Rattle.life_objects.specs.Growth.Relations.Relations.{product, scaled}
+use Rattle.life_objects.specs.Growth.Meeting.Sums.{Step, and_then, times}
+use Rattle.life_objects.proofs.GrowthLemmas.RelationsLemmas.Signed.{times-scaled}
+use Rattle.life_objects.specs.Growth.Relations.Relations.{product}
 use Rattle.life_things.specs.Lattice.Short.{IsShort, IsWithin}
 
 pub abs_within : (n : ℕ) (x : ℤ) → IsWithin n x → unsigned_abs x ≤ n
@@ -96,14 +96,6 @@ module _ (m n : ℕ) (x y : ℤ) (one : m < 2 ^ 127) (two : n < 2 ^ 127) (few : 
 
 -- ---- one step, made several times
 
-pub times_is : (n : ℕ) (u : Step) → times n u ≡ scaled (pos n) u
-times_is zero u =
-    step_is stay (scaled (pos zero) u) (sym (zero-*ℤ u.0)) (sym (zero-*ℤ u.1.0)) (sym (zero-*ℤ u.1.1))
-times_is (suc n) u =
-    ap (λ v. and_then v u) (times_is n u)
-    ∙ step_is (and_then (scaled (pos n) u) u) (scaled (pos (suc n)) u) (sym (suc_ℤ-*ℤ (pos n) u.0))
-    (sym (suc_ℤ-*ℤ (pos n) u.1.0)) (sym (suc_ℤ-*ℤ (pos n) u.1.1))
-
 pub count_within : (m n : ℕ) → n ≤ m → IsWithin m (pos n)
 count_within m n h = record { low = omega (arith, ints); high = omega (arith, ints) }
 
@@ -112,7 +104,7 @@ pub short_after : (m k w n : ℕ) (s u : Step) → IsShort m s → n ≤ k → I
     IsShort (m + k * w) (and_then s (times n u))
 short_after m k w n s u start few short =
     let often = count_within k n few in
-    subst (λ v. IsShort (m + k * w) (and_then s v)) (sym (times_is n u)) (record {
+    subst (λ v. IsShort (m + k * w) (and_then s v)) (sym (times-scaled n u)) (record {
       time = within_sum m (k * w) s.0 (pos n *ℤ u.0) start.time (within_product k w (pos n) u.0 often short.time);
       across = within_sum m (k * w) s.1.0 (pos n *ℤ u.1.0) start.across
           (within_product k w (pos n) u.1.0 often short.across);

@@ -1,10 +1,9 @@
 use Rattle.std.proofs.Common.{refl, subst, arith}
 use Rattle.std.proofs.lemmas.Result.{err_from_is_err_and}
 use Rattle.watched.specs.Telling.{TellsAfter, TellsFront, sheet}
-use Rattle.watched.proofs.Prefixes.{up_to_start}
+use Rattle.watched.proofs.Prefixes.{behind_end, behind_front, behind_more, up_to_start}
 use Rattle.census_page.specs.Pieces.Links.{linking_of}
 use Rattle.census_page.specs.Pages.{stray_row, stray_rows}
-use Rattle.census_page.proofs.PiecesLemmas.Behind.{behind_end, behind_front, behind_more}
 use Rattle.census_page.proofs.stray.put_stray_rows.Goals as goal
 
 pub loop-index-init : goal.loop-index-init

@@ -5,4 +5,4 @@ use Rattle.life_cells.proofs.cell_list.are_in_field.Given as goal
 
 -- this holds of the cells before this one
 abbrev pub invariant-loop-cell : goal.invariant-loop-cell
-invariant-loop-cell l = (k : ℕ) (d : Cell) → k < l.cell-index → IsWithin 0 (slice_index_or l.cells k d)
+invariant-loop-cell l = (k : ℕ) (d : Cell) → k < l.cell-index → IsWithin l.age (slice_index_or l.cells k d)

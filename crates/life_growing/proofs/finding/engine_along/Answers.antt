@@ -1,4 +1,4 @@
-use Rattle.std.proofs.Common.{rules, ◌≡◌, ◌≢◌, ℕ, ◌<◌, ◌≤◌, List, [], Option, Some, IfSome, length, sym, subst, ◌∙◌, true≢false}
+use Rattle.std.proofs.Common.{rules, ◌≢◌, ℕ, ◌<◌, ◌≤◌, List, [], length, sym, subst, ◌∙◌, true≢false}
 use Rattle.life_objects.specs.Growth.Engine.{IsEngine}
 use Rattle.life_objects.specs.Growth.Things.{NeverMeetAgain, listed}
 use Rattle.life_objects.specs.Growth.Unsplit.{IsUnsplit}
@@ -9,17 +9,13 @@ use Rattle.life_growing.proofs.Deciding.{fit_way, is_engine, never_again, some_p
 use Rattle.life_growing.proofs.finding.engine_along.Goals as goal
 use Rattle.life_growing.proofs.finding.engine_along.Goals.{else-length-bound-via-then-length-bound+in_ok-are_whole+else-not-branch, else-length-bound-via-else-length-bound}
 
-some_at : {A : Type 0} (P : A → Type 0) (o : Option A) (x : A) → o ≡ Some x → IfSome o P → P x
-some_at P o x e = subst (λ r. IfSome r P) e
-
 -- one of the lefts has parts, stated for their list
 abbrev HasParts : List Settling → ℕ → Type 0
 HasParts lefts count = (n : ℕ) × (n < count) × ((left_at lefts n).parts ≢ [])
 
 pub returns-then-not-emit-clause-none : goal.returns-then-not-emit-clause-none
 returns-then-not-emit-clause-none g c engine =
-    let are = some_at (λ lefts. AreLefts c.args.rule.now c.args.bound (way_of c.args.track) lefts.items) c.in_ok-lefts.field-0
-    c.in-Some.lefts c.in-Some.is c.in_ok-lefts.ensures.some in
+    let are = rw c.in-Some.is at c.in_ok-lefts.ensures.some in
     let some = some_parts c.args.rule.now c.args.bound (way_of c.args.track) c.in-Some.lefts.items are c.args.track.start engine in
     true≢false (sym (c.emit.ensures.1
     (subst (λ lefts. HasParts lefts (length lefts)) (sym c.as_slice.ensures.value)
@@ -31,8 +27,7 @@ leave_for_ever-requires-clause-fit g c =
 
 pub returns-then-not-branch-2-clause-none : goal.returns-then-not-branch-2-clause-none
 returns-then-not-branch-2-clause-none g c engine =
-    let are = some_at (λ lefts. AreLefts c.args.rule.now c.args.bound (way_of c.args.track) lefts.items) c.in_ok-lefts.field-0
-    c.in-Some.lefts c.in-Some.is c.in_ok-lefts.ensures.some in
+    let are = rw c.in-Some.is at c.in_ok-lefts.ensures.some in
     true≢false (sym (c.in_ok-leave_for_ever.ensures.1
     (subst (λ lefts. NeverMeetAgain (way_of c.args.track) (listed (things_left lefts))) (sym c.as_slice-2.ensures.value)
     (never_again c.args.rule.now c.args.bound (way_of c.args.track) c.in-Some.lefts.items are c.args.track.start engine)))
@@ -44,8 +39,7 @@ of-requires-clause-fit g c =
 
 pub returns-clause-some : goal.returns-clause-some
 returns-clause-some g c =
-    let are = some_at (λ lefts. AreLefts c.args.rule.now c.args.bound (way_of c.args.track) lefts.items) c.in_ok-lefts.field-0
-    c.in-Some.lefts c.in-Some.is c.in_ok-lefts.ensures.some in
+    let are = rw c.in-Some.is at c.in_ok-lefts.ensures.some in
     let short : (way_of c.args.track).period ≤ c.args.bound = search rules in
     let whole : (n : ℕ) → n ≤ (way_of c.args.track).period →
     IsUnsplit c.args.rule.now c.args.bound ((way_of c.args.track).core n) =

@@ -1,9 +1,10 @@
 use Rattle.std.proofs.Common.{◌≡◌, ◌+◌, false, length, set, ap, refl, subst, sym, ◌∙◌, arith}
 use Rattle.std.proofs.lemmas.List.{length-map}
 use Rattle.std.proofs.lemmas.Result.{IfOk-at_ok}
+use Rattle.std.proofs.lemmas.Bool.{or_right}
 use Rattle.life_islands.specs.declared.labels.Labels.{Labels}
 use Rattle.life_classes.specs.Forest.{IsJoined, root}
-use Rattle.life_islands.proofs.Ended.{AreEndedSo, both_within, ended_first, ended_join, ends_joined, mark_within, or_same, or_true, read_twice}
+use Rattle.life_islands.proofs.Ended.{AreEndedSo, both_within, ended_first, ended_join, ends_joined, mark_within, or_same, read_twice}
 use Rattle.life_islands.proofs.ends.join_ends.Goals as goal
 use Rattle.life_islands.proofs.ends.join_ends.Goals.{then-first-count, else-first-count+then-join, else-first-count+else-join}
 
@@ -64,7 +65,7 @@ loop-n-preserved c =
           c.loop-n.joined so first c.index-first.ensures w.if-first-count.false after.ends after.firsts.items after.joined w.join.result
           (ap (λ (L : Labels). L.labels.items) w.ends-is)
           (subst (λ f. IsJoined now.forest.items f c.loop-n.n first w.join.result) (sym (ap (λ (L : Labels). L.forest.items) w.ends-is)) w.join.ensures)
-          (ap (λ v. v.items) w.firsts-is) (w.joined-is ∙ sym (or_true c.loop-n.joined w.join.result w.if-join.true))
+          (ap (λ v. v.items) w.firsts-is) (w.joined-is ∙ sym (or_right c.loop-n.joined w.join.result w.if-join.true))
       | else-first-count+else-join w ↦
           ended_join old c.len-count.result c.in_ok-marks.marks.items c.requires.long c.requires.below (omega (arith, c.len-count.ensures))
           c.in_ok-marks.ensures c.loop-n.n c.loop-n-test.true c.index.result.now c.index.ensures now c.loop-n.firsts.items

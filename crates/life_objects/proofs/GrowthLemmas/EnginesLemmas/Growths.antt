@@ -2,7 +2,7 @@
 use Rattle.std.proofs.Common.{◌≡◌, ◌≢◌, ℕ, suc, ◌-◌, ◌<◌, ◌≤◌, true, not, ◌&&◌, ◌⊎◌, List, [], ◌∷◌, map, filter, get_or, inl, inr, sym, refl, ap, subst, ◌∙◌, true≢false, arith}
 use Rattle.std.specs.List.{All, AllPairs, Contains, list_all}
 use Rattle.std.specs.List.Sorted.{IsPermutation}
-use Rattle.std.proofs.lemmas.Bool.{and_from}
+use Rattle.std.proofs.lemmas.Bool.{and_from, and_parts}
 use Rattle.std.proofs.lemmas.List.Elements.{All-contains, All-contains_itself, All-weaker, Contains-append_left, Contains-append_right, Contains-append_cases}
 use Rattle.std.proofs.lemmas.List.Kept.{AllPairs-cons}
 use Rattle.std.proofs.lemmas.List.Sums.{list_all-from_AllPass}
@@ -23,7 +23,7 @@ use Rattle.std.proofs.lemmas.List.Sorted.{Contains-permutation}
 use Rattle.life_objects.specs.Decided.Classes.{classes}
 use Rattle.life_objects.specs.Decided.Tests.{each_below}
 use Rattle.life_objects.proofs.DecidedLemmas.Kept.{Contains-filter, Contains-map, of_filter}
-use Rattle.life_objects.proofs.DecidedLemmas.Tests.{both, each_below_tells, true_not, not_true}
+use Rattle.life_objects.proofs.DecidedLemmas.Tests.{each_below_tells, true_not, not_true}
 use Rattle.life_objects.proofs.IndependentLemmas.Found.{of_map}
 use Rattle.life_objects.specs.Growth.Engine.{FallsApart, IsEngineWithin}
 use Rattle.life_objects.specs.Growth.Growth.{IsGrowth}
@@ -276,8 +276,8 @@ module _ (R : Rule) (b : ℕ) where
       let Ps = classes R G (suc b) in
       let d = of_map (λ d. (d.0, union_of d.1)) (filter (may_be_growth R b) (divisions Ps)) (Es, S) one in
       let kept = of_filter (may_be_growth R b) (divisions Ps) d.0 d.1 in
-      let parts = both (not (is_empty_list d.0.0)) (list_all (may_be_engine R b) d.0.0 && falls_apart R b (union_of d.0.1)) kept.1 in
-      let more = both (list_all (may_be_engine R b) d.0.0) (falls_apart R b (union_of d.0.1)) parts.1 in
+      let parts = and_parts (not (is_empty_list d.0.0)) (list_all (may_be_engine R b) d.0.0 && falls_apart R b (union_of d.0.1)) kept.1 in
+      let more = and_parts (list_all (may_be_engine R b) d.0.0) (falls_apart R b (union_of d.0.1)) parts.1 in
       subst (FallsApart R b) (ap (λ (e : List Generation × Generation). e.1) d.2) (falls_by_test R b (union_of d.0.1) more.1)
 
   pub found_is_growth : (G : Generation) (Es : List Generation) (S : Generation) → Contains (growths_of R b G) (Es, S) →
@@ -287,7 +287,7 @@ module _ (R : Rule) (b : ℕ) where
       let Ps = classes R G (suc b) in
       let d = of_map (λ d. (d.0, union_of d.1)) (filter (may_be_growth R b) (divisions Ps)) (Es, S) one in
       let kept = of_filter (may_be_growth R b) (divisions Ps) d.0 d.1 in
-      let parts = both (not (is_empty_list d.0.0)) (list_all (may_be_engine R b) d.0.0 && falls_apart R b (union_of d.0.1)) kept.1 in
+      let parts = and_parts (not (is_empty_list d.0.0)) (list_all (may_be_engine R b) d.0.0 && falls_apart R b (union_of d.0.1)) kept.1 in
       let firsts : d.0.0 ≡ Es = ap (λ (e : List Generation × Generation). e.0) d.2 in
       let seconds : union_of d.0.1 ≡ S = ap (λ (e : List Generation × Generation). e.1) d.2 in
       record {

@@ -1,7 +1,7 @@
 -- Which tracks are ways of engines.
 use Rattle.std.proofs.Common.{◌≡◌, ℕ, zero, suc, ◌<◌, ◌≤◌, Bool, true, not, ◌&&◌, ◌||◌, nat_eq, List, length, inl, inr, sym, refl, ap, subst, ◌∙◌, true≢false, arith}
 use Rattle.std.specs.List.{Contains}
-use Rattle.std.proofs.lemmas.Bool.{and_from, cases_Bool, cases_lt, eqb-true, eq-eqb, or_cases, or_left, or_right}
+use Rattle.std.proofs.lemmas.Bool.{and_from, cases_Bool, cases_lt, eqb-true, eq-eqb, or_cases, or_left, or_right, and_parts}
 use Rattle.life_model.specs.Cell.{Cell}
 use Rattle.life_model.specs.Rule.{Rule}
 use Rattle.life_model.specs.Generation.{Generation}
@@ -10,7 +10,7 @@ use Rattle.life_model.proofs.Moves.{moved_from_normal, normal-moved}
 use Rattle.life_objects.specs.Decided.Classes.{dies_out}
 use Rattle.life_objects.specs.Decided.Tests.{each_below}
 use Rattle.life_objects.proofs.DecidedLemmas.Kept.{Contains-filter, of_filter}
-use Rattle.life_objects.proofs.DecidedLemmas.Tests.{both, each_below_by, each_below_tells, not_true, same_set-is, true_not}
+use Rattle.life_objects.proofs.DecidedLemmas.Tests.{each_below_by, each_below_tells, not_true, same_set-is, true_not}
 use Rattle.life_objects.proofs.DecidedLemmas.Undivided.{lives_by_test, test_by_lives}
 use Rattle.life_objects.specs.Growth.Engine.{IsEngine, Way}
 use Rattle.life_objects.specs.Growth.Onward.{LeavesCores, LeavesLefts}
@@ -71,13 +71,13 @@ module _ (R : Rule) (b : ℕ) (E : Generation) where
     module _ (n : ℕ) (is : IsTrack R b n E track) (back : comes_back R b E track ≡ true) (later : 1 ≤ n) (within : n ≤ b)
         (cores : LeavesCores R way) (lefts : LeavesLefts R way) where
       abbrev first : (ends ≡ true) × ((never_before && (all_unsplit && some_stays)) ≡ true)
-      first = both ends (never_before && (all_unsplit && some_stays)) back
+      first = and_parts ends (never_before && (all_unsplit && some_stays)) back
 
       abbrev second : (never_before ≡ true) × ((all_unsplit && some_stays) ≡ true)
-      second = both never_before (all_unsplit && some_stays) first.1
+      second = and_parts never_before (all_unsplit && some_stays) first.1
 
       abbrev third : (all_unsplit ≡ true) × (some_stays ≡ true)
-      third = both all_unsplit some_stays second.1
+      third = and_parts all_unsplit some_stays second.1
 
       comes_again : way.core p ≡ translate_of E way.displacement
       comes_again = moved_from_normal E (way.core p) (sym (moved_by_test (way.core p) E first.0))

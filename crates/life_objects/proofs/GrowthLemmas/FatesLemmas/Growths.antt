@@ -2,7 +2,7 @@
 use Rattle.std.proofs.Common.{◌≡◌, ℕ, true, List, ◌∷◌, map, get_or, Some, None, inl, inr, sym, ap, subst, ◌∙◌, arith}
 use Rattle.std.specs.List.{All, AllPairs, Contains, list_all}
 use Rattle.std.specs.List.Sorted.{IsPermutation}
-use Rattle.std.proofs.lemmas.Bool.{and_from}
+use Rattle.std.proofs.lemmas.Bool.{and_from, and_parts}
 use Rattle.std.proofs.lemmas.List.Elements.{All-contains, All-contains_itself, All-weaker, Contains-get_or}
 use Rattle.std.proofs.lemmas.List.Kept.{AllPairs-cons}
 use Rattle.std.proofs.lemmas.List.Sorted.{All-permutation, Contains-permutation, IsPermutation-sym}
@@ -16,7 +16,7 @@ use Rattle.life_objects.proofs.Lists.{AllPairs-head, AllPairs-tail, AllPairs-map
 use Rattle.life_objects.proofs.Times.{AreApartForEver-swap}
 use Rattle.life_objects.specs.Decided.Decided.{candidate_parts}
 use Rattle.life_objects.specs.Decided.Tests.{each_pair}
-use Rattle.life_objects.proofs.DecidedLemmas.Tests.{both, each_pair_by, each_pair_tells}
+use Rattle.life_objects.proofs.DecidedLemmas.Tests.{each_pair_by, each_pair_tells}
 use Rattle.life_objects.proofs.IndependentLemmas.Found.{of_map}
 use Rattle.life_objects.specs.Growth.Engines.Growths.{growths_of}
 use Rattle.life_objects.specs.Growth.Engines.Tracks.{way_along}
@@ -65,7 +65,7 @@ module _ (R : Rule) (b : ℕ) where
 
     apart_by_things : each_pair all_never_meet (things_of_each R b (Es, S)) ≡ true → AllPairs (AreApartForEver R) (S ∷ Es)
     apart_by_things h =
-        let parts = both (list_all (all_never_meet D) (map its Es)) (each_pair all_never_meet (map its Es)) h in
+        let parts = and_parts (list_all (all_never_meet D) (map its Es)) (each_pair all_never_meet (map its Es)) h in
         let pairs = AllPairs-unmap (λ As Bs. all_never_meet As Bs ≡ true) its Es
         (each_pair_tells all_never_meet (map its Es) parts.1) in
         AllPairs-cons (AreApartForEver R) S Es
@@ -102,7 +102,7 @@ module _ (R : Rule) (b : ℕ) where
   unfolding growth_of
   growth_right G Es S e =
       let q = found_passes (goes_on R b) (growths_of R b G) (Es, S) e in
-      let parts = both (list_all (is_engine R b) Es) (each_pair all_never_meet (things_of_each R b (Es, S))) q.1 in
+      let parts = and_parts (list_all (is_engine R b) Es) (each_pair all_never_meet (things_of_each R b (Es, S))) q.1 in
       let each = All-weaker (λ E. is_engine R b E ≡ true) (IsEngineWithin R b) (engine_by_search R b) Es
       (AllPass-from_list_all (is_engine R b) Es parts.0) in
       found_is_growth R b G Es S q.0 each (apart_by_things S Es (found_settles R b G Es S q.0) each parts.1)

@@ -1,8 +1,8 @@
 -- Classes of the next generation join the pieces of a set.
-use Rattle.std.proofs.Common.{◌≡◌, ◌≢◌, ℕ, suc, Bool, true, false, not, ◌&&◌, ◌⊎◌, List, get_or, inl, inr, sym, refl, ap, subst, ◌∙◌, true≢false, arith}
+use Rattle.std.proofs.Common.{◌≡◌, ◌≢◌, ℕ, suc, true, false, not, ◌⊎◌, List, get_or, inl, inr, sym, refl, ap, subst, ◌∙◌, true≢false, arith}
 use Rattle.std.specs.List.{AllPairs, Contains}
 use Rattle.std.proofs.lemmas.List.Elements.{All-contains, All-contains_itself, All-weaker, Contains-get_or}
-use Rattle.std.proofs.lemmas.Bool.{and_from, cases_Bool}
+use Rattle.std.proofs.lemmas.Bool.{and_from, cases_Bool, false_from_ne_true, and_parts}
 use Rattle.life_model.specs.Cell.{Cell}
 use Rattle.life_model.specs.Rule.{Rule}
 use Rattle.life_model.specs.Generation.{Generation, contains, empty, keep}
@@ -23,14 +23,6 @@ use Rattle.life_objects.proofs.Unions.{in_union}
 use Rattle.life_objects.specs.Growth.Unsplit.{AreClasses}
 use Rattle.life_objects.specs.Growth.Film.Film.{AreJoined, AreLinked, AreSeparate, bearing, itself, swapped, through, within}
 use Rattle.life_objects.proofs.GrowthLemmas.FilmLemmas.Splits.{apart_before, apart_now, split_next}
-
-second_of : (a b : Bool) → (a && b) ≡ true → b ≡ true
-second_of true b h = h
-second_of false b h = absurd (true≢false (sym h))
-
-false_if : (b : Bool) → (b ≡ true → ⊥) → b ≡ false
-false_if true never = absurd (never refl)
-false_if false never = refl
 
 -- a cell of a class of G is one of G
 pub in_classes : (R : Rule) (b : ℕ) (G : Generation) (Qs : List Generation) → AreClasses R b G Qs → (Q : Generation) → Contains Qs Q →
@@ -110,7 +102,7 @@ module _ (R : Rule) where
           ]
 
       not_in_A : (c : Cell) → contains B c ≡ true → contains A c ≡ false
-      not_in_A c h = false_if (contains A c) (λ k. A_not_B c k h)
+      not_in_A c h = false_from_ne_true (contains A c) (λ k. A_not_B c k h)
 
       next_apart : AreDisjoint (next R A) (next R B)
       next_apart = next_disjoint R A B after.1
@@ -188,12 +180,12 @@ module _ (R : Rule) where
     in_others P c h never =
         contains-keep (next R G) (λ c. not (contains (next R P) c)) c
         ∙ and_from (contains (next R G) c) (not (contains (next R P) c)) h
-        (ap not (false_if (contains (next R P) c) never))
+        (ap not (false_from_ne_true (contains (next R P) c) never))
 
     not_borne : (P : Generation) (c : Cell) → contains (others_than P) c ≡ true → contains (next R P) c ≡ true → ⊥
     not_borne P c h k =
         let both = sym (contains-keep (next R G) (λ c. not (contains (next R P) c)) c) ∙ h in
-        true≢false (sym (second_of (contains (next R G) c) (not (contains (next R P) c)) both) ∙ ap not k)
+        true≢false (sym ((and_parts (contains (next R G) c) (not (contains (next R P) c)) both).1) ∙ ap not k)
 
     borne_or_not : (P : Generation) → Contains Ps P → (Q : Generation) → Contains Qs Q →
         IsSubsetOf Q (next R P) ⊎ IsSubsetOf Q (others_than P)

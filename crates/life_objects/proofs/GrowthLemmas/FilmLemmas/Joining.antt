@@ -1,7 +1,7 @@
 -- Pieces joined one after the other.
 use Rattle.std.proofs.Common.{◌≡◌, ◌≢◌, Bool, true, false, cond, ◌&&◌, List, [], ◌∷◌, inl, inr, sym, refl, ap, subst, ◌∙◌, true≢false}
 use Rattle.std.specs.List.{All, AllPairs, Contains}
-use Rattle.std.proofs.lemmas.Bool.{and_from, cases_Bool}
+use Rattle.std.proofs.lemmas.Bool.{and_from, cases_Bool, and_parts}
 use Rattle.std.proofs.lemmas.List.Elements.{All-cons, All-head, All-nil, All-tail}
 use Rattle.std.proofs.lemmas.List.Folds.{Any-from_list_any, list_any_at}
 use Rattle.std.proofs.lemmas.List.Kept.{AllPairs-cons}
@@ -15,7 +15,7 @@ use Rattle.life_objects.proofs.Alone.{next-union}
 use Rattle.life_objects.proofs.Distances.{AreApart-swap, apart_from_union}
 use Rattle.life_objects.proofs.Lists.{AllPairs-head, AllPairs-nil, AllPairs-tail}
 use Rattle.life_objects.proofs.Unions.{in_first, in_second, in_union, union-assoc, union-swap}
-use Rattle.life_objects.proofs.DecidedLemmas.Tests.{both, member_passes, passing_member}
+use Rattle.life_objects.proofs.DecidedLemmas.Tests.{member_passes, passing_member}
 use Rattle.life_objects.proofs.GrowthLemmas.Classes.{some_in_union}
 use Rattle.life_objects.proofs.GrowthLemmas.FilmLemmas.Joined.{AreSeparate-swap, separate_apart}
 use Rattle.life_objects.specs.Growth.Film.Film.{AreLinked, AreSeparate, bearing, swapped, through}
@@ -51,7 +51,7 @@ module _ (R : Rule) (pieces Qs : List Generation) where
   shared_by_test : (P O : Generation) → share R Qs P O ≡ true → IsShared P O
   shared_by_test P O h =
       let one = Any-from_list_any (λ Q. bears R P Q && bears R O Q) Qs h in
-      let parts = both (bears R P one.1) (bears R O one.1) one.4 in
+      let parts = and_parts (bears R P one.1) (bears R O one.1) one.4 in
       let q = passing_member (contains (next R P)) one.1 parts.0 in
       let r = passing_member (contains (next R O)) one.1 parts.1 in
       record {

@@ -2,7 +2,7 @@
 use Rattle.std.proofs.Common.{◌≡◌, ℕ, suc, ◌+◌, ◌*◌, ◌<◌, Bool, true, List, [], ◌∷◌, map, inl, inr, sym, refl, ap, subst, ◌∙◌, arith}
 use Rattle.std.specs.Prelude.{◌&&◌}
 use Rattle.std.specs.List.{Contains, list_all}
-use Rattle.std.proofs.lemmas.Bool.{and_from}
+use Rattle.std.proofs.lemmas.Bool.{and_from, and_parts}
 use Rattle.life_model.specs.Cell.{Cell, opposite, plus}
 use Rattle.life_model.specs.Rule.{Rule}
 use Rattle.life_model.specs.Generation.{Generation, contains}
@@ -13,7 +13,7 @@ use Rattle.life_objects.specs.Ash.{HasFallenApart}
 use Rattle.life_objects.specs.Drift.{multiple_of}
 use Rattle.life_objects.proofs.Lists.{Contains-head, head_or_later}
 use Rattle.life_objects.specs.Decided.Tests.{each_below}
-use Rattle.life_objects.proofs.DecidedLemmas.Tests.{both, each_below_by, each_below_tells}
+use Rattle.life_objects.proofs.DecidedLemmas.Tests.{each_below_by, each_below_tells}
 use Rattle.life_objects.proofs.IndependentLemmas.Found.{of_map}
 use Rattle.life_objects.specs.Growth.Engine.{Way}
 use Rattle.life_objects.specs.Growth.Things.{IsSettledThing, NeverMeet, NeverMeetAgain, Thing, a_period_later, core_thing, left_once, left_thing, lefts_within, move_of, set_then, time_of, time_then}
@@ -147,8 +147,8 @@ module _ (R : Rule) (b : ℕ) (way : Way) (ashes : ℕ → List Generation)
   pub again_by_search : never_meet_again R b way ashes ≡ true → NeverMeetAgain way (lefts_within R b way ashes)
   unfolding never_meet_again
   again_by_search h =
-      let first = both cores_pass (lefts_pass && later_pass) h in
-      let second = both lefts_pass later_pass first.1 in
+      let first = and_parts cores_pass (lefts_pass && later_pass) h in
+      let second = and_parts lefts_pass later_pass first.1 in
       record {
         cores = λ n k it less fewer is.
             never_by_covers (once n) (core_thing way k ∷ []) (left_once n it) (core_thing way k)

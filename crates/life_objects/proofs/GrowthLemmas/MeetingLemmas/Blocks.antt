@@ -22,7 +22,7 @@ times-times (suc n) q u =
 
 -- ---- how often each step is made
 
-no_numbers : (us : List Step) → sum_of us [] ≡ stay
+pub no_numbers : (us : List Step) → sum_of us [] ≡ stay
 no_numbers [] = refl
 no_numbers (u ∷ us) = refl
 

@@ -2,7 +2,7 @@
 use Rattle.std.proofs.Common.{◌≡◌, ℕ, zero, suc, ℤ, pos, negsuc, neg_ℤ, ◌≤ℤ◌, ◌+◌, ◌*◌, ◌<◌, Bool, true, List, [], ◌∷◌, ◌++◌, map, inl, inr, sym, refl, ap, subst, ◌∙◌, arith}
 use Rattle.std.specs.Prelude.{not, nat_le, unsigned_abs}
 use Rattle.std.specs.List.{Contains, list_all}
-use Rattle.std.proofs.lemmas.Bool.{and_from, leb-true}
+use Rattle.std.proofs.lemmas.Bool.{and_from, leb-true, and_parts}
 use Rattle.std.proofs.lemmas.Int.{ints}
 use Rattle.life_model.specs.Cell.{Cell, opposite, plus, same_cell}
 use Rattle.life_model.specs.Generation.{Generation, cells, contains}
@@ -13,7 +13,7 @@ use Rattle.life_model.proofs.Symmetries.{contains-moved}
 use Rattle.life_objects.specs.Apart.{AreNear}
 use Rattle.life_objects.specs.Drift.{multiple_of}
 use Rattle.life_objects.proofs.Lists.{Contains-head, Contains-later, head_or_later}
-use Rattle.life_objects.proofs.DecidedLemmas.Tests.{abs_small, both, not_true, true_not}
+use Rattle.life_objects.proofs.DecidedLemmas.Tests.{abs_small, not_true, true_not}
 use Rattle.life_objects.proofs.IndependentLemmas.Found.{Contains-flat_map, of_flat_map, of_map}
 use Rattle.life_objects.specs.Growth.Things.{NeverMeet, Thing, move_of, time_of, time_then}
 use Rattle.life_objects.specs.Growth.Meeting.Meeting.{near_by, nearness, never_meet, step_back, step_of, step_to, steps_between}
@@ -27,7 +27,7 @@ module _ {X : Type 0} (p : X → Bool) where
   pub all_tells : (xs : List X) (x : X) → list_all p xs ≡ true → Contains xs x → p x ≡ true
   all_tells [] x h one = let none : one.0 < 0 = one.1 in absurd (omega arith)
   all_tells (y ∷ ys) x h one =
-      let parts = both (p y) (list_all p ys) h in
+      let parts = and_parts (p y) (list_all p ys) h in
       elim (head_or_later y x ys one.0 one.1 one.2) [
         | inl e ↦ ap p (sym e) ∙ parts.0
         | inr later ↦ all_tells ys x parts.1 later

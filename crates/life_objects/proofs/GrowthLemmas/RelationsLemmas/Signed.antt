@@ -8,7 +8,7 @@ use Rattle.life_objects.specs.Growth.Relations.Relations.{IsRelation, above, bel
 use Rattle.life_objects.proofs.GrowthLemmas.RelationsLemmas.Crosses.{left_sum}
 use Rattle.life_objects.proofs.GrowthLemmas.RelationsLemmas.Numbers.{four}
 
-times-scaled : (n : ℕ) (u : Step) → times n u ≡ scaled (pos n) u
+pub times-scaled : (n : ℕ) (u : Step) → times n u ≡ scaled (pos n) u
 times-scaled zero u =
     step_is stay (scaled (pos zero) u) (sym (zero-*ℤ u.0)) (sym (zero-*ℤ u.1.0)) (sym (zero-*ℤ u.1.1))
 times-scaled (suc n) u =

@@ -1,10 +1,11 @@
 use Rattle.std.proofs.Common.{◌||◌, pos, get_or, ap, sym, ◌∙◌}
+use Rattle.std.proofs.Math.Bool.{or_assoc}
 use Rattle.std.specs.List.{list_any}
 use Rattle.life_model.specs.Cell.{Cell, same_cell}
 use Rattle.life_plane.specs.declared.tile.Tile.{Tile}
 use Rattle.life_slots.specs.Seats.{has_line}
 use Rattle.life_slots.specs.declared.seats.Seat.{Seat}
-use Rattle.life_slots.proofs.Seated.{line_pushed, or_grouped, placed_left, placed_top, seat_more}
+use Rattle.life_slots.proofs.Seated.{line_pushed, placed_left, placed_top, seat_more}
 use Rattle.life_slots.proofs.listing.push_line.Goals as goal
 
 pub loop-seat-preserved : goal.loop-seat-preserved
@@ -19,5 +20,5 @@ loop-seat-preserved c = λ q.
     (ap (λ (t : Tile). t.rows) c.tile_in-tile.ensures)
     c.in_ok-push_row.ensures
     ∙ ap (λ b. b || has_line c.args.tiles.now c.args.y q seat) (c.loop-seat.invariant q)
-    ∙ or_grouped init _ (has_line c.args.tiles.now c.args.y q seat)
+    ∙ or_assoc init _ (has_line c.args.tiles.now c.args.y q seat)
     ∙ ap (λ b. init || b) (sym (seat_more (has_line c.args.tiles.now c.args.y q) c.args.seats.now c.loop-seat.seat-index none c.loop-seat-test.true))

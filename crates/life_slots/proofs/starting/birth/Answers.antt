@@ -4,12 +4,7 @@ use Rattle.std.proofs.lemmas.Nat.Bits.{bit_at-zero, bit_at_or}
 use borrow.Author.Count.{below_more}
 use Rattle.life_slots.proofs.Shown.{empty_cell}
 use Rattle.life_slots.proofs.starting.birth.Goals as goal
-
-both_none : (a b : ℕ) → max a b ≡ 0 → (a ≡ 0) × (b ≡ 0)
-both_none a b none = (omega arith, omega arith)
-
-none_of_both : (a b : ℕ) → a ≡ 0 → b ≡ 0 → max a b ≡ 0
-none_of_both a b p q = omega arith
+use Rattle.life_model.proofs.Numbers.{max_zero, zero_max}
 
 pub loop-y-init : goal.loop-y-init
 loop-y-init c = λ x wide. (λ _ y less. absurd (omega arith), λ _. bit_at-zero x)
@@ -21,11 +16,11 @@ loop-y-preserved c = λ x wide.
     ≡ max (bit_at c.loop-y.all x) (bit_at (slice_index c.args.tile.now.rows (c.args.top + c.loop-y.y)) x) =
     bit_at_or c.loop-y.all (slice_index c.args.tile.now.rows (c.args.top + c.loop-y.y)) x in (
       λ none.
-          let both = both_none (bit_at c.loop-y.all x) (bit_at (slice_index c.args.tile.now.rows (c.args.top + c.loop-y.y)) x) (sym is ∙ none) in
+          let both = zero_max (bit_at c.loop-y.all x) (bit_at (slice_index c.args.tile.now.rows (c.args.top + c.loop-y.y)) x) (sym is ∙ none) in
           below_more (λ (y : ℕ). bit_at (slice_index c.args.tile.now.rows (c.args.top + y)) x ≡ 0) c.loop-y.y ((c.loop-y.invariant x wide).0 both.0) both.1,
       λ dead.
           is
-          ∙ none_of_both (bit_at c.loop-y.all x) (bit_at (slice_index c.args.tile.now.rows (c.args.top + c.loop-y.y)) x)
+          ∙ max_zero (bit_at c.loop-y.all x) (bit_at (slice_index c.args.tile.now.rows (c.args.top + c.loop-y.y)) x)
           ((c.loop-y.invariant x wide).1 (λ y below. dead y (omega arith))) (dead c.loop-y.y (omega arith)),
     )
 

@@ -1,7 +1,8 @@
 use Rattle.std.proofs.Common.{◌≤ℤ◌, ℕ, List, ◌++◌, map, get_or, pos, sym, subst, ap, arith}
 use Rattle.life_model.specs.Cell.{Cell}
 use Rattle.life_cells.specs.Limits.{IsPlace}
-use Rattle.life_text.proofs.CornerLemmas.{corner_place, corner_left, corner_above}
+use Rattle.life_cells.proofs.Corners.{corner_place}
+use Rattle.life_text.proofs.CornerLemmas.{corner_left, corner_above}
 use Rattle.life_text.specs.Filled.{filled_lines}
 use Rattle.life_text.specs.RleText.{token_text}
 use Rattle.life_text.specs.Writer.{places_from, tokens_from}

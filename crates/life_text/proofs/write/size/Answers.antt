@@ -4,8 +4,9 @@ use Rattle.std.proofs.lemmas.List.{take_all}
 use Rattle.life_model.specs.Box.{extent}
 use Rattle.life_model.specs.Cell.{Cell}
 use Rattle.life_cells.specs.Limits.{IsPlace}
+use Rattle.life_cells.proofs.Corners.{corner_place}
 use Rattle.life_text.specs.Writer.{places_from}
-use Rattle.life_text.proofs.CornerLemmas.{corner_place, corner_left, corner_above}
+use Rattle.life_text.proofs.CornerLemmas.{corner_left, corner_above}
 use Rattle.life_text.proofs.PlaceLemmas.{extent_more, width_of_list, height_of_list}
 use Rattle.life_text.proofs.write.size.Goals as goal
 

@@ -5,10 +5,10 @@ use Rattle.std.proofs.Math.IntN.{◌*ℤ◌}
 use Rattle.std.proofs.lemmas.Int.{to_z-of_z}
 use Rattle.life_model.specs.Cell.{Cell}
 use Rattle.life_objects.specs.Growth.Meeting.Sums.{Step, and_then, times}
+use Rattle.life_objects.proofs.GrowthLemmas.RelationsLemmas.Signed.{times-scaled}
 use Rattle.life_things.specs.Clear.{IsClear}
 use Rattle.life_things.specs.Lattice.Short.{IsWithin}
 use Rattle.life_things.proofs.Arriving.{out_of_columns, out_of_rows}
-use Rattle.life_things.proofs.LatticeLemmas.Within.{times_is}
 use Rattle.life_things.proofs.places.is_clear_after.Goals as goal
 
 -- where it is then
@@ -16,10 +16,10 @@ abbrev there : Step → ℕ → Step → Cell
 there s n u = (and_then s (times n u)).1
 
 column_is : (s u : Step) (n : ℕ) → (s.1.0 +ℤ (pos n *ℤ u.1.0)) ≡ (there s n u).0
-column_is s u n = ap (λ (v : Step). s.1.0 +ℤ v.1.0) (sym (times_is n u))
+column_is s u n = ap (λ (v : Step). s.1.0 +ℤ v.1.0) (sym (times-scaled n u))
 
 row_is : (s u : Step) (n : ℕ) → (s.1.1 +ℤ (pos n *ℤ u.1.1)) ≡ (there s n u).1
-row_is s u n = ap (λ (v : Step). s.1.1 +ℤ v.1.1) (sym (times_is n u))
+row_is s u n = ap (λ (v : Step). s.1.1 +ℤ v.1.1) (sym (times-scaled n u))
 
 -- as the machine has it
 read : (n : ℕ) (x y z : ℤ) → SFits w128 x → SFits w128 y → (x +ℤ (pos n *ℤ y)) ≡ z →

@@ -1,4 +1,4 @@
-use Rattle.std.proofs.Common.{◌≡◌, ℕ, ap, ◌∙◌, arith}
+use Rattle.std.proofs.Common.{ℕ, ap, ap₂, ◌∙◌, arith}
 use Rattle.life_model.specs.Box.{height, width}
 use Rattle.life_cells.proofs.Boxes.{height_at_age, width_at_age}
 use Rattle.census_identify.proofs.BlocksLemmas.Sizes.{height_of_normal, width_of_normal}
@@ -14,10 +14,7 @@ of-requires-clause-high c =
     let high = height_at_age c.args.list.now 0 c.requires in
     omega arith
 
-pair : {a b c d : ℕ} → a ≡ c → b ≡ d → ◌≡◌ {A = ℕ × ℕ} (a, b) (c, d)
-pair p q = λ i. (p i, q i)
-
 pub returns : goal.returns
 returns c =
-    pair (c.width.ensures ∙ ap width c.in_ok-shape.ensures.shape ∙ width_of_normal c.args.list.now)
+    ap₂ (λ (w h : ℕ). (w, h)) (c.width.ensures ∙ ap width c.in_ok-shape.ensures.shape ∙ width_of_normal c.args.list.now)
     (c.height.ensures ∙ ap height c.in_ok-shape.ensures.shape ∙ height_of_normal c.args.list.now)

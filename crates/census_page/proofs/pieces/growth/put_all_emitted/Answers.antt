@@ -2,9 +2,8 @@ use Rattle.std.proofs.Common.{◌+◌, arith, drop, refl, subst}
 use Rattle.std.specs.List.{flat_map}
 use Rattle.std.proofs.lemmas.Result.{err_from_is_err_and}
 use Rattle.census_page.specs.Pieces.Growth.{emitted}
-use Rattle.watched.proofs.Prefixes.{up_to_start}
+use Rattle.watched.proofs.Prefixes.{behind_end, behind_front, behind_more, up_to_start}
 use Rattle.watched.specs.Telling.{TellsAfter, TellsFront, sheet}
-use Rattle.census_page.proofs.PiecesLemmas.Behind.{behind_end, behind_front, behind_more}
 use Rattle.census_page.proofs.pieces.growth.put_all_emitted.Goals as goal
 
 pub loop-index-init : goal.loop-index-init

@@ -3,9 +3,8 @@ use Rattle.std.proofs.lemmas.Result.{err_from_is_err_and}
 use Rattle.std.specs.List.{take_while}
 use Rattle.census_readback.specs.Following.{is_emits}
 use Rattle.census_page.specs.Pieces.Growth.{engine_text, growth_text}
-use Rattle.watched.proofs.Prefixes.{up_to_start}
+use Rattle.watched.proofs.Prefixes.{behind_end, behind_front, behind_more, up_to_start}
 use Rattle.watched.specs.Telling.{TellsAfter, TellsFront, sheet}
-use Rattle.census_page.proofs.PiecesLemmas.Behind.{behind_end, behind_front, behind_more}
 use Rattle.census_page.proofs.pieces.growth.put_growth.Goals as goal
 
 pub loop-index-init : goal.loop-index-init

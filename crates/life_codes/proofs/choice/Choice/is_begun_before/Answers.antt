@@ -2,8 +2,9 @@ use Rattle.std.proofs.Common.{◌≡◌, ◌++◌, length, take, sym, ap, subst,
 use Rattle.std.specs.Ordering.{nat_cmp}
 use Rattle.std.specs.Cmp.Lexicographic.{slice_cmp}
 use Rattle.life_codes.specs.Least.{with_text}
-use Rattle.life_codes.proofs.Firsts.{begun_stays, less_from}
+use Rattle.life_codes.proofs.Firsts.{begun_stays}
 use Rattle.life_codes.proofs.choice.Choice.is_begun_before.Goals as goal
+use Rattle.life_cells.proofs.Sorted.{less_from}
 
 pub returns : goal.returns
 returns c = λ yes rest long.

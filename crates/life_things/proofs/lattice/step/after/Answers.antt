@@ -4,10 +4,11 @@ use Rattle.std.proofs.Common.{◌≡◌, ℕ, ◌*◌, ◌^◌, pos, sym, subst,
 use Rattle.std.proofs.Math.IntN.{◌*ℤ◌, ◌+ℤ◌}
 use Rattle.std.proofs.lemmas.Int.{to_z-of_z, to_z_pos}
 use Rattle.life_objects.proofs.GrowthLemmas.MeetingLemmas.Reach.{step_is}
+use Rattle.life_objects.proofs.GrowthLemmas.RelationsLemmas.Signed.{times-scaled}
 use Rattle.life_objects.specs.Growth.Meeting.Sums.{and_then}
 use Rattle.life_objects.specs.Growth.Relations.Relations.{scaled}
 use Rattle.life_things.specs.Lattice.Short.{IsWithin, way_limit}
-use Rattle.life_things.proofs.LatticeLemmas.Within.{count_within, sizes_product, sum_fits, sum_is, times_is, within_product}
+use Rattle.life_things.proofs.LatticeLemmas.Within.{count_within, sizes_product, sum_fits, sum_is, within_product}
 use Rattle.life_things.proofs.lattice.step.after.Goals as goal
 use Rattle.life_things.proofs.lattice.step.after.Goals.{After-multiplied-along}
 
@@ -99,4 +100,4 @@ returns c =
     ∙ (λ i. c.args.start.1.0 +ℤ across_is (goal.at.returns c).After-multiplied-along i))
     (sum_is (10 ^ 30) furthest c.args.start.1.1 c.multiplied-along.result (omega arith) c.requires.start.along (along_small (goal.at.returns c).After-multiplied-along)
     ∙ (λ i. c.args.start.1.1 +ℤ along_is (goal.at.returns c).After-multiplied-along i))
-    ∙ (λ i. and_then c.args.start (sym (times_is c.args.count c.args.step) i))
+    ∙ (λ i. and_then c.args.start (sym (times-scaled c.args.count c.args.step) i))

@@ -3,12 +3,10 @@ use Rattle.std.specs.Vec.{with_items}
 use Rattle.life_slots.specs.declared.bands.Bands.{Bands}
 use Rattle.life_slots.specs.Work.{band_mark, IsCalm}
 use Rattle.life_slots.proofs.Marks.{all_marked}
+use Rattle.life_slots.proofs.EndCells.{one_is_not_none}
 use Rattle.life_tile.proofs.Kept.{written_back}
 use Rattle.life_tile.proofs.Put.{kept_fresh}
 use Rattle.life_tile.proofs.tile_store.TileStore.use_rule.Goals as goal
-
-not_both : (n : ℕ) → n ≡ 1 → n ≡ 0 → ⊥
-not_both n one none = omega arith
 
 module _ (c : goal.After-self-then-ne-3-1) where
   written : (with_items c.args.self.now.active c.mark_all.new.marks).items ≡ c.mark_all.new.marks
@@ -26,7 +24,7 @@ module _ (c : goal.After-self-then-ne-3-1) where
   stirred calm =
       let clear : band_mark (with_items c.args.self.now.active c.mark_all.new.marks).items 0 0 ≡ 0 = calm 0 (omega arith) in
       let set : band_mark (with_items c.args.self.now.active c.mark_all.new.marks).items 0 0 ≡ 1 = marked 0 0 c.requires.whole.indexed.some (omega arith) in
-      not_both (band_mark (with_items c.args.self.now.active c.mark_all.new.marks).items 0 0) set clear
+      one_is_not_none (band_mark (with_items c.args.self.now.active c.mark_all.new.marks).items 0 0) set clear
 
 pub returns-then-ne-clause-kept : goal.returns-then-ne-clause-kept
 returns-then-ne-clause-kept c =

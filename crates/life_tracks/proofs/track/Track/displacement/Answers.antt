@@ -2,18 +2,19 @@ use Rattle.std.proofs.Common.{ap, sym, subst, ◌∙◌, length}
 use Rattle.life_model.specs.Cell.{opposite, plus}
 use Rattle.life_model.specs.Symmetry.{corner}
 use Rattle.life_cells.specs.Limits.{IsPlace}
+use Rattle.life_cells.proofs.Corners.{corner_place}
 use Rattle.life_objects.specs.Growth.Engines.Tracks.{core_along}
 use Rattle.life_tracks.specs.Tracks.{Path}
-use Rattle.life_tracks.proofs.Corners.{corner_placed, difference}
+use Rattle.life_tracks.proofs.Corners.{difference}
 use Rattle.life_tracks.proofs.track.Track.displacement.Goals as goal
 
 pub move_between-requires-clause-from_placed : goal.move_between-requires-clause-from_placed
 move_between-requires-clause-from_placed c =
-    subst IsPlace (sym c.corner-from.ensures) (corner_placed c.as_slice-2.result.now c.as_slice-2.ensures.placed)
+    subst IsPlace (sym c.corner-from.ensures) (corner_place c.as_slice-2.result.now c.as_slice-2.ensures.placed)
 
 pub move_between-requires-clause-to_placed : goal.move_between-requires-clause-to_placed
 move_between-requires-clause-to_placed c =
-    subst IsPlace (sym c.corner-to.ensures) (corner_placed c.as_slice-3.result.now c.as_slice-3.ensures.placed)
+    subst IsPlace (sym c.corner-to.ensures) (corner_place c.as_slice-3.result.now c.as_slice-3.ensures.placed)
 
 pub returns : goal.returns
 returns c =
