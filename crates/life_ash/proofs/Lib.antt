@@ -12,4 +12,5 @@ pub mod Firsts
 pub mod Growing
 pub mod Sooner
 pub mod Ways
+pub mod Counting
 pub mod Alone

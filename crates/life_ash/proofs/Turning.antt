@@ -1,28 +1,14 @@
 -- What a set that recurs was before.
-use Rattle.std.proofs.Common.{◌≡◌, ℕ, ◌+◌, ◌-◌, ◌/◌, ◌%◌, ◌≤◌, sym, ap, subst, ◌∙◌, arith}
-use Rattle.life_model.specs.Cell.{Cell, opposite}
+use Rattle.std.proofs.Common.{◌≡◌, ℕ, sym, ap, subst, ◌∙◌}
+use Rattle.life_model.specs.Cell.{Cell}
 use Rattle.life_model.specs.Rule.{Rule}
 use Rattle.life_model.specs.Generation.{Generation}
 use Rattle.life_model.specs.Evolution.{generation}
-use Rattle.life_model.specs.Symmetry.{translate_of}
 use Rattle.life_model.specs.Recurrence.{RecursBy}
-use Rattle.life_objects.specs.Drift.{multiple_of}
 use Rattle.life_objects.proofs.Recurring.{RecursBy-later, RecursBy-sooner}
 use Rattle.life_objects.specs.Ash.{RecursWithin}
 use Rattle.life_orbit.specs.Course.{Course, IsCourse}
-use Rattle.life_orbit.proofs.Backwards.{moved_to_before, rounds_back}
 use Rattle.life_ash.specs.Parts.{IsEnd}
-
--- P becomes the set of an orbit, and recurs as this does
-module _ (o : Course) (P : Generation) (ago : ℕ) (one : 1 ≤ ago) (some : 1 ≤ o.period)
-    (r : RecursBy o.rule P o.period o.displacement) (end : generation o.rule P ago ≡ o.set) where
-  pub turned_back : (phase : Generation) (by : Cell) →
-      phase ≡ generation o.rule o.set ((o.period - 1) - (ago - 1) % o.period) →
-      by ≡ multiple_of ((ago - 1) / o.period + 1) o.displacement → translate_of phase (opposite by) ≡ P
-  turned_back phase by e f =
-      (λ i. translate_of (e i) (opposite (f i)))
-      ∙ moved_to_before o.rule P o.period o.displacement r ago ((o.period - 1) - (ago - 1) % o.period)
-      ((ago - 1) / o.period + 1) o.set (rounds_back ago o.period one some) (omega arith) end
 
 module _ (R : Rule) (b ago : ℕ) (last P : Generation) (is_end : IsEnd R b ago last P) where
   pub end_recurs : RecursWithin R b last

@@ -11,7 +11,7 @@ use Rattle.life_objects.specs.Ash.{HasFallenApart, IsAsh}
 use Rattle.life_objects.specs.Limits.{objects_bound_limit}
 use Rattle.life_apart.specs.Onsets.Moments.{IsMomentOf, Moment}
 use Rattle.life_orbit.specs.Course.{Course}
-use Rattle.life_ash.specs.Ahead.{IsAshThen, IsFound, IsFoundPast}
+use Rattle.life_ash.specs.Ahead.{HasEnded, IfNothing, IsAshThen, IsFound, IsFoundPast}
 use Rattle.life_ash.specs.Allowed.{AreAllowedBefore}
 use Rattle.life_ash.specs.Fates.{EndsLater, IsFate, IsSmallEnough}
 use Rattle.life_ash.specs.Met.{Terms}
@@ -116,3 +116,22 @@ fate_by t s n G H limit trail found fate same bound here small kept is told =
     (subst (λ m. IsAtBound t.rule m (generation t.rule G m) found) (sym bound)
     (subst (λ K. IsAtBound t.rule t.bound K found) here
     (subst (λ (u : Terms). IsAtBound u.rule u.bound H found) same is))))
+
+-- where something is found, what holds where nothing is holds anyway
+pub unless_nothing : (found : Found) (A : Type 0) → IfNothing found ⊥ → IfNothing found A
+unless_nothing (Parts parts age) A h = tt
+unless_nothing (Large n) A h = tt
+unless_nothing Nothing A h = absurd h
+
+pub ended_anyway : (found : Found) (end age : ℕ) → IfNothing found ⊥ → HasEnded end age found
+ended_anyway (Parts parts n) end age h = tt
+ended_anyway (Large n) end age h = tt
+ended_anyway Nothing end age h = absurd h
+
+pub nothing_weaker : (found : Found) (A B : Type 0) → (A → B) → IfNothing found A → IfNothing found B
+nothing_weaker (Parts parts age) A B f h = tt
+nothing_weaker (Large n) A B f h = tt
+nothing_weaker Nothing A B f h = f h
+
+pub at_nothing : (found : Found) (A : Type 0) → found ≡ Nothing → IfNothing found A → A
+at_nothing found A none h = subst (λ f. IfNothing f A) none h

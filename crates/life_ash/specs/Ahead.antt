@@ -35,6 +35,12 @@ HasEnded end age (Parts parts n) = Unit {0}
 HasEnded end age (Large n) = Unit {0}
 HasEnded end age Nothing = age ≡ end
 
+-- this holds where nothing is found
+abbrev pub IfNothing : Found → Type 0 → Type 0
+IfNothing (Parts parts age) A = Unit {0}
+IfNothing (Large n) A = Unit {0}
+IfNothing Nothing A = A
+
 -- What is found of G from generation b on: ash of a later generation, the first generation up to three times b that is past the
 -- limit, or neither.
 abbrev pub IsFoundPast : Rule → ℕ → Generation → Option ℕ → Found → Type 0

@@ -6,4 +6,5 @@ pub mod Allowed
 pub mod Met
 pub mod Newcomers
 pub mod Ahead
+pub mod Counted
 pub mod Telling

@@ -20,6 +20,12 @@ IsTold R b H (Parts parts ago) = (ago ≤ ash_age_limit) × IsAshThen R b H ago 
 IsTold R b H Never = (parts : List Generation) → IsAsh R b H parts → ⊥
 IsTold R b H Nothing = Unit {0}
 
+-- this holds where neither is known
+abbrev pub IfUntold : Told → Type 0 → Type 0
+IfUntold (Parts parts ago) A = Unit {0}
+IfUntold Never A = Unit {0}
+IfUntold Nothing A = A
+
 -- H is ash of these parts within b; or H is no ash, and where it is seen to end it becomes ash later
 abbrev pub IsAtBound : Rule → ℕ → Generation → AtBound → Type 0
 IsAtBound R b H (Ash parts) = IsAsh R b H (sets_of parts) × All (IsCourseBy R) parts

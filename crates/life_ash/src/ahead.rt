@@ -1,11 +1,11 @@
 //! What is found of patterns on their way from generation to generation.
-ghost use Rattle.std.specs.Prelude.{◌≡◌, ◌+◌, ◌≤◌, All, IfOk, IfSome};
+ghost use Rattle.std.specs.Prelude.{◌≡◌, ◌+◌, ◌<◌, ◌≤◌, ℕ, All, IfOk, IfSome};
 ghost use Rattle.life_model.specs.Evolution.{generation};
 ghost use Rattle.life_model.specs.Generation.{Generation};
 ghost use Rattle.life_objects.specs.Ash.{IsAsh};
 ghost use Rattle.life_orbit.specs.Course.{IsCourse};
 ghost use Rattle.life_apart.specs.Onsets.Moments.{IsMomentOf};
-ghost use Rattle.life_ash.specs.Ahead.{HasEnded, IsFound, IsFoundPast};
+ghost use Rattle.life_ash.specs.Ahead.{HasEnded, IfNothing, IsFound};
 ghost use Rattle.life_ash.specs.Allowed.{AreAllowedBefore};
 ghost use Rattle.life_apart.specs.Sets.{IsCourseBy, sets_of};
 ghost use Rattle.life_ash.specs.Parts.{IsPlaced, ash_age_limit};
@@ -41,6 +41,42 @@ pub fn parts_if_due<P: Plane>(
         return Ok(None);
     }
     guessed_parts(alloc, plane, met, pace.looks())
+}
+
+/// What is found of the generation on a plane, of this age, where a look at it is due: ash, where no generation up to the last is
+/// past the limit, or the first generation that is.
+pub fn found_if_due<P: Plane>(
+    alloc: Global,
+    plane: &P,
+    met: &mut Known,
+    pace: &mut Pace,
+    limit: Option<u32>,
+    age: u32,
+    last: u32,
+) -> Result<Option<Found>, AllocError>
+    requires aged { P.steps_made plane.now ≡ age }
+    requires young { age ≤ ash_age_limit }
+    requires within { age ≤ last }
+    requires last { last ≤ AGE_LIMIT }
+    ensures same { met.new ≡ met.old }
+    ensures found { IfOk result (λ some. IfSome some (λ found. (G : Generation) (from end : ℕ) →
+        P.members plane.now ≡ generation met.old.rule G age →
+        AreAllowedBefore met.old.rule G limit age → from ≤ age → age < end →
+        IsFound met.old.rule met.old.bound G limit from end last found)) }
+    ensures some { IfOk result (λ some. IfSome some (λ found. IfNothing found ⊥)) }
+{
+    let rule = met.rule();
+    let Some(parts) = parts_if_due(alloc, plane, met, pace, age)? else {
+        return Ok(None);
+    };
+    Ok(Some(
+        match first_past_of_ash(plane, &parts, &rule, limit, last - age)? {
+            Some(n) => Found::Large {
+                generation: age + n,
+            },
+            None => Found::Parts { parts, age },
+        },
+    ))
 }
 
 /// Walks on to the age `end`, and checks now and then whether the plane's cells are ash. The generation of the end itself is not
@@ -86,50 +122,11 @@ pub fn walk_on<P: Plane, W: Observer>(
             return Ok(Found::Large { generation: age });
         };
         known = until;
-        if let Some(parts) = parts_if_due(alloc, plane, met, pace, age)? {
-            return Ok(
-                match first_past_of_ash(plane, &parts, &rule, limit, last - age)? {
-                    Some(n) => Found::Large {
-                        generation: age + n,
-                    },
-                    None => Found::Parts { parts, age },
-                },
-            );
+        if let Some(found) = found_if_due(alloc, plane, met, pace, limit, age, last)? {
+            return Ok(found);
         }
         trail.note(plane)?;
         plane.step(&rule)?;
     }
     Ok(Found::Nothing)
-}
-
-/// Walks on from a plane that is as old as the bound, to three times the bound. The plane itself is unchanged.
-pub fn found_past<P: Plane, W: Observer>(
-    alloc: Global,
-    observer: &W,
-    plane: &P,
-    met: &mut Known,
-    pace: &mut Pace,
-    limit: Option<u32>,
-) -> Result<Found, AllocError>
-    requires { P.steps_made plane.now ≡ met.old.bound }
-    ensures same { met.new ≡ met.old }
-    ensures found { IfOk result (λ found. (G : Generation) →
-        P.members plane.now ≡ generation met.old.rule G met.old.bound →
-        AreAllowedBefore met.old.rule G limit met.old.bound →
-        IsFoundPast met.old.rule met.old.bound G limit found) }
-{
-    let last = 3 * met.bound();
-    let mut later = plane.copy()?;
-    let mut trail = Trail::new(alloc);
-    walk_on(
-        alloc,
-        observer,
-        &mut later,
-        met,
-        pace,
-        &mut trail,
-        limit,
-        last + 1,
-        last,
-    )
 }

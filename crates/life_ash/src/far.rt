@@ -1,46 +1,36 @@
 //! Walks far past the bound, for what later generations say about the generation of the bound.
-ghost use Rattle.std.specs.Prelude.{◌≡◌, ◌+◌, ◌*◌, ◌<◌, ◌≤◌, IfOk, IfSome, length};
-ghost use Rattle.life_model.specs.Generation.{size};
+ghost use Rattle.std.specs.Prelude.{◌≡◌, ◌+◌, ◌*◌, ◌<◌, ◌≤◌, ◌^◌, IfOk, length};
+ghost use Rattle.life_model.specs.Evolution.{generation};
+ghost use Rattle.life_model.specs.Generation.{Generation};
+ghost use Rattle.life_ash.specs.Counted.{IsPast};
 ghost use Rattle.life_ash.specs.Parts.{ash_age_limit};
-ghost use Rattle.life_ash.specs.Telling.{IsTold};
+ghost use Rattle.life_ash.specs.Telling.{IfUntold, IsTold};
 
-use crate::ahead::parts_if_due;
+use crate::found::Found;
 use crate::known::Known;
 use crate::newcomers::is_no_ash;
+use crate::past::count_on;
+use crate::stretches::Totals;
 use crate::told::Told;
-use life_plane::Plane;
+use life_plane::{Plane, Unobserved};
 use life_strays::{Pace, are_no_ash, is_uneven};
 use std::alloc::{AllocError, Global};
 
 /// A pattern is followed to at most this many times the bound.
 const LATE: u32 = 8;
 
-/// The greatest age of a plane whose cells are reported as ash.
-const LAST: u32 = 400_000;
+/// After this many times the bound, islands are asked where there are few cells.
+const FIRST: u32 = 4;
+
+/// No generation of this age or later is looked at.
+const END: u32 = 400_001;
 
 /// Islands are asked before the walk where all generations up to the bound have about this many cells together, or fewer. With
 /// more cells it takes long to refuse growth too, which ash that a pattern becomes does at once.
 const FEW: u64 = 20_000_000;
 
-/// The age to which a walk goes.
-fn last_age(bound: u32) -> u32
-    requires { 1 ≤ bound }
-    ensures { result ≤ ash_age_limit }
-{
-    LAST.min(bound.saturating_mul(LATE))
-}
-
-/// A total plus the cells of one more generation, where the sum can be counted. The pace notes the population.
-fn counted<P: Plane>(total: u64, plane: &P, pace: &mut Pace, age: u32) -> Option<u64>
-    ensures { IfSome result (λ sum. sum ≡ total + size (P.members plane.now)) }
-{
-    let population = plane.population();
-    pace.count(age, population);
-    total.checked_add(population)
-}
-
 /// How many cells the stretch has that ends with the total in a place.
-fn stretch_to(totals: &[u64], place: usize) -> u64
+fn stretch_to(totals: &[u128], place: usize) -> u128
     requires { 1 ≤ place × place < length totals.now }
 {
     totals[place].saturating_sub(totals[place - 1])
@@ -48,59 +38,83 @@ fn stretch_to(totals: &[u64], place: usize) -> u64
 
 /// Whether a further stretch costs much and promises little: the last one has more than `FEW` cells, and less than a tenth more
 /// than the one before it. The totals are those before each stretch and after the last.
-fn is_dear(totals: &[u64]) -> bool {
+fn is_dear(totals: &[u128]) -> bool {
     let count = totals.len();
     if count < 3 {
         return false;
     }
     let last = stretch_to(totals, count - 1);
-    FEW < last && last / 11 < stretch_to(totals, count - 2) / 10
+    u128::from(FEW) < last && last / 11 < stretch_to(totals, count - 2) / 10
 }
 
-/// Walks on from a plane that is as old as the bound. Only where there is no ash does one stretch of `bound` generations have
-/// many more cells than another, so the cells are counted. After three times the bound, checks now and then whether they are ash.
-/// Ends early where a further stretch is dear.
-fn told_until<P: Plane>(
+/// Walks on for a stretch of `bound` generations. Only where there is no ash does one stretch have many more cells than another. On
+/// the way checks now and then whether the cells are ash.
+fn told_by_stretch<P: Plane>(
     alloc: Global,
-    plane: &P,
+    plane: &mut P,
+    totals: &mut Totals,
     met: &mut Known,
     pace: &mut Pace,
 ) -> Result<Told, AllocError>
-    requires { P.steps_made plane.now ≡ met.old.bound }
+    requires past { met.old.bound ≤ P.steps_made plane.old }
+    requires young { P.steps_made plane.old ≤ ash_age_limit + 1 }
+    requires small { totals.old.total ≤ P.steps_made plane.old * 2 ^ 64 }
     ensures same { met.new ≡ met.old }
-    ensures told { IfOk result (IsTold met.old.rule met.old.bound (P.members plane.now)) }
+    ensures past { IfOk result (λ told. IfUntold told (met.old.bound ≤ P.steps_made plane.new)) }
+    ensures young { IfOk result (λ told. IfUntold told (P.steps_made plane.new ≤ ash_age_limit + 1)) }
+    ensures small { IfOk result
+        (λ told. IfUntold told (totals.new.total ≤ P.steps_made plane.new * 2 ^ 64)) }
+    ensures counted { IfOk result (λ told. IfUntold told ((G : Generation) →
+        IsPast met.old.rule met.old.bound G (P.steps_made plane.old) (P.members plane.old) totals.old →
+        IsPast met.old.rule met.old.bound G (P.steps_made plane.new) (P.members plane.new) totals.new)) }
+    ensures told { IfOk result (λ told. (G : Generation) →
+        IsPast met.old.rule met.old.bound G (P.steps_made plane.old) (P.members plane.old) totals.old →
+        IsTold met.old.rule met.old.bound (generation met.old.rule G met.old.bound) told) }
 {
-    let rule = met.rule();
     let bound = met.bound();
-    let mut later = plane.copy()?;
-    let mut totals = Vec::new(alloc);
-    let mut total = 0;
-    let mut left = 0;
-    for age in bound..last_age(bound) + 1 {
-        if left == 0 {
-            totals.push(total)?;
-            if is_uneven(totals.as_slice()) {
-                return Ok(Told::Never);
-            }
-            if is_dear(totals.as_slice()) {
-                return Ok(Told::Nothing);
-            }
-            left = bound;
+    let end = END.min(plane.age() + bound);
+    match count_on(alloc, &Unobserved, plane, totals, met, pace, None, end, end)? {
+        Found::Parts { parts, age } => {
+            return Ok(Told::Parts {
+                parts,
+                ago: age.saturating_sub(bound),
+            });
         }
-        if 3 * bound < age {
-            if let Some(parts) = parts_if_due(alloc, &later, met, pace, age)? {
-                return Ok(Told::Parts {
-                    parts,
-                    ago: age - bound,
-                });
-            }
-        }
-        let Some(sum) = counted(total, &later, pace, age) else {
+        // (without a limit no generation is too large)
+        Found::Large { .. } => return Ok(Told::Never),
+        Found::Nothing => {}
+    }
+    let before = totals.before.as_slice();
+    if is_uneven(before) {
+        return Ok(Told::Never);
+    }
+    Ok(Told::Nothing)
+}
+
+/// Walks on, stretch by stretch. Ends early where a further stretch is dear.
+fn told_until<P: Plane>(
+    alloc: Global,
+    plane: &mut P,
+    totals: &mut Totals,
+    met: &mut Known,
+    pace: &mut Pace,
+) -> Result<Told, AllocError>
+    requires past { met.old.bound ≤ P.steps_made plane.old }
+    requires young { P.steps_made plane.old ≤ ash_age_limit + 1 }
+    requires small { totals.old.total ≤ P.steps_made plane.old * 2 ^ 64 }
+    ensures same { met.new ≡ met.old }
+    ensures told { IfOk result (λ told. (G : Generation) →
+        IsPast met.old.rule met.old.bound G (P.steps_made plane.old) (P.members plane.old) totals.old →
+        IsTold met.old.rule met.old.bound (generation met.old.rule G met.old.bound) told) }
+{
+    'stretches: for _ in FIRST..LATE {
+        if is_dear(totals.before.as_slice()) {
             return Ok(Told::Nothing);
-        };
-        total = sum;
-        left -= 1;
-        later.step(&rule)?;
+        }
+        match told_by_stretch(alloc, plane, totals, met, pace)? {
+            Told::Nothing => {}
+            told => return Ok(told),
+        }
     }
     Ok(Told::Nothing)
 }
@@ -110,25 +124,41 @@ fn are_few<P: Plane>(plane: &P, bound: u32) -> bool {
     plane.population().saturating_mul(u64::from(bound)) <= FEW
 }
 
-/// What later generations say about a plane's cells, which are as old as the bound: by what depends on an island of theirs, by
-/// how many they are, by the ash that they become, and by what stands alone and is new.
+/// What later generations say about a plane's cells, which are as old as the bound: by how many they are, by what depends on an
+/// island of theirs, by the ash that they become, and by what stands alone and is new. The generation after three times the bound
+/// is on a plane of its own, and those before it are counted.
 pub fn told_later<P: Plane>(
     alloc: Global,
     plane: &P,
+    later: P,
+    totals: Totals,
     met: &mut Known,
     pace: &mut Pace,
 ) -> Result<Told, AllocError>
-    requires { P.steps_made plane.now ≡ met.old.bound }
+    requires age { P.steps_made plane.now ≡ met.old.bound }
+    requires later { P.steps_made later ≡ 3 * met.old.bound + 1 }
+    requires small { totals.total ≤ (3 * met.old.bound + 1) * 2 ^ 64 }
+    requires past { (G : Generation) × (P.members plane.now ≡ generation met.old.rule G met.old.bound) ×
+        IsPast met.old.rule met.old.bound G (3 * met.old.bound + 1) (P.members later) totals }
     ensures same { met.new ≡ met.old }
     ensures told { IfOk result (IsTold met.old.rule met.old.bound (P.members plane.now)) }
 {
     let rule = met.rule();
     let bound = met.bound();
+    let mut later = later;
+    let mut totals = totals;
+    if is_uneven(totals.before.as_slice()) {
+        return Ok(Told::Never);
+    }
+    match told_by_stretch(alloc, &mut later, &mut totals, met, pace)? {
+        Told::Nothing => {}
+        told => return Ok(told),
+    }
     let few = are_few(plane, bound);
     if few && are_no_ash(alloc, plane, &rule, bound)? {
         return Ok(Told::Never);
     }
-    match told_until(alloc, plane, met, pace)? {
+    match told_until(alloc, &mut later, &mut totals, met, pace)? {
         Told::Nothing => {}
         told => return Ok(told),
     }

@@ -17,7 +17,7 @@ use life_strays::{Pace, STRIDE};
 use std::alloc::AllocError;
 
 /// Whether this population is allowed.
-fn is_allowed(limit: Option<u32>, population: u64) -> bool
+pub fn is_allowed(limit: Option<u32>, population: u64) -> bool
     ensures { IsTrue result ↔ IsAllowed limit population }
 {
     match limit {
@@ -27,7 +27,8 @@ fn is_allowed(limit: Option<u32>, population: u64) -> bool
 }
 
 /// For how many generations, from a set of `population` cells on, certainly none has more cells than are allowed: 0 where the set
-/// itself has more, and 4 at most. No generation has more than nine times as many cells as the one before.
+/// itself has more, and 4 at most. Three generations later there are at most 49 times as many cells, as none is further than three
+/// cells from one of these.
 fn few_for(limit: Option<u32>, population: u64) -> u32
     ensures few { (R : ModelRule) (G : Generation) → size G ≡ population →
         AreAllowedBefore R G limit result }
@@ -40,7 +41,7 @@ fn few_for(limit: Option<u32>, population: u64) -> u32
     if population > u64::from(most) {
         return 0;
     }
-    if population * 729 <= u64::from(most) {
+    if population * 49 <= u64::from(most) {
         return 4;
     }
     1

@@ -13,12 +13,14 @@ ghost use Rattle.life_ash.specs.Fates.{IsFate, IsSmallEnough};
 ghost use Rattle.life_ash.specs.Telling.{IsAtBound};
 ghost use Rattle.life_apart.specs.Sets.{IsCourseBy, sets_of};
 
-use crate::ahead::{found_past, walk_on};
+use crate::ahead::walk_on;
 use crate::ash_orbits::Ash;
 use crate::at_bound::AtBound;
 use crate::found::Found;
 use crate::known::Known;
+use crate::past::found_past;
 use crate::pattern_fate::Fate;
+use crate::stretches::Totals;
 use crate::telling::{ash_by_later, ash_told};
 use life_apart::Trail;
 use life_cells::{CellList, Rule};
@@ -70,8 +72,10 @@ pub fn fate_past<P: Plane, W: Observer>(
         IsFate met.old.rule G met.old.bound limit fate) }
 {
     let bound = met.bound();
+    let mut later = plane.copy()?;
+    let mut totals = Totals::new(alloc);
     Ok(
-        match found_past(alloc, observer, plane, met, pace, limit)? {
+        match found_past(alloc, observer, &mut later, &mut totals, met, pace, limit)? {
             Found::Large { generation } => Fate::Large { generation },
             Found::Parts { parts, age } => {
                 fate_of(
@@ -80,9 +84,11 @@ pub fn fate_past<P: Plane, W: Observer>(
                     trail,
                 )
             }
-            Found::Nothing => {
-                fate_of(ash_told(alloc, plane, met, pace, is_no_ash)?, bound, trail)
-            }
+            Found::Nothing => fate_of(
+                ash_told(alloc, plane, later, totals, met, pace, is_no_ash)?,
+                bound,
+                trail,
+            ),
         },
     )
 }

@@ -29,6 +29,9 @@ const FIRST_LOOK: u32 = 512;
 /// growth, which costs about as much.
 const LATER: u32 = 8;
 
+/// Up to this many times the bound, it is looked whether a pattern falls apart, before it is looked for that alone.
+const LOOKED_AT: u32 = 4;
+
 /// A pattern with more cells than this is not looked at after the bound.
 const MANY: u64 = 20_000;
 
@@ -74,8 +77,8 @@ fn fate_before<P: Plane, W: Observer>(
 }
 
 /// Whether a pattern is seen to fall apart in the generations after that of a plane: up to sixteen times the plane's age, but at
-/// most `LATER` times the horizon further. A pattern that has more cells than `MANY`, or comes to have more, is not looked at
-/// further.
+/// most `LATER` times the horizon further, where that is more than `LOOKED_AT` times the age. A pattern that has more cells than
+/// `MANY`, or comes to have more, is not looked at further.
 fn ends_late<P: Plane>(
     alloc: Global,
     plane: P,
@@ -89,10 +92,10 @@ fn ends_late<P: Plane>(
         OnTrue ends (EndsLater rule.now G)) }
 {
     let age = plane.age();
-    if plane.population() > MANY {
+    let late = BOUND_LIMIT.min(16 * age).min(age + LATER * horizon);
+    if late <= LOOKED_AT * age || plane.population() > MANY {
         return Ok(false);
     }
-    let late = BOUND_LIMIT.min(16 * age).min(age + LATER * horizon);
     let mut later = plane;
     let mut met = Known::new(alloc, rule, late);
     let mut pace = Pace::new();

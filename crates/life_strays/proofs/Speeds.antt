@@ -1,5 +1,5 @@
 -- What recurs, moved, has moved along each axis by no more cells than that took generations.
-use Rattle.std.proofs.Common.{◌≡◌, ℕ, zero, suc, ℤ, pos, neg_ℤ, ◌+ℤ◌, ◌≤ℤ◌, ◌<◌, int_lt, true, false, cond, ◌⊎◌, List, [], ◌∷◌, inl, inr, sym, refl, ap, subst, ◌∙◌, true≢false, arith}
+use Rattle.std.proofs.Common.{◌≡◌, ℕ, zero, suc, ℤ, pos, neg_ℤ, ◌+ℤ◌, ◌≤ℤ◌, ◌<◌, true, List, [], ◌∷◌, inl, inr, sym, refl, ap, subst, ◌∙◌, true≢false, arith}
 use Rattle.std.specs.Int.{int_min}
 use Rattle.std.specs.List.{list_any}
 use Rattle.std.proofs.lemmas.Bool.{or_cases, or_left, or_right}
@@ -12,7 +12,7 @@ use Rattle.life_model.specs.Symmetry.{translate_of}
 use Rattle.life_objects.specs.Union.{IsSubsetOf}
 use Rattle.life_model.proofs.Cells.{plus-opposite, same_cell-is}
 use Rattle.life_model.proofs.Generations.{contains-cells}
-use Rattle.life_model.proofs.Moves.{same_cell_itself, same_le}
+use Rattle.life_model.proofs.Moves.{same_cell_itself, same_le, le_le, min_one}
 use Rattle.life_model.proofs.Near.{next_near}
 use Rattle.life_model.proofs.Symmetries.{contains-moved}
 
@@ -30,17 +30,11 @@ no_further a = omega (arith, ints)
 not_below : (n : ℕ) (m d g : ℤ) → m ≤ℤ g → g ≤ℤ ((m +ℤ d) +ℤ pos n) → neg_ℤ (pos n) ≤ℤ d
 not_below n m d g h k = omega (arith, ints)
 
-least_is : (a b : ℤ) → (int_min a b ≡ a) ⊎ (int_min a b ≡ b)
-least_is a b = elim (int_lt b a) as (λ t. (cond t b a ≡ a) ⊎ (cond t b a ≡ b)) [ true ↦ inr refl | false ↦ inl refl ]
-
 first_least : (a b : ℤ) → int_min a b ≡ a → a ≤ℤ b
 first_least a b e = omega (arith, ints, clamps)
 
 other_least : (a b : ℤ) → int_min a b ≡ b → b ≤ℤ a
 other_least a b e = omega (arith, ints, clamps)
-
-in_turn : (a b c : ℤ) → a ≤ℤ b → b ≤ℤ c → a ≤ℤ c
-in_turn a b c h k = omega (arith, ints)
 
 module _ (f : Cell → ℤ) where
   -- a cell of a list that none of its cells is below
@@ -61,14 +55,14 @@ module _ (f : Cell → ℤ) where
   )
   lowest c (d ∷ ds) =
       let r = lowest d ds in
-      elim (least_is (f c) (f r.0)) [
+      elim (min_one (f c) (f r.0)) [
         | inl first ↦ (
           c,
           record {
             has = or_left _ _ (same_cell_itself c);
             low = λ q e. elim (or_cases (same_cell q c) _ e) [
               | inl same ↦ same_le (f c) (f q) (ap f (sym ((same_cell-is q c).0 same)))
-              | inr later ↦ in_turn (f c) (f r.0) (f q) (first_least (f c) (f r.0) first) (r.1.low q later)
+              | inr later ↦ le_le (f c) (f r.0) (f q) (first_least (f c) (f r.0) first) (r.1.low q later)
             ];
           },
         )
@@ -77,7 +71,7 @@ module _ (f : Cell → ℤ) where
           record {
             has = or_right _ _ r.1.has;
             low = λ q e. elim (or_cases (same_cell q c) _ e) [
-              | inl same ↦ in_turn (f r.0) (f c) (f q) (other_least (f c) (f r.0) other)
+              | inl same ↦ le_le (f r.0) (f c) (f q) (other_least (f c) (f r.0) other)
                   (same_le (f c) (f q) (ap f (sym ((same_cell-is q c).0 same))))
               | inr later ↦ r.1.low q later
             ];

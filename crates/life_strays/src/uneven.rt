@@ -3,7 +3,7 @@ ghost use Rattle.std.specs.Prelude.{◌≡◌, ◌+◌, ◌-◌, ◌*◌, ◌<�
 ghost use Rattle.life_strays.specs.Totals.{IsUneven};
 
 /// How many cells `count` stretches have from a place on, where the totals do not fall.
-fn cells_of(totals: &[u64], place: usize, count: usize) -> Option<u64>
+fn cells_of(totals: &[u128], place: usize, count: usize) -> Option<u128>
     requires { place + count < length totals.now }
     ensures { IfSome result (λ cells. (d : ℕ) → cells ≡
         slice_index_or totals.now (place + count) d - slice_index_or totals.now place d) }
@@ -12,7 +12,7 @@ fn cells_of(totals: &[u64], place: usize, count: usize) -> Option<u64>
 }
 
 /// Whether `greater` times `count` is more than `lesser` times `count + 1`. False where these are too large.
-fn is_more(count: u64, greater: u64, lesser: u64) -> bool
+fn is_more(count: u128, greater: u128, lesser: u128) -> bool
     ensures { IsTrue result → (count + 1) * lesser < count * greater }
 {
     let Some(high) = greater.checked_mul(count) else {
@@ -28,7 +28,7 @@ fn is_more(count: u64, greater: u64, lesser: u64) -> bool
 }
 
 /// Whether `count` stretches from the place `greater` on have too many cells, compared with `count` stretches from `lesser` on.
-fn are_uneven(totals: &[u64], count: usize, greater: usize, lesser: usize) -> bool
+fn are_uneven(totals: &[u128], count: usize, greater: usize, lesser: usize) -> bool
     requires greater { greater + count < length totals.now }
     requires lesser { lesser + count < length totals.now }
     ensures { IsTrue result → IsUneven totals.now }
@@ -39,13 +39,13 @@ fn are_uneven(totals: &[u64], count: usize, greater: usize, lesser: usize) -> bo
     let Some(less) = cells_of(totals, lesser, count) else {
         return false;
     };
-    is_more(count as u64, more, less)
+    is_more(count as u128, more, less)
 }
 
 /// Whether some of the last stretches have too many cells, compared with equally many of the first, for what recurs within a
 /// stretch, or the first compared with the last. The totals before each stretch and after the last are given. A negative answer
 /// means nothing.
-pub fn is_uneven(totals: &[u64]) -> bool
+pub fn is_uneven(totals: &[u128]) -> bool
     ensures { IsTrue result → IsUneven totals.now }
 {
     for count in 1..totals.len() {

@@ -3,7 +3,7 @@ use life_strays::is_uneven;
 use std::process::Abort;
 
 /// The totals before each stretch and after the last, and whether they are too uneven.
-const TOTALS: &[(&[u64], bool)] = &[
+const TOTALS: &[(&[u128], bool)] = &[
     (&[], false),
     (&[0], false),
     (&[0, 10], false),

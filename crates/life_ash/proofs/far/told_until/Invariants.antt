@@ -1,17 +1,20 @@
-use Rattle.std.proofs.Common.{◌≡◌, ◌+◌, ◌-◌, ◌*◌, ◌≤◌, length}
-use Rattle.life_model.specs.Evolution.{generation}
-use Rattle.life_strays.specs.Totals.{AreTotals, total}
+use Rattle.std.proofs.Common.{◌≡◌, ◌+◌, ◌*◌, ◌^◌, ◌≤◌}
+use Rattle.life_model.specs.Generation.{Generation}
+use Rattle.life_ash.specs.Counted.{IsPast}
+use Rattle.life_ash.specs.Parts.{ash_age_limit}
 use Rattle.life_ash.proofs.far.told_until.Given as goal
 
--- the plane is `age - bound` generations after the bound; the cells of all of them so far are counted, also up to each stretch
-abbrev pub invariant-loop-age : goal.invariant-loop-age
-invariant-loop-age g l = record {
-  aged : g.P.Plane.steps_made l.later ≡ l.age;
-  past : l.initial.met.bound ≤ l.age;
-  same : l.met ≡ l.initial.met;
-  members : g.P.Plane.members l.later
-      ≡ generation l.initial.met.rule (g.P.Plane.members l.fn.plane) (l.age - l.initial.met.bound);
-  counted : l.total ≡ total l.initial.met.rule (g.P.Plane.members l.fn.plane) (l.age - l.initial.met.bound);
-  totals : AreTotals l.initial.met.rule l.initial.met.bound (g.P.Plane.members l.fn.plane) l.totals.items;
-  stretch : length l.totals.items * l.initial.met.bound ≡ (l.age - l.initial.met.bound) + l.left;
-}
+-- the plane is a generation past the bound, and those before it are counted
+abbrev pub invariant-stretches : goal.invariant-stretches
+invariant-stretches g l =
+    let R = l.initial.met.rule in
+    let b = l.initial.met.bound in
+    record {
+      past : b ≤ g.P.Plane.steps_made l.plane;
+      young : g.P.Plane.steps_made l.plane ≤ ash_age_limit + 1;
+      same : l.met ≡ l.initial.met;
+      small : l.totals.total ≤ g.P.Plane.steps_made l.plane * 2 ^ 64;
+      counted : (G : Generation) →
+          IsPast R b G (g.P.Plane.steps_made l.initial.plane) (g.P.Plane.members l.initial.plane) l.initial.totals →
+          IsPast R b G (g.P.Plane.steps_made l.plane) (g.P.Plane.members l.plane) l.totals;
+    }
