@@ -1,4 +1,4 @@
-use Rattle.std.proofs.Common.{◌≡◌, false, true, None, Option, Some, IfNone, IfSome, sym, subst, arith}
+use Rattle.std.proofs.Common.{false, true, sym, subst, arith}
 use Rattle.std.specs.List.{All}
 use Rattle.std.proofs.lemmas.Result.{IfOk-weaker}
 use Rattle.life_objects.specs.Limits.{objects_bound_limit}
@@ -12,12 +12,6 @@ use Rattle.life_census.specs.Counted.{CountsAs}
 use Rattle.life_census.proofs.MovedCodes.{counts_everywhere}
 use Rattle.life_census.proofs.PartsFound.{counts_as_parts, counts_as_whole}
 use Rattle.life_census.proofs.counted.codes_of.Goals as goal
-
-some_at : {A : Type 0} (P : A → Type 0) (o : Option A) (x : A) → o ≡ Some x → IfSome o P → P x
-some_at P o x e = subst (λ r. IfSome r P) e
-
-none_at : {A : Type 0} (P : Type 0) (o : Option A) → o ≡ None → IfNone o P → P
-none_at P o e = subst (λ r. IfNone r P) e
 
 pub part_orbits-requires : goal.part_orbits-requires
 part_orbits-requires c = record {
@@ -34,8 +28,9 @@ returns-then-near c =
 
 pub codes_in_order-requires : goal.codes_in_order-requires
 codes_in_order-requires c = record {
-  within = subst (All IsPlaced) (sym c.as_slice.ensures.value)
-      (some_at _ c.in_ok-parts.field-0 c.in-Some.parts c.in-Some.is c.in_ok-parts.ensures.within ash_age_limit c.requires.within);
+  within =
+      let placed = rw c.in-Some.is at c.in_ok-parts.ensures.within in
+      subst (All IsPlaced) (sym c.as_slice.ensures.value) (placed ash_age_limit c.requires.within);
 }
 
 pub returns-in-Some : goal.returns-in-Some
@@ -43,9 +38,9 @@ returns-in-Some c =
     let o = c.args.orbit.now in
     let same = sym c.as_slice.ensures.value in
     let are = subst (λ os. AreIndependentParts o.rule o.set (sets_of os)) same
-    (some_at _ c.in_ok-parts.field-0 c.in-Some.parts c.in-Some.is c.in_ok-parts.ensures.parts) in
+    (rw c.in-Some.is at c.in_ok-parts.ensures.parts) in
     let within = subst (All (IsCourseWithin o.rule objects_bound_limit)) same
-    (some_at _ c.in_ok-parts.field-0 c.in-Some.parts c.in-Some.is c.in_ok-parts.ensures.courses) in
+    (rw c.in-Some.is at c.in_ok-parts.ensures.courses) in
     IfOk-weaker c.codes_in_order.result _ _
     (λ codes is.
     subst (λ near. CountsAs near o.rule o.set codes.items) (sym c.if-near.false)
@@ -60,4 +55,4 @@ returns-in-None c =
     subst (λ near. CountsAs near o.rule o.set codes.items) (sym c.if-near.false)
     (counts_everywhere false o c.requires.course codes.items
     (counts_as_whole o codes.items c.requires.course
-    (none_at _ c.in_ok-parts.field-0 c.in-None.is c.in_ok-parts.ensures.none) is))) c.one_code-in-None.ensures
+    (rw c.in-None.is at c.in_ok-parts.ensures.none) is))) c.one_code-in-None.ensures
