@@ -8,16 +8,11 @@ use Rattle.life_census.proofs.SmallEnough.{AreFewBefore, allowed_all, allowed_an
 use Rattle.life_census.proofs.allowed.allowed_bound.Goals as goal
 
 pub loop-n-init : goal.loop-n-init
-loop-n-init g c =
-    let R = c.args.rule.now in
-    let G = c.args.cells.now in
-    let leapt = c.in_ok-leapt.ensures in
-    let reached = c.age-n.ensures.age in
-    record {
-      cells = c.in_ok-plane.ensures.cells ∙ c.in_ok-cells.ensures ∙ leapt.cells ∙ ap (generation R G) (sym reached);
-      age = c.in_ok-plane.ensures.age ∙ c.age.ensures.age ∙ sym reached;
-      few = subst (AreFewBefore R G c.in-Some.most) (sym reached) leapt.few;
-    }
+loop-n-init g c = record {
+  cells = c.in_ok-plane.ensures.cells ∙ sym (generation-zero _ _);
+  age = c.in_ok-plane.ensures.age;
+  few = λ m h. absurd (omega arith);
+}
 
 pub loop-n-preserved : goal.loop-n-preserved
 loop-n-preserved g c =
@@ -63,8 +58,6 @@ returns g c =
     let n = c.loop-n.n in
     let ended = c.loop-n-test.false in
     let reached = c.loop-n.auto.n-end in
-    let began = c.age-n.ensures.age in
-    let within = c.in_ok-leapt.ensures.last in
     let same : n ≡ 4 * b + 1 = omega arith in
     sym (ap (λ limit. allowed_bound limit R G b) c.in-Some.is
     ∙ allowed_all R G c.in-Some.most b c.requires.bound.0 (subst (AreFewBefore R G c.in-Some.most) same c.loop-n.invariant.few))
