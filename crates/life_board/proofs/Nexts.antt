@@ -8,10 +8,7 @@ use Rattle.life_model.specs.Cell.{Cell, around, IsNear}
 use Rattle.life_model.specs.Generation.{Generation, contains}
 use Rattle.life_model.specs.Evolution.{next}
 use Rattle.life_model.proofs.Generations.{same_members}
-use Rattle.life_model.proofs.Near.{next_near}
 use Rattle.life_plane.specs.declared.tile.Tile.{Tile}
-use Rattle.life_cells.specs.Limits.{IsWithin}
-use Rattle.life_cells.proofs.Within.{within_near}
 use Rattle.life_plane.specs.Bits.{next_state}
 use Rattle.life_plane.specs.Area.{three_wide, area_cell, sum_around, tile_cell, next_in_area}
 use Rattle.life_plane.proofs.Strips.{strip_low, strip_middle, strip_high}
@@ -195,10 +192,3 @@ module _ (left top : ℤ) (tile : Tile) where
           ap (contains (shown left top after)) is
           ∙ same_flag _ _ (state_inside left top after x y wide high ∙ worked x y wide high ∙ next_alone rule x y wide high)
           ∙ sym (ap (contains (next rule here)) is)
-
--- no cell of the next generation is further than one from the cells of this one
-pub within_next : (rule : Rule) (G H : Generation) (age : ℕ) → H ≡ next rule G → ((q : Cell) → contains G q ≡ true → IsWithin age q) →
-    (q : Cell) → contains H q ≡ true → IsWithin (age + 1) q
-within_next rule G H age is before q live =
-    let near = next_near rule G q (sym (ap (λ (K : Generation). contains K q) is) ∙ live) in
-    within_near age near.0 q (before near.0 near.1) near.2

@@ -6,9 +6,8 @@ use Rattle.life_model.specs.Rule.{Rule}
 use Rattle.life_model.specs.Generation.{Generation, contains, from_list, cells}
 use Rattle.life_model.specs.Evolution.{generation, next}
 use Rattle.life_model.proofs.Cells.{pair}
-use Rattle.life_model.proofs.Near.{next_near}
 use Rattle.life_cells.specs.Limits.{IsWithin}
-use Rattle.life_cells.proofs.Within.{within_near}
+use Rattle.life_cells.proofs.Within.{within_next}
 use Rattle.life_advance.specs.Leaps.Planes.{farthest_age}
 use Rattle.life_slots.proofs.Orders.{true_or_false}
 use Rattle.life_advance.specs.declared.leaps.leaping.Leaper.{Leaper}
@@ -35,19 +34,14 @@ same_cells v w kept extends n i at p =
 
 -- ---- places at an age
 
-pub within_next : (rule : Rule) (G : Generation) (age : ℕ) → ((q : Cell) → contains G q ≡ true → IsWithin age q) → (q : Cell) → contains (next rule G) q ≡ true → IsWithin (suc age) q
-within_next rule G age before q live =
-    let near = next_near rule G q live in
-    subst (λ a. IsWithin a q) (let e : age + 1 ≡ suc age = omega arith in e) (within_near age near.0 q (before near.0 near.1) near.2)
-
 pub within_generation : (rule : Rule) (G : Generation) (age t : ℕ) → ((q : Cell) → contains G q ≡ true → IsWithin age q) →
     (q : Cell) → contains (generation rule G t) q ≡ true → IsWithin (t + age) q
 unfolding generation
 within_generation rule G age zero before q live = let P : ℕ → Type 0 = λ a. IsWithin a q in let e : age ≡ 0 + age = omega arith in subst P e (before q live)
 within_generation rule G age (suc t) before q live =
     let P : ℕ → Type 0 = λ a. IsWithin a q in
-    let e : suc (t + age) ≡ suc t + age = omega arith in
-    subst P e (within_next rule (generation rule G t) (t + age) (λ c h. within_generation rule G age t before c h) q live)
+    let e : t + age + 1 ≡ suc t + age = omega arith in
+    subst P e (within_next rule (generation rule G t) (generation rule G (suc t)) (t + age) refl (λ c h. within_generation rule G age t before c h) q live)
 
 offset : (d : ℤ) → pos 0 ≤ℤ d → d <ℤ pos 33554432 → (x : ℕ) × (x < 33554432) × (d ≡ pos x)
 offset (pos n) low high = (n, omega (arith, ints), refl)

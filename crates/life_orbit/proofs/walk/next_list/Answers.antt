@@ -3,7 +3,7 @@ use Rattle.life_model.specs.Evolution.{next}
 use Rattle.life_model.specs.Generation.{cells}
 use Rattle.life_model.proofs.Generations.{contains-cells}
 use Rattle.life_cells.specs.Limits.{IsWithin}
-use Rattle.life_board.proofs.Nexts.{within_next}
+use Rattle.life_cells.proofs.Within.{within_next}
 use Rattle.life_model.proofs.Members.{of_all_members, of_member}
 use Rattle.life_orbit.proofs.walk.next_list.Goals as goal
 

@@ -1,6 +1,7 @@
 use Rattle.std.proofs.Common.{◌∙◌, arith}
 use Rattle.life_board.specs.Squares.{members_of, shown}
-use Rattle.life_board.proofs.Nexts.{next_shown, within_next}
+use Rattle.life_cells.proofs.Within.{within_next}
+use Rattle.life_board.proofs.Nexts.{next_shown}
 use Rattle.life_board.proofs.small.Square.advance.Goals as goal
 
 pub shrink-requires : goal.shrink-requires
