@@ -71,7 +71,7 @@ fn orbits_of<P: Plane>(
         if class.first.len() > LARGE && !comes_again::<P>(alloc, &class.first, &rule, most)? {
             return Ok(None);
         }
-        match known.orbit_of(alloc, &class.first, tried)? {
+        match known.orbit_of::<P>(alloc, &class.first, tried)? {
             Some(orbit) => orbits.push(orbit)?,
             None => return Ok(None),
         }

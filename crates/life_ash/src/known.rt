@@ -9,6 +9,7 @@ ghost use Rattle.life_ash.specs.Met.{IsMet, Terms};
 
 use life_cells::{CellList, Rule};
 use life_orbit::{BOUND_LIMIT, Orbit};
+use life_plane::Plane;
 use std::alloc::{AllocError, Global};
 use std::marker::Model;
 
@@ -104,7 +105,7 @@ impl Known {
 
     /// The orbit of a set, where it recurs within `tried` generations, which are no more than the bound. It is worked out where
     /// no orbit of this set, moved as a whole, is kept; one that is kept may have a longer period, but within the bound.
-    pub fn orbit_of(
+    pub fn orbit_of<P: Plane>(
         &mut self,
         alloc: Global,
         cells: &CellList,
@@ -122,7 +123,7 @@ impl Known {
         if let Some(orbit) = moved_orbit(alloc, &self.orbits, cells)? {
             return Ok(Some(orbit));
         }
-        let Some(orbit) = Orbit::of(alloc, &self.rule, cells, tried)? else {
+        let Some(orbit) = Orbit::of::<P>(alloc, &self.rule, cells, tried)? else {
             return Ok(None);
         };
         keep(alloc, &mut self.orbits, &orbit)?;

@@ -48,7 +48,7 @@ fn is_within(set: &CellList, cells: &CellList) -> bool
 }
 
 /// Whether a set recurs, and what it was `known.bound()` generations ago is not among these cells.
-fn is_new(
+fn is_new<P: Plane>(
     alloc: Global,
     known: &mut Known,
     set: &CellList,
@@ -61,7 +61,7 @@ fn is_new(
         return Ok(false);
     }
     let bound = known.bound();
-    let Some(orbit) = known.orbit_of(alloc, set, bound.min(TRIED))? else {
+    let Some(orbit) = known.orbit_of::<P>(alloc, set, bound.min(TRIED))? else {
         return Ok(false);
     };
     match set_before(alloc, &orbit, bound)? {
@@ -97,7 +97,7 @@ fn newcomers<P: Plane>(
     let all = classes_of(alloc, plane, &rule, short)?;
     let mut sets = Vec::new(alloc);
     for class in all.as_slice() {
-        if sets.len() < MANY && is_new(alloc, known, &class.first, now)? {
+        if sets.len() < MANY && is_new::<P>(alloc, known, &class.first, now)? {
             sets.push(copied(alloc, &class.first)?)?;
         }
     }
@@ -148,7 +148,7 @@ fn tells<P: Plane>(
     if end.is_empty() {
         return Ok(false);
     }
-    match part_of(alloc, known, &end, 2 * bound)? {
+    match part_of::<P>(alloc, known, &end, 2 * bound)? {
         Some(part) => Ok(!is_within(part.set(), now)),
         None => Ok(true),
     }

@@ -21,7 +21,7 @@ use life_plane::Plane;
 use std::alloc::{AllocError, Global};
 
 /// The only set that may have become this one after `ago` generations and that recurs within the bound.
-pub fn part_of(
+pub fn part_of<P: Plane>(
     alloc: Global,
     known: &mut Known,
     last: &CellList,
@@ -38,13 +38,13 @@ pub fn part_of(
         IsEnd known.old.rule known.old.bound ago last.now P → ⊥)) }
 {
     let bound = known.bound();
-    let Some(orbit) = known.orbit_of(alloc, last, bound)? else {
+    let Some(orbit) = known.orbit_of::<P>(alloc, last, bound)? else {
         return Ok(None);
     };
     let Some(set) = set_before(alloc, &orbit, ago)? else {
         return Ok(None);
     };
-    known.orbit_of(alloc, &set, bound)
+    known.orbit_of::<P>(alloc, &set, bound)
 }
 
 /// The only sets that may have become these ones. No generations are kept of a set that does not recur.
@@ -72,7 +72,7 @@ fn parts_of<P: Plane>(
         if !comes_again::<P>(alloc, last, &rule, bound)? {
             return Ok(None);
         }
-        match part_of(alloc, known, last, ago)? {
+        match part_of::<P>(alloc, known, last, ago)? {
             Some(part) => parts.push(part)?,
             None => return Ok(None),
         }

@@ -7,6 +7,7 @@ ghost use Rattle.life_census.specs.Courses.{course_code};
 
 use crate::code::code_of;
 use life_answer::Code;
+use life_board::Board;
 use life_islands::part_orbits;
 use life_orbit::Orbit;
 use std::alloc::{AllocError, Global};
@@ -45,7 +46,7 @@ pub fn codes_of(alloc: Global, orbit: &Orbit, near: bool) -> Result<Vec<Code>, A
     if near {
         return one_code(alloc, orbit);
     }
-    match part_orbits(alloc, orbit)? {
+    match part_orbits::<Board>(alloc, orbit)? {
         Some(parts) => codes_in_order(alloc, parts.as_slice()),
         None => one_code(alloc, orbit),
     }

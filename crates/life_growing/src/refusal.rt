@@ -68,12 +68,16 @@ fn keep_falling_back(counts: &[u64], bound: usize) -> bool
 }
 
 /// Whether the cells are seen to recur soon.
-fn come_again_soon(alloc: Global, rule: &Rule, cells: &CellList) -> Result<bool, AllocError>
+fn come_again_soon<P: Plane>(
+    alloc: Global,
+    rule: &Rule,
+    cells: &CellList,
+) -> Result<bool, AllocError>
     requires { All (IsWithin orbit_age_limit) (generations.cells cells.now) }
     ensures { IfOk result (λ do_so. OnTrue do_so
         ((p : ℕ) × (d : Cell) × RecursBy rule.now cells.now p d)) }
 {
-    match Orbit::of(alloc, rule, cells, SOON)? {
+    match Orbit::of::<P>(alloc, rule, cells, SOON)? {
         Some(_) => Ok(true),
         None => Ok(false),
     }
@@ -94,7 +98,7 @@ pub fn are_no_engine<P: Plane>(
     requires within { All (IsWithin age) (generations.cells cells.now) }
     ensures { IfOk result (λ no. OnTrue no (IsEngineWithin rule.now bound cells.now → ⊥)) }
 {
-    if come_again_soon(alloc, rule, cells)? {
+    if come_again_soon::<P>(alloc, rule, cells)? {
         return Ok(true);
     }
     let counts = populations::<P>(alloc, rule, cells, age, bound + bound)?;

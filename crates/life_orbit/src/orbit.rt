@@ -12,6 +12,7 @@ use crate::hull::{Hull, hull_of};
 use crate::moving::moved_sets;
 use crate::walk::{copied, next_list, offset};
 use life_cells::{CellList, Rule, corner};
+use life_plane::Plane;
 use std::alloc::{AllocError, Global};
 use std::marker::Model;
 
@@ -52,7 +53,7 @@ impl Model for Orbit {
 
 impl Orbit {
     /// The orbit of a set, where it recurs within the bound.
-    pub fn of(
+    pub fn of<P: Plane>(
         alloc: Global,
         rule: &Rule,
         cells: &CellList,
@@ -70,7 +71,7 @@ impl Orbit {
         let mut phases = Vec::new(alloc);
         let mut phase = copied(alloc, cells)?;
         for taken in 0..bound {
-            let next = next_list(alloc, rule, &phase)?;
+            let next = next_list::<P>(alloc, rule, &phase)?;
             phases.push(phase)?;
             if let Some(displacement) = offset(cells, &next) {
                 let hull = hull_of(corner(cells.as_slice()), phases.as_slice());

@@ -5,7 +5,6 @@ ghost use Rattle.life_model.specs.Generation as generations;
 ghost use Rattle.life_cells.specs.Limits.{IsWithin, age_limit};
 ghost use Rattle.life_plane.specs.Offsets.{AreNotTranslates, IsOffset};
 
-use life_board::Board;
 use life_cells::{CellList, Rule};
 use life_plane::{AGE_LIMIT, Plane, offset_between};
 use std::alloc::{AllocError, Global};
@@ -18,14 +17,18 @@ pub fn copied(alloc: Global, cells: &CellList) -> Result<CellList, AllocError>
 }
 
 /// The next generation.
-pub fn next_list(alloc: Global, rule: &Rule, cells: &CellList) -> Result<CellList, AllocError>
+pub fn next_list<P: Plane>(
+    alloc: Global,
+    rule: &Rule,
+    cells: &CellList,
+) -> Result<CellList, AllocError>
     requires { All (IsWithin (age_limit - 1)) (generations.cells cells.now) }
     ensures next { IfOk result (λ later. later ≡ next rule.now cells.now) }
     ensures within { IfOk result
         (λ later. (a : ℕ) → All (IsWithin a) (generations.cells cells.now) →
         All (IsWithin (a + 1)) (generations.cells later)) }
 {
-    let mut plane = Board::at_age(alloc, cells, AGE_LIMIT - 1)?;
+    let mut plane = P::at_age(alloc, cells, AGE_LIMIT - 1)?;
     plane.step(rule)?;
     let later = plane.cells()?;
     Ok(later)

@@ -11,10 +11,15 @@ ghost use Rattle.life_islands.specs.Split.Courses.{IsCourseWithin};
 use crate::split::splitting::independent_parts;
 use life_cells::CellList;
 use life_orbit::{BOUND_LIMIT, Orbit};
+use life_plane::Plane;
 use std::alloc::{AllocError, Global};
 
 /// The orbit of a part of an orbit's set. A part that is the whole set is not followed again: its orbit is a copy.
-fn part_orbit(alloc: Global, orbit: &Orbit, part: &CellList) -> Result<Option<Orbit>, AllocError>
+fn part_orbit<P: Plane>(
+    alloc: Global,
+    orbit: &Orbit,
+    part: &CellList,
+) -> Result<Option<Orbit>, AllocError>
     requires within { All (IsWithin orbit_age_limit) (generations.cells part.now) }
     ensures set { IfOk result (λ found. IfSome found (λ one. one.set ≡ part.now)) }
     ensures course { IfOk result
@@ -28,11 +33,11 @@ fn part_orbit(alloc: Global, orbit: &Orbit, part: &CellList) -> Result<Option<Or
         return Ok(Some(copy));
     }
     let rule = orbit.rule();
-    Orbit::of(alloc, &rule, part, BOUND_LIMIT)
+    Orbit::of::<P>(alloc, &rule, part, BOUND_LIMIT)
 }
 
 /// The orbits of parts of an orbit's set, in their order, where each of them recurs within 100,000 generations.
-fn orbits_of(
+fn orbits_of<P: Plane>(
     alloc: Global,
     orbit: &Orbit,
     parts: &[CellList],
@@ -47,7 +52,7 @@ fn orbits_of(
 {
     let mut orbits = Vec::new(alloc);
     for part in parts {
-        match part_orbit(alloc, orbit, part)? {
+        match part_orbit::<P>(alloc, orbit, part)? {
             Some(found) => orbits.push(found)?,
             None => return Ok(None),
         }
@@ -58,7 +63,7 @@ fn orbits_of(
 /// The independent parts of the set of an orbit, each once, in no promised order, as orbits with their own least period and
 /// displacement. `None` exactly where one of them has a period of more than 100,000 generations, as parts that change places may
 /// have.
-pub fn part_orbits(alloc: Global, orbit: &Orbit) -> Result<Option<Vec<Orbit>>, AllocError>
+pub fn part_orbits<P: Plane>(alloc: Global, orbit: &Orbit) -> Result<Option<Vec<Orbit>>, AllocError>
     requires within { All (IsWithin orbit_age_limit) (generations.cells orbit.now.set) }
     ensures parts { IfOk result (λ found. IfSome found (λ parts.
         AreIndependentParts orbit.now.rule orbit.now.set (map (λ part. part.set) parts.items))) }
@@ -72,5 +77,5 @@ pub fn part_orbits(alloc: Global, orbit: &Orbit) -> Result<Option<Vec<Orbit>>, A
         All (RecursWithin orbit.now.rule BOUND_LIMIT) parts → ⊥)) }
 {
     let parts = independent_parts(alloc, orbit)?;
-    orbits_of(alloc, orbit, parts.as_slice())
+    orbits_of::<P>(alloc, orbit, parts.as_slice())
 }
