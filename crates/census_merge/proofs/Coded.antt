@@ -23,7 +23,7 @@ use Rattle.life_answer.specs.declared.question.Question.{Question}
 use Rattle.life_answer.specs.declared.question.Question.TheVariants.{Objects, Settles}
 use Rattle.life_answer.specs.declared.tale.Engines.{Engines}
 use Rattle.life_answer.specs.Told.{growth_told, told_of_engines}
-use Rattle.life_objects.specs.Growth.Fates.Decided.{growth_of}
+use Rattle.life_growth.specs.Fates.Decided.{growth_of}
 use Rattle.life_objects.specs.Decided.Decided.{ash_of}
 use Rattle.life_model.specs.Evolution.{generation}
 use Rattle.life_model.specs.Generation.{Generation}

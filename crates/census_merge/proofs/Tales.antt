@@ -10,8 +10,8 @@ use Rattle.life_answer.specs.Told.{told_of_engines}
 use Rattle.life_answer.specs.declared.part.Part.{Part}
 use Rattle.life_answer.specs.declared.tale.Engines.{Engines}
 use Rattle.life_answer.specs.declared.tale.Tale.{Tale}
-use Rattle.life_objects.specs.Growth.Engines.Tracks.{Step}
-use Rattle.life_objects.specs.Growth.Fates.Tracks.{emitted_along, track_of}
+use Rattle.life_growth.specs.Engines.Tracks.{Step}
+use Rattle.life_growth.specs.Fates.Tracks.{emitted_along, track_of}
 use Rattle.life_model.specs.Generation.{Generation}
 use Rattle.life_model.specs.Rule.{Rule}
 use Rattle.census_merge.proofs.Solid.{each-map}

@@ -11,18 +11,18 @@ use Rattle.life_objects.proofs.Beginning.{one_onset}
 use Rattle.life_objects.specs.Decided.Decided.{ash_of}
 use Rattle.life_objects.proofs.DecidedLemmas.Deciding.{ash_if_found}
 use Rattle.life_objects.proofs.DecidedLemmas.Lasting.{parts_found}
-use Rattle.life_objects.specs.Growth.Growth.{IsGrowth}
-use Rattle.life_objects.proofs.GrowthLemmas.Alike.{count_later, later_ashes_are_alike}
-use Rattle.life_objects.proofs.GrowthLemmas.Lasting.{growth_later, shed}
-use Rattle.life_objects.proofs.GrowthLemmas.OneGrowth.{not_both}
-use Rattle.life_objects.proofs.GrowthLemmas.Settling.{settles_later}
+use Rattle.life_growth.specs.Growth.{IsGrowth}
+use Rattle.life_growth.proofs.Alike.{count_later, later_ashes_are_alike}
+use Rattle.life_growth.proofs.Lasting.{growth_later, shed}
+use Rattle.life_growth.proofs.OneGrowth.{not_both}
+use Rattle.life_growth.proofs.Settling.{settles_later}
 use Rattle.life_answer.specs.Census.{ash_onset, census_found, census_of, counted_parts}
 use Rattle.life_answer.specs.declared.finding.Outcome.TheVariants.{Ash, Unresolved}
 use Rattle.life_answer.specs.declared.part.Part.{Part}
 use Rattle.life_answer.proofs.AlikeCounts.{counted_alike}
 use Rattle.life_answer.proofs.CountedSets.{counted_in_any_order}
 use Rattle.life_answer.proofs.Onsets.{onset_of_census}
-use Rattle.life_objects.proofs.GrowthLemmas.FatesLemmas.Finding.{cases_Option}
+use Rattle.life_growth.proofs.FatesLemmas.Finding.{cases_Option}
 
 module _ (near : Bool) (R : Rule) where
   -- ---- what is found is right

@@ -8,8 +8,8 @@ use Rattle.life_model.specs.Evolution.{generation}
 use Rattle.life_model.proofs.Recurrences.{generation-zero}
 use Rattle.life_objects.specs.Ash.{HasFallenApart}
 use Rattle.life_objects.specs.Decided.Decided.{ash_of}
-use Rattle.life_objects.specs.Growth.Growth.{IsGrowth}
-use Rattle.life_objects.proofs.GrowthLemmas.OneGrowth.{engine_of, some_element}
+use Rattle.life_growth.specs.Growth.{IsGrowth}
+use Rattle.life_growth.proofs.OneGrowth.{engine_of, some_element}
 use Rattle.life_answer.specs.Census.{ash_onset, census_found, census_of}
 use Rattle.life_answer.specs.Growing.{allowed_bound, growing_or}
 use Rattle.life_answer.specs.Limited.{StaysWithin, first_past, outcome_unless_large, unless_large}
@@ -22,7 +22,7 @@ use Rattle.life_answer.specs.declared.question.Question.TheVariants.{Objects}
 use Rattle.life_answer.specs.declared.tale.Engines.{Engines}
 use Rattle.life_answer.proofs.Ashes.{ash_is_so, ash_no_growth}
 use Rattle.life_answer.proofs.Limits.{none_past-is}
-use Rattle.life_objects.proofs.GrowthLemmas.FatesLemmas.Finding.{cases_Option}
+use Rattle.life_growth.proofs.FatesLemmas.Finding.{cases_Option}
 use Rattle.life_answer.proofs.Told.{growth_is_so, growth_later_told, told_alike, told_nothing}
 
 is_there : (o : Option ℕ) → is_none o ≡ true → o ≡ None

@@ -13,8 +13,8 @@ use Rattle.life_model.proofs.Symmetries.{contains-moved}
 use Rattle.life_objects.proofs.Unions.{contains-union}
 use Rattle.life_objects.specs.Decided.Parts.{reach}
 use Rattle.life_objects.proofs.DecidedLemmas.Reaching.{IsReached, reached_now}
-use Rattle.life_objects.specs.Growth.Engine.{IsEngine, Way}
-use Rattle.life_objects.proofs.GrowthLemmas.OneGrowth.{IsUnsplit-engine}
+use Rattle.life_growth.specs.Engine.{IsEngine, Way}
+use Rattle.life_growth.proofs.OneGrowth.{IsUnsplit-engine}
 
 -- a is no more than n from b, across and along
 record IsWithin (n : ℕ) (a b : Cell) : Type 0 where

@@ -13,9 +13,9 @@ use Rattle.life_objects.specs.Union.{union_of}
 use Rattle.life_objects.specs.Independent.Independent.{independent_parts_of}
 use Rattle.life_objects.proofs.IndependentLemmas.Finest.{are_the_parts}
 use Rattle.life_objects.proofs.IndependentLemmas.Found.{of_map}
-use Rattle.life_objects.specs.Growth.Engine.{Emits, IsEngine, Way, joined}
-use Rattle.life_objects.proofs.GrowthLemmas.Emitting.{emits_some}
-use Rattle.life_objects.proofs.GrowthLemmas.OneGrowth.{engine_of, some_element}
+use Rattle.life_growth.specs.Engine.{Emits, IsEngine, Way, joined}
+use Rattle.life_growth.proofs.Emitting.{emits_some}
+use Rattle.life_growth.proofs.OneGrowth.{engine_of, some_element}
 use Rattle.life_answer.specs.Census.{counted_parts, part_code}
 use Rattle.life_answer.specs.Counted.{all_come_again, code_bound, counted_of}
 use Rattle.life_answer.specs.CountedTales.{counted_tales, engines_in, same_tale}

@@ -10,12 +10,12 @@ use Rattle.life_model.specs.Evolution.{generation}
 use Rattle.life_objects.specs.Ash.{HasFallenApart, IsObject}
 use Rattle.life_objects.specs.Kinds.{AreAlike}
 use Rattle.life_objects.proofs.Lists.{Contains-head, Contains-later}
-use Rattle.life_objects.specs.Growth.Engine.{IsEngineWithin}
-use Rattle.life_objects.specs.Growth.Growth.{IsGrowth}
-use Rattle.life_objects.specs.Growth.Told.{EmitsOver, emitted_by}
-use Rattle.life_objects.proofs.GrowthLemmas.Alike.{count_by-append}
-use Rattle.life_objects.proofs.GrowthLemmas.Counting.{debris_rises}
-use Rattle.life_objects.proofs.GrowthLemmas.Emitting.{emits_some}
+use Rattle.life_growth.specs.Engine.{IsEngineWithin}
+use Rattle.life_growth.specs.Growth.{IsGrowth}
+use Rattle.life_growth.specs.Told.{EmitsOver, emitted_by}
+use Rattle.life_growth.proofs.Alike.{count_by-append}
+use Rattle.life_growth.proofs.Counting.{debris_rises}
+use Rattle.life_growth.proofs.Emitting.{emits_some}
 use Rattle.life_answer.specs.Census.{counted_parts}
 use Rattle.life_answer.specs.Parts.{counted_codes}
 use Rattle.life_answer.specs.Rising.{number_of, risen}

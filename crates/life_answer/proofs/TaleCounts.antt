@@ -14,7 +14,7 @@ use Rattle.life_objects.proofs.Lists.{AllPairs-nil, Contains-head, Contains-late
 use Rattle.life_answer.specs.CountedTales.{counted_tales, same_tale, tale_cmp, with_tale, with_tale_by_order}
 use Rattle.life_answer.specs.declared.tale.Engines.{Engines}
 use Rattle.life_answer.specs.declared.tale.Tale.{Tale}
-use Rattle.life_objects.proofs.GrowthLemmas.FatesLemmas.Finding.{cases_Option}
+use Rattle.life_growth.proofs.FatesLemmas.Finding.{cases_Option}
 use Rattle.life_answer.proofs.TaleOrders.{same_by_test, tale_total, test_by_same}
 use Rattle.life_model.proofs.Tests.{first_holds, second_holds}
 

@@ -7,13 +7,13 @@ use Rattle.life_model.specs.Generation.{Generation}
 use Rattle.life_model.proofs.Cells.{pair}
 use Rattle.life_objects.specs.Ash.{IsObject}
 use Rattle.life_objects.specs.Kinds.{AreAlike}
-use Rattle.life_objects.specs.Growth.Engines.Tracks.{way_along}
-use Rattle.life_objects.specs.Growth.Engine.{Emits, IsEngine, IsEngineWithin, Way, joined}
-use Rattle.life_objects.specs.Growth.Told.{AreToldAlike}
-use Rattle.life_objects.proofs.GrowthLemmas.Emitting.{emits_some, emitted_alike}
-use Rattle.life_objects.proofs.GrowthLemmas.OneWay.{displacements_are_one, periods_are_one}
-use Rattle.life_objects.specs.Growth.Fates.Tracks.{emitted_along}
-use Rattle.life_objects.proofs.GrowthLemmas.FatesLemmas.Tracks.{its_track, track_emits, track_goes}
+use Rattle.life_growth.specs.Engines.Tracks.{way_along}
+use Rattle.life_growth.specs.Engine.{Emits, IsEngine, IsEngineWithin, Way, joined}
+use Rattle.life_growth.specs.Told.{AreToldAlike}
+use Rattle.life_growth.proofs.Emitting.{emits_some, emitted_alike}
+use Rattle.life_growth.proofs.OneWay.{displacements_are_one, periods_are_one}
+use Rattle.life_growth.specs.Fates.Tracks.{emitted_along}
+use Rattle.life_growth.proofs.FatesLemmas.Tracks.{its_track, track_emits, track_goes}
 use Rattle.life_answer.specs.Census.{counted_parts}
 use Rattle.life_answer.specs.Counted.{counted_of}
 use Rattle.life_answer.specs.Tales.{tale_along, tale_by, tale_of}

@@ -9,18 +9,18 @@ use Rattle.life_model.specs.Generation.{Generation}
 use Rattle.life_model.specs.Evolution.{generation}
 use Rattle.life_model.proofs.Recurrences.{generation-add, generation-zero}
 use Rattle.life_objects.specs.Union.{union, union_of}
-use Rattle.life_objects.specs.Growth.Growth.{IsGrowth}
-use Rattle.life_objects.proofs.GrowthLemmas.Lasting.{IsGrowth-wider, growth_later, shed}
-use Rattle.life_objects.specs.Growth.Fates.Decided.{growth_of}
-use Rattle.life_objects.proofs.GrowthLemmas.FatesLemmas.Growths.{growth_right, its_growth, none_found}
-use Rattle.life_objects.proofs.GrowthLemmas.FatesLemmas.Lasting.{told_later}
+use Rattle.life_growth.specs.Growth.{IsGrowth}
+use Rattle.life_growth.proofs.Lasting.{IsGrowth-wider, growth_later, shed}
+use Rattle.life_growth.specs.Fates.Decided.{growth_of}
+use Rattle.life_growth.proofs.FatesLemmas.Growths.{growth_right, its_growth, none_found}
+use Rattle.life_growth.proofs.FatesLemmas.Lasting.{told_later}
 use Rattle.life_answer.specs.CountedTales.{counted_tales}
 use Rattle.life_answer.specs.Tales.{tale_of}
 use Rattle.life_answer.specs.Told.{growth_told, told_of_engines}
 use Rattle.life_answer.specs.declared.tale.Engines.{Engines}
 use Rattle.life_answer.proofs.CountedTales.{counted-any_order}
 use Rattle.life_answer.proofs.Tales.{all_told_one}
-use Rattle.life_objects.proofs.GrowthLemmas.FatesLemmas.Finding.{cases_Option}
+use Rattle.life_growth.proofs.FatesLemmas.Finding.{cases_Option}
 
 module _ (near : Bool) (R : Rule) where
   engines_in_any_order : (b : ℕ) (Es Fs : List Generation) → IsPermutation Es Fs →

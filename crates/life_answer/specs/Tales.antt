@@ -2,9 +2,9 @@
 use Rattle.std.specs.Prelude.{ℕ, Bool, List, [], Option, Some, None, pos}
 use Rattle.life_model.specs.Rule.{Rule}
 use Rattle.life_model.specs.Generation.{Generation}
-use Rattle.life_objects.specs.Growth.Engine.{Way}
-use Rattle.life_objects.specs.Growth.Engines.Tracks.{Step, way_along}
-use Rattle.life_objects.specs.Growth.Fates.Tracks.{emitted_along, track_of}
+use Rattle.life_growth.specs.Engine.{Way}
+use Rattle.life_growth.specs.Engines.Tracks.{Step, way_along}
+use Rattle.life_growth.specs.Fates.Tracks.{emitted_along, track_of}
 use Rattle.life_answer.specs.Census.{counted_parts}
 use Rattle.life_answer.specs.declared.tale.Tale.{Tale}
 

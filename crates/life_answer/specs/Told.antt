@@ -2,7 +2,7 @@
 use Rattle.std.specs.Prelude.{ℕ, Bool, List, map, Option, option_map}
 use Rattle.life_model.specs.Rule.{Rule}
 use Rattle.life_model.specs.Generation.{Generation}
-use Rattle.life_objects.specs.Growth.Fates.Decided.{growth_of}
+use Rattle.life_growth.specs.Fates.Decided.{growth_of}
 use Rattle.life_answer.specs.CountedTales.{counted_tales}
 use Rattle.life_answer.specs.Tales.{tale_of}
 use Rattle.life_answer.specs.declared.tale.Engines.{Engines}

@@ -16,11 +16,11 @@ use Rattle.life_model.proofs.Generations.{contains-from_list, same_members, size
 use Rattle.life_model.proofs.Members.{in_cells}
 use Rattle.life_model.proofs.Near.{next_near}
 use Rattle.life_model.proofs.Recurrences.{generation-add, generation-next, generation-zero}
-use Rattle.life_objects.specs.Growth.Meeting.Listed.{numbers_below}
+use Rattle.life_growth.specs.Meeting.Listed.{numbers_below}
 use Rattle.life_objects.proofs.IndependentLemmas.Found.{Contains-flat_map}
 use Rattle.life_objects.proofs.Lists.{head_or_later}
-use Rattle.life_objects.proofs.GrowthLemmas.MeetingLemmas.Listed.{listed_below}
-use Rattle.life_objects.proofs.GrowthLemmas.MeetingLemmas.Reach.{mapped}
+use Rattle.life_growth.proofs.MeetingLemmas.Listed.{listed_below}
+use Rattle.life_growth.proofs.MeetingLemmas.Reach.{mapped}
 use Rattle.life_answer.specs.Limited.{IsAllowed}
 use Rattle.life_answer.proofs.Sizes.{size-from_list}
 use Rattle.life_ash.specs.Allowed.{AreAllowedBefore}

@@ -10,8 +10,8 @@ use Rattle.life_objects.specs.Ash.{IsObject}
 use Rattle.life_objects.specs.Kinds.{AreAlike}
 use Rattle.life_objects.specs.Union.{generations}
 use Rattle.life_objects.proofs.Many.{generations-zero}
-use Rattle.life_objects.specs.Growth.Engine.{Emits, Way, joined}
-use Rattle.life_objects.proofs.GrowthLemmas.Alike.{count_joined, sum_to-alike}
+use Rattle.life_growth.specs.Engine.{Emits, Way, joined}
+use Rattle.life_growth.proofs.Alike.{count_joined, sum_to-alike}
 use Rattle.life_answer.specs.Census.{counted_parts}
 use Rattle.life_answer.specs.Tales.{tale_of}
 use Rattle.life_answer.specs.declared.part.Part.{Part}

@@ -3,7 +3,7 @@ use Rattle.std.specs.Prelude.{ℕ, ◌≤◌, List, min}
 use Rattle.life_model.specs.Evolution.{generation}
 use Rattle.life_model.specs.Generation.{Generation}
 use Rattle.life_model.specs.Rule.{Rule}
-use Rattle.life_objects.specs.Growth.Growth.{IsGrowth}
+use Rattle.life_growth.specs.Growth.{IsGrowth}
 use Rattle.life_growing.specs.Growths.{Growth, IsGrowthOf}
 
 -- This is a growth of G within a bound up to the horizon.

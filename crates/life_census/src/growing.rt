@@ -6,7 +6,7 @@ ghost use Rattle.life_model.specs.Generation as generations;
 ghost use Rattle.life_cells.specs.Limits.{IsWithin};
 ghost use Rattle.life_ash.specs.Parts.{ash_age_limit};
 ghost use Rattle.life_answer.specs.Growing.{allowed_bound};
-ghost use Rattle.life_objects.specs.Growth.Growth.{IsGrowth};
+ghost use Rattle.life_growth.specs.Growth.{IsGrowth};
 ghost use Rattle.life_census.specs.Grown.{IsGrownWithin, IsSeenWithin, NeverGrows, NeverGrowsThen};
 
 use crate::allowed::allowed_bound;

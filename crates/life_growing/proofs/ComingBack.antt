@@ -18,12 +18,12 @@ use Rattle.life_apart.specs.Alone.{others_of}
 use Rattle.life_apart.proofs.Loners.{in_others, in_set_or_others}
 use Rattle.life_islands.proofs.Labelled.{listed_cell, place_in_list}
 use Rattle.life_plane.proofs.Offsets.{plus_back}
-use Rattle.life_objects.specs.Growth.Engine.{FallsApart, IsEngine, Way}
-use Rattle.life_objects.specs.Growth.Onward.{debris_after, endless}
-use Rattle.life_objects.proofs.GrowthLemmas.Endless.{core_first}
-use Rattle.life_objects.proofs.GrowthLemmas.Lasting.{core_from_debris, debris_falls_apart, engine_becomes}
-use Rattle.life_objects.proofs.GrowthLemmas.Outgrowing.{outgrows_itself}
-use Rattle.life_objects.proofs.GrowthLemmas.Parts.{disjoint_now}
+use Rattle.life_growth.specs.Engine.{FallsApart, IsEngine, Way}
+use Rattle.life_growth.specs.Onward.{debris_after, endless}
+use Rattle.life_growth.proofs.Endless.{core_first}
+use Rattle.life_growth.proofs.Lasting.{core_from_debris, debris_falls_apart, engine_becomes}
+use Rattle.life_growth.proofs.Outgrowing.{outgrows_itself}
+use Rattle.life_growth.proofs.Parts.{disjoint_now}
 use Rattle.life_growing.specs.Populations.{ArePopulations, FallsBack}
 use Rattle.life_cells.specs.Limits.{IsPlace}
 use Rattle.life_growing.specs.Returning.{ComesBackBy, IsMove}

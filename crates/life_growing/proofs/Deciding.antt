@@ -13,12 +13,12 @@ use Rattle.life_objects.specs.Piece.{LivesThrough}
 use Rattle.life_objects.proofs.Ashes.{parts_of_empty}
 use Rattle.life_objects.specs.Union.{generations, union_of}
 use Rattle.life_model.specs.Symmetry.{translate_of}
-use Rattle.life_objects.specs.Growth.Engine.{FallsApart, IsEngine, Way}
-use Rattle.life_objects.specs.Growth.Things.{AreThingsOfLefts, IsMadeOf, NeverMeetAgain, listed}
-use Rattle.life_objects.specs.Growth.Unsplit.{IsUnsplit}
-use Rattle.life_objects.proofs.GrowthLemmas.Endless.{IsUnsplit-wider}
-use Rattle.life_objects.proofs.GrowthLemmas.Pieces.{engine_leaves_cores, engine_leaves_lefts, leaves_for_ever}
-use Rattle.life_objects.proofs.GrowthLemmas.Things.{engine_is_made, leaves_cores_by_things, leaves_lefts_by_things, things_by_leaving}
+use Rattle.life_growth.specs.Engine.{FallsApart, IsEngine, Way}
+use Rattle.life_growth.specs.Things.{AreThingsOfLefts, IsMadeOf, NeverMeetAgain, listed}
+use Rattle.life_growth.specs.Unsplit.{IsUnsplit}
+use Rattle.life_growth.proofs.Endless.{IsUnsplit-wider}
+use Rattle.life_growth.proofs.Pieces.{engine_leaves_cores, engine_leaves_lefts, leaves_for_ever}
+use Rattle.life_growth.proofs.Things.{engine_is_made, leaves_cores_by_things, leaves_lefts_by_things, things_by_leaving}
 use Rattle.life_growing.specs.Settled.Settling.{IsSettling, Settling}
 use Rattle.life_growing.proofs.SettlingLemmas.Making.{is_made_of_its_things}
 use Rattle.life_growing.proofs.SettlingLemmas.Parting.{parts_by_then}

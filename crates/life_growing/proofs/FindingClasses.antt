@@ -11,9 +11,9 @@ use Rattle.life_model.proofs.Generations.{from_list-cells}
 use Rattle.life_model.proofs.Recurrences.{generation-zero}
 use Rattle.life_objects.proofs.Lists.{Contains-head}
 use Rattle.life_objects.proofs.Unions.{union-empty}
-use Rattle.life_objects.specs.Growth.Unsplit.{AreClasses, IsUnsplit}
-use Rattle.life_objects.proofs.GrowthLemmas.Classes.{one_class_by_unsplit}
-use Rattle.life_objects.proofs.GrowthLemmas.Endless.{IsUnsplit-wider}
+use Rattle.life_growth.specs.Unsplit.{AreClasses, IsUnsplit}
+use Rattle.life_growth.proofs.Classes.{one_class_by_unsplit}
+use Rattle.life_growth.proofs.Endless.{IsUnsplit-wider}
 use Rattle.life_tracks.specs.declared.frames.film.Film.{Film}
 use Rattle.life_tracks.specs.Frames.Frames.{IsFilm, classes_at}
 use Rattle.life_tracks.proofs.Classes.{class_is_unsplit}

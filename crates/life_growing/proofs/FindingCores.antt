@@ -6,7 +6,7 @@ use Rattle.std.proofs.lemmas.Bool.{OnTrue_at}
 use Rattle.life_model.specs.Generation.{Generation}
 use Rattle.life_model.specs.Rule.{Rule}
 use Rattle.life_ash.proofs.Finding.{of_some}
-use Rattle.life_objects.specs.Growth.Unsplit.{IsUnsplit}
+use Rattle.life_growth.specs.Unsplit.{IsUnsplit}
 use Rattle.life_tracks.specs.Frames.Frames.{IsFilm, classes_at}
 use Rattle.life_growing.specs.declared.whole.Seen.{Seen}
 use Rattle.life_growing.proofs.FindingClasses.{told_by_film}

@@ -4,10 +4,10 @@ use Rattle.std.specs.List.{All}
 use Rattle.std.proofs.lemmas.List.Elements.{All-contains}
 use Rattle.life_model.specs.Generation.{Generation, empty}
 use Rattle.life_model.specs.Rule.{Rule}
-use Rattle.life_objects.specs.Growth.Engine.{IsEngine, IsEngineWithin, Way}
-use Rattle.life_objects.specs.Growth.Unsplit.{IsUnsplit}
-use Rattle.life_objects.proofs.GrowthLemmas.Classes.{one_class_by_unsplit}
-use Rattle.life_objects.proofs.GrowthLemmas.Endless.{IsUnsplit-wider}
+use Rattle.life_growth.specs.Engine.{IsEngine, IsEngineWithin, Way}
+use Rattle.life_growth.specs.Unsplit.{IsUnsplit}
+use Rattle.life_growth.proofs.Classes.{one_class_by_unsplit}
+use Rattle.life_growth.proofs.Endless.{IsUnsplit-wider}
 use Rattle.life_tracks.specs.declared.frames.film.Film.{Film}
 use Rattle.life_tracks.specs.Frames.Frames.{IsFilm, classes_at}
 use Rattle.life_tracks.specs.Films.{IsTrackOf}

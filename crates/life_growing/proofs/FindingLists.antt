@@ -1,7 +1,7 @@
 -- The things of each of the debris and the engines, list by list, and whether they meet.
 use Rattle.std.proofs.Common.{◌≡◌, ℕ, suc, ◌<◌, List, get_or, length, map, sym, ap, subst, ◌∙◌, arith}
 use Rattle.std.proofs.lemmas.List.{get_or-map}
-use Rattle.life_objects.specs.Growth.Things.{Thing}
+use Rattle.life_growth.specs.Things.{Thing}
 use Rattle.life_growing.specs.Settled.Settling.{Settling}
 use Rattle.life_growing.specs.Emissions.{Emission, NoneMeets}
 use Rattle.life_growing.specs.Meeting.{AreThingsOfEach, GoApartAt, list_in}

@@ -4,7 +4,7 @@ use Rattle.std.proofs.lemmas.List.{get_or_default, length_push}
 use Rattle.std.specs.List.{Contains}
 use Rattle.life_model.proofs.Moves.{moved-origin}
 use Rattle.life_model.specs.Cell.{origin}
-use Rattle.life_objects.specs.Growth.Things.{Thing}
+use Rattle.life_growth.specs.Things.{Thing}
 use Rattle.life_growing.specs.Settled.Settling.{Settling}
 use Rattle.life_growing.specs.Settled.Things.{placed, things_of}
 use Rattle.life_tracks.proofs.Pushing.{each_more}

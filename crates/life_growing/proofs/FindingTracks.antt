@@ -10,7 +10,7 @@ use Rattle.life_cells.specs.Limits.{IsWithin}
 use Rattle.life_objects.specs.Union.{IsSubsetOf}
 use Rattle.life_objects.proofs.Members.{in_list_now}
 use Rattle.life_objects.proofs.Unions.{in_second}
-use Rattle.life_objects.specs.Growth.Unsplit.{AreClasses}
+use Rattle.life_growth.specs.Unsplit.{AreClasses}
 use Rattle.life_tracks.specs.declared.frames.film.Film.{Film}
 use Rattle.life_tracks.specs.Frames.Frames.{IsFilm, classes_at}
 use Rattle.life_tracks.specs.Films.{IsTrackOf}

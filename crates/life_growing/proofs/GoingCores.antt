@@ -1,9 +1,9 @@
 -- The cores of a track, each before a step, as things.
 use Rattle.std.proofs.Common.{◌≡◌, ◌≢◌, ℕ, zero, suc, ◌+◌, ◌-◌, ◌<◌, ◌≤◌, List, [], ◌∷◌, ◌++◌, length, get_or, refl, sym, ap, ◌∙◌, arith}
 use Rattle.life_model.specs.Generation.{Generation}
-use Rattle.life_objects.specs.Growth.Engines.Tracks.{Step, core_along, left_along}
-use Rattle.life_objects.specs.Growth.Engine.{Way}
-use Rattle.life_objects.specs.Growth.Things.{Thing, core_thing}
+use Rattle.life_growth.specs.Engines.Tracks.{Step, core_along, left_along}
+use Rattle.life_growth.specs.Engine.{Way}
+use Rattle.life_growth.specs.Things.{Thing, core_thing}
 use Rattle.life_growing.specs.Settled.Things.{first_things}
 use Rattle.life_tracks.specs.Tracks.{Path, way_of}
 

@@ -4,7 +4,7 @@ use Rattle.std.specs.List.{Contains}
 use Rattle.std.proofs.lemmas.List.{take_more}
 use Rattle.std.proofs.lemmas.List.Elements.{Contains-push_cases}
 use Rattle.life_objects.proofs.Lists.{Contains-head}
-use Rattle.life_objects.specs.Growth.Things.{NeverMeet, Thing}
+use Rattle.life_growth.specs.Things.{NeverMeet, Thing}
 use Rattle.life_growing.specs.Emissions.{NoneMeets}
 
 -- one more thing that meets none

@@ -5,8 +5,8 @@ use Rattle.life_model.specs.Cell.{Cell, origin}
 use Rattle.life_model.specs.Generation.{Generation}
 use Rattle.life_model.specs.Symmetry.{translate_of}
 use Rattle.life_model.proofs.Moves.{moved-origin}
-use Rattle.life_objects.specs.Growth.Engine.{Way}
-use Rattle.life_objects.specs.Growth.Things.{Thing, a_period_later, left_once, left_thing}
+use Rattle.life_growth.specs.Engine.{Way}
+use Rattle.life_growth.specs.Things.{Thing, a_period_later, left_once, left_thing}
 use Rattle.life_growing.specs.Settled.Settling.{Settling}
 use Rattle.life_growing.specs.Settled.Things.{placed, things_of}
 use Rattle.life_growing.specs.Emissions.{nothing_left, things_left}

@@ -5,8 +5,8 @@ use Rattle.std.proofs.lemmas.Bool.{cases_lt}
 use Rattle.std.proofs.lemmas.List.Elements.{Contains-append_cases, Contains-append_left, Contains-append_right}
 use Rattle.life_objects.proofs.DecidedLemmas.Kept.{Contains-map}
 use Rattle.life_objects.proofs.IndependentLemmas.Found.{of_map}
-use Rattle.life_objects.specs.Growth.Engine.{Way}
-use Rattle.life_objects.specs.Growth.Things.{IsEngineThing, Thing, core_thing, left_thing, listed}
+use Rattle.life_growth.specs.Engine.{Way}
+use Rattle.life_growth.specs.Things.{IsEngineThing, Thing, core_thing, left_thing, listed}
 use Rattle.life_growing.specs.Settled.Settling.{Settling}
 use Rattle.life_growing.specs.Settled.Things.{first_things}
 use Rattle.life_growing.proofs.SettlingLemmas.Listing.{Contains-first, of_first}

@@ -25,16 +25,16 @@ use Rattle.life_objects.proofs.Staying.{the_sides}
 use Rattle.life_objects.proofs.Times.{AreApartForEver-swap, before_from_while, disjoint_a_while, generation-union}
 use Rattle.life_objects.specs.Decided.Classes.{classes}
 use Rattle.life_objects.proofs.DecidedLemmas.Kept.{Contains-filter}
-use Rattle.life_objects.proofs.GrowthLemmas.EnginesLemmas.Classes.{are_classes}
-use Rattle.life_objects.proofs.GrowthLemmas.FatesLemmas.Classes.{is_class, same_class}
+use Rattle.life_growth.proofs.EnginesLemmas.Classes.{are_classes}
+use Rattle.life_growth.proofs.FatesLemmas.Classes.{is_class, same_class}
 use Rattle.life_tracks.specs.Frames.Frames.{with_cells}
 use Rattle.life_tracks.proofs.FramesLemmas.Near.{has_cell, some_cell, union-with_cells}
-use Rattle.life_objects.specs.Growth.Engine.{FallsApart, IsEngineWithin}
-use Rattle.life_objects.specs.Growth.Growth.{IsGrowth}
-use Rattle.life_objects.specs.Growth.Unsplit.{AreClasses}
-use Rattle.life_objects.proofs.GrowthLemmas.OneGrowth.{IsPart-growth, cell_of, engine_of}
-use Rattle.life_objects.proofs.GrowthLemmas.Parts.{IsPart, disjoint_now}
-use Rattle.life_objects.proofs.GrowthLemmas.Settling.{settles_empty}
+use Rattle.life_growth.specs.Engine.{FallsApart, IsEngineWithin}
+use Rattle.life_growth.specs.Growth.{IsGrowth}
+use Rattle.life_growth.specs.Unsplit.{AreClasses}
+use Rattle.life_growth.proofs.OneGrowth.{IsPart-growth, cell_of, engine_of}
+use Rattle.life_growth.proofs.Parts.{IsPart, disjoint_now}
+use Rattle.life_growth.proofs.Settling.{settles_empty}
 use Rattle.life_growing.specs.Loose.{HasLoose, IsLoose}
 use Rattle.life_growing.proofs.PickingGrowth.{cell_in, classes_with_cells}
 

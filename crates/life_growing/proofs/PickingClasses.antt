@@ -14,7 +14,7 @@ use Rattle.life_objects.proofs.DecidedLemmas.Orders.{pairs_to_front}
 use Rattle.life_objects.proofs.Dividing.{AreApartFor-swap}
 use Rattle.life_objects.proofs.Lists.{AllPairs-append, AllPairs-head, AllPairs-nil, Contains-head}
 use Rattle.life_objects.proofs.Sides.{split_disjoint}
-use Rattle.life_objects.specs.Growth.Engine.{IsEngineWithin}
+use Rattle.life_growth.specs.Engine.{IsEngineWithin}
 use Rattle.life_growing.specs.Emissions.{Emission}
 use Rattle.life_growing.specs.Growths.{IsEngineFound, start_of, starts_of}
 use Rattle.life_growing.specs.Picking.{ArePicks}

@@ -15,17 +15,17 @@ use Rattle.life_objects.proofs.Members.{found_now, in_list_now}
 use Rattle.life_objects.proofs.Sides.{within_each_other}
 use Rattle.life_objects.proofs.DecidedLemmas.Kept.{Contains-filter, of_filter}
 use Rattle.life_objects.proofs.IndependentLemmas.Found.{of_map}
-use Rattle.life_objects.specs.Growth.Engine.{IsEngineWithin}
-use Rattle.life_objects.specs.Growth.Growth.{IsGrowth}
-use Rattle.life_objects.specs.Growth.Things.{IsMadeOf}
-use Rattle.life_objects.specs.Growth.Unsplit.{AreClasses}
-use Rattle.life_objects.proofs.GrowthLemmas.Things.{apart_by_things, things_by_apart}
+use Rattle.life_growth.specs.Engine.{IsEngineWithin}
+use Rattle.life_growth.specs.Growth.{IsGrowth}
+use Rattle.life_growth.specs.Things.{IsMadeOf}
+use Rattle.life_growth.specs.Unsplit.{AreClasses}
+use Rattle.life_growth.proofs.Things.{apart_by_things, things_by_apart}
 use Rattle.life_cells.specs.Limits.{IsWithin}
 use Rattle.life_ash.proofs.Places.{subset_within}
 use Rattle.life_tracks.specs.Frames.Frames.{with_cells}
 use Rattle.life_tracks.proofs.FramesLemmas.Near.{has_cell, no_cell, some_cell, union-with_cells}
-use Rattle.life_objects.specs.Growth.Fates.Picked.{ArePicked}
-use Rattle.life_objects.proofs.GrowthLemmas.FatesLemmas.Classes.{picked_growth}
+use Rattle.life_growth.specs.Fates.Picked.{ArePicked}
+use Rattle.life_growth.proofs.FatesLemmas.Classes.{picked_growth}
 use Rattle.life_growing.specs.Settled.Settling.{IsSettling, Settling}
 use Rattle.life_growing.proofs.SettlingLemmas.Making.{is_made_of_its_things}
 use Rattle.life_growing.proofs.SettlingLemmas.Parting.{parts_by_then}

@@ -10,8 +10,8 @@ use Rattle.life_model.proofs.Lists.{size-moved}
 use Rattle.life_objects.specs.Drift.{multiple_of}
 use Rattle.life_objects.proofs.Moving.{generation-times}
 use Rattle.life_orbit.specs.Course.{Course, IsCourse}
-use Rattle.life_objects.specs.Growth.Engine.{IsEngine, IsEngineWithin, Way}
-use Rattle.life_objects.proofs.GrowthLemmas.Outgrowing.{outgrows_itself}
+use Rattle.life_growth.specs.Engine.{IsEngine, IsEngineWithin, Way}
+use Rattle.life_growth.proofs.Outgrowing.{outgrows_itself}
 use Rattle.life_growing.specs.Populations.{ArePopulations, FallsBack}
 
 module _ (R : Rule) (b : ℕ) (E : Generation) where

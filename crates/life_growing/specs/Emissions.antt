@@ -4,8 +4,8 @@ use Rattle.std.specs.List.{Contains}
 use Rattle.std.specs.Coded.{Coded, code_by, coded×, coded_list}
 use Rattle.life_model.specs.Generation.{Generation}
 use Rattle.life_model.specs.Rule.{Rule}
-use Rattle.life_objects.specs.Growth.Engine.{IsEngine, Way}
-use Rattle.life_objects.specs.Growth.Things.{IsEngineThing, NeverMeet, Thing, a_period_later, core_thing, left_once, left_thing, listed}
+use Rattle.life_growth.specs.Engine.{IsEngine, Way}
+use Rattle.life_growth.specs.Things.{IsEngineThing, NeverMeet, Thing, a_period_later, core_thing, left_once, left_thing, listed}
 use Rattle.life_growing.specs.Settled.Settling.{IsSettling, Settling, coded_settling}
 use Rattle.life_growing.specs.Settled.Things.{things_of}
 use Rattle.life_tracks.specs.Tracks.{Path, coded_path, way_of}

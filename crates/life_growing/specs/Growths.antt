@@ -4,7 +4,7 @@ use Rattle.std.specs.Coded.{Coded, code_by, coded×, coded_list}
 use Rattle.std.specs.List.{All}
 use Rattle.life_model.specs.Generation.{Generation}
 use Rattle.life_model.specs.Rule.{Rule}
-use Rattle.life_objects.specs.Growth.Growth.{IsGrowth}
+use Rattle.life_growth.specs.Growth.{IsGrowth}
 use Rattle.life_growing.specs.Settled.Settling.{IsSettling, Settling, coded_settling}
 use Rattle.life_growing.specs.Emissions.{Emission, IsEmission, coded_emission}
 

@@ -3,7 +3,7 @@ use Rattle.std.specs.Prelude.{ℕ, ◌*◌, List}
 use Rattle.std.specs.List.{Contains}
 use Rattle.life_model.specs.Generation.{Generation}
 use Rattle.life_model.specs.Rule.{Rule}
-use Rattle.life_objects.specs.Growth.Engine.{FallsApart, IsEngineWithin}
+use Rattle.life_growth.specs.Engine.{FallsApart, IsEngineWithin}
 
 -- C is no engine within b, and doesn't fall apart within twice b.
 pub record IsLoose (R : Rule) (b : ℕ) (C : Generation) : Type 0 where

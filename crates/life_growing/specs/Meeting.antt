@@ -1,7 +1,7 @@
 -- Whether engines and debris ever meet.
 use Rattle.std.specs.Prelude.{◌≡◌, ℕ, zero, suc, ◌<◌, List, [], get_or, length}
 use Rattle.std.specs.List.{Contains}
-use Rattle.life_objects.specs.Growth.Things.{NeverMeet, Thing}
+use Rattle.life_growth.specs.Things.{NeverMeet, Thing}
 use Rattle.life_growing.specs.Settled.Settling.{Settling}
 use Rattle.life_growing.specs.Settled.Things.{things_of}
 use Rattle.life_growing.specs.Emissions.{AreAll, Emission, IsEmissionThing}

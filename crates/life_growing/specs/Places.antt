@@ -3,7 +3,7 @@ use Rattle.std.specs.Prelude.{ℕ, suc, ◌+◌, ◌<◌, ◌≤◌}
 use Rattle.std.specs.List.{All}
 use Rattle.life_model.specs.Generation.{cells}
 use Rattle.life_cells.specs.Limits.{IsWithin}
-use Rattle.life_objects.specs.Growth.Engine.{Way}
+use Rattle.life_growth.specs.Engine.{Way}
 
 -- the cores, and what leaves, are within the reach of their ages, if the first core is of this age
 pub record AreWithinAlong (age : ℕ) (way : Way) : Type 0 where

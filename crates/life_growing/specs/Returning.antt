@@ -6,7 +6,7 @@ use Rattle.life_model.specs.Rule.{Rule}
 use Rattle.life_model.specs.Symmetry.{translate_of}
 use Rattle.life_objects.specs.Union.{IsSubsetOf}
 use Rattle.life_apart.specs.Alone.{others_of}
-use Rattle.life_objects.specs.Growth.Engine.{FallsApart}
+use Rattle.life_growth.specs.Engine.{FallsApart}
 
 -- what is left of G without E, moved by d
 abbrev pub left_by : Generation → Generation → Cell → Generation

@@ -5,8 +5,8 @@ ghost use Rattle.life_model.specs.Generation as generations;
 ghost use Rattle.life_cells.specs.Limits.{IsWithin};
 ghost use Rattle.life_ash.specs.Parts.{ash_age_limit};
 ghost use Rattle.life_tracks.specs.Frames.Frames.{IsFilm};
-ghost use Rattle.life_objects.specs.Growth.Engine.{IsEngineWithin};
-ghost use Rattle.life_objects.specs.Growth.Unsplit.{IsUnsplit};
+ghost use Rattle.life_growth.specs.Engine.{IsEngineWithin};
+ghost use Rattle.life_growth.specs.Unsplit.{IsUnsplit};
 ghost use Rattle.life_growing.specs.Growths.{IsEngineFound, start_of};
 
 use crate::emission::Engine;

@@ -1,7 +1,7 @@
 //! Whether a class of a film that comes back is an engine.
 ghost use Rattle.std.specs.Prelude.{◌≡◌, ◌≢◌, ◌↔◌, ℕ, ◌+◌, ◌<◌, ◌≤◌, [], IfNone, IfOk, IfSome, IsTrue, length};
 ghost use Rattle.life_ash.specs.Parts.{ash_age_limit};
-ghost use Rattle.life_objects.specs.Growth.Engine.{IsEngine};
+ghost use Rattle.life_growth.specs.Engine.{IsEngine};
 ghost use Rattle.life_tracks.specs.Tracks.{ComesBack, way_of};
 ghost use Rattle.life_growing.specs.Emissions.{IsEmission, left_at};
 ghost use Rattle.life_growing.specs.Places.{AreWithinAlong};

@@ -1,6 +1,6 @@
 //! Whether what leaves a track stays away for ever.
 ghost use Rattle.std.specs.Prelude.{◌≡◌, ◌↔◌, ◌<◌, ◌≤◌, [], ◌∷◌, IfOk, IsTrue, length, map};
-ghost use Rattle.life_objects.specs.Growth.Things.{NeverMeetAgain, a_period_later, core_thing, left_thing, listed};
+ghost use Rattle.life_growth.specs.Things.{NeverMeetAgain, a_period_later, core_thing, left_thing, listed};
 ghost use Rattle.life_growing.specs.Settled.Things.{first_things};
 ghost use Rattle.life_things.specs.Ways.{IsFit};
 ghost use Rattle.life_tracks.specs.Tracks.{way_of};

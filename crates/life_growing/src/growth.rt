@@ -2,7 +2,7 @@
 ghost use Rattle.std.specs.Prelude.{◌≡◌, ◌↔◌, ℕ, ◌+◌, ◌*◌, ◌<◌, ◌≤◌, All, AllPairs, IfNone, IfOk, IfSome, IsTrue, List, ◌∷◌, length};
 ghost use Rattle.life_model.specs.Generation.{Generation};
 ghost use Rattle.life_ash.specs.Parts.{ash_age_limit};
-ghost use Rattle.life_objects.specs.Growth.Growth.{IsGrowth};
+ghost use Rattle.life_growth.specs.Growth.{IsGrowth};
 ghost use Rattle.life_growing.specs.Settled.Settling as settling;
 ghost use Rattle.life_growing.specs.Growths.{IsGrowthOf};
 

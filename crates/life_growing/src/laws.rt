@@ -2,7 +2,7 @@
 ghost use Rattle.std.specs.Prelude.{ℕ};
 ghost use Rattle.life_model.specs.Generation.{Generation};
 ghost use Rattle.life_model.specs.Rule.{Rule};
-ghost use Rattle.life_objects.specs.Growth.Things.{IsMadeOf};
+ghost use Rattle.life_growth.specs.Things.{IsMadeOf};
 ghost use Rattle.life_growing.specs.Emissions.{Emission, IsEmission, IsEmissionThing};
 
 /// At each time an engine is all that its things have then: its cores, and what leaves.

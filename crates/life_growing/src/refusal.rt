@@ -6,7 +6,7 @@ ghost use Rattle.life_model.specs.Generation as generations;
 ghost use Rattle.life_model.specs.Recurrence.{RecursBy};
 ghost use Rattle.life_cells.specs.Limits.{IsWithin};
 ghost use Rattle.life_ash.specs.Parts.{ash_age_limit};
-ghost use Rattle.life_objects.specs.Growth.Engine.{IsEngineWithin};
+ghost use Rattle.life_growth.specs.Engine.{IsEngineWithin};
 ghost use Rattle.life_orbit.specs.Kept.{orbit_age_limit};
 ghost use Rattle.life_growing.specs.Populations.{ArePopulations, FallsBack};
 

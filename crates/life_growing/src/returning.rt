@@ -8,7 +8,7 @@ ghost use Rattle.life_model.specs.Symmetry.{translate_of};
 ghost use Rattle.life_objects.specs.Union.{IsSubsetOf};
 ghost use Rattle.life_cells.specs.Limits.{IsPlace, IsWithin};
 ghost use Rattle.life_ash.specs.Parts.{ash_age_limit};
-ghost use Rattle.life_objects.specs.Growth.Engine.{FallsApart, IsEngineWithin};
+ghost use Rattle.life_growth.specs.Engine.{FallsApart, IsEngineWithin};
 ghost use Rattle.life_growing.specs.Populations.{ArePopulations};
 ghost use Rattle.life_growing.specs.Returning.{ComesBackBy, IsMove, left_by};
 

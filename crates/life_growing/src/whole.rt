@@ -8,7 +8,7 @@ ghost use Rattle.life_model.specs.Rule.{Rule as ModelRule};
 ghost use Rattle.life_cells.specs.Limits.{IsWithin};
 ghost use Rattle.life_ash.specs.Parts.{ash_age_limit};
 ghost use Rattle.life_tracks.specs.Frames.Frames.{IsFilm, classes_at};
-ghost use Rattle.life_objects.specs.Growth.Unsplit.{IsUnsplit};
+ghost use Rattle.life_growth.specs.Unsplit.{IsUnsplit};
 ghost use Rattle.life_tracks.specs.Tracks.{way_of};
 ghost use Rattle.life_growing.specs.Places.{AreWithinAlong};
 

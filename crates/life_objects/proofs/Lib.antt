@@ -22,4 +22,3 @@ pub mod Phases
 pub mod DecidedLemmas
 pub mod PartsLemmas
 pub mod IndependentLemmas
-pub mod GrowthLemmas

@@ -10,4 +10,3 @@ pub mod Kinds
 pub mod Decided
 pub mod Parts
 pub mod Independent
-pub mod Growth

@@ -1,12 +1,11 @@
-//! The objects that a pattern of a Life-like rule falls apart into, and steady growth, as of guns and puffers: definitions
-//! in `specs/`, and their laws as the contracts of functions that do nothing. `decided` computes whether a set is ash,
-//! `parts` says what independent parts are, and `independent` computes these. `growth` has what is said of growth.
+//! The objects that a pattern of a Life-like rule falls apart into: definitions in `specs/`, and their laws as the contracts
+//! of functions that do nothing. `decided` computes whether a set is ash, `parts` says what independent parts are, and
+//! `independent` computes these.
 //!
 //! Tested in `checks/laws`.
 #![tactic(auto)]
 
 mod decided;
-pub mod growth;
 mod independent;
 mod parts;
 

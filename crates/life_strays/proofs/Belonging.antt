@@ -11,8 +11,8 @@ use Rattle.life_objects.specs.Union.{IsSubsetOf, union}
 use Rattle.life_objects.proofs.Distances.{near_through}
 use Rattle.life_objects.proofs.Times.{AreApartForEver-swap, generation-union_ever}
 use Rattle.life_objects.proofs.Unions.{in_union, union-assoc, union-comm, union-empty}
-use Rattle.life_objects.proofs.GrowthLemmas.Growing.{apart_from_empty}
-use Rattle.life_objects.proofs.GrowthLemmas.Parts.{IsPart, apart_from_both, disjoint_now, part_apart}
+use Rattle.life_growth.proofs.Growing.{apart_from_empty}
+use Rattle.life_growth.proofs.Parts.{IsPart, apart_from_both, disjoint_now, part_apart}
 use Rattle.life_plane.specs.Offsets.{IsMoveWithin}
 use Rattle.life_strays.specs.Strays.{HangsOn, IsIsland}
 use Rattle.life_strays.proofs.Speeds.{IsHeight, across_height, along_height, back_height, no_lower, up_height}

@@ -15,7 +15,7 @@ use Rattle.life_objects.proofs.Members.{found_now}
 use Rattle.life_objects.proofs.Moving.{RecursBy-times}
 use Rattle.life_objects.proofs.OneList.{apart_from_rest, rest_of, with_rest}
 use Rattle.life_objects.proofs.Unions.{in_empty}
-use Rattle.life_objects.proofs.GrowthLemmas.Parts.{IsPart, part_within, part_within_later}
+use Rattle.life_growth.proofs.Parts.{IsPart, part_within, part_within_later}
 use Rattle.life_strays.specs.Strays.{ComesBackNowhere, HangsOn, IsIsland, LacksSome, LacksSomeUntil}
 use Rattle.life_strays.proofs.Belonging.{heirs_within, island_within, no_faster, part_itself, part_of_part}
 use Rattle.life_strays.proofs.Windows.{HaveMultiples}

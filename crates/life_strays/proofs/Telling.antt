@@ -11,13 +11,13 @@ use Rattle.life_objects.specs.Ash.{IsAsh}
 use Rattle.life_objects.specs.Drift.{multiple_of}
 use Rattle.life_objects.specs.Union.{IsSubsetOf}
 use Rattle.life_objects.proofs.Lists.{head_or_later}
-use Rattle.life_objects.specs.Growth.Engine.{FallsApart, IsEngineWithin}
-use Rattle.life_objects.specs.Growth.Growth.{IsGrowth}
-use Rattle.life_objects.specs.Growth.Onward.{endless}
-use Rattle.life_objects.proofs.GrowthLemmas.Endless.{core_first, core_times, goes_on}
-use Rattle.life_objects.proofs.GrowthLemmas.Lasting.{core_part}
-use Rattle.life_objects.proofs.GrowthLemmas.OneGrowth.{IsPart-growth, cell_of, engine_of}
-use Rattle.life_objects.proofs.GrowthLemmas.Parts.{IsPart, part_later, part_within, part_within_later}
+use Rattle.life_growth.specs.Engine.{FallsApart, IsEngineWithin}
+use Rattle.life_growth.specs.Growth.{IsGrowth}
+use Rattle.life_growth.specs.Onward.{endless}
+use Rattle.life_growth.proofs.Endless.{core_first, core_times, goes_on}
+use Rattle.life_growth.proofs.Lasting.{core_part}
+use Rattle.life_growth.proofs.OneGrowth.{IsPart-growth, cell_of, engine_of}
+use Rattle.life_growth.proofs.Parts.{IsPart, part_later, part_within, part_within_later}
 use Rattle.life_strays.specs.Strays.{ComesBackNowhere, IsIsland, IsStray, LeavesStrays}
 use Rattle.life_strays.proofs.Belonging.{heirs_within, island_within, no_faster}
 use Rattle.life_strays.proofs.Lacking.{gone_lacks, lacks_no_ash, no_ash_part}

@@ -5,7 +5,7 @@ ghost use Rattle.std.specs.List.{Contains};
 ghost use Rattle.life_model.specs.Cell.{Cell};
 ghost use Rattle.life_model.specs.Generation.{Generation, contains};
 ghost use Rattle.life_model.specs.Rule.{Rule as ModelRule};
-ghost use Rattle.life_objects.specs.Growth.Growth.{IsGrowth};
+ghost use Rattle.life_growth.specs.Growth.{IsGrowth};
 ghost use Rattle.life_objects.specs.Ash.{IsAsh};
 ghost use Rattle.life_strays.specs.Strays.{IsIslandNow, LeavesStrays};
 ghost use Rattle.life_strays.specs.declared.stray.Stray.{Stray};

@@ -4,9 +4,9 @@ use Rattle.std.proofs.Math.IntN.{◌*ℤ◌}
 use Rattle.std.proofs.lemmas.Int.{ints}
 use Rattle.life_model.specs.Cell.{Cell}
 use Rattle.life_model.specs.Generation.{Generation}
-use Rattle.life_objects.specs.Growth.Meeting.Sums.{Step, and_then, times}
-use Rattle.life_objects.proofs.GrowthLemmas.RelationsLemmas.Singles.{same_product}
-use Rattle.life_objects.proofs.GrowthLemmas.RelationsLemmas.Signed.{times-scaled}
+use Rattle.life_growth.specs.Meeting.Sums.{Step, and_then, times}
+use Rattle.life_growth.proofs.RelationsLemmas.Singles.{same_product}
+use Rattle.life_growth.proofs.RelationsLemmas.Signed.{times-scaled}
 use Rattle.life_things.specs.Clear.{IsClear, StaysClear}
 use Rattle.life_things.specs.Fields.{IsFieldOf}
 use Rattle.life_things.specs.Lattice.Short.{IsWithin}

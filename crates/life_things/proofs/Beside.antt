@@ -3,7 +3,7 @@ use Rattle.std.proofs.Common.{ℕ, List, inl, inr, max, min, arith}
 use Rattle.std.specs.Prelude.{IfSome, Option, Some, None}
 use Rattle.std.proofs.lemmas.Bool.{cases_lt}
 use Rattle.life_model.specs.Generation.{Generation}
-use Rattle.life_objects.specs.Growth.Meeting.Sums.{Step}
+use Rattle.life_growth.specs.Meeting.Sums.{Step}
 use Rattle.life_things.specs.Clear.{StaysClearOutside}
 
 pub some_more : {X : Type 0} (o : Option X) (F G : X → Type 0) → ((x : X) → F x → G x) → IfSome o F → IfSome o G

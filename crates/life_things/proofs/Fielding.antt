@@ -7,9 +7,9 @@ use Rattle.std.proofs.Math.IntN.{◌*ℤ◌, *ℤ-zero, zero-*ℤ}
 use Rattle.std.proofs.lemmas.Int.{ints}
 use Rattle.life_model.specs.Cell.{Cell}
 use Rattle.life_model.specs.Generation.{Generation}
-use Rattle.life_objects.specs.Growth.Meeting.Sums.{Step, and_then, sum_of, times}
-use Rattle.life_objects.specs.Growth.Relations.Relations.{product}
-use Rattle.life_objects.proofs.GrowthLemmas.RelationsLemmas.Products.{product-stay, product-then, product-times}
+use Rattle.life_growth.specs.Meeting.Sums.{Step, and_then, sum_of, times}
+use Rattle.life_growth.specs.Relations.Relations.{product}
+use Rattle.life_growth.proofs.RelationsLemmas.Products.{product-stay, product-then, product-times}
 use Rattle.life_things.specs.Lattice.Short.{IsWithin}
 use Rattle.life_things.proofs.LatticeLemmas.Within.{read_back}
 use Rattle.life_things.proofs.LatticeLemmas.Steady.{ahead}

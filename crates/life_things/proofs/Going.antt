@@ -5,11 +5,11 @@ use Rattle.std.proofs.lemmas.Bool.{cases_lt}
 use Rattle.std.proofs.lemmas.Int.{ints}
 use Rattle.life_model.specs.Cell.{Cell}
 use Rattle.life_model.specs.Generation.{Generation}
-use Rattle.life_objects.specs.Growth.Meeting.Sums.{Step, and_then, rest_after, stay, sum_of, times}
-use Rattle.life_objects.proofs.GrowthLemmas.MeetingLemmas.Reach.{step_is}
-use Rattle.life_objects.proofs.GrowthLemmas.MeetingLemmas.Blocks.{no_numbers}
-use Rattle.life_objects.specs.Growth.Relations.Relations.{product}
-use Rattle.life_objects.proofs.GrowthLemmas.RelationsLemmas.Products.{product-stay, product-then, product-times}
+use Rattle.life_growth.specs.Meeting.Sums.{Step, and_then, rest_after, stay, sum_of, times}
+use Rattle.life_growth.proofs.MeetingLemmas.Reach.{step_is}
+use Rattle.life_growth.proofs.MeetingLemmas.Blocks.{no_numbers}
+use Rattle.life_growth.specs.Relations.Relations.{product}
+use Rattle.life_growth.proofs.RelationsLemmas.Products.{product-stay, product-then, product-times}
 use Rattle.life_things.specs.Fields.{IsFieldOf, IsInField}
 use Rattle.life_things.specs.declared.field.Field.{Field}
 use Rattle.life_things.specs.Clear.{IsClear, StaysClear, StaysClearBetween, StaysClearOutside, left_to}

@@ -4,9 +4,9 @@ use Rattle.std.specs.Prelude.{unsigned_abs}
 use Rattle.std.proofs.Math.IntN.{◌*ℤ◌, *ℤ_comm, *ℤ-zero}
 use Rattle.std.proofs.lemmas.Int.{ints, unsigned_abs-mul}
 use Rattle.life_model.specs.Generation.{Generation}
-use Rattle.life_objects.specs.Growth.Meeting.Sums.{Step, sum_of, times}
-use Rattle.life_objects.proofs.GrowthLemmas.RelationsLemmas.Products.{spreads}
-use Rattle.life_objects.proofs.GrowthLemmas.RelationsLemmas.Signed.{times-scaled}
+use Rattle.life_growth.specs.Meeting.Sums.{Step, sum_of, times}
+use Rattle.life_growth.proofs.RelationsLemmas.Products.{spreads}
+use Rattle.life_growth.proofs.RelationsLemmas.Signed.{times-scaled}
 use Rattle.life_things.specs.Clear.{StaysClear}
 use Rattle.life_things.specs.Times.{DividesTimes}
 use Rattle.life_things.proofs.LatticeLemmas.Likeness.{Times, whole}

@@ -4,10 +4,10 @@ use Rattle.std.specs.Bool.{OnTrue}
 use Rattle.std.proofs.Math.IntN.{*ℤ-zero}
 use Rattle.std.proofs.lemmas.Int.{ints}
 use Rattle.life_model.specs.Cell.{Cell}
-use Rattle.life_objects.specs.Growth.Meeting.Sums.{Step, and_then, sum_of, times}
-use Rattle.life_objects.proofs.GrowthLemmas.MeetingLemmas.Reach.{step_is}
-use Rattle.life_objects.specs.Growth.Relations.Relations.{product}
-use Rattle.life_objects.proofs.GrowthLemmas.RelationsLemmas.Products.{product-stay, product-then, product-times}
+use Rattle.life_growth.specs.Meeting.Sums.{Step, and_then, sum_of, times}
+use Rattle.life_growth.proofs.MeetingLemmas.Reach.{step_is}
+use Rattle.life_growth.specs.Relations.Relations.{product}
+use Rattle.life_growth.proofs.RelationsLemmas.Products.{product-stay, product-then, product-times}
 use Rattle.life_things.specs.Clear.{IsClearOver, left_to}
 use Rattle.life_things.specs.Fields.{IsInField}
 use Rattle.life_things.specs.Lattice.Gauges.{NoneFalls}

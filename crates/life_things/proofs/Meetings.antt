@@ -8,11 +8,11 @@ use Rattle.life_model.proofs.Cells.{pair}
 use Rattle.life_model.proofs.Symmetries.{contains-moved}
 use Rattle.life_objects.specs.Apart.{AreNear}
 use Rattle.life_objects.proofs.Distances.{AreNear-alike}
-use Rattle.life_objects.specs.Growth.Things.{NeverMeet, Thing, move_of, time_then}
-use Rattle.life_objects.specs.Growth.Meeting.Meeting.{steps_between}
-use Rattle.life_objects.specs.Growth.Meeting.Sums.{Step, and_then}
-use Rattle.life_objects.proofs.GrowthLemmas.MeetingLemmas.Meeting.{back, forth, joined, parted}
-use Rattle.life_objects.proofs.GrowthLemmas.MeetingLemmas.Reach.{step_is}
+use Rattle.life_growth.specs.Things.{NeverMeet, Thing, move_of, time_then}
+use Rattle.life_growth.specs.Meeting.Meeting.{steps_between}
+use Rattle.life_growth.specs.Meeting.Sums.{Step, and_then}
+use Rattle.life_growth.proofs.MeetingLemmas.Meeting.{back, forth, joined, parted}
+use Rattle.life_growth.proofs.MeetingLemmas.Reach.{step_is}
 use Rattle.life_things.specs.Clear.{StaysClear, left_to}
 
 module _ (A B : Thing) where

@@ -4,10 +4,10 @@ use mir.Val.{of_z, to_z}
 use Rattle.std.proofs.Common.{◌≡◌, ℕ, zero, suc, ◌<◌, ◌≤◌, ℤ, pos, List, [], ◌∷◌, map, inl, inr, sym, ap, subst, ◌∙◌, arith}
 use Rattle.std.proofs.lemmas.Bool.{cases_lt}
 use Rattle.life_model.specs.Generation.{Generation}
-use Rattle.life_objects.specs.Growth.Meeting.Sums.{Step, times}
-use Rattle.life_objects.specs.Growth.Relations.Relations.{IsRelation, IsSumOf, above, below, left_out, number_at, step_at}
-use Rattle.life_objects.proofs.GrowthLemmas.RelationsLemmas.Relations.{few_numbers, from_few}
-use Rattle.life_objects.proofs.GrowthLemmas.RelationsLemmas.Signed.{is_relation}
+use Rattle.life_growth.specs.Meeting.Sums.{Step, times}
+use Rattle.life_growth.specs.Relations.Relations.{IsRelation, IsSumOf, above, below, left_out, number_at, step_at}
+use Rattle.life_growth.proofs.RelationsLemmas.Relations.{few_numbers, from_few}
+use Rattle.life_growth.proofs.RelationsLemmas.Signed.{is_relation}
 use Rattle.life_things.specs.Clear.{StaysClear, StaysClearBetween, left_to}
 use Rattle.life_things.specs.Lattice.Numbers.{StayBy, number_limit, numbers_of, total_above}
 use Rattle.life_things.specs.Lattice.Short.{IsWithin}

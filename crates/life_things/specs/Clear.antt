@@ -3,8 +3,8 @@ use Rattle.std.specs.Prelude.{◌≡◌, ℕ, ◌<◌, ◌≤◌, true, pos, Lis
 use Rattle.life_model.specs.Cell.{Cell, plus}
 use Rattle.life_model.specs.Generation.{Generation, contains}
 use Rattle.life_objects.specs.Apart.{AreNear}
-use Rattle.life_objects.specs.Growth.Meeting.Sums.{Step, and_then, rest_after, times}
-use Rattle.life_objects.specs.Growth.Relations.Relations.{IsSumOf}
+use Rattle.life_growth.specs.Meeting.Sums.{Step, and_then, rest_after, times}
+use Rattle.life_growth.specs.Relations.Relations.{IsSumOf}
 use Rattle.life_things.specs.Fields.{IsFieldOf}
 use Rattle.life_things.specs.declared.field.Field.{Field}
 

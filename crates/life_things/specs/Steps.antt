@@ -1,6 +1,6 @@
 -- Up to four steps, as the machine holds them.
 use Rattle.std.specs.Prelude.{List, [], ◌∷◌}
-use Rattle.life_objects.specs.Growth.Meeting.Sums.{Step}
+use Rattle.life_growth.specs.Meeting.Sums.{Step}
 use Rattle.life_things.specs.Lattice.Short.{IsStride}
 use Rattle.life_things.specs.declared.steps.Steps.{Steps}
 use Rattle.life_things.specs.declared.steps.Steps.TheVariants.{Zero, One, Two, Three, Four}

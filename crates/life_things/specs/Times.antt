@@ -1,7 +1,7 @@
 -- What divides the times of all steps.
 use Rattle.std.specs.Prelude.{List, [], ◌∷◌, ℕ, unsigned_abs}
 use Rattle.std.specs.Int.{◌∣◌}
-use Rattle.life_objects.specs.Growth.Meeting.Sums.{Step}
+use Rattle.life_growth.specs.Meeting.Sums.{Step}
 
 abbrev pub DividesTimes : ℕ → List Step → Type 0
 DividesTimes g [] = Unit {0}

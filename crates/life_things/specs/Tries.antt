@@ -2,8 +2,8 @@
 use Rattle.std.specs.Prelude.{◌≡◌, ℕ, ◌<◌, ◌≤◌, ℤ, pos, ◌+ℤ◌, ◌-ℤ◌, ◌*ℤ◌, [], ◌∷◌}
 use Rattle.life_model.specs.Cell.{Cell}
 use Rattle.life_model.specs.Generation.{Generation}
-use Rattle.life_objects.specs.Growth.Meeting.Sums.{Step, and_then, times}
-use Rattle.life_objects.specs.Growth.Relations.Relations.{product}
+use Rattle.life_growth.specs.Meeting.Sums.{Step, and_then, times}
+use Rattle.life_growth.specs.Relations.Relations.{product}
 use Rattle.life_things.specs.Lattice.Numbers.{number_limit}
 use Rattle.life_things.specs.Lattice.Short.{IsShort, IsStride, four_start}
 use Rattle.life_things.specs.Clear.{StaysClear}

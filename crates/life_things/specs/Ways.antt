@@ -4,7 +4,7 @@ use Rattle.std.specs.Coded.{Coded, code_by, coded_list, coded×, coded_ℕ, code
 use Rattle.life_model.specs.Cell.{Cell}
 use Rattle.life_model.specs.Coded.{coded_generation}
 use Rattle.life_model.specs.Generation.{Generation}
-use Rattle.life_objects.specs.Growth.Things.{Thing}
+use Rattle.life_growth.specs.Things.{Thing}
 use Rattle.life_things.specs.Lattice.Short.{IsWithin, way_limit}
 use Rattle.life_things.specs.declared.way.Way.{Way}
 use Rattle.life_things.specs.declared.way.Ways.{Ways}

@@ -2,9 +2,9 @@
 ghost use Rattle.std.specs.Prelude.{◌≡◌, ◌≢◌, ℕ, ◌+◌, ◌<◌, ◌≤◌, ◌^◌, ◌↔◌, IfNone, IfSome, IsTrue, ℤ, pos, ◌*ℤ◌, ◌≤ℤ◌};
 ghost use Rattle.life_model.specs.Cell.{Cell};
 ghost use Rattle.life_model.specs.Generation.{Generation};
-ghost use Rattle.life_objects.specs.Growth.Meeting.Sums.{and_then, times};
+ghost use Rattle.life_growth.specs.Meeting.Sums.{and_then, times};
 ghost use Rattle.life_orbit.specs.Hulls.{HoldsAllCells};
-ghost use Rattle.life_objects.specs.Growth.Relations.Relations.{product};
+ghost use Rattle.life_growth.specs.Relations.Relations.{product};
 ghost use Rattle.life_things.specs.Fields.{IsFieldOf, IsInField, IsNarrow};
 ghost use Rattle.life_things.specs.Lattice.Short.{AreShort, IsShort, IsWithin};
 

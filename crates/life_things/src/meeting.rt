@@ -1,6 +1,6 @@
 //! Whether two things ever meet.
 ghost use Rattle.std.specs.Prelude.{◌↔◌, IsTrue};
-ghost use Rattle.life_objects.specs.Growth.Things.{NeverMeet};
+ghost use Rattle.life_growth.specs.Things.{NeverMeet};
 ghost use Rattle.life_things.specs.Clear.{StaysClear};
 ghost use Rattle.life_things.specs.Fields.{IsFieldOf};
 ghost use Rattle.life_things.specs.Lattice.Short.{IsShort, four_start};

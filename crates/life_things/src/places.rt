@@ -1,6 +1,6 @@
 //! What is reached by no step, and by one step made any number of times.
 ghost use Rattle.std.specs.Prelude.{◌≡◌, ◌↔◌, ◌≤◌, ◌^◌, IsTrue, [], ◌∷◌};
-ghost use Rattle.life_objects.specs.Growth.Meeting.Sums.{and_then, times};
+ghost use Rattle.life_growth.specs.Meeting.Sums.{and_then, times};
 ghost use Rattle.life_things.specs.Clear.{IsClear, StaysClear};
 ghost use Rattle.life_things.specs.Fields.{IsFieldOf};
 ghost use Rattle.life_things.specs.Lattice.Short.{IsShort, IsStride, one_start};

@@ -1,7 +1,7 @@
 //! What is decided at once: by times that never agree, and by steps that all lead further away.
 ghost use Rattle.std.specs.Prelude.{◌≤ℤ◌, pos};
 ghost use Rattle.std.specs.Bool.{OnTrue};
-ghost use Rattle.life_objects.specs.Growth.Relations.Relations.{product};
+ghost use Rattle.life_growth.specs.Relations.Relations.{product};
 ghost use Rattle.life_things.specs.Clear.{IsClearOver};
 ghost use Rattle.life_things.specs.Fields.{IsNarrow};
 ghost use Rattle.life_things.specs.Lattice.Gauges.{NoneFalls};

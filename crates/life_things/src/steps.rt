@@ -1,6 +1,6 @@
 //! Up to four steps.
 ghost use Rattle.std.specs.Prelude.{◌≡◌, ◌++◌, ◌≤◌, All, length, map};
-ghost use Rattle.life_objects.specs.Growth.Meeting.Meeting as meetings;
+ghost use Rattle.life_growth.specs.Meeting.Meeting as meetings;
 ghost use Rattle.life_things.specs.Steps.{AreStrides, list_of};
 ghost use Rattle.life_things.specs.Ways.{IsFit, ways_of};
 

@@ -22,7 +22,7 @@ pub struct Thing {
 
 impl Model for Thing {
     ghost use Rattle.std.specs.Prelude.{All, ◌≤◌};
-    ghost use Rattle.life_objects.specs.Growth.Things as things;
+    ghost use Rattle.life_growth.specs.Things as things;
     ghost use Rattle.life_orbit.specs.Hulls.{HoldsAllCells};
     ghost use Rattle.life_things.specs.Lattice.Short.{four_start};
     ghost use Rattle.life_things.specs.Ways.{IsFit, coded_thing, ways_of};

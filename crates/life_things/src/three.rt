@@ -1,7 +1,7 @@
 //! What is reached by three steps, each made any number of times.
 ghost use Rattle.std.specs.Prelude.{◌≡◌, ◌↔◌, ◌≤◌, IfNone, IfSome, IsTrue, [], ◌∷◌, pos};
 ghost use Rattle.life_model.specs.Generation.{Generation};
-ghost use Rattle.life_objects.specs.Growth.Relations.Relations.{spanned};
+ghost use Rattle.life_growth.specs.Relations.Relations.{spanned};
 ghost use Rattle.life_things.specs.Clear.{StaysClear, StaysClearBetween, StaysClearOutside};
 ghost use Rattle.life_things.specs.Fields.{IsFieldOf, IsNarrow};
 ghost use Rattle.life_things.specs.Lattice.Numbers.{AreFew, StayBy, total_above};

@@ -1,6 +1,6 @@
 //! How often the first of four steps is made, where three others follow it.
 ghost use Rattle.std.specs.Prelude.{◌≡◌, ◌≢◌, ℕ, ◌%◌, ◌<◌, ◌^◌, ◌↔◌, ◌≤◌, ◌≤ℤ◌, ◌+ℤ◌, IsTrue, pos};
-ghost use Rattle.life_objects.specs.Growth.Relations.Relations.{product};
+ghost use Rattle.life_growth.specs.Relations.Relations.{product};
 ghost use Rattle.life_things.specs.Lattice.Numbers.{number_limit};
 ghost use Rattle.life_things.specs.Lattice.Short.{IsShort, IsWithin, cross_limit};
 ghost use Rattle.life_things.specs.Fields.{IsFieldOf, IsInField, IsNarrow};

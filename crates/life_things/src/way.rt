@@ -1,6 +1,6 @@
 //! The ways of things.
 ghost use Rattle.std.specs.Prelude.{◌≡◌, ◌↔◌, All, IsTrue};
-ghost use Rattle.life_objects.specs.Growth.Meeting.Meeting as meetings;
+ghost use Rattle.life_growth.specs.Meeting.Meeting as meetings;
 ghost use Rattle.life_things.specs.Lattice.Short.{IsStride, IsWithin, way_limit};
 ghost use Rattle.life_things.specs.Ways.{IsFit, way_of, ways_of};
 

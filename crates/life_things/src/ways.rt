@@ -1,8 +1,8 @@
 //! What is reached by two steps, each made any number of times.
 ghost use Rattle.std.specs.Prelude.{◌≡◌, ◌≢◌, ℕ, ◌+◌, ◌%◌, ◌<◌, ◌↔◌, ◌≤◌, IfNone, IfSome, IsTrue, [], ◌∷◌, pos};
 ghost use Rattle.life_model.specs.Generation.{Generation};
-ghost use Rattle.life_objects.specs.Growth.Meeting.Sums.{and_then, times};
-ghost use Rattle.life_objects.specs.Growth.Relations.Relations.{product};
+ghost use Rattle.life_growth.specs.Meeting.Sums.{and_then, times};
+ghost use Rattle.life_growth.specs.Relations.Relations.{product};
 ghost use Rattle.life_things.specs.Clear.{StaysClear, StaysClearBetween, StaysClearOutside};
 ghost use Rattle.life_things.specs.Fields.{IsFieldOf, IsNarrow};
 ghost use Rattle.life_things.specs.Lattice.Gauges.{across_gauge, along_gauge};

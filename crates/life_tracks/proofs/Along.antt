@@ -2,7 +2,7 @@
 use Rattle.std.proofs.Common.{◌≡◌, ℕ, zero, suc, ◌-◌, ◌<◌, ◌≤◌, List, [], ◌∷◌, length, get_or, refl, sym, ap, ◌∙◌, arith}
 use Rattle.std.proofs.lemmas.List.{get_or_default}
 use Rattle.life_model.specs.Generation.{Generation, empty}
-use Rattle.life_objects.specs.Growth.Engines.Tracks.{Step, core_along, left_along}
+use Rattle.life_growth.specs.Engines.Tracks.{Step, core_along, left_along}
 use Rattle.life_tracks.specs.Lines.{core_of}
 use Rattle.life_tracks.specs.Readings.{IsReadOff, step_at}
 use Rattle.life_tracks.specs.Tracks.{Path}

@@ -17,7 +17,7 @@ use Rattle.life_objects.proofs.OneList.{union_of-IsPermutation}
 use Rattle.life_objects.proofs.Sides.{split_disjoint}
 use Rattle.life_objects.proofs.Times.{before_from_while, generation-union}
 use Rattle.life_objects.proofs.Unions.{in_first, in_second, union-assoc}
-use Rattle.life_objects.specs.Growth.Unsplit.{AreClasses, IsUnsplit}
+use Rattle.life_growth.specs.Unsplit.{AreClasses, IsUnsplit}
 
 module _ (R : Rule) (b : ℕ) where
   -- G splits into P and X, and P into A and B

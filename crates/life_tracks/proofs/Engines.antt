@@ -14,16 +14,16 @@ use Rattle.life_objects.specs.Piece.{IsSplit}
 use Rattle.life_objects.specs.Union.{union}
 use Rattle.life_objects.proofs.Times.{generation-empty}
 use Rattle.life_objects.proofs.Unions.{in_first, in_second}
-use Rattle.life_objects.specs.Growth.Engine.{IsEngine, Way}
-use Rattle.life_objects.specs.Growth.Unsplit.{AreClasses, IsUnsplit, Leaves}
-use Rattle.life_objects.proofs.GrowthLemmas.Classes.{unsplit_is_a_class}
-use Rattle.life_objects.proofs.GrowthLemmas.FilmLemmas.Splits.{split_next}
-use Rattle.life_objects.proofs.GrowthLemmas.Endless.{IsUnsplit-wider}
-use Rattle.life_objects.proofs.GrowthLemmas.Parts.{disjoint_now, rest_is_disjoint}
+use Rattle.life_growth.specs.Engine.{IsEngine, Way}
+use Rattle.life_growth.specs.Unsplit.{AreClasses, IsUnsplit, Leaves}
+use Rattle.life_growth.proofs.Classes.{unsplit_is_a_class}
+use Rattle.life_growth.proofs.FilmLemmas.Splits.{split_next}
+use Rattle.life_growth.proofs.Endless.{IsUnsplit-wider}
+use Rattle.life_growth.proofs.Parts.{disjoint_now, rest_is_disjoint}
 use Rattle.life_tracks.specs.Lines.{ComesToReturn, HasLost, ancestor, core_of}
 use Rattle.life_tracks.specs.Readings.{IsReadOff}
 use Rattle.life_tracks.specs.Tracks.{Path, way_of}
-use Rattle.life_objects.proofs.GrowthLemmas.EnginesLemmas.Along.{engine_alike}
+use Rattle.life_growth.proofs.EnginesLemmas.Along.{engine_alike}
 use Rattle.life_tracks.proofs.Ancestors.{ancestor-before, ancestor-last, ancestor-parent, core-before, core-last}
 use Rattle.life_tracks.proofs.Backs.{AreFramesOf, core_is, made_of, next_classes, on_line, without_left}
 use Rattle.life_tracks.proofs.Classes.{class_splits, split_further}

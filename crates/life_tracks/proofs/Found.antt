@@ -5,7 +5,7 @@ use Rattle.std.proofs.lemmas.List.{get_or_default}
 use Rattle.std.proofs.lemmas.List.Elements.{Contains-get_or}
 use Rattle.life_model.specs.Rule.{Rule}
 use Rattle.life_model.specs.Generation.{Generation, empty}
-use Rattle.life_objects.specs.Growth.Engine.{IsEngine, Way}
+use Rattle.life_growth.specs.Engine.{IsEngine, Way}
 use Rattle.life_tracks.specs.declared.frames.film.Film.{Film}
 use Rattle.life_tracks.specs.Frames.Frames.{IsFilm, classes_at, parents_at}
 use Rattle.life_tracks.specs.declared.returns.Return.{Return}

@@ -2,7 +2,7 @@
 use Rattle.std.proofs.Common.{◌≡◌, ℕ, suc, ◌+◌, ◌<◌, ◌≤◌, List, [], ◌∷◌, ◌++◌, length, get_or, ap, subst, ◌∙◌, add-one, arith}
 use Rattle.std.proofs.lemmas.List.{get_or_default, length_push}
 use Rattle.life_model.specs.Generation.{Generation, empty}
-use Rattle.life_objects.specs.Growth.Engines.Tracks.{Step}
+use Rattle.life_growth.specs.Engines.Tracks.{Step}
 use Rattle.life_tracks.specs.Lines.{AreLinked, ancestor, core_of}
 use Rattle.life_tracks.specs.Readings.{AreLeft, AreOnLine, AreStepsAlong, step_at}
 use Rattle.life_tracks.proofs.Ancestors.{ancestor-within}

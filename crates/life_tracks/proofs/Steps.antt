@@ -17,8 +17,8 @@ use Rattle.life_objects.proofs.Many.{next-union_of}
 use Rattle.life_objects.proofs.Members.{found_now, in_list}
 use Rattle.life_objects.proofs.Sides.{within_each_other}
 use Rattle.life_objects.proofs.Unions.{in_empty, in_first, in_second, in_union}
-use Rattle.life_objects.specs.Growth.Unsplit.{AreClasses}
-use Rattle.life_objects.proofs.GrowthLemmas.FilmLemmas.Splits.{apart_now}
+use Rattle.life_growth.specs.Unsplit.{AreClasses}
+use Rattle.life_growth.proofs.FilmLemmas.Splits.{apart_now}
 use Rattle.life_tracks.specs.Frames.Frames.{AreParents}
 use Rattle.life_tracks.specs.Lines.{IsSibling}
 use Rattle.life_tracks.specs.Readings.{AreLeft}

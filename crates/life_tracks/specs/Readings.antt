@@ -2,7 +2,7 @@
 use Rattle.std.specs.Prelude.{◌≡◌, ◌⊎◌, ℕ, suc, ◌<◌, ◌≤◌, true, List, length, get_or}
 use Rattle.life_model.specs.Cell.{Cell}
 use Rattle.life_model.specs.Generation.{Generation, contains, empty}
-use Rattle.life_objects.specs.Growth.Engines.Tracks.{Step}
+use Rattle.life_growth.specs.Engines.Tracks.{Step}
 use Rattle.life_tracks.specs.declared.returns.Return.{Return}
 use Rattle.life_tracks.specs.Lines.{IsSibling, ancestor, core_of}
 use Rattle.life_tracks.specs.Tracks.{Path}

@@ -9,9 +9,9 @@ use Rattle.life_model.specs.Rule.{Rule}
 use Rattle.life_model.specs.Evolution.{next}
 use Rattle.life_model.specs.Symmetry.{translate_of}
 use Rattle.life_objects.specs.Union.{union}
-use Rattle.life_objects.specs.Growth.Engines.Tracks.{Step, way_along}
-use Rattle.life_objects.specs.Growth.Engine.{IsEngine, Way}
-use Rattle.life_objects.specs.Growth.Unsplit.{IsUnsplit}
+use Rattle.life_growth.specs.Engines.Tracks.{Step, way_along}
+use Rattle.life_growth.specs.Engine.{IsEngine, Way}
+use Rattle.life_growth.specs.Unsplit.{IsUnsplit}
 
 -- The class in a place goes along a track. Each step has the core after it, and what left in it.
 pub record Path : Type 0 where

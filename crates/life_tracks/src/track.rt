@@ -1,6 +1,6 @@
 //! Tracks, as contracts and callers see them.
 ghost use Rattle.std.specs.Prelude.{◌≡◌, length};
-ghost use Rattle.life_objects.specs.Growth.Engines.Tracks.{core_along};
+ghost use Rattle.life_growth.specs.Engines.Tracks.{core_along};
 ghost use Rattle.life_tracks.specs.Tracks.{way_of};
 
 use life_cells::{CellList, corner};
@@ -17,7 +17,7 @@ pub struct Step {
 impl Model for Step {
     ghost use Rattle.life_model.specs.Coded.{coded_generation};
     ghost use Rattle.std.specs.Coded.{coded×};
-    ghost use Rattle.life_objects.specs.Growth.Engines.Tracks as tracks;
+    ghost use Rattle.life_growth.specs.Engines.Tracks as tracks;
 
     ghost Value = { tracks.Step };
 

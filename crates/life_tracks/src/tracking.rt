@@ -3,7 +3,7 @@ ghost use Rattle.std.specs.Prelude.{◌≡◌, ℕ, ◌+◌, ◌≤◌, ◌<◌,
 ghost use Rattle.std.specs.List.{All, Contains};
 ghost use Rattle.life_model.specs.Generation.{Generation, empty};
 ghost use Rattle.life_model.specs.Rule.{Rule};
-ghost use Rattle.life_objects.specs.Growth.Engine.{IsEngine, Way};
+ghost use Rattle.life_growth.specs.Engine.{IsEngine, Way};
 ghost use Rattle.life_tracks.specs.Frames.Frames.{IsFilm, classes_at, parents_at};
 ghost use Rattle.life_tracks.specs.Films.{IsLinkedFilm, IsReturnOf, IsTrackOf};
 ghost use Rattle.life_tracks.specs.Readings.{AreReadOff};

@@ -22,11 +22,11 @@ use Rattle.life_answer.proofs.Told.{growth_is_so}
 use Rattle.life_objects.proofs.IndependentLemmas.Found.{owned}
 use Rattle.life_ash.proofs.Places.{generation_within, place_of, subset_within}
 use Rattle.life_cells.specs.Limits.{IsWithin}
-use Rattle.life_objects.specs.Growth.Engine.{Emits, IsEngine, IsEngineWithin, Way, joined}
-use Rattle.life_objects.specs.Growth.Growth.{IsGrowth}
-use Rattle.life_objects.proofs.GrowthLemmas.Emitting.{emits_some}
-use Rattle.life_objects.proofs.GrowthLemmas.Growing.{generation-one}
-use Rattle.life_objects.proofs.GrowthLemmas.OneGrowth.{IsUnsplit-engine, engines_apart}
+use Rattle.life_growth.specs.Engine.{Emits, IsEngine, IsEngineWithin, Way, joined}
+use Rattle.life_growth.specs.Growth.{IsGrowth}
+use Rattle.life_growth.proofs.Emitting.{emits_some}
+use Rattle.life_growth.proofs.Growing.{generation-one}
+use Rattle.life_growth.proofs.OneGrowth.{IsUnsplit-engine, engines_apart}
 use Rattle.life_model.specs.Evolution.{generation}
 use Rattle.life_model.specs.Generation.{Generation, cells, contains, empty}
 use Rattle.life_model.specs.Rule.{Rule}

@@ -8,7 +8,7 @@ use Rattle.life_answer.specs.Limited.{StaysWithin}
 use Rattle.life_answer.specs.declared.finding.Answer.TheVariants.{Found}
 use Rattle.life_answer.specs.declared.finding.Outcome.TheVariants.{Grows}
 use Rattle.life_answer.specs.declared.tale.Engines.{Engines}
-use Rattle.life_objects.specs.Growth.Growth.{IsGrowth}
+use Rattle.life_growth.specs.Growth.{IsGrowth}
 use Rattle.life_model.specs.Evolution.{generation}
 use Rattle.life_model.specs.Generation.{Generation}
 use Rattle.life_model.specs.Rule.{Rule}

@@ -18,8 +18,8 @@ use Rattle.life_objects.proofs.Members.{found_in}
 use Rattle.life_objects.proofs.Moving.{generation-wrapped}
 use Rattle.life_objects.proofs.DecidedLemmas.Kept.{Contains-map}
 use Rattle.life_objects.proofs.IndependentLemmas.Found.{Contains-flat_map, of_flat_map, of_map}
-use Rattle.life_objects.specs.Growth.Things.{IsMadeOf, IsSettledThing, Thing, set_then, time_then}
-use Rattle.life_objects.proofs.GrowthLemmas.Things.{settled_is_made}
+use Rattle.life_growth.specs.Things.{IsMadeOf, IsSettledThing, Thing, set_then, time_then}
+use Rattle.life_growth.proofs.Things.{settled_is_made}
 use Rattle.life_orbit.specs.Course.{Course, IsCourse}
 use Rattle.life_apart.specs.Sets.{IsCourseBy, sets_of}
 use Rattle.life_growing.specs.Settled.Settling.{IsSettling, Settling}

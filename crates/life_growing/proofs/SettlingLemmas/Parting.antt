@@ -6,7 +6,7 @@ use Rattle.life_objects.specs.Ash.{HasFallenApart}
 use Rattle.life_objects.specs.Kinds.{AreAlike}
 use Rattle.life_objects.specs.Union.{generations}
 use Rattle.life_objects.proofs.Ashes.{IsAsh-until}
-use Rattle.life_objects.proofs.GrowthLemmas.Alike.{ashes_are_alike, count_later}
+use Rattle.life_growth.proofs.Alike.{ashes_are_alike, count_later}
 use Rattle.life_apart.specs.Sets.{sets_of}
 use Rattle.life_growing.specs.Settled.Settling.{IsSettling, Settling}
 

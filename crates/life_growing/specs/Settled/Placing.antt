@@ -1,7 +1,7 @@
 -- Where things are placed.
 use Rattle.std.specs.Prelude.{ℕ, ◌≤◌, None, Some, IfSome, List, [], ◌∷◌, Option}
 use Rattle.life_model.specs.Cell.{Cell}
-use Rattle.life_objects.specs.Growth.Things.{Thing}
+use Rattle.life_growth.specs.Things.{Thing}
 use Rattle.life_things.specs.Lattice.Short.{IsWithin, way_limit}
 use Rattle.life_things.specs.declared.way.Way.{Way}
 use Rattle.life_things.specs.Ways.{IsFit, way_of}

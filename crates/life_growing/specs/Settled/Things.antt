@@ -4,7 +4,7 @@ use Rattle.life_model.specs.Cell.{Cell}
 use Rattle.life_model.specs.Evolution.{generation}
 use Rattle.life_model.specs.Generation.{Generation, empty}
 use Rattle.life_model.specs.Symmetry.{translate_of}
-use Rattle.life_objects.specs.Growth.Things.{Thing}
+use Rattle.life_growth.specs.Things.{Thing}
 use Rattle.life_orbit.specs.Course.{Course}
 use Rattle.life_growing.specs.Settled.Settling.{Settling}
 

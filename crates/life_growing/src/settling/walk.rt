@@ -2,7 +2,7 @@
 ghost use Rattle.std.specs.Prelude.{◌+◌, ◌≤◌, ◌↔◌, All, IfNone, IfOk, IfSome, IsTrue};
 ghost use Rattle.life_model.specs.Generation as generations;
 ghost use Rattle.life_cells.specs.Limits.{IsWithin};
-ghost use Rattle.life_objects.specs.Growth.Engine.{FallsApart};
+ghost use Rattle.life_growth.specs.Engine.{FallsApart};
 ghost use Rattle.life_ash.specs.Parts.{ash_age_limit};
 ghost use Rattle.life_growing.specs.Settled.Settling.{IsSettling};
 

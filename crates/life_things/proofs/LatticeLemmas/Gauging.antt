@@ -2,8 +2,8 @@
 use Rattle.std.proofs.Common.{◌≡◌, ℕ, ℤ, pos, neg_ℤ, ◌+◌, ◌*◌, arith}
 use Rattle.std.proofs.Math.IntN.{*ℤ_comm, zero-*ℤ}
 use Rattle.std.proofs.lemmas.Int.{ints}
-use Rattle.life_objects.specs.Growth.Meeting.Sums.{Step}
-use Rattle.life_objects.specs.Growth.Relations.Relations.{product}
+use Rattle.life_growth.specs.Meeting.Sums.{Step}
+use Rattle.life_growth.specs.Relations.Relations.{product}
 use Rattle.life_things.specs.Lattice.Gauges.{across_gauge, along_gauge}
 use Rattle.life_things.specs.Lattice.Short.{IsShort, IsWithin}
 use Rattle.life_things.proofs.LatticeLemmas.Lowering.{neg-left}

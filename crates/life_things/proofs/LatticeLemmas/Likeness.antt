@@ -5,7 +5,7 @@ use Rattle.std.proofs.Math.IntN.{◌*ℤ◌, *ℤ_comm, *ℤ-zero}
 use Rattle.std.proofs.Math.Nat.{div-add-mod, mul-div_cancel'}
 use Rattle.std.specs.Int.{◌∣◌}
 use Rattle.std.proofs.lemmas.Int.{by_lt_z, ints}
-use Rattle.life_objects.proofs.GrowthLemmas.RelationsLemmas.Products.{spreads}
+use Rattle.life_growth.proofs.RelationsLemmas.Products.{spreads}
 use Rattle.life_things.specs.Lattice.Alike.{AreAlike}
 use Rattle.life_things.proofs.LatticeLemmas.Lowering.{neg-left, regrouped}
 use Rattle.life_things.proofs.LatticeLemmas.Rising.{times_back}

@@ -6,11 +6,11 @@ use Rattle.std.specs.Prelude.{unsigned_abs}
 use Rattle.std.specs.Int.{◌∣◌}
 use Rattle.std.proofs.lemmas.Bool.{cases_lt}
 use Rattle.life_orbit.proofs.Divisors.{some_divisor}
-use Rattle.life_objects.specs.Growth.Meeting.Sums.{Step, and_then, stay}
-use Rattle.life_objects.proofs.GrowthLemmas.MeetingLemmas.Reach.{step_is}
-use Rattle.life_objects.specs.Growth.Relations.Relations.{above, combination, scaled}
-use Rattle.life_objects.proofs.GrowthLemmas.RelationsLemmas.Crosses.{last_two, left_sum}
-use Rattle.life_objects.proofs.GrowthLemmas.RelationsLemmas.Products.{spreads}
+use Rattle.life_growth.specs.Meeting.Sums.{Step, and_then, stay}
+use Rattle.life_growth.proofs.MeetingLemmas.Reach.{step_is}
+use Rattle.life_growth.specs.Relations.Relations.{above, combination, scaled}
+use Rattle.life_growth.proofs.RelationsLemmas.Crosses.{last_two, left_sum}
+use Rattle.life_growth.proofs.RelationsLemmas.Products.{spreads}
 use Rattle.life_things.specs.Lattice.Numbers.{DividesAll, IsLighter, numbers_of, total_above, turned}
 use Rattle.life_things.specs.declared.lattice.numbers.Numbers.{Numbers}
 

@@ -3,10 +3,10 @@ use Rattle.std.proofs.Common.{◌≡◌, ◌≢◌, suc, ℤ, pos, negsuc, neg_�
 use Rattle.std.specs.Prelude.{unsigned_abs}
 use Rattle.std.proofs.Math.IntN.{◌*ℤ◌, *ℤ-zero, zero-*ℤ}
 use Rattle.std.proofs.lemmas.Int.{ints}
-use Rattle.life_objects.specs.Growth.Meeting.Sums.{Step, and_then, stay}
-use Rattle.life_objects.proofs.GrowthLemmas.MeetingLemmas.Reach.{step_is, then-stay}
-use Rattle.life_objects.specs.Growth.Relations.Relations.{combination, cross, product, scaled, spanned}
-use Rattle.life_objects.proofs.GrowthLemmas.RelationsLemmas.Spans.{related}
+use Rattle.life_growth.specs.Meeting.Sums.{Step, and_then, stay}
+use Rattle.life_growth.proofs.MeetingLemmas.Reach.{step_is, then-stay}
+use Rattle.life_growth.specs.Relations.Relations.{combination, cross, product, scaled, spanned}
+use Rattle.life_growth.proofs.RelationsLemmas.Spans.{related}
 use Rattle.life_things.specs.Lattice.Gauges.{across_gauge, along_gauge}
 use Rattle.life_things.specs.Lattice.Numbers.{StayBy, four_numbers, numbers_of, total_above, turned}
 use Rattle.life_things.specs.declared.lattice.numbers.Numbers.{Numbers}

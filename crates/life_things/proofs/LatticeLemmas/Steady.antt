@@ -2,7 +2,7 @@
 use Rattle.std.proofs.Common.{◌≡◌, ℕ, zero, suc, ℤ, neg_ℤ, pos, negsuc, ◌+ℤ◌, ◌-ℤ◌, ◌≤ℤ◌, ◌*◌, refl, ap, ◌∙◌, arith}
 use Rattle.std.proofs.Math.IntN.{◌*ℤ◌, zero-*ℤ}
 use Rattle.std.proofs.lemmas.Int.{ints}
-use Rattle.life_objects.proofs.GrowthLemmas.RelationsLemmas.Products.{spreads}
+use Rattle.life_growth.proofs.RelationsLemmas.Products.{spreads}
 
 -- how much greater one number is
 pub ahead : (x y : ℤ) → x ≤ℤ y → (v : ℕ) × (y ≡ x +ℤ pos v)

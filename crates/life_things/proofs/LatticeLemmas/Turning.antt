@@ -8,7 +8,7 @@ use Rattle.std.proofs.Math.Nat.{div-add-mod, div-lt_iff_lt-mul, mul-div_cancel'}
 use Rattle.std.proofs.lemmas.Int.{ints, unsigned_abs-mul}
 use Rattle.std.proofs.lemmas.Nat.{mod-mul-add}
 use Rattle.std.proofs.lemmas.Nat.Gcd.{dvd_refl}
-use Rattle.life_objects.proofs.GrowthLemmas.RelationsLemmas.Products.{spreads}
+use Rattle.life_growth.proofs.RelationsLemmas.Products.{spreads}
 use Rattle.life_things.specs.Lattice.Alike.{AreAlike}
 use Rattle.life_things.proofs.LatticeLemmas.Likeness.{alike_back, alike_same, alike_through, alike_times, left_alike, whole}
 use Rattle.life_things.proofs.LatticeLemmas.Lowering.{only_none, regrouped}

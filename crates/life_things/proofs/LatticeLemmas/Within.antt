@@ -6,9 +6,9 @@ use Rattle.std.specs.Prelude.{unsigned_abs}
 use Rattle.std.proofs.Math.IntN.{◌*ℤ◌, ◌-ℤ◌}
 use Rattle.std.proofs.Math.Nat.{mul-le-mul}
 use Rattle.std.proofs.lemmas.Int.{ints, to_z-of_z, unsigned_abs-mul}
-use Rattle.life_objects.specs.Growth.Meeting.Sums.{Step, and_then, times}
-use Rattle.life_objects.proofs.GrowthLemmas.RelationsLemmas.Signed.{times-scaled}
-use Rattle.life_objects.specs.Growth.Relations.Relations.{product}
+use Rattle.life_growth.specs.Meeting.Sums.{Step, and_then, times}
+use Rattle.life_growth.proofs.RelationsLemmas.Signed.{times-scaled}
+use Rattle.life_growth.specs.Relations.Relations.{product}
 use Rattle.life_things.specs.Lattice.Short.{IsShort, IsWithin}
 
 pub abs_within : (n : ℕ) (x : ℤ) → IsWithin n x → unsigned_abs x ≤ n

@@ -1,7 +1,7 @@
 -- Gauges: steps whose products with other steps tell these apart.
 use Rattle.std.specs.Prelude.{pos, neg_ℤ, ◌≤ℤ◌, List, [], ◌∷◌}
-use Rattle.life_objects.specs.Growth.Meeting.Sums.{Step}
-use Rattle.life_objects.specs.Growth.Relations.Relations.{product}
+use Rattle.life_growth.specs.Meeting.Sums.{Step}
+use Rattle.life_growth.specs.Relations.Relations.{product}
 
 -- the product with these gauges is 0 for the step, and says how far another step deviates from its direction along each
 -- axis

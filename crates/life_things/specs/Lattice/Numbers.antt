@@ -2,8 +2,8 @@
 use Rattle.std.specs.Prelude.{◌≡◌, ℕ, ◌+◌, ℤ, pos, neg_ℤ, List, [], ◌∷◌}
 use Rattle.std.specs.Int.{◌∣◌}
 use Rattle.std.specs.Prelude.{unsigned_abs}
-use Rattle.life_objects.specs.Growth.Meeting.Sums.{Step, stay}
-use Rattle.life_objects.specs.Growth.Relations.Relations.{above, combination, spanned}
+use Rattle.life_growth.specs.Meeting.Sums.{Step, stay}
+use Rattle.life_growth.specs.Relations.Relations.{above, combination, spanned}
 use Rattle.life_things.specs.declared.lattice.numbers.Numbers.{Numbers}
 use Rattle.life_things.specs.Lattice.Short.{IsWithin}
 

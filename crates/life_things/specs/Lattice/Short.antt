@@ -1,6 +1,6 @@
 -- Numbers and steps that are not too long for the machine.
 use Rattle.std.specs.Prelude.{◌≢◌, ℕ, ◌*◌, ◌≤◌, ◌^◌, ℤ, pos, neg_ℤ, ◌≤ℤ◌}
-use Rattle.life_objects.specs.Growth.Meeting.Sums.{Step}
+use Rattle.life_growth.specs.Meeting.Sums.{Step}
 
 -- from -n to n
 pub record IsWithin (n : ℕ) (x : ℤ) : Type 0 where

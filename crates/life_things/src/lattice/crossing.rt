@@ -1,6 +1,6 @@
 //! Cross products, and the numbers with which four steps, or three in a plane, add up to staying.
 ghost use Rattle.std.specs.Prelude.{◌≡◌, ◌+◌, ◌≤◌, ◌*ℤ◌, ◌-ℤ◌, [], ◌∷◌, pos};
-ghost use Rattle.life_objects.specs.Growth.Relations.Relations.{cross, product, spanned};
+ghost use Rattle.life_growth.specs.Relations.Relations.{cross, product, spanned};
 ghost use Rattle.life_things.specs.Lattice.Gauges.{across_gauge, along_gauge};
 ghost use Rattle.life_things.specs.Lattice.Numbers.{AreFew, StayBy, four_numbers, number_limit, total_above, turned};
 ghost use Rattle.life_things.specs.Lattice.Short.{IsShort, IsStride, IsWithin, cross_limit, way_limit};

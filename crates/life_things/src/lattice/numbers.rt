@@ -1,7 +1,7 @@
 //! Numbers with which steps add up to staying.
 ghost use Rattle.std.specs.Prelude.{◌≡◌, ◌+◌, ◌≤◌, ◌*ℤ◌, pos, unsigned_abs};
 ghost use Rattle.std.specs.Int.{◌∣◌, IsGcd};
-ghost use Rattle.life_objects.specs.Growth.Relations.Relations.{above};
+ghost use Rattle.life_growth.specs.Relations.Relations.{above};
 ghost use Rattle.life_things.specs.Lattice.Numbers.{AreFew, DividesAll, IsLighter, number_limit, total_above, turned};
 ghost use Rattle.life_things.specs.Lattice.Short.{IsWithin};
 

@@ -1,7 +1,7 @@
 //! Steps: some generations and a move.
 ghost use Rattle.std.specs.Prelude.{◌≡◌, ◌*◌, ◌≤◌, ◌^◌, ◌*ℤ◌, unsigned_abs};
-ghost use Rattle.life_objects.specs.Growth.Meeting.Sums.{and_then, times};
-ghost use Rattle.life_objects.specs.Growth.Relations.Relations.{product};
+ghost use Rattle.life_growth.specs.Meeting.Sums.{and_then, times};
+ghost use Rattle.life_growth.specs.Relations.Relations.{product};
 ghost use Rattle.life_things.specs.Lattice.Short.{AreShort, IsShort, IsStride, count_limit};
 
 /// A number of generations, and a move along both axes.

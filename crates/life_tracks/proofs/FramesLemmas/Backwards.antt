@@ -6,7 +6,7 @@ use Rattle.life_model.specs.Rule.{Rule}
 use Rattle.life_model.specs.Generation.{Generation, empty}
 use Rattle.life_model.specs.Evolution.{generation, next}
 use Rattle.life_model.proofs.Recurrences.{generation-next, generation-zero}
-use Rattle.life_objects.specs.Growth.Unsplit.{AreClasses}
+use Rattle.life_growth.specs.Unsplit.{AreClasses}
 use Rattle.life_tracks.specs.declared.frames.film.Film.{Film}
 use Rattle.life_tracks.specs.declared.frames.frame.Frame.{Frame}
 use Rattle.life_tracks.specs.Frames.Frames.{AreFrames, AreGenerations, AreParents, IsFilm, IsNextFrame, frame_classes, frame_parents}

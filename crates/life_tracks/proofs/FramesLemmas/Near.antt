@@ -16,7 +16,7 @@ use Rattle.life_objects.proofs.Unions.{union-comm, union-empty}
 use Rattle.life_classes.specs.declared.class.Class.{Class}
 use Rattle.life_classes.specs.Tracking.{AreApartNow, AreTracked, LeadTo, class_of_cell, first_sets}
 use Rattle.life_classes.proofs.Later.{end_apart, tracked_at_first}
-use Rattle.life_objects.specs.Growth.Unsplit.{AreClasses}
+use Rattle.life_growth.specs.Unsplit.{AreClasses}
 use Rattle.life_islands.proofs.Labelled.{place_in_list}
 use Rattle.life_tracks.specs.Frames.Frames.{with_cells}
 

@@ -15,11 +15,11 @@ use Rattle.life_objects.proofs.Distances.{AreApart-swap, near_through}
 use Rattle.life_objects.proofs.Lists.{AllPairs-weaker, related_or_same}
 use Rattle.life_objects.proofs.Members.{found_now, in_list_now}
 use Rattle.life_classes.proofs.Owners.{owner}
-use Rattle.life_objects.specs.Growth.Unsplit.{AreClasses}
-use Rattle.life_objects.proofs.GrowthLemmas.FilmLemmas.Splits.{apart_now}
-use Rattle.life_objects.proofs.GrowthLemmas.FilmLemmas.Joined.{AreSeparate-swap, bearer, in_classes, separate_apart}
-use Rattle.life_objects.specs.Growth.Film.Film.{AreLinked, AreSeparate, bearing, itself, swapped, through, within}
-use Rattle.life_objects.specs.Growth.Film.Film as film
+use Rattle.life_growth.specs.Unsplit.{AreClasses}
+use Rattle.life_growth.proofs.FilmLemmas.Splits.{apart_now}
+use Rattle.life_growth.proofs.FilmLemmas.Joined.{AreSeparate-swap, bearer, in_classes, separate_apart}
+use Rattle.life_growth.specs.Film.{AreLinked, AreSeparate, bearing, itself, swapped, through, within}
+use Rattle.life_growth.specs.Film as film
 use Rattle.life_classes.specs.Forest.{root}
 use Rattle.life_islands.specs.Labels.{AreThoseWithCells, joined_sets, mark_of}
 use Rattle.life_classes.proofs.Forests.{root-le}

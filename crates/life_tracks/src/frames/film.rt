@@ -3,7 +3,7 @@ ghost use Rattle.std.specs.Prelude.{◌≡◌, ℕ, ◌+◌, ◌-◌, ◌≤◌,
 ghost use Rattle.life_model.specs.Evolution.{generation, next};
 ghost use Rattle.life_model.specs.Generation.{Generation};
 ghost use Rattle.life_model.specs.Rule.{Rule as ModelRule};
-ghost use Rattle.life_objects.specs.Growth.Unsplit.{AreClasses};
+ghost use Rattle.life_growth.specs.Unsplit.{AreClasses};
 ghost use Rattle.life_tracks.specs.Frames.Frames.{AreFrames, AreGenerations, AreParents, IsFilm, IsNextFrame, classes_at, parents_at};
 
 use crate::frames::frame::{Frame, frame_before, last_frame};

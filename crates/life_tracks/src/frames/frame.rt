@@ -2,15 +2,15 @@
 ghost use Rattle.std.specs.Prelude.{◌≡◌, ℕ, ◌+◌, IfOk};
 ghost use Rattle.life_model.specs.Evolution.{next};
 ghost use Rattle.life_model.specs.Rule.{Rule};
-ghost use Rattle.life_objects.specs.Growth.Unsplit.{AreClasses};
+ghost use Rattle.life_growth.specs.Unsplit.{AreClasses};
 ghost use Rattle.life_tracks.specs.Frames.Frames.{AreParents};
 
 use crate::frames::joining::joined;
 use crate::frames::parents::parents;
 use crate::frames::pieces::near_pieces;
 use life_cells::CellList;
+use life_growth::classes_are_told_backwards;
 use life_islands::gathered;
-use life_objects::growth::{classes_are_told_backwards, film_classes_are_classes};
 use std::alloc::{AllocError, Global};
 
 /// The classes of a generation, and for each class of the next one, in their order, the place of the class that bears it.
@@ -41,8 +41,6 @@ pub fn frame_before(alloc: Global, list: &CellList, later: &[CellList]) -> Resul
 {
     // The law by which the joined pieces are classes.
     classes_are_told_backwards();
-    // The near pieces. The program makes no lists of them here.
-    film_classes_are_classes();
     let forest = joined(alloc, list, later)?;
     let classes = gathered(alloc, list, forest.as_slice())?;
     let parents = parents(alloc, list, forest.as_slice(), classes.as_slice(), later)?;

@@ -2,7 +2,7 @@
 ghost use Rattle.std.specs.Prelude.{◌≡◌, IfOk};
 ghost use Rattle.life_model.specs.Rule.{Rule};
 ghost use Rattle.life_classes.specs.Tracking.{first_sets};
-ghost use Rattle.life_objects.specs.Growth.Unsplit.{AreClasses};
+ghost use Rattle.life_growth.specs.Unsplit.{AreClasses};
 ghost use Rattle.life_tracks.specs.Frames.Frames.{with_cells};
 
 use life_cells::CellList;

@@ -3,7 +3,7 @@ use Rattle.std.specs.List.{All}
 use Rattle.std.specs.Vec.Iter.{into_iter_items}
 use Rattle.std.proofs.lemmas.List.Elements.{All-push}
 use Rattle.life_ash.proofs.Finding.{of_none, of_some}
-use Rattle.life_objects.specs.Growth.Engine.{IsEngine}
+use Rattle.life_growth.specs.Engine.{IsEngine}
 use Rattle.life_tracks.specs.Films.{IsTrackOf}
 use Rattle.life_tracks.specs.Tracks.{way_of}
 use Rattle.life_growing.proofs.FindingEngines.{no_engine, track_start}

@@ -1,7 +1,7 @@
 use Rattle.std.proofs.Common.{◌≡◌, ◌++◌, length}
 use Rattle.std.specs.List.{All}
 use Rattle.std.specs.Vec.Iter.{into_iter_items, into_iter_len}
-use Rattle.life_objects.specs.Growth.Engine.{IsEngine}
+use Rattle.life_growth.specs.Engine.{IsEngine}
 use Rattle.life_tracks.specs.Tracks.{way_of}
 use Rattle.life_growing.proofs.engines.engine_in.Given as goal
 

@@ -4,7 +4,7 @@ use Rattle.std.proofs.lemmas.Result.{IfOk-weaker}
 use Rattle.life_ash.proofs.Finding.{of_none, of_some}
 use Rattle.life_orbit.proofs.Finding.{none_then}
 use Rattle.life_tracks.specs.Frames.Frames.{IsFilm}
-use Rattle.life_objects.specs.Growth.Unsplit.{IsUnsplit}
+use Rattle.life_growth.specs.Unsplit.{IsUnsplit}
 use Rattle.life_growing.proofs.FindingEngines.{engine_unsplit}
 use Rattle.life_growing.proofs.engines.engine_of.Goals as goal
 

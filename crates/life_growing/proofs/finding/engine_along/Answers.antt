@@ -1,7 +1,7 @@
 use Rattle.std.proofs.Common.{rules, ◌≢◌, ℕ, ◌<◌, ◌≤◌, List, [], length, sym, subst, ◌∙◌, true≢false}
-use Rattle.life_objects.specs.Growth.Engine.{IsEngine}
-use Rattle.life_objects.specs.Growth.Things.{NeverMeetAgain, listed}
-use Rattle.life_objects.specs.Growth.Unsplit.{IsUnsplit}
+use Rattle.life_growth.specs.Engine.{IsEngine}
+use Rattle.life_growth.specs.Things.{NeverMeetAgain, listed}
+use Rattle.life_growth.specs.Unsplit.{IsUnsplit}
 use Rattle.life_growing.specs.Settled.Settling.{Settling}
 use Rattle.life_tracks.specs.Tracks.{way_of}
 use Rattle.life_growing.specs.Emissions.{AreLefts, left_at, things_left}

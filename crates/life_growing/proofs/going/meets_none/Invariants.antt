@@ -1,6 +1,6 @@
 use Rattle.std.proofs.Common.{take}
 use Rattle.std.specs.List.{All}
-use Rattle.life_objects.specs.Growth.Things.{NeverMeet}
+use Rattle.life_growth.specs.Things.{NeverMeet}
 use Rattle.life_growing.proofs.going.meets_none.Given as goal
 
 -- it never meets those before this one

@@ -7,8 +7,8 @@ use Rattle.life_model.specs.Generation.{cells}
 use Rattle.life_cells.specs.Limits.{IsWithin}
 use Rattle.life_classes.specs.Tracking.{first_sets}
 use Rattle.life_objects.specs.Union.{union_of}
-use Rattle.life_objects.specs.Growth.Engine.{FallsApart}
-use Rattle.life_objects.specs.Growth.Growth.{IsGrowth}
+use Rattle.life_growth.specs.Engine.{FallsApart}
+use Rattle.life_growth.specs.Growth.{IsGrowth}
 use Rattle.life_growing.specs.Settled.Settling.{IsSettling}
 use Rattle.life_growing.specs.Loose.{HasLoose}
 use Rattle.life_growing.specs.Meeting.{GoApart}

@@ -2,7 +2,7 @@ use Rattle.std.proofs.Common.{◌∷◌, [], ap, ◌∙◌}
 use Rattle.life_model.specs.Generation.{from_list}
 use Rattle.life_model.proofs.Cells.{pair}
 use Rattle.life_model.proofs.Generations.{from_list-cells}
-use Rattle.life_objects.specs.Growth.Things.{core_thing}
+use Rattle.life_growth.specs.Things.{core_thing}
 use Rattle.life_tracks.specs.Tracks.{way_of}
 use Rattle.life_growing.proofs.GoingCores.{first_more, same_core}
 use Rattle.life_growing.proofs.lefts.core_things.Goals as goal

@@ -1,5 +1,5 @@
 use Rattle.std.proofs.Common.{◌≡◌}
-use Rattle.life_objects.specs.Growth.Things.{core_thing}
+use Rattle.life_growth.specs.Things.{core_thing}
 use Rattle.life_growing.specs.Settled.Things.{first_things}
 use Rattle.life_tracks.specs.Tracks.{way_of}
 use Rattle.life_growing.proofs.lefts.core_things.Given as goal

@@ -1,7 +1,7 @@
 use Rattle.std.proofs.Common.{◌≡◌, length, sym, ap, subst, ◌∙◌, arith}
 use Rattle.std.proofs.lemmas.List.{length_push}
 use Rattle.life_ash.proofs.Finding.{of_some}
-use Rattle.life_objects.specs.Growth.Engine.{FallsApart}
+use Rattle.life_growth.specs.Engine.{FallsApart}
 use Rattle.life_growing.specs.Settled.Settling.{IsSettling}
 use Rattle.life_tracks.specs.Tracks.{way_of}
 use Rattle.life_tracks.proofs.Pushing.{each_more}

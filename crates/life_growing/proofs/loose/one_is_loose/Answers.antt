@@ -6,7 +6,7 @@ use Rattle.life_model.specs.Generation.{cells}
 use Rattle.life_cells.specs.Limits.{IsWithin}
 use Rattle.life_classes.specs.Tracking.{first_sets}
 use Rattle.life_classes.specs.declared.class.Class.{Class}
-use Rattle.life_objects.proofs.GrowthLemmas.MeetingLemmas.Reach.{mapped}
+use Rattle.life_growth.proofs.MeetingLemmas.Reach.{mapped}
 use Rattle.life_growing.proofs.loose.one_is_loose.Goals as goal
 
 -- the set of a class is among theirs

@@ -1,6 +1,6 @@
 use Rattle.std.proofs.Common.{◌≡◌, ◌+◌, ◌≤◌}
 use Rattle.life_model.specs.Evolution.{generation}
-use Rattle.life_objects.specs.Growth.Engine.{IsEngine, Way}
+use Rattle.life_growth.specs.Engine.{IsEngine, Way}
 use Rattle.life_growing.proofs.returning.never_come_back.Given as goal
 
 -- no engine has a period up to here

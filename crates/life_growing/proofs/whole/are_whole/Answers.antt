@@ -2,7 +2,7 @@ use Rattle.std.proofs.Common.{◌+◌, refl, sym, subst, ◌∙◌, arith}
 use Rattle.std.proofs.lemmas.Bool.{false≢true}
 use Rattle.life_ash.proofs.Finding.{of_some}
 use Rattle.life_tracks.specs.Frames.Frames.{IsFilm}
-use Rattle.life_objects.specs.Growth.Unsplit.{IsUnsplit}
+use Rattle.life_growth.specs.Unsplit.{IsUnsplit}
 use Rattle.life_tracks.specs.Tracks.{way_of}
 use Rattle.life_growing.proofs.FindingCores.{AreWholeSoFar, IsSeen, one_filmed, one_told}
 use Rattle.life_growing.proofs.whole.are_whole.Goals.{else-not-is_told, in-None, in-Some, then-not-is_told+in_ok-film+in-Some-2}

@@ -2,9 +2,9 @@ use mir.Syntax.{w128}
 use mir.Val.{of_z, to_z}
 use Rattle.std.proofs.Common.{◌≡◌, ◌*◌, ◌≤◌, ◌^◌, ℤ, pos, ◌+ℤ◌, ◌≤ℤ◌, ap, sym, subst, ◌∙◌, arith}
 use Rattle.std.proofs.Math.IntN.{◌*ℤ◌}
-use Rattle.life_objects.specs.Growth.Meeting.Sums.{Step, times}
-use Rattle.life_objects.specs.Growth.Relations.Relations.{product}
-use Rattle.life_objects.proofs.GrowthLemmas.RelationsLemmas.Products.{product-then, product-times}
+use Rattle.life_growth.specs.Meeting.Sums.{Step, times}
+use Rattle.life_growth.specs.Relations.Relations.{product}
+use Rattle.life_growth.proofs.RelationsLemmas.Products.{product-then, product-times}
 use Rattle.life_things.specs.Lattice.Short.{AreShort, IsWithin}
 use Rattle.life_things.proofs.LatticeLemmas.Within.{read_back, within_product_of, within_wider}
 use Rattle.life_things.proofs.field.span_by.Goals as goal

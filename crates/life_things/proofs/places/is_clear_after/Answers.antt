@@ -4,8 +4,8 @@ use Rattle.std.proofs.Common.{◌≡◌, ◌^◌, ℕ, ℤ, pos, ◌+ℤ◌, ref
 use Rattle.std.proofs.Math.IntN.{◌*ℤ◌}
 use Rattle.std.proofs.lemmas.Int.{to_z-of_z}
 use Rattle.life_model.specs.Cell.{Cell}
-use Rattle.life_objects.specs.Growth.Meeting.Sums.{Step, and_then, times}
-use Rattle.life_objects.proofs.GrowthLemmas.RelationsLemmas.Signed.{times-scaled}
+use Rattle.life_growth.specs.Meeting.Sums.{Step, and_then, times}
+use Rattle.life_growth.proofs.RelationsLemmas.Signed.{times-scaled}
 use Rattle.life_things.specs.Clear.{IsClear}
 use Rattle.life_things.specs.Lattice.Short.{IsWithin}
 use Rattle.life_things.proofs.Arriving.{out_of_columns, out_of_rows}

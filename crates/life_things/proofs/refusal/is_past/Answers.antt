@@ -3,7 +3,7 @@ use mir.Val.{of_z, to_z}
 use lib.Signed.{le_z}
 use Rattle.std.proofs.Common.{◌≡◌, ℕ, false, ◌+◌, ◌*◌, ◌^◌, ℤ, ◌<ℤ◌, sym, subst, arith}
 use Rattle.std.proofs.lemmas.Int.{ints}
-use Rattle.life_objects.specs.Growth.Relations.Relations.{product}
+use Rattle.life_growth.specs.Relations.Relations.{product}
 use Rattle.life_things.specs.Clear.{IsClearOver}
 use Rattle.life_things.specs.Lattice.Gauges.{NoneFalls}
 use Rattle.life_things.specs.Lattice.Short.{IsWithin, cross_limit, four_start}

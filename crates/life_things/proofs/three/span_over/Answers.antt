@@ -2,9 +2,9 @@ use Rattle.std.proofs.Common.{◌≡◌, ℕ, ◌+◌, ◌<◌, ◌≤◌, ◌^�
 use Rattle.std.specs.Prelude.{IfNone}
 use Rattle.life_model.specs.Cell.{Cell}
 use Rattle.life_model.specs.Generation.{Generation}
-use Rattle.life_objects.specs.Growth.Meeting.Sums.{Step, and_then, times}
-use Rattle.life_objects.specs.Growth.Relations.Relations.{cross, product}
-use Rattle.life_objects.proofs.GrowthLemmas.RelationsLemmas.Crosses.{square_first, square_second}
+use Rattle.life_growth.specs.Meeting.Sums.{Step, and_then, times}
+use Rattle.life_growth.specs.Relations.Relations.{cross, product}
+use Rattle.life_growth.proofs.RelationsLemmas.Crosses.{square_first, square_second}
 use Rattle.life_things.specs.Clear.{StaysClearOutside}
 use Rattle.life_things.specs.Fields.{IsFieldOf, IsInField}
 use Rattle.life_things.specs.Lattice.Short.{IsWithin, cross_limit, three_count, three_start, way_limit}

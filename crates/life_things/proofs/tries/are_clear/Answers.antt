@@ -1,6 +1,6 @@
 use Rattle.std.proofs.Common.{◌≡◌, pos, sym, subst}
-use Rattle.life_objects.specs.Growth.Relations.Relations.{product}
-use Rattle.life_objects.proofs.GrowthLemmas.RelationsLemmas.Crosses.{square_first, square_second}
+use Rattle.life_growth.specs.Relations.Relations.{product}
+use Rattle.life_growth.proofs.RelationsLemmas.Crosses.{square_first, square_second}
 use Rattle.life_things.specs.Tries.{ClearTowards}
 use Rattle.life_things.proofs.Fielding.{by_all_places, each_place}
 use Rattle.life_things.proofs.tries.are_clear.Goals as goal

@@ -4,8 +4,8 @@ use Rattle.std.proofs.Common.{◌≡◌, ℕ, ℤ, pos, ◌+ℤ◌, ◌-ℤ◌, 
 use Rattle.std.proofs.Math.IntN.{◌*ℤ◌}
 use Rattle.std.proofs.lemmas.Int.{ints}
 use Rattle.life_model.specs.Cell.{Cell}
-use Rattle.life_objects.specs.Growth.Meeting.Sums.{Step}
-use Rattle.life_objects.specs.Growth.Relations.Relations.{product}
+use Rattle.life_growth.specs.Meeting.Sums.{Step}
+use Rattle.life_growth.specs.Relations.Relations.{product}
 use Rattle.life_things.specs.Lattice.Numbers.{number_limit}
 use Rattle.life_things.specs.Lattice.Short.{IsShort, IsWithin, cross_limit, four_start, two_start, way_limit}
 use Rattle.life_things.proofs.LatticeLemmas.Within.{difference_fits, difference_is, read_back, within_product_of, within_wider}

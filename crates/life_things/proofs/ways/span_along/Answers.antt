@@ -1,8 +1,8 @@
 use Rattle.std.proofs.Common.{◌≡◌, ℕ, ◌+◌, ◌*◌, ◌<◌, ◌≤◌, ◌^◌, pos, [], ◌∷◌, sym, subst, arith}
 use Rattle.life_model.specs.Cell.{Cell}
 use Rattle.life_model.specs.Generation.{Generation}
-use Rattle.life_objects.specs.Growth.Meeting.Sums.{Step, and_then, times}
-use Rattle.life_objects.specs.Growth.Relations.Relations.{product}
+use Rattle.life_growth.specs.Meeting.Sums.{Step, and_then, times}
+use Rattle.life_growth.specs.Relations.Relations.{product}
 use Rattle.life_things.specs.Clear.{StaysClearOutside}
 use Rattle.life_things.specs.Fields.{IsFieldOf, IsInField}
 use Rattle.life_things.specs.Lattice.Gauges.{along_gauge}

@@ -1,6 +1,6 @@
 use Rattle.std.proofs.Common.{◌≡◌, ◌+◌, ◌*◌, [], ◌∷◌, inl, inr, refl, sym, subst, true≢false, arith}
 use Rattle.std.proofs.lemmas.Bool.{cases_lt}
-use Rattle.life_objects.specs.Growth.Meeting.Sums.{and_then, times}
+use Rattle.life_growth.specs.Meeting.Sums.{and_then, times}
 use Rattle.life_things.specs.Clear.{StaysClear}
 use Rattle.life_things.specs.Lattice.Short.{IsShort, count_limit, one_start, two_start, way_limit}
 use Rattle.life_things.proofs.LatticeLemmas.Turning.{next_turn, out_of_turn}

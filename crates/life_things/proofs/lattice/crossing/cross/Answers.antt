@@ -2,8 +2,8 @@ use mir.Syntax.{w128}
 use mir.Val.{of_z, to_z}
 use Rattle.std.proofs.Common.{◌≡◌, ℤ, ◌∙◌, arith}
 use Rattle.std.proofs.Math.IntN.{◌*ℤ◌, ◌-ℤ◌}
-use Rattle.life_objects.proofs.GrowthLemmas.MeetingLemmas.Reach.{step_is}
-use Rattle.life_objects.specs.Growth.Relations.Relations.{cross}
+use Rattle.life_growth.proofs.MeetingLemmas.Reach.{step_is}
+use Rattle.life_growth.specs.Relations.Relations.{cross}
 use Rattle.life_things.specs.Lattice.Short.{IsWithin, cross_limit, way_limit}
 use Rattle.life_things.proofs.LatticeLemmas.Within.{read_back}
 use Rattle.life_things.proofs.lattice.crossing.cross.Goals as goal

@@ -3,9 +3,9 @@ use mir.Val.{of_z, to_z}
 use Rattle.std.proofs.Common.{◌≡◌, [], ◌∷◌, ℤ, pos, neg_ℤ, ◌+ℤ◌, ◌-ℤ◌, ◌∙◌, arith}
 use Rattle.std.proofs.Math.IntN.{◌*ℤ◌, *ℤ_comm, zero-*ℤ}
 use Rattle.std.proofs.lemmas.Int.{ints}
-use Rattle.life_objects.specs.Growth.Meeting.Sums.{Step, and_then, stay}
-use Rattle.life_objects.proofs.GrowthLemmas.MeetingLemmas.Reach.{step_is}
-use Rattle.life_objects.specs.Growth.Relations.Relations.{combination, product, scaled}
+use Rattle.life_growth.specs.Meeting.Sums.{Step, and_then, stay}
+use Rattle.life_growth.proofs.MeetingLemmas.Reach.{step_is}
+use Rattle.life_growth.specs.Relations.Relations.{combination, product, scaled}
 use Rattle.life_things.specs.Lattice.Gauges.{across_gauge, along_gauge}
 use Rattle.life_things.specs.Lattice.Numbers.{number_limit}
 use Rattle.life_things.specs.Lattice.Short.{IsWithin, way_limit}

@@ -2,8 +2,8 @@ use mir.Syntax.{w128}
 use mir.Val.{of_z}
 use Rattle.std.proofs.Common.{◌≡◌, ℤ, pos, neg_ℤ, [], ◌∷◌, sym, ap, subst, ◌∙◌, arith}
 use Rattle.std.proofs.lemmas.Int.{ints}
-use Rattle.life_objects.specs.Growth.Meeting.Sums.{Step}
-use Rattle.life_objects.specs.Growth.Relations.Relations.{product}
+use Rattle.life_growth.specs.Meeting.Sums.{Step}
+use Rattle.life_growth.specs.Relations.Relations.{product}
 use Rattle.life_things.specs.Lattice.Gauges.{across_gauge}
 use Rattle.life_things.specs.Lattice.Numbers.{StayBy}
 use Rattle.life_things.specs.Lattice.Short.{AreShort, IsShort, way_limit}

@@ -2,7 +2,7 @@ use mir.Syntax.{w128}
 use mir.Val.{of_z}
 use Rattle.std.proofs.Common.{◌≡◌, ℤ, pos, neg_ℤ, [], ◌∷◌, sym, ap, subst, arith}
 use Rattle.std.proofs.lemmas.Int.{ints}
-use Rattle.life_objects.specs.Growth.Relations.Relations.{spanned}
+use Rattle.life_growth.specs.Relations.Relations.{spanned}
 use Rattle.life_things.specs.Lattice.Numbers.{StayBy, number_limit}
 use Rattle.life_things.specs.Lattice.Short.{IsWithin}
 use Rattle.life_things.specs.declared.lattice.numbers.Numbers.{Numbers}

@@ -1,5 +1,5 @@
 use Rattle.std.proofs.Common.{sym, ap, subst, ◌∙◌, arith}
-use Rattle.life_objects.specs.Growth.Relations.Relations.{product}
+use Rattle.life_growth.specs.Relations.Relations.{product}
 use Rattle.life_things.specs.Lattice.Numbers.{number_limit}
 use Rattle.life_things.specs.Lattice.Short.{IsWithin, cross_limit, way_limit}
 use Rattle.life_things.proofs.LatticeLemmas.Within.{read_back, within_product_of, within_wider}

@@ -2,7 +2,7 @@ use mir.Syntax.{w128}
 use mir.Val.{of_z, to_z}
 use Rattle.std.proofs.Common.{◌≡◌, ℤ, pos, neg_ℤ, ◌-ℤ◌, arith}
 use Rattle.std.proofs.lemmas.Int.{ints}
-use Rattle.life_objects.proofs.GrowthLemmas.MeetingLemmas.Reach.{step_is}
+use Rattle.life_growth.proofs.MeetingLemmas.Reach.{step_is}
 use Rattle.life_things.specs.Lattice.Gauges.{turned_gauge}
 use Rattle.life_things.specs.Lattice.Short.{IsWithin, cross_limit}
 use Rattle.life_things.proofs.lattice.gauges.turned_gauge.Goals as goal

@@ -3,10 +3,10 @@ use mir.Val.{SFits, to_z}
 use Rattle.std.proofs.Common.{◌≡◌, ℕ, ◌*◌, ◌^◌, pos, sym, subst, ◌∙◌, rules, arith}
 use Rattle.std.proofs.Math.IntN.{◌*ℤ◌, ◌+ℤ◌}
 use Rattle.std.proofs.lemmas.Int.{to_z-of_z, to_z_pos}
-use Rattle.life_objects.proofs.GrowthLemmas.MeetingLemmas.Reach.{step_is}
-use Rattle.life_objects.proofs.GrowthLemmas.RelationsLemmas.Signed.{times-scaled}
-use Rattle.life_objects.specs.Growth.Meeting.Sums.{and_then}
-use Rattle.life_objects.specs.Growth.Relations.Relations.{scaled}
+use Rattle.life_growth.proofs.MeetingLemmas.Reach.{step_is}
+use Rattle.life_growth.proofs.RelationsLemmas.Signed.{times-scaled}
+use Rattle.life_growth.specs.Meeting.Sums.{and_then}
+use Rattle.life_growth.specs.Relations.Relations.{scaled}
 use Rattle.life_things.specs.Lattice.Short.{IsWithin, way_limit}
 use Rattle.life_things.proofs.LatticeLemmas.Within.{count_within, sizes_product, sum_fits, sum_is, within_product}
 use Rattle.life_things.proofs.lattice.step.after.Goals as goal

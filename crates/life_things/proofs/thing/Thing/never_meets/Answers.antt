@@ -3,8 +3,8 @@ use mir.Val.{of_z, to_z}
 use Rattle.std.proofs.Common.{◌≡◌, ℕ, ◌≤◌, pos, ◌-ℤ◌, ◌++◌, map, sym, ap, subst, ◌∙◌, arith}
 use Rattle.std.proofs.lemmas.Int.{ints}
 use Rattle.life_model.specs.Cell.{origin}
-use Rattle.life_objects.specs.Growth.Meeting.Meeting.{step_back, step_of, steps_between}
-use Rattle.life_objects.specs.Growth.Meeting.Sums.{Step}
+use Rattle.life_growth.specs.Meeting.Meeting.{step_back, step_of, steps_between}
+use Rattle.life_growth.specs.Meeting.Sums.{Step}
 use Rattle.life_things.specs.Lattice.Short.{four_start}
 use Rattle.life_things.specs.Steps.{list_of}
 use Rattle.life_things.specs.Fields.{IsFieldOf}

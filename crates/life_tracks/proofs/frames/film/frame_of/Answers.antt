@@ -1,6 +1,6 @@
 use Rattle.std.proofs.Common.{◌≡◌, ◌-◌, ◌<◌, length, sym, ap, subst, ◌∙◌, arith}
 use Rattle.life_model.specs.Evolution.{next}
-use Rattle.life_objects.specs.Growth.Unsplit.{AreClasses}
+use Rattle.life_growth.specs.Unsplit.{AreClasses}
 use Rattle.life_tracks.specs.declared.frames.frame.Frame.{Frame}
 use Rattle.life_tracks.specs.Frames.Frames.{AreParents}
 use Rattle.life_tracks.proofs.FramesLemmas.Backwards.{classes_later, first_frame, next_frame}

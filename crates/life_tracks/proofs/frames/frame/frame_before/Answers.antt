@@ -1,8 +1,9 @@
 use Rattle.std.proofs.Common.{ℕ, ◌<◌, length, get_or, sym, subst, ◌∙◌, ap, add-one}
 use Rattle.life_model.specs.Generation.{empty}
 use Rattle.life_objects.specs.Union.{union_of}
-use Rattle.life_objects.specs.Growth.Unsplit.{AreClasses}
-use Rattle.life_objects.specs.Growth.Film.Passes.{film_classes}
+use Rattle.life_growth.specs.Unsplit.{AreClasses}
+use Rattle.life_objects.specs.Decided.Classes.{classes}
+use Rattle.life_growth.proofs.EnginesLemmas.Classes.{are_classes}
 use Rattle.life_islands.specs.Labels.{AreThoseWithCells, joined_sets}
 use Rattle.life_tracks.specs.Frames.Frames.{IsBeside}
 use Rattle.life_tracks.proofs.FramesLemmas.Step.{all_together, joined_are, later_touched, parents_are}
@@ -25,11 +26,11 @@ parents-requires-clause-together c =
 pub returns-clause-classes : goal.returns-clause-classes
 returns-clause-classes c R b later =
     let G = c.args.list.now in
-    let Ns = film_classes R 0 G in
+    let Ns = classes R G 1 in
     let f = c.in_ok-forest.forest.items in
     let Ps = c.in_ok-classes.classes.items in
     let those = subst (λ f. AreThoseWithCells (joined_sets G f) Ps) c.as_slice.ensures.value c.in_ok-classes.ensures in
-    let near = c.film_classes_are_classes.ensures R 0 G in
+    let near = are_classes R 0 G in
     subst (λ n. AreClasses R n G Ps) (sym (add-one b))
     (c.classes_are_told_backwards.ensures R b G Ns c.args.later.now Ps near later
     (joined_are G f c.in_ok-forest.ensures.long Ps those R b Ns c.args.later.now near later
@@ -38,11 +39,11 @@ returns-clause-classes c R b later =
 pub returns-clause-parents : goal.returns-clause-parents
 returns-clause-parents c R b later =
     let G = c.args.list.now in
-    let Ns = film_classes R 0 G in
+    let Ns = classes R G 1 in
     let f = c.in_ok-forest.forest.items in
     let Ps = c.in_ok-classes.classes.items in
     let those = subst (λ f. AreThoseWithCells (joined_sets G f) Ps) c.as_slice.ensures.value c.in_ok-classes.ensures in
-    let near = c.film_classes_are_classes.ensures R 0 G in
+    let near = are_classes R 0 G in
     parents_are G f c.in_ok-forest.ensures.long Ps those R b Ns c.args.later.now near later
     c.in_ok-forest.ensures.near c.in_ok-forest.ensures.later c.in_ok-forest.ensures.tied
     c.in_ok-parents.parents.items c.in_ok-parents.ensures.count

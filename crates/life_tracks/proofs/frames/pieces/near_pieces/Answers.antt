@@ -2,7 +2,7 @@ use Rattle.std.proofs.Common.{◌≡◌, sym, subst}
 use Rattle.std.proofs.lemmas.Result.{IfOk-weaker}
 use Rattle.life_model.specs.Rule.{Rule}
 use Rattle.life_classes.specs.Tracking.{first_sets}
-use Rattle.life_objects.specs.Growth.Unsplit.{AreClasses}
+use Rattle.life_growth.specs.Unsplit.{AreClasses}
 use Rattle.life_tracks.specs.Frames.Frames.{with_cells}
 use Rattle.life_tracks.proofs.FramesLemmas.Near.{pieces_are}
 use Rattle.life_tracks.proofs.frames.pieces.near_pieces.Goals as goal

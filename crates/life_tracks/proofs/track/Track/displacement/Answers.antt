@@ -3,7 +3,7 @@ use Rattle.life_model.specs.Cell.{opposite, plus}
 use Rattle.life_model.specs.Symmetry.{corner}
 use Rattle.life_cells.specs.Limits.{IsPlace}
 use Rattle.life_cells.proofs.Corners.{corner_place}
-use Rattle.life_objects.specs.Growth.Engines.Tracks.{core_along}
+use Rattle.life_growth.specs.Engines.Tracks.{core_along}
 use Rattle.life_tracks.specs.Tracks.{Path}
 use Rattle.life_tracks.proofs.Corners.{difference}
 use Rattle.life_tracks.proofs.track.Track.displacement.Goals as goal

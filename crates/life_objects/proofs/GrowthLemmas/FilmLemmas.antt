@@ -1,4 +1,0 @@
-pub mod Splits
-pub mod Joined
-pub mod Joining
-pub mod Passes

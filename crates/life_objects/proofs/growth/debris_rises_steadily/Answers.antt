@@ -1,6 +1,0 @@
-use Rattle.life_objects.proofs.GrowthLemmas.Counting.{debris_rises}
-use Rattle.life_objects.proofs.growth.debris_rises_steadily.Goals as goal
-
-pub returns : goal.returns
-returns c R b m n G S T U Es Fs Hs parts others rows kind growth now later fallen too over fits =
-    debris_rises R b kind fits G Es S growth n m Fs Hs T U parts others rows now later fallen too over

@@ -1,6 +1,0 @@
-use Rattle.life_objects.proofs.GrowthLemmas.Bounds.{what_settles_has_a_bound}
-use Rattle.life_objects.proofs.GrowthLemmas.OneGrowth.{engine_has_no_bound}
-use Rattle.life_objects.proofs.growth.engines_grow_beyond_every_bound.Goals as goal
-
-pub returns : goal.returns
-returns c = record { engine = engine_has_no_bound; otherwise = what_settles_has_a_bound }

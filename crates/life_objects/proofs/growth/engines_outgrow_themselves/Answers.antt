@@ -1,5 +1,0 @@
-use Rattle.life_objects.proofs.GrowthLemmas.Outgrowing.{outgrows_itself}
-use Rattle.life_objects.proofs.growth.engines_outgrow_themselves.Goals as goal
-
-pub returns : goal.returns
-returns c R b n E way engine = outgrows_itself R b E way engine n

@@ -1,5 +1,0 @@
-use Rattle.life_objects.proofs.GrowthLemmas.FatesLemmas.Fates.{never_both}
-use Rattle.life_objects.proofs.growth.fates.ash_never_grows.Goals as goal
-
-pub returns : goal.returns
-returns c R b d m n G S parts Es = never_both R b d m n G parts Es S

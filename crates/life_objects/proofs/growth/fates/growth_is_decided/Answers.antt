@@ -1,8 +1,0 @@
-use Rattle.life_objects.proofs.GrowthLemmas.FatesLemmas.Growths.{growth_right, no_growth}
-use Rattle.life_objects.proofs.growth.fates.growth_is_decided.Goals as goal
-
-pub returns : goal.returns
-returns c = record {
-  some = λ R b G S Es. growth_right R b G Es S;
-  none = λ R b G S Es. no_growth R b G Es S;
-}

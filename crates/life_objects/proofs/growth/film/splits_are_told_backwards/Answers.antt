@@ -1,5 +1,0 @@
-use Rattle.life_objects.proofs.GrowthLemmas.FilmLemmas.Splits.{split_before, split_next}
-use Rattle.life_objects.proofs.growth.film.splits_are_told_backwards.Goals as goal
-
-pub returns : goal.returns
-returns c R b G A B = (split_next R b G A B, split_before R b G A B)

@@ -1,5 +1,0 @@
-use Rattle.life_objects.proofs.GrowthLemmas.MeetingLemmas.Apart.{apart_by_search, search_by_apart}
-use Rattle.life_objects.proofs.growth.meeting.listed_things_tell_what_stays_apart.Goals as goal
-
-pub returns : goal.returns
-returns c R P Q As Bs made too = (apart_by_search R P Q As Bs made too, search_by_apart R P Q As Bs made too)

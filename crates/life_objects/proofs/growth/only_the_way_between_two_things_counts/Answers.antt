@@ -1,5 +1,0 @@
-use Rattle.life_objects.proofs.GrowthLemmas.Things.{never_meet_by_way, way_by_never_meet}
-use Rattle.life_objects.proofs.growth.only_the_way_between_two_things_counts.Goals as goal
-
-pub returns : goal.returns
-returns c A B = (way_by_never_meet A B, never_meet_by_way A B)

@@ -1,5 +1,0 @@
-use Rattle.life_objects.proofs.GrowthLemmas.RelationsLemmas.Relations.{few_numbers, from_few}
-use Rattle.life_objects.proofs.growth.relations.relations_leave_few_numbers.Goals as goal
-
-pub returns : goal.returns
-returns c us ups downs d relation = (few_numbers us ups downs d relation, from_few us ups downs d relation)
