@@ -11,8 +11,6 @@ mod place;
 mod reading;
 mod same;
 mod taken;
-#[cfg(test)]
-mod tests;
 mod told;
 mod tolds;
 mod verdict;

@@ -1,7 +1,7 @@
 //! Facts about a pattern, one after another, as lines or as one JSON object, and names of codes, read from a text. `json` has
 //! JSON on lines of its own.
 //!
-//! Tested in `tests_objects`, and names here.
+//! Tested in `tests_objects`.
 #![tactic(auto)]
 
 mod engines;
@@ -11,8 +11,6 @@ mod json;
 mod lines;
 mod names;
 mod reading;
-#[cfg(test)]
-mod tests;
 mod values;
 
 pub use fact::{Fact, Worth};
