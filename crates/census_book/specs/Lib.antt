@@ -1,5 +1,4 @@
 pub mod Work
-pub mod Soon
 pub mod Progress
 pub mod Coded
 pub mod Collecting

@@ -1,10 +1,8 @@
 -- What was worked.
-use Rattle.std.specs.Prelude.{◌≡◌, false, IsOk}
 use Rattle.std.specs.Coded.{Coded, codes}
 use Rattle.census_bundle.specs.contracts.bundle.Entry as entry_row
 use Rattle.census_bundle.specs.Coded.{ticket_code}
 use Rattle.life_answer.specs.Questions.{question_code}
-use Rattle.life_text.specs.Rle.{header_rule}
 use Rattle.census_bundle.specs.declared.ticket.Ticket.{Ticket}
 use Rattle.census_bundle.specs.declared.bundle.Entry.{Entry}
 use Rattle.life_answer.specs.declared.question.Question.{Question}
@@ -20,7 +18,3 @@ entry_code = (entry_row.the_row).coded
 
 pub work_code : Coded Work
 work_code = hlevel (codes, ticket_code, entry_code, question_code)
-
--- Working the entry may take memory: its text is there, and has a header that names a rule.
-abbrev pub TakesMemory : Entry → Type 0
-TakesMemory e = (e.is_lost ≡ false) × IsOk (header_rule e.text)

@@ -11,3 +11,4 @@ pub mod Fills
 pub mod Closes
 pub mod Places
 pub mod Draws
+pub mod Memory

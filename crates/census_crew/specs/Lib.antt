@@ -9,3 +9,4 @@ pub mod Items
 pub mod Rule
 pub mod Fillings
 pub mod Feeds
+pub mod Answering

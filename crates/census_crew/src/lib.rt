@@ -7,6 +7,7 @@
 //! Tested in `tests_program`.
 #![tactic(auto)]
 
+mod answering;
 mod bytes;
 mod closing;
 mod collecting;
@@ -25,6 +26,7 @@ mod view;
 mod working;
 mod writing;
 
+pub use answering::{work, work_soon};
 pub use bytes::{BytesFault, run_bytes};
 pub use fault::RunFault;
 pub use gate::{Gate, OpenGate};

@@ -11,6 +11,7 @@ ghost use Rattle.census_crew.specs.Strangers.{HasStrangers, NotesStranger};
 ghost use Rattle.census_crew.specs.Tallying.{TalliesPatterns};
 ghost use Rattle.census_crew.specs.Writing.{EndsInStep, StaysInStep, StopsInStep};
 
+use crate::answering;
 use crate::fault::RunFault;
 use crate::tally::Tally;
 use crate::writing::flush;
@@ -184,7 +185,7 @@ impl<'a> RunState<'a> {
         let Some(entry) = self.collector.bundle().entry(ticket) else {
             unreachable!();
         };
-        let Ok(done) = Done::work(alloc, ticket, entry, self.collector.question()) else {
+        let Ok(done) = answering::work(alloc, ticket, entry, self.collector.question()) else {
             return Err(RunFault::memory_at(ticket));
         };
         match self.arrive(done, out)? {

@@ -2,6 +2,7 @@
 ghost use Rattle.std.specs.Prelude.{◌≡◌, ◌≤◌};
 ghost use Rattle.life_answer.specs.Questions.{IsAnswered};
 
+use crate::answering;
 use crate::gate::{Gate, Passed, pass};
 use crate::handles::Hand;
 use census_book::Done;
@@ -107,7 +108,7 @@ fn work_soon<'a, P: Drop>(
         return None;
     }
     let entry = bundle.entry(passed.ticket())?;
-    match Done::work_soon(alloc, passed.ticket(), entry, question) {
+    match answering::work_soon(alloc, passed.ticket(), entry, question) {
         Ok(Some(done)) => Some(put_in(batch, done)),
         Ok(None) | Err(_) => None,
     }
@@ -125,7 +126,7 @@ fn work_long<'a, P: Drop>(
     requires { IsAnswered question }
 {
     let entry = bundle.entry(passed.ticket())?;
-    match Done::work(alloc, passed.ticket(), entry, question) {
+    match answering::work(alloc, passed.ticket(), entry, question) {
         Ok(done) => Some(put_in(batch, done)),
         Err(_) => None,
     }

@@ -92,7 +92,7 @@ fn result_of<'a>(alloc: Global, bundle: &'a Bundle, arrival: &Arrival) -> Result
     let entry = bundle
         .entry(ticket_of(arrival.worked))
         .ok_or("no such pattern")?;
-    Ok(Done::work(alloc, ticket_of(arrival.ticket), entry, SETTLES)?)
+    Ok(census_crew::work(alloc, ticket_of(arrival.ticket), entry, SETTLES)?)
 }
 
 // Whether this is the unsent text, which is then sent.
@@ -162,7 +162,7 @@ fn answers_to_another_question_are_strangers(rt: HostRuntime) -> Result<(), Fail
         (sooner, Offer::Stranger),
         (asked, Offer::Taken),
     ] {
-        let done = Done::work(rt.alloc(), ticket, entry, question)?;
+        let done = census_crew::work(rt.alloc(), ticket, entry, question)?;
         assert!(rt; collector.offer(done).ok() == Some(offer));
     }
     Ok(())

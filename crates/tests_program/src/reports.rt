@@ -26,7 +26,7 @@ fn work_on<'a>(
     let ticket = collector.missing()?;
     let entry = bundle.entry(ticket)?;
     let question = Question::Settles { bound, cells: None };
-    let done = Done::work(alloc, ticket, entry, question).ok()?;
+    let done = census_crew::work(alloc, ticket, entry, question).ok()?;
     collector.offer(done).ok()
 }
 
@@ -104,9 +104,9 @@ fn work_keeps_what_it_was_given(rt: HostRuntime) -> Result<(), Fail> {
             bound: 5,
             cells: None,
         };
-        let done = Done::work(rt.alloc(), ticket(2, 7), entry, question)?;
+        let done = census_crew::work(rt.alloc(), ticket(2, 7), entry, question)?;
         assert!(rt; is_kept(&done, ticket(2, 7)));
-        match Done::work_soon(rt.alloc(), ticket(2, 7), entry, question)? {
+        match census_crew::work_soon(rt.alloc(), ticket(2, 7), entry, question)? {
             Some(done) => assert!(rt; is_kept(&done, ticket(2, 7))),
             None => assert!(rt; false),
         }

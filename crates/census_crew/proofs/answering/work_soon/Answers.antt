@@ -1,7 +1,7 @@
 use Rattle.std.proofs.Common.{◌≡◌, ◌∙◌}
 use Rattle.census_format.specs.Lines.{answer_to_entry}
-use Rattle.census_book.proofs.Memory.{found_entry, on_err, some_is}
-use Rattle.census_book.proofs.done.Done.work_soon.Goals as goal
+use Rattle.census_crew.proofs.Memory.{found_entry, on_err, some_is}
+use Rattle.census_crew.proofs.answering.work_soon.Goals as goal
 
 pub returns-in_err-of-in-Some-clause-memory : goal.returns-in_err-of-in-Some-clause-memory
 returns-in_err-of-in-Some-clause-memory c =

@@ -1,6 +1,6 @@
 use Rattle.std.proofs.Common.{◌∙◌}
-use Rattle.census_book.proofs.Memory.{err_then, found_entry}
-use Rattle.census_book.proofs.done.Done.work.Goals as goal
+use Rattle.census_crew.proofs.Memory.{err_then, found_entry}
+use Rattle.census_crew.proofs.answering.work.Goals as goal
 
 pub returns-clause-memory : goal.returns-clause-memory
 returns-clause-memory c =
