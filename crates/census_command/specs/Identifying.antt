@@ -5,9 +5,9 @@ use Rattle.census_identify.specs.declared.blocks.inquiry.Inquiry.{Inquiry}
 use Rattle.census_facts.specs.declared.form.Form.{Form}
 use Rattle.census_facts.specs.declared.form.Form.TheVariants as facts
 use Rattle.census_folders.specs.Told.{Told}
-use Rattle.census_identify.specs.Hearing.{Hears}
+use Rattle.census_folders.specs.Hearing.{Hears}
 use Rattle.census_identify.specs.Identifies.{Identifies}
-use Rattle.census_identify.specs.declared.heard.Heard.TheVariants as heard
+use Rattle.census_folders.specs.declared.heard.Heard.TheVariants as heard
 use Rattle.census_facts.specs.NameLines.{names_in}
 use Rattle.census_facts.specs.Names.{Entry}
 use Rattle.census_errors.specs.Messages.{status_of}

@@ -3,8 +3,8 @@ use Rattle.std.specs.Prelude.{◌≡◌, ◌⊎◌, ℕ, Bool, false, if◌then�
 use Rattle.std.specs.Borrow.{Bor}
 use Rattle.watched.specs.Streams.{PutsBytes, PutsMoreBytes, Sink, Streams}
 use Rattle.census_folders.specs.Told.{Told}
-use Rattle.census_identify.specs.Hearing.{Hears}
-use Rattle.census_identify.specs.declared.heard.Heard.TheVariants as heard
+use Rattle.census_folders.specs.Hearing.{Hears}
+use Rattle.census_folders.specs.declared.heard.Heard.TheVariants as heard
 use Rattle.census_reports.specs.Outcomes.{ReportsFail, WritesReports}
 use Rattle.census_reports.specs.Texts.{RefusesWord}
 use Rattle.census_reports.specs.declared.error.ReportsError.{ReportsError}

@@ -5,7 +5,7 @@ use Rattle.std.proofs.lemmas.List.{append-nil, take_more}
 use Rattle.std.specs.Option.{option_or}
 use Rattle.watched.specs.Streams.{PutsBytes, PutsMoreBytes, Sink}
 use Rattle.hex.specs.Hex.{encode_lower}
-use Rattle.census_identify.proofs.Written.{tells_more}
+use Rattle.watched.proofs.Written.{tells_more}
 use Rattle.census_bundle.specs.Names.{is_name_byte}
 use Rattle.census_faults.specs.Explained.{explanation, place_heading, spot_text}
 use Rattle.census_faults.specs.Printed.{printable_text, printed_byte}

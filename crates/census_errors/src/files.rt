@@ -2,7 +2,7 @@
 ghost use Rattle.std.specs.Prelude.{◌≡◌, option_map};
 ghost use Rattle.census_errors.specs.Files.{file_of};
 
-use census_identify::is_input;
+use census_folders::is_input;
 
 /// The file that a word names. Neither `-` nor a missing word names one.
 pub fn file_of<'a>(word: Option<&'a str>) -> Option<&'a str>

@@ -9,3 +9,4 @@ pub mod Trees
 pub mod Reading
 pub mod Sources
 pub mod Hints
+pub mod Hearing

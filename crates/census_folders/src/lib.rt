@@ -1,11 +1,14 @@
-//! Folders of pattern files, read into a bundle, and hints at what may have been overlooked there.
+//! Folders of pattern files, read into a bundle, hints at what may have been overlooked there, and what is got of one file or of
+//! standard input.
 //!
 //! Tested in `tests_reports`.
 #![tactic(auto)]
 
+mod bytes;
 mod disk;
 mod fault;
 mod files;
+mod heard;
 mod hints;
 mod listing;
 mod loss;
@@ -19,7 +22,9 @@ mod trees;
 mod unread;
 mod walking;
 
+pub use bytes::Bytes;
 pub use fault::SourceFault;
+pub use heard::{Heard, hear, is_input, read_file, words_or_input};
 pub use hints::hint_lines;
 pub use loss::{Cause, Loss, Losses, OnLoss};
 pub use reading::Kept;

@@ -1,4 +1,3 @@
-pub mod Written
 pub mod Parted
 pub mod Words
 pub mod BlocksLemmas

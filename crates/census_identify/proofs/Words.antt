@@ -8,18 +8,19 @@ use Rattle.census_bundle.specs.Sizes.{input_limit}
 use Rattle.census_folders.specs.Told.{Told as ToldOf}
 use Rattle.census_identify.specs.Courses.{with_told}
 use Rattle.census_identify.specs.Errors.{error_line}
-use Rattle.census_identify.specs.Hearing.{Hearing, Hears, HearsEach, heard_words}
+use Rattle.census_folders.specs.Hearing.{Hears}
+use Rattle.census_identify.specs.Hearing.{Hearing, HearsEach, heard_words}
 use Rattle.census_identify.specs.Identifies.{LacksMemory, LosesOutput, Stops, TellsAll}
 use Rattle.watched.specs.Streams.{PutsBytes, PutsMoreBytes, PutsPrefix, Sink, Reader, Streams, Writes, WritesBetween}
 use Rattle.census_identify.specs.Telling.{blocks_in, blocks_text, line_told, lines_text, output_of, status_of, told_of, told_words}
 use Rattle.census_identify.specs.declared.course.Course.{Course}
 use Rattle.census_identify.specs.declared.error.IdentifyError.{IdentifyError}
 use Rattle.census_identify.specs.declared.error.IdentifyError.TheVariants.{Memory, Write}
-use Rattle.census_identify.specs.declared.heard.Heard.{Heard}
+use Rattle.census_folders.specs.declared.heard.Heard.{Heard}
 use Rattle.census_identify.specs.declared.told.Told.{Told}
 use Rattle.census_identify.specs.declared.told.Told.TheVariants.{Block, Line}
 use Rattle.census_identify.proofs.Parted.{any_block, blocks_more, has_any, lines_more, same_blocks, status_kept, status_more, tellings_more}
-use Rattle.census_identify.proofs.Written.{tells_more, tells_none, writes_between, writes_more, writes_none}
+use Rattle.watched.proofs.Written.{tells_more, tells_none, writes_between, writes_more, writes_none}
 
 -- one more was heard
 hears_more : (held : List ℕ → ToldOf) (heard : List Hearing) (h : Hearing) (a b c : Reader) → HearsEach held heard a b → Hears held h.word h.heard b c

@@ -1,9 +1,10 @@
 -- What is read and written where words are identified, one after another.
-use Rattle.std.specs.Prelude.{◌≡◌, ◌⊎◌, ℕ, ◌+◌, List, [], ◌∷◌, ◌++◌, codes}
+use Rattle.std.specs.Prelude.{◌≡◌, ◌⊎◌, ℕ, ◌+◌, List, [], ◌∷◌, ◌++◌}
 use Rattle.watched.specs.Watching.{ConsumesAtMost}
 use Rattle.census_identify.specs.declared.blocks.inquiry.Inquiry.{Inquiry}
 use Rattle.census_facts.specs.Names.{Entry}
 use Rattle.census_bundle.specs.Sizes.{input_limit}
+use Rattle.census_folders.specs.Hearing.{words_or_input}
 use Rattle.census_folders.specs.Told.{Told}
 use Rattle.census_identify.specs.Errors.{error_line, error_status}
 use Rattle.census_identify.specs.Hearing.{Hearing, HearsEach, heard_words}
@@ -11,11 +12,6 @@ use Rattle.watched.specs.Streams.{PutsBytes, Reader, Streams, Writes, WritesBetw
 use Rattle.census_identify.specs.Telling.{blocks_text, lines_text, status_of, told_words}
 use Rattle.census_identify.specs.declared.error.IdentifyError.{IdentifyError}
 use Rattle.census_identify.specs.declared.error.IdentifyError.TheVariants.{Memory, Write}
-
--- without a word standard input alone
-abbrev pub words_or_input : List (List ℕ) → List (List ℕ)
-words_or_input [] = codes "-" ∷ []
-words_or_input (word ∷ words) = word ∷ words
 
 -- Something was got of each word, in their order. Their blocks went to standard output and their lines to standard
 -- error, and this is the greatest status that a line asks for.

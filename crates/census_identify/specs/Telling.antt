@@ -7,9 +7,10 @@ use Rattle.census_identify.specs.declared.blocks.inquiry.Inquiry.{Inquiry}
 use Rattle.census_facts.specs.Names.{Entry}
 use Rattle.census_facts.specs.Forms.{separator}
 use Rattle.census_facts.specs.declared.form.Form.{Form}
-use Rattle.census_identify.specs.Hearing.{Hearing, is_input}
-use Rattle.census_identify.specs.declared.heard.Heard.{Heard}
-use Rattle.census_identify.specs.declared.heard.Heard.TheVariants.{Text, TooLong, Unread}
+use Rattle.census_folders.specs.Hearing.{is_input}
+use Rattle.census_folders.specs.declared.heard.Heard.{Heard}
+use Rattle.census_folders.specs.declared.heard.Heard.TheVariants.{Text, TooLong, Unread}
+use Rattle.census_identify.specs.Hearing.{Hearing}
 use Rattle.census_identify.specs.declared.told.Told.{Told}
 use Rattle.census_identify.specs.declared.told.Told.TheVariants.{Block, Line}
 

@@ -1,26 +1,18 @@
 //! `census identify`: what each of several patterns is.
 ghost use Rattle.std.specs.Prelude.{◌≡◌, ◌≤◌, false, [], map, MatchResult};
-ghost use Rattle.census_identify.specs.Identifies.{Identifies, Stops, TellsAll, words_or_input};
+ghost use Rattle.census_identify.specs.Identifies.{Identifies, Stops, TellsAll};
 
 use crate::blocks::{HORIZON_LIMIT, Inquiry};
 use crate::course::{Course, tell};
 use crate::error::IdentifyError;
-use crate::heard::hear;
 use crate::onlooker::{Onlooker, WordObserver};
 use crate::told::told_of;
 use census_facts::Names;
-use census_folders::Shelf;
+use census_folders::{Shelf, hear, words_or_input};
 use life_orbit::BOUND_LIMIT;
 use std::alloc::Global;
 use std::io::{Read, Write};
 use watched::Streams;
-
-// Standard input alone, where there is no word.
-fn words_or_input<'a, 'b>(words: &'a [&'b str]) -> &'a [&'b str]
-    ensures { map (λ s. s.now) result.now ≡ words_or_input (map (λ s. s.now) words.now) }
-{
-    if words.is_empty() { &["-"] } else { words }
-}
 
 // Tells what each word is, and gives the greatest status that was asked for.
 fn identify_each<S: Shelf, I: Read, O: Write, E: Write, L: Onlooker>(

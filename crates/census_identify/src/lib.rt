@@ -5,18 +5,14 @@
 #![tactic(auto)]
 
 mod blocks;
-mod bytes;
 mod course;
 mod error;
-mod heard;
 mod identifying;
 mod onlooker;
 mod told;
 
 pub use blocks::{BlockText, HORIZON_LIMIT, Inquiry, block};
-pub use bytes::Bytes;
 pub use error::IdentifyError;
-pub use heard::{Heard, is_input, read_file};
 pub use identifying::identify;
 pub use onlooker::{Onlooker, Unseen};
 pub use told::Told;

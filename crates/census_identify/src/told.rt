@@ -5,11 +5,10 @@ ghost use Rattle.census_identify.specs.Blocks.Blocks.{block_of};
 ghost use Rattle.census_identify.specs.Telling.{file_of, message_line, told_of, told_of_block, unread_message};
 
 use crate::blocks::{BlockText, HORIZON_LIMIT, Inquiry, block};
-use crate::bytes::Bytes;
-use crate::heard::{Heard, is_input};
 use census_bundle::Text;
 use census_facts::Names;
 use census_faults::fault_line;
+use census_folders::{Bytes, Heard, is_input};
 use life_orbit::BOUND_LIMIT;
 use life_plane::Observer;
 use std::alloc::{AllocError, Global};

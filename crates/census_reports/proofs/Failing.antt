@@ -2,7 +2,7 @@
 use Rattle.std.proofs.Common.{◌≡◌, ℕ, Bool, true, false, List, [], Result, Ok, Err, MatchResult, refl, sym, subst, inl, inr}
 use Rattle.census_merge.specs.declared.mending.Cut.{Cut}
 use Rattle.census_folders.specs.Told.{Told}
-use Rattle.census_identify.specs.Identifies.{words_or_input}
+use Rattle.census_folders.specs.Hearing.{words_or_input}
 use Rattle.watched.specs.Streams.{Sink}
 use Rattle.census_rows.specs.declared.row.Row.{Row}
 use Rattle.census_reports.specs.Forms.{RefusesRows, RefusesTexts}

@@ -7,10 +7,9 @@ use Rattle.std.proofs.lemmas.Bool.{leb-true, le-leb}
 use Rattle.std.proofs.lemmas.List.Sums.{sum_by_push}
 use Rattle.census_folders.specs.Sums.{limit_after}
 use Rattle.census_folders.specs.Told.{Told}
-use Rattle.census_identify.specs.Hearing.{Hears}
-use Rattle.census_identify.specs.Identifies.{words_or_input}
+use Rattle.census_folders.specs.Hearing.{Hears, words_or_input}
 use Rattle.watched.specs.Streams.{Reader}
-use Rattle.census_identify.specs.declared.heard.Heard.TheVariants.{Text}
+use Rattle.census_folders.specs.declared.heard.Heard.TheVariants.{Text}
 use Rattle.census_reports.specs.Texts.{FitTogether, ReadsEach, RefusesNext, RefusesWord, StopsReadingTexts, left_behind}
 use Rattle.census_reports.specs.declared.error.ReportsError.{ReportsError}
 use Rattle.census_reports.specs.declared.error.ReportsError.TheVariants.{Claims, Names, Fault, TooMany, TooLong, Memory, Read, Write}

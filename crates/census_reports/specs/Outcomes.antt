@@ -2,7 +2,7 @@
 use Rattle.std.specs.Prelude.{◌≡◌, ◌⊎◌, ℕ, false, Option, List}
 use Rattle.census_merge.specs.declared.mending.Cut.{Cut}
 use Rattle.census_folders.specs.Told.{Told}
-use Rattle.census_identify.specs.Identifies.{words_or_input}
+use Rattle.census_folders.specs.Hearing.{words_or_input}
 use Rattle.watched.specs.Streams.{PutsPrefix, Writes}
 use Rattle.census_reports.specs.Forms.{IsMadeOf, IsInPieces, is_found}
 use Rattle.census_reports.specs.Looking.{RefusesRead}

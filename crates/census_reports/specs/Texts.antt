@@ -5,9 +5,9 @@ use Rattle.watched.specs.Watching.{ConsumesAtMost}
 use Rattle.census_bundle.specs.Sizes.{input_limit}
 use Rattle.census_folders.specs.Sums.{Fits}
 use Rattle.census_folders.specs.Told.{Told}
-use Rattle.census_identify.specs.Hearing.{Hears}
+use Rattle.census_folders.specs.Hearing.{Hears}
 use Rattle.watched.specs.Streams.{Reader}
-use Rattle.census_identify.specs.declared.heard.Heard.TheVariants as heard
+use Rattle.census_folders.specs.declared.heard.Heard.TheVariants as heard
 use Rattle.census_reports.specs.declared.error.ReportsError.{ReportsError}
 use Rattle.census_reports.specs.declared.error.ReportsError.TheVariants.{TooLong, Memory, Read}
 

@@ -4,7 +4,7 @@ ghost use Rattle.census_reports.specs.Looking.{RefusesRead};
 ghost use Rattle.census_reports.specs.Mending.{AreMended, HasBrokenText, LackMending};
 
 use crate::error::ReportsError;
-use census_identify::Bytes;
+use census_folders::Bytes;
 use census_merge::{Cut, Mended, mend};
 use std::alloc::{AllocError, Global};
 

@@ -12,7 +12,7 @@ ghost use Rattle.census_reports.specs.Written.{FailsTexts, WritesTexts};
 
 use crate::error::ReportsError;
 use crate::form::Form;
-use census_identify::Bytes;
+use census_folders::Bytes;
 use census_merge::{Counted, Sums, count, put_end, put_rows};
 use census_readback::fault_of;
 use std::alloc::Global;

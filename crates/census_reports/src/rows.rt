@@ -4,7 +4,7 @@ ghost use Rattle.census_readback.specs.Shapes.{AreReports};
 ghost use Rattle.census_reports.specs.Rows.{AreRowsOf, LackRows};
 
 use crate::error::ReportsError;
-use census_identify::Bytes;
+use census_folders::Bytes;
 use census_readback::read_report;
 use census_rows::Rows;
 use std::alloc::Global;

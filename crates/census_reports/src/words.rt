@@ -1,26 +1,17 @@
 //! The texts of files, and of standard input.
 ghost use Rattle.std.specs.Prelude.{◌≡◌, ◌+◌, [], false, map, IfErr, IfOk, OnOk};
 ghost use Rattle.watched.specs.Watching.{ConsumesAtMost};
-ghost use Rattle.census_identify.specs.Hearing.{Hears};
-ghost use Rattle.census_identify.specs.Identifies.{words_or_input};
-ghost use Rattle.census_identify.specs.declared.heard.Heard.TheVariants.{Text};
+ghost use Rattle.census_folders.specs.Hearing.{Hears};
+ghost use Rattle.census_folders.specs.declared.heard.Heard.TheVariants.{Text};
 ghost use Rattle.census_reports.specs.Texts.{FitTogether, ReadsEach, RefusesWord, StopsReadingTexts};
 
 use crate::error::ReportsError;
 use crate::limit::left_behind;
 use census_bundle::INPUT_LIMIT;
-use census_folders::Shelf;
-use census_identify::{Bytes, is_input, read_file};
+use census_folders::{Bytes, Shelf, is_input, read_file};
 use std::alloc::Global;
 use std::io::Read;
 use watched::{Input, read_all};
-
-// These words, or standard input alone where there is no word.
-pub fn words_or_input<'a, 'b>(words: &'a [&'b str]) -> &'a [&'b str]
-    ensures { map (λ s. s.now) result.now ≡ words_or_input (map (λ s. s.now) words.now) }
-{
-    if words.is_empty() { &["-"] } else { words }
-}
 
 /// The text of a word: for `-` what standard input has left, for any other word that of the file of this path. The errors are
 /// `Read`, `TooLong`, where the text has more than 67,108,864 bytes, and `Memory`.

@@ -2,3 +2,4 @@ pub mod Fronts
 pub mod Pieces
 pub mod Prefixes
 pub mod Telling
+pub mod Written

@@ -8,7 +8,7 @@ use Rattle.census_errors.specs.Places.{kept_place}
 use Rattle.census_errors.specs.Sayings.{run_said, said, said_if}
 use Rattle.census_errors.specs.declared.error.CommandError.TheVariants as command
 use Rattle.census_errors.proofs.Said.{at_sound, says_line}
-use Rattle.census_identify.proofs.Written.{tells_more}
+use Rattle.watched.proofs.Written.{tells_more}
 use Rattle.census_command.proofs.Kept.{status_kept}
 use Rattle.census_command.proofs.Outcomes.{untouched}
 use Rattle.census_command.proofs.Reports.{is_cut}

@@ -3,7 +3,7 @@ use Rattle.census_errors.specs.Messages.{error_line}
 use Rattle.census_errors.specs.Sayings.{said, said_if}
 use Rattle.watched.specs.Streams.{PutsMoreBytes}
 use Rattle.census_errors.proofs.Said.{at_sound}
-use Rattle.census_identify.proofs.Written.{tells_more}
+use Rattle.watched.proofs.Written.{tells_more}
 use Rattle.census_errors.proofs.saying.stop_saying.Goals as goal
 
 pub returns-clause-lines : goal.returns-clause-lines

@@ -2,7 +2,7 @@ use Rattle.std.proofs.Common.{[], subst}
 use Rattle.std.proofs.KnownBytes.{Appends-nil}
 use Rattle.std.specs.Io.KnownBytes.{Appends}
 use Rattle.census_facts.specs.Forms.{separator}
-use Rattle.census_identify.proofs.Written.{writes_rest}
+use Rattle.watched.proofs.Written.{writes_rest}
 use Rattle.census_identify.proofs.course.write_block.Goals as goal
 use Rattle.census_identify.proofs.course.write_block.Goals.{then-has_block+in_ok-put_all, else-has_block}
 

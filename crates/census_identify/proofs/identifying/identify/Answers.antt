@@ -1,5 +1,6 @@
 use Rattle.std.proofs.Common.{[], inr, subst, sym, ◌∙◌}
-use Rattle.census_identify.specs.Identifies.{Stops, words_or_input}
+use Rattle.census_folders.specs.Hearing.{words_or_input}
+use Rattle.census_identify.specs.Identifies.{Stops}
 use Rattle.watched.specs.Streams.{PutsMoreBytes, Streams}
 use Rattle.census_identify.proofs.Words.{stops_told, texts}
 use Rattle.census_identify.proofs.identifying.identify.Goals as goal

@@ -1,12 +1,13 @@
 //! What is got of a file, or of standard input.
-ghost use Rattle.std.specs.Prelude.{◌≡◌, ◌+◌, ◌≤◌, codes, IfErr, IfOk, IsTrue, ◌↔◌, [], vec_len};
+ghost use Rattle.std.specs.Prelude.{◌≡◌, ◌+◌, ◌≤◌, [], map, IfErr, IfOk, vec_len};
 ghost use Rattle.watched.specs.Watching.{ConsumesAtMost};
+ghost use Rattle.census_folders.specs.Hearing.{Hears, HearsFile, HearsInput, heard_of, is_input, words_or_input};
 ghost use Rattle.census_folders.specs.Told.{GivesTold, RefusesFile};
-ghost use Rattle.census_identify.specs.Hearing.{Hears, HearsFile, HearsInput, heard_of, is_input};
 
 use crate::bytes::Bytes;
+use crate::shelf::Shelf;
+use crate::unread::{ShelfFault, Unread};
 use census_bundle::{INPUT_LIMIT, Text};
-use census_folders::{Shelf, ShelfFault, Unread};
 use std::alloc::{AllocError, Global};
 use std::io::Read;
 use watched::{Input, ReadFault, read_all};
@@ -79,6 +80,13 @@ pub fn is_input(word: &str) -> bool
     ensures { result ≡ is_input word.now }
 {
     word == "-"
+}
+
+/// These words, or standard input alone where there is no word.
+pub fn words_or_input<'a, 'b>(words: &'a [&'b str]) -> &'a [&'b str]
+    ensures { map (λ s. s.now) result.now ≡ words_or_input (map (λ s. s.now) words.now) }
+{
+    if words.is_empty() { &["-"] } else { words }
 }
 
 /// What is got of a word: of `-` what standard input has left, up to its end; of any other word the bytes of the file
