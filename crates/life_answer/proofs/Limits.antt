@@ -72,3 +72,8 @@ module _ (R : Rule) (G : Generation) (last : ℕ) where
 
   pub none_past-is : (limit : Option ℕ) → (first_past limit R G last ≡ None) ↔ StaysWithin limit R G last
   none_past-is limit = (stays_within limit, none_past limit)
+
+  -- and is one of those that are looked at
+  pub past_within : (limit : Option ℕ) (n : ℕ) → first_past limit R G last ≡ Some n → n ≤ last
+  past_within None n past = absurd cc
+  past_within (Some most) n past = ((first_past-is most n).0 past).0

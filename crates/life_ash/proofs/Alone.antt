@@ -37,7 +37,7 @@ use Rattle.life_apart.proofs.Loners.{in_others, in_set_or_others, together}
 use Rattle.life_ash.specs.Newcomers.{IsWholeIn}
 use Rattle.life_ash.specs.Parts.{IsEnd, ash_age_limit}
 use Rattle.life_ash.proofs.Finding.{of_some}
-use Rattle.life_ash.proofs.Places.{generation_within, itself_within, subset_within}
+use Rattle.life_cells.proofs.Places.{generation_within, itself_within, subset_within}
 
 -- Q is generation n of one of Ps
 abbrev IsLaterOf : Rule → ℕ → List Generation → Generation → Type 0

@@ -21,7 +21,7 @@ use Rattle.life_objects.proofs.Times.{AreApartForEver-swap}
 use Rattle.life_orbit.specs.Course.{Course}
 use Rattle.life_apart.specs.Sets.{sets_of}
 use Rattle.life_ash.specs.Parts.{AreEndsOfCourses, IsEnd, ash_age_limit}
-use Rattle.life_ash.proofs.Places.{subset_within}
+use Rattle.life_cells.proofs.Places.{subset_within}
 
 module _ (R : Rule) (b ago : ℕ) (G : Generation) (parts : List Generation) (ash : IsAsh R b G parts) where
   some_end : (P : Generation) → Contains parts P → (x : Cell) × (contains (generation R P ago) x ≡ true)

@@ -10,7 +10,7 @@ use Rattle.life_objects.proofs.Members.{in_list_now}
 use Rattle.life_objects.proofs.DecidedLemmas.Kept.{Contains-map}
 use Rattle.life_classes.specs.Tracking.{first_sets}
 use Rattle.life_classes.specs.declared.class.Class.{Class}
-use Rattle.life_ash.proofs.Places.{subset_within}
+use Rattle.life_cells.proofs.Places.{subset_within}
 
 -- the classes of a set stand where it may
 pub firsts_within : (R : Rule) (a n : ℕ) (G : Generation) (cs : List Class) → union_of (first_sets cs) ≡ G → a ≤ n →

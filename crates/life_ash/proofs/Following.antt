@@ -17,7 +17,7 @@ use Rattle.life_orbit.specs.Course.{Course}
 use Rattle.life_orbit.proofs.Walking.{get_or-last}
 use Rattle.life_ash.specs.Living.{has_cells}
 use Rattle.life_ash.specs.Parts.{IsOnlyOne}
-use Rattle.life_ash.proofs.Places.{generation_within, itself_within, subset_within}
+use Rattle.life_cells.proofs.Places.{generation_within, itself_within, subset_within}
 use Rattle.life_ash.proofs.Survivors.{ends}
 
 -- each orbit is the only one for its set, with one orbit more for the next set

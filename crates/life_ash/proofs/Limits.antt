@@ -42,10 +42,6 @@ module _ (R : Rule) (G : Generation) where
       first_past limit R G last ≡ None
   past_nowhere limit last before = none_past R G last limit (λ n h. before n (omega arith))
 
-  pub past_within : (limit : Option ℕ) (last n : ℕ) → first_past limit R G last ≡ Some n → n ≤ last
-  past_within None last n past = absurd cc
-  past_within (Some most) last n past = ((first_past-is R G last most n).0 past).0
-
   -- where none before generation n is past the limit, the first that is past it is one of those from n on
   module _ (limit : Option ℕ) (last n : ℕ) (within : n ≤ last) (before : AreAllowedBefore R G limit n) where
     pub past_nowhere_later : first_past limit R (generation R G n) (last - n) ≡ None → first_past limit R G last ≡ None

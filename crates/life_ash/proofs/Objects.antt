@@ -17,7 +17,7 @@ use Rattle.life_objects.proofs.Times.{generation-union}
 use Rattle.life_objects.specs.Limits.{objects_bound_limit}
 use Rattle.life_orbit.specs.Course.{Course}
 use Rattle.life_ash.specs.Parts.{IsFit, ash_age_limit}
-use Rattle.life_ash.proofs.Places.{generation_within, itself_within}
+use Rattle.life_cells.proofs.Places.{generation_within, itself_within}
 
 module _ (R : Rule) where
   -- what becomes undivided after k generations is undivided within k more

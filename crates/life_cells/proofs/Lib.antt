@@ -18,3 +18,5 @@ pub mod DotLists
 pub mod StripLists
 pub mod Spelling
 pub mod Rows
+pub mod Places
+pub mod Sizes

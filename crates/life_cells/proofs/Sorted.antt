@@ -81,7 +81,7 @@ is_less Greater h = absurd h
 pub less_from : (r : Ordering) → is_lt r ≡ true → r ≡ Less
 less_from r h = is_less r (subst T (sym h) tt)
 
-all_from_below : (c : Cell) (cs : List Cell) → T (below_all c cs) → AllByRecursion (λ d. cell_cmp c d ≡ Less) cs
+pub all_from_below : (c : Cell) (cs : List Cell) → T (below_all c cs) → AllByRecursion (λ d. cell_cmp c d ≡ Less) cs
 all_from_below c [] h = tt
 all_from_below c (d ∷ ds) h = (is_less (cell_cmp c d) (first_holds _ _ h), all_from_below c ds (second_holds _ _ h))
 

@@ -1,5 +1,5 @@
--- How far cells near others, and those of the next generation, may be.
-use Rattle.std.proofs.Common.{◌≡◌, ℕ, true, ◌+◌, sym, ap, ◌∙◌, arith}
+-- How far cells near others, those of the next generation and later ones may be.
+use Rattle.std.proofs.Common.{◌≡◌, ℕ, true, ◌+◌, ◌≤◌, sym, ap, ◌∙◌, arith}
 use Rattle.std.proofs.lemmas.Int.{ints}
 use Rattle.life_model.specs.Cell.{Cell, IsNear}
 use Rattle.life_model.specs.Rule.{Rule}
@@ -22,3 +22,6 @@ pub within_next : (rule : Rule) (G H : Generation) (age : ℕ) → H ≡ next ru
 within_next rule G H age is before q live =
     let near = next_near rule G q (sym (ap (λ (K : Generation). contains K q) is) ∙ live) in
     within_near age near.0 q (before near.0 near.1) near.2
+
+pub within_later : (a b : ℕ) (c : Cell) → a ≤ b → IsWithin a c → IsWithin b c
+within_later a b c k h = record { left = omega (arith, ints); right = omega (arith, ints); above = omega (arith, ints); below = omega (arith, ints) }

@@ -7,7 +7,7 @@ use Rattle.life_model.specs.Generation.{Generation, cells}
 use Rattle.life_model.specs.Rule.{Rule}
 use Rattle.life_objects.specs.Limits.{objects_bound_limit}
 use Rattle.life_cells.specs.Limits.{IsWithin, extent_limit}
-use Rattle.life_ash.proofs.Places.{generation_within}
+use Rattle.life_cells.proofs.Places.{generation_within}
 use Rattle.life_ash.specs.Parts.{ash_age_limit}
 use Rattle.life_cells.proofs.Boxes.{width_at_age, height_at_age}
 

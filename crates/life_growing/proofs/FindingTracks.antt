@@ -5,7 +5,7 @@ use Rattle.life_model.specs.Evolution.{generation, next}
 use Rattle.life_model.specs.Generation.{Generation, cells, contains}
 use Rattle.life_model.specs.Rule.{Rule}
 use Rattle.life_model.proofs.Recurrences.{generation-next, generation-zero}
-use Rattle.life_ash.proofs.Places.{generation_within, subset_within}
+use Rattle.life_cells.proofs.Places.{generation_within, subset_within}
 use Rattle.life_cells.specs.Limits.{IsWithin}
 use Rattle.life_objects.specs.Union.{IsSubsetOf}
 use Rattle.life_objects.proofs.Members.{in_list_now}

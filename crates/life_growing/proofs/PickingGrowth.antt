@@ -21,7 +21,7 @@ use Rattle.life_growth.specs.Things.{IsMadeOf}
 use Rattle.life_growth.specs.Unsplit.{AreClasses}
 use Rattle.life_growth.proofs.Things.{apart_by_things, things_by_apart}
 use Rattle.life_cells.specs.Limits.{IsWithin}
-use Rattle.life_ash.proofs.Places.{subset_within}
+use Rattle.life_cells.proofs.Places.{subset_within}
 use Rattle.life_tracks.specs.Frames.Frames.{with_cells}
 use Rattle.life_tracks.proofs.FramesLemmas.Near.{has_cell, no_cell, some_cell, union-with_cells}
 use Rattle.life_growth.specs.Fates.Picked.{ArePicked}

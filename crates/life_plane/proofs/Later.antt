@@ -82,9 +82,6 @@ within_candidates a cs all =
     (All-weaker (IsWithin a) (IsWithin (a + 1)) (within_itself a) cs all)
     (within_all_around a cs (recursion_from_All (IsWithin a) cs all))
 
-pub within_later : (a b : ℕ) (c : Cell) → a ≤ b → IsWithin a c → IsWithin b c
-within_later a b c k h = record { left = omega (arith, ints); right = omega (arith, ints); above = omega (arith, ints); below = omega (arith, ints) }
-
 -- lists that make one set have the same cells
 pub has_from_set : (cs ds : List Cell) → from_list cs ≡ from_list ds → (c : Cell) → has cs c ≡ has ds c
 has_from_set cs ds e c = sym (contains-from_list cs c) ∙ ap (λ G. contains G c) e ∙ contains-from_list ds c

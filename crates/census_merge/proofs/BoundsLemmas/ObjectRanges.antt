@@ -19,10 +19,11 @@ use Rattle.life_answer.specs.declared.finding.Outcome.{Outcome}
 use Rattle.life_answer.specs.declared.finding.Outcome.TheVariants.{Recurs, Ash}
 use Rattle.life_answer.specs.declared.question.Question.{Question}
 use Rattle.life_answer.specs.declared.question.Question.TheVariants.{Objects}
+use Rattle.life_answer.proofs.Limits.{past_within}
 use Rattle.life_answer.proofs.Onsets.{ash_onset-within}
 use Rattle.life_answer.proofs.Tallying.{counted_all}
-use Rattle.life_ash.proofs.Limits.{past_within}
-use Rattle.life_ash.proofs.Places.{generation_within, place_of}
+use Rattle.life_cells.proofs.Places.{generation_within, place_of}
+use Rattle.life_cells.proofs.Sizes.{few_cells}
 use Rattle.life_cells.specs.Limits.{IsWithin}
 use Rattle.life_cells.specs.Readings.{cell_of_pair}
 use Rattle.life_objects.specs.Decided.Decided.{ash_of}
@@ -43,7 +44,6 @@ use Rattle.life_answer.specs.Growing.{allowed_bound, growing_or}
 use Rattle.life_answer.specs.Told.{growth_told}
 use Rattle.life_answer.specs.declared.tale.Engines.{Engines}
 use Rattle.life_answer.proofs.Growing.{allowed_within}
-use Rattle.life_slots.proofs.Sizes.{few_cells}
 use Rattle.census_merge.specs.Ranges.{FitsOutcome, InRange, IsToldAnswer, IsToldFolder}
 use Rattle.census_merge.proofs.BoundsLemmas.Codes.{counted-coded}
 use Rattle.census_merge.proofs.BoundsLemmas.GrowthRanges.{FitsGrowth, growth-fits}
@@ -123,7 +123,7 @@ module _ (R : Rule) (G : Generation) (b : ℕ) (few : b ≤ objects_bound_limit)
             (growth-fits R near (min horizon c) c soon young (generation R G c)
             (subst (λ k. All (IsWithin k) (cells (generation R G c))) (let e : 0 + c ≡ c = omega arith in e) (generation_within R 0 G within c)))
             (unless-ranged (census_of near R G b) (first_past limit R G (3 * b)) (census-ranged near)
-            (λ n past. let first : n ≤ 3 * b = past_within R G limit (3 * b) n past in omega arith)),
+            (λ n past. let first : n ≤ 3 * b = past_within R G (3 * b) limit n past in omega arith)),
       )
 
 -- ---- what is found of a text

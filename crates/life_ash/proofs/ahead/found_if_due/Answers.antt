@@ -3,7 +3,8 @@ use Rattle.life_objects.specs.Ash.{IsAsh}
 use Rattle.life_answer.specs.Limited.{first_past}
 use Rattle.life_ash.specs.Ahead.{IfNothing, IsFound}
 use Rattle.life_apart.specs.Sets.{sets_of}
-use Rattle.life_ash.proofs.Limits.{past_later, past_nowhere_later, past_within}
+use Rattle.life_answer.proofs.Limits.{past_within}
+use Rattle.life_ash.proofs.Limits.{past_later, past_nowhere_later}
 use Rattle.life_ash.proofs.ahead.found_if_due.Goals as goal
 use Rattle.life_ash.proofs.ahead.found_if_due.Goals.{in-Some-2, in-None}
 
@@ -12,7 +13,7 @@ overflow_add-result g c =
     let last = c.args.last - c.args.age in
     let here = g.P.Plane.members c.args.plane.now in
     let n = c.in-Some-2.n in
-    let within : n ≤ last = past_within c.rule-rule.result here c.args.limit last n (sym c.in_ok-n.ensures ∙ c.in-Some-2.is) in
+    let within : n ≤ last = past_within c.rule-rule.result here last c.args.limit n (sym c.in_ok-n.ensures ∙ c.in-Some-2.is) in
     let far = c.requires.last in
     let older = c.requires.within in
     omega arith

@@ -3,7 +3,7 @@ use Rattle.std.proofs.lemmas.List.Elements.{All-push, All-same}
 use Rattle.life_orbit.specs.Kept.{orbit_age_limit}
 use Rattle.life_ash.specs.Newcomers.{IsWholeIn}
 use Rattle.life_ash.proofs.Alone.{whole_set}
-use Rattle.life_ash.proofs.Places.{subset_within}
+use Rattle.life_cells.proofs.Places.{subset_within}
 use Rattle.life_ash.proofs.newcomers.newcomers.Goals as goal
 use Rattle.life_ash.proofs.newcomers.newcomers.Goals.{
   then-len-lt-MANY+in_ok-is_new+then-branch+in_ok-copied+in_ok-push,

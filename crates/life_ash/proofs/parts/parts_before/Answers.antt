@@ -9,7 +9,7 @@ use Rattle.life_orbit.specs.Kept.{orbit_age_limit}
 use Rattle.life_apart.specs.Sets.{sets_of}
 use Rattle.life_ash.specs.Parts.{AreEndsOfCourses, IsPlaced, ash_age_limit}
 use Rattle.life_orbit.proofs.Finding.{none_then}
-use Rattle.life_ash.proofs.Places.{itself_within}
+use Rattle.life_cells.proofs.Places.{itself_within}
 use Rattle.life_ash.proofs.Sooner.{ash_by_later, no_set_before}
 use Rattle.life_ash.proofs.parts.parts_before.Given.{Over}
 use Rattle.life_ash.proofs.parts.parts_before.Goals as goal

@@ -5,7 +5,7 @@ use Rattle.life_objects.specs.Limits.{objects_bound_limit}
 use Rattle.life_objects.specs.Parts.Parts.{AreIndependentParts}
 use Rattle.life_apart.specs.Sets.{sets_of}
 use Rattle.life_ash.specs.Parts.{IsPlaced, ash_age_limit}
-use Rattle.life_ash.proofs.Places.{itself_within}
+use Rattle.life_cells.proofs.Places.{itself_within}
 use Rattle.life_orbit.specs.Kept.{orbit_age_limit}
 use Rattle.life_islands.specs.Split.Courses.{IsCourseWithin}
 use Rattle.life_census.specs.Counted.{CountsAs}

@@ -3,7 +3,7 @@ use Rattle.std.proofs.lemmas.Int.{ints}
 use Rattle.life_model.specs.Generation.{contains}
 use Rattle.life_model.proofs.Recurrences.{generation-zero}
 use Rattle.life_ash.specs.Parts.{ash_age_limit}
-use Rattle.life_ash.proofs.Places.{by_places}
+use Rattle.life_cells.proofs.Places.{by_places}
 use Rattle.life_census.proofs.field.is_placed.Goals as goal
 
 pub returns : goal.returns

@@ -1,6 +1,6 @@
 use Rattle.std.proofs.Common.{sym, ap, ◌∙◌, arith}
 use Rattle.life_model.specs.Generation.{contains}
-use Rattle.life_ash.proofs.Places.{subset_within}
+use Rattle.life_cells.proofs.Places.{subset_within}
 use Rattle.life_apart.proofs.Loners.{in_others}
 use Rattle.life_model.specs.Symmetry.{translate_of}
 use Rattle.life_growing.proofs.returning.may_come_back_by.Goals as goal

@@ -4,7 +4,7 @@ use Rattle.life_model.specs.Evolution.{generation}
 use Rattle.life_model.specs.Generation.{Generation, cells}
 use Rattle.life_cells.specs.Limits.{IsWithin}
 use Rattle.life_ash.specs.Parts.{ash_age_limit}
-use Rattle.life_ash.proofs.Places.{generation_within, itself_within}
+use Rattle.life_cells.proofs.Places.{generation_within, itself_within}
 use Rattle.life_growth.specs.Things.{Thing}
 use Rattle.life_growing.specs.Settled.Placing.{placed_age_limit, placed_by}
 use Rattle.life_growing.specs.Settled.Things.{phase_thing}

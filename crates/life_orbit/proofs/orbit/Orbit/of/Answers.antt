@@ -2,7 +2,7 @@ use Rattle.std.proofs.Common.{◌+◌, ◌-◌, sym, subst, arith}
 use Rattle.std.proofs.lemmas.List.Elements.{All-same, All-weaker}
 use Rattle.life_model.specs.Generation.{cells}
 use Rattle.life_cells.specs.Limits.{IsWithin, age_limit}
-use Rattle.life_plane.proofs.Later.{within_later}
+use Rattle.life_cells.proofs.Within.{within_later}
 use Rattle.life_orbit.specs.Hulls.{HoldsAllCells}
 use Rattle.life_orbit.specs.Kept.{IsOrbitWalk, orbit_age_limit}
 use Rattle.life_orbit.proofs.Walking.{kept_set, kept_whole, walk_more, walk_start}

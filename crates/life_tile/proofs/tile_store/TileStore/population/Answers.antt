@@ -5,7 +5,7 @@ use Rattle.life_slots.specs.Cells.{tile_count}
 use Rattle.life_tile.specs.TileStores.{IsKept, members_of}
 use Rattle.life_tile.specs.declared.tile_store.TileStore.{TileStore}
 use Rattle.life_model.specs.Generation.{size}
-use Rattle.life_slots.proofs.Sizes.{size_fits}
+use Rattle.life_cells.proofs.Sizes.{size_fits}
 use Rattle.life_tile.proofs.Placed.{size_kept}
 use Rattle.life_tile.proofs.Tallied.{sum_past_first}
 use Rattle.life_tile.proofs.tile_store.TileStore.population.Goals as goal
