@@ -3,9 +3,7 @@ pub mod Claiming
 pub mod Keys
 pub mod Nothing
 pub mod Numbers
-pub mod Rows
 pub mod Silent
-pub mod Spelled
 pub mod Groups
 pub mod SameKeys
 pub mod Placed

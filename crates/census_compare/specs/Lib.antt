@@ -7,7 +7,6 @@ pub mod Patterns
 pub mod Read
 pub mod Rows
 pub mod Verdict
-pub mod Written
 pub mod Order
 pub mod SamePatterns
 pub mod Places

@@ -17,6 +17,6 @@ mod verdict;
 
 pub use claim::{Cell, Claim};
 pub use columns::numbers_may_be_claimed;
-pub use reading::{Claims, read_claims, rows_are_read_as_written};
+pub use reading::{Claims, read_claims};
 pub use same::{codes_of_several_are_told, put_same};
 pub use verdict::{nothing_is_told_where_all_agree, put_verdict};

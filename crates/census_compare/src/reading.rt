@@ -4,7 +4,6 @@ ghost use Rattle.std.specs.Result.{result_map_both};
 ghost use Rattle.census_compare.specs.Claims.{all_taken, claims_from, claims_in, claims_read, nothing_taken};
 ghost use Rattle.census_compare.specs.Read.{begun_read, taken_read};
 ghost use Rattle.census_compare.specs.Rows.{begun_on, cell_ended, rows_from, with_byte, without_mark};
-ghost use Rattle.census_compare.specs.Written.{RowsAreReadAsWritten};
 
 use crate::claim::Claim;
 use crate::place::{Move, Place, move_of};
@@ -177,10 +176,3 @@ pub fn read_claims(alloc: Global, text: &[u8]) -> Result<Result<Claims, usize>, 
 {
     read_rows(alloc, without_mark(text))
 }
-
-/// A text is read as rows of these cells exactly where they are written as RFC 4180 has it. A cell without `"`, `,`, LF and
-/// CR may be as it is. Any cell may be in quotes with each `"` twice. There is a `,` between cells, and LF or CR LF ends a
-/// row. This end may be left out after the last row, if the row has a byte. In any other text some row is faulty.
-pub fn rows_are_read_as_written()
-    ensures { RowsAreReadAsWritten }
-{}

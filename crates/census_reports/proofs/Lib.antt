@@ -5,7 +5,5 @@ pub mod Looks
 pub mod Told
 pub mod Failing
 pub mod Halted
-pub mod SameLists
-pub mod SameTable
 pub mod Merging
 pub mod LawfulLemmas

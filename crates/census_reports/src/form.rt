@@ -1,11 +1,7 @@
 //! What is made of the rows of reports, written.
-ghost use Rattle.std.specs.Prelude.{◌≡◌, List, MatchResult, Ok};
+ghost use Rattle.std.specs.Prelude.{◌≡◌, MatchResult, Ok};
 ghost use Rattle.std.specs.Option.{option_copied};
-ghost use Rattle.census_rows.specs.declared.row.Row.{Row};
 ghost use Rattle.census_readback.specs.Shapes.{AreReports};
-ghost use Rattle.census_merge.specs.Merged.{merged_rows};
-ghost use Rattle.census_table.specs.Entries.{entries_of};
-ghost use Rattle.census_table.specs.Patterns.{patterns_of};
 ghost use Rattle.census_compare.specs.Claims.{claims_in, claims_read};
 ghost use Rattle.census_reports.specs.Forms.{names_given};
 ghost use Rattle.census_reports.specs.Written.{FailsRows, WritesRows};
@@ -192,12 +188,3 @@ pub fn write_verdict<O: Write>(
         Err(line) => Err(ReportsError::Claims { line }),
     }
 }
-
-/// A table of the patterns of reports is that of the one report that they are merged into: each collection has the same number in
-/// both.
-pub fn merging_changes_no_table()
-    ensures patterns { (rows : List Row) → AreReports rows →
-        patterns_of (merged_rows rows) ≡ patterns_of rows }
-    ensures entries { (rows : List Row) → AreReports rows →
-        entries_of (merged_rows rows) ≡ entries_of rows }
-{}

@@ -16,7 +16,7 @@ mod rows;
 mod words;
 
 pub use error::ReportsError;
-pub use form::{Form, merging_changes_no_table};
+pub use form::Form;
 pub use lawful::merge_reports;
 pub use reading::{Reading, Written};
 pub use reports::write_reports;

@@ -1,5 +1,5 @@
 -- A table of patterns has as many rows as a report has `line` rows, and its patterns are those of the report.
-use Rattle.std.proofs.Common.{◌≡◌, ℕ, ◌+◌, Option, Some, None, List, [], ◌∷◌, ◌++◌, map, length, suc, refl, ap, ap₂, ◌∙◌, sym, arith, append_assoc}
+use Rattle.std.proofs.Common.{◌≡◌, ℕ, ◌+◌, Option, Some, None, List, [], ◌∷◌, ◌++◌, map, length, refl, ap, ap₂, ◌∙◌, sym}
 use Rattle.std.specs.List.{cons_option, filter_map}
 use Rattle.std.specs.Option.{option_map}
 use Rattle.std.proofs.lemmas.List.{length-map, map-append}
@@ -37,13 +37,6 @@ all-in number (rows ∷ sections) =
 -- the patterns of a report are those of its table
 pub patterns-entries : (rows : List Row) → entries_in (patterns_of rows) ≡ entries_of rows
 patterns-entries rows = all-in 1 (collections_of [] rows)
-
-pub patterns-append : (m : ℕ) (xs ys : List (List Row)) → all_patterns m (xs ++ ys) ≡ all_patterns m xs ++ all_patterns (m + length xs) ys
-patterns-append m [] ys = ap (λ k. all_patterns k ys) (let e : m ≡ m + 0 = omega arith in e)
-patterns-append m (x ∷ xs) ys =
-    ap (λ t. section_patterns m x ++ t) (patterns-append (m + 1) xs ys)
-    ∙ sym (append_assoc (section_patterns m x) (all_patterns (m + 1) xs) (all_patterns (m + 1 + length xs) ys))
-    ∙ ap (λ k. (section_patterns m x ++ all_patterns (m + 1) xs) ++ all_patterns k ys) (let e : m + 1 + length xs ≡ m + suc (length xs) = omega arith in e)
 
 pub patterns-size : (rows : List Row) → AreReports rows → length (patterns_of rows) ≡ lines_that any_outcome rows
 patterns-size rows is = sym (length-map (patterns_of rows) (λ p. p.entry)) ∙ ap length (patterns-entries rows) ∙ entries-size rows is
