@@ -5,12 +5,12 @@ use Rattle.watched.specs.Streams.{Streams}
 use Rattle.census_bundle.specs.declared.bundle.Folder.{Folder}
 use Rattle.census_crew.specs.Bytes.{ReadsBundle, ReadsFolders}
 use Rattle.census_crew.specs.Writing.{WritesPrefix, WritesReport}
-use Rattle.census_crew.specs.declared.bytes.BytesFault.{BytesFault}
-use Rattle.census_crew.specs.declared.bytes.BytesFault.TheVariants.{Read, TooLong, Bundle, Memory, Write}
+use Rattle.census_faults.specs.declared.run_fault.BytesFault.{BytesFault}
+use Rattle.census_faults.specs.declared.run_fault.BytesFault.TheVariants.{Read, TooLong, Bundle, Memory, Write}
 use Rattle.census_crew.specs.Faults.{FitsFault}
 use Rattle.census_crew.specs.declared.tally.Tally.{Tally}
-use Rattle.census_crew.specs.declared.fault.RunFault.{RunFault}
-use Rattle.census_crew.specs.declared.fault.RunFault.TheVariants as runs
+use Rattle.census_faults.specs.declared.run_fault.RunFault.{RunFault}
+use Rattle.census_faults.specs.declared.run_fault.RunFault.TheVariants as runs
 use Rattle.census_folders.specs.Sources.{Asked}
 use Rattle.census_folders.specs.declared.fault.SourceFault.{SourceFault}
 use Rattle.census_folders.specs.declared.fault.SourceFault.TheVariants as source

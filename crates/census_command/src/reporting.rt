@@ -9,8 +9,8 @@ ghost use Rattle.census_command.specs.Gates.{HearsBundle};
 ghost use Rattle.census_bundle.specs.Sizes.{worker_limit};
 
 use census_bundle::Bundle;
-use census_crew::{Gate, RunFault, Tally, run, run_untold};
-use census_faults::refusal_lines;
+use census_crew::{Gate, Tally, run, run_untold};
+use census_faults::{RunFault, refusal_lines};
 use census_folders::{Shelf, Source, hint_lines};
 use life_answer::Question;
 use std::alloc::{AllocError, Global};

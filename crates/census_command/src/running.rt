@@ -1,7 +1,7 @@
 //! `census run` and `census objects`: the report of collections.
 ghost use Rattle.std.specs.Prelude.{◌≡◌, ◌⊎◌, ◌↔◌, ◌≤◌, true, Err, IfErr, IfOk, MatchResult, OnOk};
 ghost use Rattle.census_crew.specs.Bytes.{ReadsBundle};
-ghost use Rattle.census_crew.specs.declared.bytes.BytesFault.{BytesFault};
+ghost use Rattle.census_faults.specs.declared.run_fault.BytesFault.{BytesFault};
 ghost use Rattle.life_answer.specs.Questions.{IsAnswered};
 ghost use Rattle.census_command.specs.Gates.{HearsFolders, HearsInput, HearsRun};
 ghost use Rattle.census_command.specs.Runs.{FoldersFail, InputFails, ReportsFolders, ReportsInput, RunFails, Runs};
@@ -14,8 +14,9 @@ use crate::collections::folders_of;
 use crate::reporting::report;
 use census_bundle::{Bundle, BundleFault, INPUT_LIMIT, read_bundle};
 use census_cli::Census;
-use census_crew::{BytesFault, Gate};
+use census_crew::Gate;
 use census_errors::{RunError, RunStopped};
+use census_faults::BytesFault;
 use census_folders::{OnLoss, Shelf, read_source};
 use std::alloc::Global;
 use std::io::{Read, Write};

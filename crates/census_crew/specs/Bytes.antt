@@ -8,8 +8,8 @@ use Rattle.census_bundle.specs.declared.fault.BundleFault.{BundleFault}
 use Rattle.census_bundle.specs.declared.fault.BundleFault.TheVariants as bundle_faults
 use Rattle.census_bundle.specs.Reading.{fault_of, folders_of}
 use Rattle.census_bundle.specs.Sizes.{input_limit}
-use Rattle.census_crew.specs.declared.bytes.BytesFault.{BytesFault}
-use Rattle.census_crew.specs.declared.bytes.BytesFault.TheVariants.{Read, TooLong, Bundle, Memory, Write}
+use Rattle.census_faults.specs.declared.run_fault.BytesFault.{BytesFault}
+use Rattle.census_faults.specs.declared.run_fault.BytesFault.TheVariants.{Read, TooLong, Bundle, Memory, Write}
 use Rattle.census_crew.specs.declared.tally.Tally.{Tally}
 use Rattle.census_crew.specs.Gates.{Hears, News, news_of}
 use Rattle.census_crew.specs.Tallying.{TalliesPatterns}

@@ -3,8 +3,8 @@ use Rattle.std.specs.Prelude.{◌≡◌, Bool, true, false, List, None, Some, Ok
 use Rattle.census_bundle.specs.Tickets.{IsTicketOf}
 use Rattle.census_bundle.specs.declared.bundle.Folder.{Folder}
 use Rattle.census_bundle.specs.declared.ticket.Ticket.{Ticket}
-use Rattle.census_crew.specs.declared.fault.RunFault.{RunFault}
-use Rattle.census_crew.specs.declared.fault.RunFault.TheVariants.{Memory, Write}
+use Rattle.census_faults.specs.declared.run_fault.RunFault.{RunFault}
+use Rattle.census_faults.specs.declared.run_fault.RunFault.TheVariants.{Memory, Write}
 
 -- `Write` is returned if and only if the writer has failed
 abbrev pub FitsFault : {A : Type 0} → Result A RunFault → Bool → Type 0

@@ -2,41 +2,20 @@
 ghost use Rattle.std.specs.Prelude.{◌≡◌, ◌↔◌, ◌≤◌, true, false, Err};
 ghost use Rattle.life_answer.specs.Questions.{IsAnswered};
 ghost use Rattle.census_crew.specs.Bytes.{FitsBytesFault, HearsBytes, ReadsBundle, RunsBytes};
-ghost use Rattle.census_crew.specs.declared.bytes.BytesFault.{BytesFault};
+ghost use Rattle.census_faults.specs.declared.run_fault.BytesFault.{BytesFault};
 ghost use Rattle.census_bundle.specs.Sizes.{worker_limit};
 
-use crate::fault::RunFault;
 use crate::gate::Gate;
 use crate::running::run;
 use crate::tally::Tally;
 use census_bundle::{Bundle, BundleFault, INPUT_LIMIT, read_bundle};
+use census_faults::{BytesFault, RunFault};
 use life_answer::Question;
 use std::alloc::Global;
 use std::io::{Read, Write};
 use std::sync::Wait;
 use std::thread::Threads;
-use thiserror::Error;
 use watched::{Input, ReadFault, Streams, read_all};
-
-/// Why a bundle text was not run to its end.
-#[derive(Clone, Copy, Debug, PartialEq, Eq, Drop, Error)]
-pub enum BytesFault {
-    /// The reader has failed. Nothing was written.
-    #[error("read failed")]
-    Read,
-    /// The text has more than 67,108,864 bytes. Nothing was written.
-    #[error("input too long")]
-    TooLong,
-    /// The text is no bundle. Nothing was written.
-    #[error("{0}")]
-    Bundle(BundleFault),
-    /// Memory was refused. What was written is a prefix of a report of the bundle, or nothing.
-    #[error("out of memory")]
-    Memory,
-    /// The writer has failed. What was written is a prefix of a report of the bundle.
-    #[error("write failed")]
-    Write,
-}
 
 // Reads a bundle up to the reader's end.
 fn read_input<R: Read>(alloc: Global, reader: &mut Input<R>) -> Result<Bundle, BytesFault>

@@ -3,11 +3,11 @@ ghost use Rattle.std.specs.Prelude.{◌≡◌, ℕ, List, [], Option, true, fals
 ghost use Rattle.census_crew.specs.Faults.{FitsFault, TellsNoTicket};
 ghost use Rattle.census_crew.specs.Writing.{StaysInStep, StopsInStep};
 
-use crate::fault::RunFault;
 use crate::gate::Gate;
 use crate::handles::Hand;
 use crate::run_state::RunState;
 use crate::working::{Batch, Task, work_beside};
+use census_faults::RunFault;
 use crossbeam_channel::Receiver;
 use std::alloc::Global;
 use std::io::Write;

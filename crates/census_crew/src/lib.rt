@@ -11,7 +11,6 @@ mod answering;
 mod bytes;
 mod closing;
 mod collecting;
-mod fault;
 mod feed;
 mod filling;
 mod gate;
@@ -27,8 +26,7 @@ mod working;
 mod writing;
 
 pub use answering::{work, work_soon};
-pub use bytes::{BytesFault, run_bytes};
-pub use fault::RunFault;
+pub use bytes::run_bytes;
 pub use gate::{Gate, OpenGate};
 pub use handles::{Feed, Hand};
 pub use item::Item;

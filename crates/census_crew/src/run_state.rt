@@ -12,11 +12,11 @@ ghost use Rattle.census_crew.specs.Tallying.{TalliesPatterns};
 ghost use Rattle.census_crew.specs.Writing.{EndsInStep, StaysInStep, StopsInStep};
 
 use crate::answering;
-use crate::fault::RunFault;
 use crate::tally::Tally;
 use crate::writing::flush;
 use census_book::{Collector, Done, Offer};
 use census_bundle::{Bundle, Ticket};
+use census_faults::RunFault;
 use life_answer::Question;
 use std::alloc::{AllocError, Global};
 use std::io::Write;

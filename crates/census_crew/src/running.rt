@@ -8,13 +8,13 @@ ghost use Rattle.census_crew.specs.Tallying.{TalliesPatterns};
 ghost use Rattle.census_crew.specs.Writing.{WritesPrefix, WritesReport};
 ghost use Rattle.census_bundle.specs.Sizes.{worker_limit};
 
-use crate::fault::RunFault;
 use crate::gate::Gate;
 use crate::handles::{Feed, Hand};
 use crate::run_state::RunState;
 use crate::tally::Tally;
 use census_book::Done;
 use census_bundle::Bundle;
+use census_faults::RunFault;
 use life_answer::Question;
 use std::alloc::Global;
 use std::io::Write;

@@ -10,10 +10,10 @@ use Rattle.watched.specs.declared.reading.ReadFault.{ReadFault}
 use Rattle.watched.specs.declared.reading.ReadFault.TheVariants as reads
 use Rattle.census_faults.specs.Faults.{text_fault}
 use Rattle.census_faults.specs.Spots.{spot_of_text}
-use Rattle.census_crew.specs.declared.bytes.BytesFault.{BytesFault}
-use Rattle.census_crew.specs.declared.bytes.BytesFault.TheVariants as bytes
-use Rattle.census_crew.specs.declared.fault.RunFault.{RunFault}
-use Rattle.census_crew.specs.declared.fault.RunFault.TheVariants as runs
+use Rattle.census_faults.specs.declared.run_fault.BytesFault.{BytesFault}
+use Rattle.census_faults.specs.declared.run_fault.BytesFault.TheVariants as bytes
+use Rattle.census_faults.specs.declared.run_fault.RunFault.{RunFault}
+use Rattle.census_faults.specs.declared.run_fault.RunFault.TheVariants as runs
 use Rattle.census_bundle.specs.declared.bundle.AddFault.TheVariants as add
 use Rattle.census_folders.specs.Told.{silent}
 use Rattle.census_folders.specs.declared.fault.SourceFault.{SourceFault}

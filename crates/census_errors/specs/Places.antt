@@ -6,8 +6,8 @@ use Rattle.census_bundle.specs.Tickets.{element_at, entry_at}
 use Rattle.census_bundle.specs.declared.bundle.Entry.{Entry}
 use Rattle.census_bundle.specs.declared.bundle.Folder.{Folder}
 use Rattle.census_bundle.specs.declared.ticket.Ticket.{Ticket}
-use Rattle.census_crew.specs.declared.fault.RunFault.{RunFault}
-use Rattle.census_crew.specs.declared.fault.RunFault.TheVariants as runs
+use Rattle.census_faults.specs.declared.run_fault.RunFault.{RunFault}
+use Rattle.census_faults.specs.declared.run_fault.RunFault.TheVariants as runs
 use Rattle.census_faults.specs.declared.fault.Fault.{Fault}
 use Rattle.census_faults.specs.declared.fault.Fault.TheVariants.{FileForFolder}
 use Rattle.census_folders.specs.Sources.{Asked, Reads, Stops}

@@ -8,7 +8,7 @@ use crate::place::Place;
 use crate::run_error::RunError;
 use arrayvec::ArrayString;
 use census_bundle::{Bundle, Text, Ticket};
-use census_crew::RunFault;
+use census_faults::RunFault;
 use census_folders::{Cause, Shelf, ShelfFault, is_input, read_file};
 use census_reports::ReportsError;
 use itoa::Buffer;

@@ -1,7 +1,7 @@
 //! Why `run` or `objects` writes no whole report.
 
 use census_bundle::{AddFault, BundleFault, Ticket};
-use census_crew::{BytesFault, RunFault};
+use census_faults::{BytesFault, RunFault};
 use census_folders::Cause;
 use std::alloc::AllocError;
 use thiserror::Error;

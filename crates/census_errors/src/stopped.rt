@@ -8,7 +8,7 @@ use crate::place::Place;
 use crate::placing::{kept_place, loss_place, pattern_place};
 use crate::run_error::RunError;
 use census_bundle::{AddFault, Bundle};
-use census_crew::RunFault;
+use census_faults::RunFault;
 use census_folders::SourceFault;
 use std::alloc::Global;
 

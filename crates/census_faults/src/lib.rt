@@ -11,6 +11,7 @@ mod printing;
 mod refusal;
 mod refusals;
 mod rle;
+mod run_fault;
 mod sentences;
 mod spot;
 
@@ -24,5 +25,6 @@ pub use rle::{
     FileKind, Place, RuleKind, fault_line, fault_name, fault_words, line_and_column, place_of,
     refused_rules_are_told, rule_kind, sentence_line, sentences_differ,
 };
+pub use run_fault::{BytesFault, RunFault};
 pub use sentences::{faults_differ, sentence};
 pub use spot::{Spot, spot_of_bundle, spot_of_code, spot_of_text};

@@ -1,7 +1,7 @@
 //! What faults say.
 
 use census_bundle::BundleFault;
-use census_crew::{BytesFault, RunFault};
+use census_faults::{BytesFault, RunFault};
 use std::alloc::{AllocError, Global};
 use std::fmt::Display;
 use std::test::Fail;

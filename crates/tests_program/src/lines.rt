@@ -1,10 +1,10 @@
 //! The lines on standard error.
 
 use census_bundle::{AddFault, BundleFault, Ticket, read_bundle};
-use census_crew::RunFault;
 use census_errors::{
     AdvanceError, CommandError, DrawError, RunError, RunStopped, kept_place, run_saying, say,
 };
+use census_faults::RunFault;
 use std::test::Fail;
 use watched::Output;
 

@@ -3,7 +3,8 @@
 use crate::bundles::{DEMO, DEMO_REPORT};
 use crate::run_bundles::{SETTLES, TWO_FOLDERS_REPORT, demo_tally, two_folders};
 use census_bundle::{Bundle, read_bundle};
-use census_crew::{BytesFault, OpenGate, RunFault, run, run_bytes, settle};
+use census_crew::{OpenGate, run, run_bytes, settle};
+use census_faults::{BytesFault, RunFault};
 use std::alloc::Global;
 use std::io;
 use std::io::{ErrorKind, Read, Write};

@@ -1,6 +1,6 @@
-//! Why a run ends early.
+//! Why a run ends early, and why a bundle text was not run to its end.
 
-use census_bundle::Ticket;
+use census_bundle::{BundleFault, Ticket};
 use std::alloc::AllocError;
 use thiserror::Error;
 use watched::Failed;
@@ -17,12 +17,32 @@ pub enum RunFault {
     Write,
 }
 
+/// Why a bundle text was not run to its end.
+#[derive(Clone, Copy, Debug, PartialEq, Eq, Drop, Error)]
+pub enum BytesFault {
+    /// The reader has failed. Nothing was written.
+    #[error("read failed")]
+    Read,
+    /// The text has more than 67,108,864 bytes. Nothing was written.
+    #[error("input too long")]
+    TooLong,
+    /// The text is no bundle. Nothing was written.
+    #[error("{0}")]
+    Bundle(BundleFault),
+    /// Memory was refused. What was written is a prefix of a report of the bundle, or nothing.
+    #[error("out of memory")]
+    Memory,
+    /// The writer has failed. What was written is a prefix of a report of the bundle.
+    #[error("write failed")]
+    Write,
+}
+
 impl RunFault {
     ghost use Rattle.std.specs.Prelude.{◌≡◌, Some};
-    ghost use Rattle.census_crew.specs.declared.fault.RunFault.TheVariants.{Memory};
+    ghost use Rattle.census_faults.specs.declared.run_fault.RunFault.TheVariants.{Memory};
 
     /// Memory was refused while the caller worked the pattern of this ticket, or took what was found of it.
-    pub(crate) fn memory_at(ticket: Ticket) -> RunFault
+    pub fn memory_at(ticket: Ticket) -> RunFault
         ensures { result ≡ Memory (Some ticket) }
     {
         RunFault::Memory {
@@ -33,7 +53,7 @@ impl RunFault {
 
 impl From<AllocError> for RunFault {
     ghost use Rattle.std.specs.Prelude.{◌≡◌, None};
-    ghost use Rattle.census_crew.specs.declared.fault.RunFault.TheVariants.{Memory};
+    ghost use Rattle.census_faults.specs.declared.run_fault.RunFault.TheVariants.{Memory};
 
     ghost from_gives = { λ _ fault. fault ≡ Memory None };
 
@@ -44,7 +64,7 @@ impl From<AllocError> for RunFault {
 
 impl From<Failed> for RunFault {
     ghost use Rattle.std.specs.Prelude.{◌≡◌};
-    ghost use Rattle.census_crew.specs.declared.fault.RunFault.TheVariants.{Write};
+    ghost use Rattle.census_faults.specs.declared.run_fault.RunFault.TheVariants.{Write};
 
     ghost from_gives = { λ _ fault. fault ≡ Write };
 
