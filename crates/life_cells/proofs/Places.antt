@@ -1,5 +1,5 @@
 -- Where the cells of sets are, now and later.
-use Rattle.std.proofs.Common.{◌≡◌, ℕ, zero, suc, ◌+◌, ◌≤◌, true, sym, subst, ◌∙◌, arith}
+use Rattle.std.proofs.Common.{◌≡◌, ℕ, zero, suc, ◌+◌, ◌≤◌, true, sym, refl, subst, ◌∙◌, arith}
 use Rattle.std.specs.List.{All}
 use Rattle.life_model.specs.Cell.{Cell}
 use Rattle.life_model.specs.Rule.{Rule}
@@ -7,9 +7,8 @@ use Rattle.life_model.specs.Generation.{Generation, cells, contains}
 use Rattle.life_model.specs.Evolution.{generation, next}
 use Rattle.life_model.proofs.Generations.{contains-cells}
 use Rattle.life_model.proofs.Members.{of_member, of_all_members}
-use Rattle.life_model.proofs.Near.{next_near}
 use Rattle.life_cells.specs.Limits.{IsWithin}
-use Rattle.life_cells.proofs.Within.{within_later, within_near}
+use Rattle.life_cells.proofs.Within.{within_later, within_next}
 
 pub place_of : (a : ℕ) (G : Generation) → All (IsWithin a) (cells G) → (c : Cell) → contains G c ≡ true → IsWithin a c
 place_of a G all c h = of_member (IsWithin a) (cells G) all c (sym (contains-cells G c) ∙ h)
@@ -19,8 +18,7 @@ by_places a G each = of_all_members (IsWithin a) (cells G) (λ c h. each c (cont
 
 next_within : (R : Rule) (a : ℕ) (G : Generation) → All (IsWithin a) (cells G) →
     All (IsWithin (a + 1)) (cells (next R G))
-next_within R a G all = by_places (a + 1) (next R G) (λ c h.
-    let g = next_near R G c h in within_near a g.0 c (place_of a G all g.0 g.1) g.2)
+next_within R a G all = by_places (a + 1) (next R G) (within_next R G (next R G) a refl (place_of a G all))
 
 pub generation_within : (R : Rule) (a : ℕ) (G : Generation) → All (IsWithin a) (cells G) → (n : ℕ) →
     All (IsWithin (a + n)) (cells (generation R G n))
