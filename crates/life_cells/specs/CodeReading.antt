@@ -3,7 +3,6 @@ use Rattle.std.specs.Prelude.{ℕ, ◌+◌, ◌-◌, ◌*◌, Bool, true, false,
 use Rattle.std.specs.List.{list_any, range_with_len, after_last, filter, sum_by}
 use Rattle.std.specs.Option.{option_or}
 use Rattle.std.specs.Int.{bit_at}
-use Rattle.life_model.specs.Cell.{Cell}
 use Rattle.life_model.specs.Generation.{Generation, from_list}
 use Rattle.life_cells.specs.Limits.{place_limit}
 use Rattle.life_cells.specs.declared.reader.CodeFault.{CodeFault}
