@@ -11,9 +11,9 @@ use Rattle.life_objects.specs.Ash.{IsObject, RecursWithin}
 use Rattle.life_objects.specs.Kinds.{AreAlike, IsKind}
 use Rattle.life_objects.specs.Limits.{objects_bound_limit}
 use Rattle.life_objects.proofs.Lists.{Contains-head, Contains-later}
-use Rattle.life_objects.specs.Independent.Independent.{independent_parts_of}
+use Rattle.life_parts.specs.Independent.Independent.{independent_parts_of}
 use Rattle.life_growth.proofs.MeetingLemmas.Reach.{any_by, any_tells}
-use Rattle.life_objects.proofs.IndependentLemmas.Counting.{count_by-cons}
+use Rattle.life_objects.proofs.Counting.{count_by-cons}
 use Rattle.life_cells.specs.TextOrder.{shorter_cmp}
 use Rattle.life_cells.proofs.TextOrders.{shorter_exact}
 use Rattle.life_answer.specs.Census.{counted_parts, part_code}

@@ -16,7 +16,7 @@ use Rattle.life_model.proofs.Recurrences.{generation-zero}
 use Rattle.life_objects.specs.Ash.{IsObject, RecursWithin}
 use Rattle.life_objects.specs.Kinds.{AreAlike, IsKind}
 use Rattle.life_objects.proofs.Lists.{Contains-head, Contains-later}
-use Rattle.life_objects.proofs.IndependentLemmas.Counting.{count_by-cons}
+use Rattle.life_objects.proofs.Counting.{count_by-cons}
 use Rattle.life_cells.specs.TextOrder.{shorter_cmp}
 use Rattle.life_cells.proofs.TextOrders.{shorter_exact, shorter_total}
 use Rattle.life_answer.specs.Census.{counted_parts, part_code}

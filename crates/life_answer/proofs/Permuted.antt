@@ -7,7 +7,7 @@ use Rattle.std.proofs.lemmas.List.Elements.{at_from_Contains}
 use Rattle.std.proofs.lemmas.List.Sorted.{IsPermutation-cons, IsPermutation-refl, IsPermutation-remove, IsPermutation-sym, IsPermutation-trans, sum_by-IsPermutation}
 use Rattle.std.proofs.lemmas.List.Sums.{sum_by-append, sum_by-cons}
 use Rattle.life_objects.proofs.Lists.{Contains-later}
-use Rattle.life_objects.proofs.IndependentLemmas.Counting.{count_by-cons}
+use Rattle.life_objects.proofs.Counting.{count_by-cons}
 
 module _ {X : Type 0} (p : X → Bool) where
   pub count_by-map : {Y : Type 0} (f : Y → X) (ys : List Y) → count_by p (map f ys) ≡ count_by (λ y. p (f y)) ys

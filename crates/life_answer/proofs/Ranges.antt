@@ -10,9 +10,9 @@ use Rattle.life_model.specs.Evolution.{generation}
 use Rattle.life_objects.specs.Ash.{IsObject}
 use Rattle.life_objects.specs.Limits.{objects_bound_limit}
 use Rattle.life_objects.specs.Union.{union_of}
-use Rattle.life_objects.specs.Independent.Independent.{independent_parts_of}
-use Rattle.life_objects.proofs.IndependentLemmas.Finest.{are_the_parts}
-use Rattle.life_objects.proofs.IndependentLemmas.Found.{of_map}
+use Rattle.life_parts.specs.Independent.Independent.{independent_parts_of}
+use Rattle.life_parts.proofs.IndependentLemmas.Finest.{are_the_parts}
+use Rattle.life_objects.proofs.Found.{of_map}
 use Rattle.life_growth.specs.Engine.{Emits, IsEngine, Way, joined}
 use Rattle.life_growth.proofs.Emitting.{emits_some}
 use Rattle.life_growth.proofs.OneGrowth.{engine_of, some_element}

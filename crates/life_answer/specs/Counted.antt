@@ -5,7 +5,7 @@ use Rattle.life_model.specs.Rule.{Rule}
 use Rattle.life_model.specs.Generation.{Generation}
 use Rattle.life_objects.specs.Limits.{objects_bound_limit}
 use Rattle.life_objects.specs.Decided.Parts.{period}
-use Rattle.life_objects.specs.Independent.Independent.{independent_parts_of}
+use Rattle.life_parts.specs.Independent.Independent.{independent_parts_of}
 
 -- whether each of the sets recurs within b
 abbrev pub all_come_again : Rule → ℕ → List Generation → Bool

@@ -17,7 +17,7 @@ use Rattle.life_model.proofs.Members.{in_cells}
 use Rattle.life_model.proofs.Near.{next_near}
 use Rattle.life_model.proofs.Recurrences.{generation-add, generation-next, generation-zero}
 use Rattle.life_growth.specs.Meeting.Listed.{numbers_below}
-use Rattle.life_objects.proofs.IndependentLemmas.Found.{Contains-flat_map}
+use Rattle.life_objects.proofs.Found.{Contains-flat_map}
 use Rattle.life_objects.proofs.Lists.{head_or_later}
 use Rattle.life_growth.proofs.MeetingLemmas.Listed.{listed_below}
 use Rattle.life_growth.proofs.MeetingLemmas.Reach.{mapped}

@@ -19,10 +19,10 @@ use Rattle.life_objects.specs.Union.{generations}
 use Rattle.life_objects.proofs.Lists.{Contains-head, Contains-later}
 use Rattle.life_objects.proofs.Phases.{phase_is_one}
 use Rattle.life_objects.proofs.Recurring.{gone_stays, RecursBy-later, RecursBy-sooner}
-use Rattle.life_objects.specs.Parts.Parts.{AreIndependentParts}
-use Rattle.life_objects.proofs.PartsLemmas.Lists.{later_parts, part_recurs}
-use Rattle.life_objects.specs.Independent.Independent.{independent_parts_of}
-use Rattle.life_objects.proofs.IndependentLemmas.Finest.{same_but_order}
+use Rattle.life_parts.specs.Parts.Parts.{AreIndependentParts}
+use Rattle.life_parts.proofs.PartsLemmas.Lists.{later_parts, part_recurs}
+use Rattle.life_parts.specs.Independent.Independent.{independent_parts_of}
+use Rattle.life_parts.proofs.IndependentLemmas.Finest.{same_but_order}
 use Rattle.life_answer.specs.Census.{part_code}
 use Rattle.life_answer.specs.Counted.{all_come_again, code_bound}
 use Rattle.life_answer.proofs.CountedSets.{codes_as, come_again_by, come_again_tells}

@@ -16,8 +16,8 @@ use Rattle.life_model.proofs.Recurrences.{generation-zero}
 use Rattle.life_objects.specs.Ash.{IsObject, RecursWithin}
 use Rattle.life_objects.specs.Limits.{objects_bound_limit}
 use Rattle.life_objects.proofs.Recurring.{RecursBy-moved, RecursBy-unmoved}
-use Rattle.life_objects.specs.Parts.Parts.{AreIndependentParts}
-use Rattle.life_objects.proofs.PartsLemmas.Lists.{moved_parts}
+use Rattle.life_parts.specs.Parts.Parts.{AreIndependentParts}
+use Rattle.life_parts.proofs.PartsLemmas.Lists.{moved_parts}
 use Rattle.life_answer.specs.Apgcode.{code_of}
 use Rattle.life_answer.specs.Census.{counted_parts, part_code}
 use Rattle.life_answer.specs.Counted.{all_come_again}

@@ -7,9 +7,9 @@ use Rattle.life_model.specs.Rule.{Rule}
 use Rattle.life_model.specs.Generation.{Generation, empty}
 use Rattle.life_objects.specs.Ash.{RecursWithin}
 use Rattle.life_objects.specs.Limits.{objects_bound_limit}
-use Rattle.life_objects.specs.Parts.Parts.{AreIndependentParts, IsIndependentPart}
-use Rattle.life_objects.specs.Independent.Independent.{independent_parts_of}
-use Rattle.life_objects.proofs.IndependentLemmas.Finest.{are_the_parts}
+use Rattle.life_parts.specs.Parts.Parts.{AreIndependentParts, IsIndependentPart}
+use Rattle.life_parts.specs.Independent.Independent.{independent_parts_of}
+use Rattle.life_parts.proofs.IndependentLemmas.Finest.{are_the_parts}
 use Rattle.life_answer.specs.Census.{part_code}
 use Rattle.life_answer.specs.Counted.{all_come_again}
 use Rattle.life_answer.proofs.CountedSets.{come_again_by, come_again_tells}

@@ -3,7 +3,7 @@ use Rattle.std.proofs.Common.{◌≡◌, ℕ, ◌+◌, ◌<◌, ◌≤◌, List,
 use Rattle.std.specs.List.{Contains}
 use Rattle.std.proofs.lemmas.Bool.{cases_lt}
 use Rattle.life_objects.proofs.DecidedLemmas.Kept.{Contains-map}
-use Rattle.life_objects.proofs.IndependentLemmas.Found.{of_map}
+use Rattle.life_objects.proofs.Found.{of_map}
 use Rattle.life_growth.specs.Engine.{Way}
 use Rattle.life_growth.specs.Things.{NeverMeet, NeverMeetAgain, Thing, a_period_later, core_thing, left_once, left_thing, listed}
 use Rattle.life_model.specs.Cell.{origin}

@@ -4,7 +4,7 @@ use Rattle.std.specs.List.{Contains}
 use Rattle.std.proofs.lemmas.Bool.{cases_lt}
 use Rattle.std.proofs.lemmas.List.Elements.{Contains-append_cases, Contains-append_left, Contains-append_right}
 use Rattle.life_objects.proofs.DecidedLemmas.Kept.{Contains-map}
-use Rattle.life_objects.proofs.IndependentLemmas.Found.{of_map}
+use Rattle.life_objects.proofs.Found.{of_map}
 use Rattle.life_growth.specs.Engine.{Way}
 use Rattle.life_growth.specs.Things.{IsEngineThing, Thing, core_thing, left_thing, listed}
 use Rattle.life_growing.specs.Settled.Settling.{Settling}

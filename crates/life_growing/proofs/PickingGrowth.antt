@@ -14,7 +14,7 @@ use Rattle.life_objects.proofs.Lists.{Contains-head, Contains-later, head_or_lat
 use Rattle.life_objects.proofs.Members.{found_now, in_list_now}
 use Rattle.life_objects.proofs.Sides.{within_each_other}
 use Rattle.life_objects.proofs.DecidedLemmas.Kept.{Contains-filter, of_filter}
-use Rattle.life_objects.proofs.IndependentLemmas.Found.{of_map}
+use Rattle.life_objects.proofs.Found.{of_map}
 use Rattle.life_growth.specs.Engine.{IsEngineWithin}
 use Rattle.life_growth.specs.Growth.{IsGrowth}
 use Rattle.life_growth.specs.Things.{IsMadeOf}

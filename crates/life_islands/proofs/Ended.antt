@@ -9,7 +9,7 @@ use Rattle.std.proofs.Common.{length-set}
 use Rattle.life_model.specs.Cell.{Cell, origin}
 use Rattle.life_model.specs.Rule.{Rule}
 use Rattle.life_model.specs.Generation.{Generation}
-use Rattle.life_objects.specs.Parts.Ties.{AreTied, swapped, through}
+use Rattle.life_parts.specs.Parts.Ties.{AreTied, swapped, through}
 use Rattle.life_islands.specs.declared.labels.Labels.{Labels}
 use Rattle.life_classes.specs.Forest.{IsJoined, root}
 use Rattle.life_islands.specs.Labels.{AreJoinedFurther, AreTiedFirsts}

@@ -11,11 +11,11 @@ use Rattle.life_model.specs.Generation.{Generation, cells, contains, empty}
 use Rattle.life_model.specs.Evolution.{count_at, generation, next}
 use Rattle.life_model.proofs.Near.{next_near}
 use Rattle.life_cells.specs.Limits.{IsPlace}
-use Rattle.life_objects.specs.Parts.Apart.{AreHeldApart, HaveBoth}
-use Rattle.life_objects.specs.Parts.Groups.{ColoursIslands, IsAround, IsFair, bears, in_group}
-use Rattle.life_objects.specs.Parts.Ties.{AreTied, bearing, staying}
-use Rattle.life_objects.proofs.PartsLemmas.Around.{count_at-alike, next-born, next-stays}
-use Rattle.life_objects.proofs.PartsLemmas.Classed.{of_bearing, of_group, one_group_is_fair, to_group}
+use Rattle.life_parts.specs.Parts.Apart.{AreHeldApart, HaveBoth}
+use Rattle.life_parts.specs.Parts.Groups.{ColoursIslands, IsAround, IsFair, bears, in_group}
+use Rattle.life_parts.specs.Parts.Ties.{AreTied, bearing, staying}
+use Rattle.life_parts.proofs.PartsLemmas.Around.{count_at-alike, next-born, next-stays}
+use Rattle.life_parts.proofs.PartsLemmas.Classed.{of_bearing, of_group, one_group_is_fair, to_group}
 use Rattle.life_islands.specs.declared.colours.Seat.{Seat}
 use Rattle.life_islands.specs.declared.labels.Labels.{Labels}
 use Rattle.life_classes.specs.Forest.{root}

@@ -4,8 +4,8 @@ use Rattle.life_model.specs.Cell.{Cell}
 use Rattle.life_model.specs.Rule.{Rule}
 use Rattle.life_model.specs.Generation.{Generation}
 use Rattle.life_model.specs.Evolution.{generation}
-use Rattle.life_objects.specs.Parts.Groups.{ColoursIslands}
-use Rattle.life_objects.specs.Parts.Ties.{AreTied, itself, swapped, through, touching}
+use Rattle.life_parts.specs.Parts.Groups.{ColoursIslands}
+use Rattle.life_parts.specs.Parts.Ties.{AreTied, itself, swapped, through, touching}
 use Rattle.life_islands.specs.Splits.{AreJoined, alone, beside, chained, turned}
 
 pub one_colour : (G : Generation) (colour : Cell → ℕ) → ColoursIslands G colour → (c e : Cell) → AreJoined G c e → colour c ≡ colour e

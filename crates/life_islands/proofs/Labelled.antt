@@ -16,7 +16,7 @@ use Rattle.life_model.proofs.Generations.{cells-rise, contains-cells, contains-k
 use Rattle.life_model.specs.Generation.{Generation, cells, contains, empty, keep}
 use Rattle.life_objects.specs.Union.{union_of}
 use Rattle.life_objects.proofs.Unions.{contains-union_of}
-use Rattle.life_objects.specs.Parts.Apart.{HaveBoth}
+use Rattle.life_parts.specs.Parts.Apart.{HaveBoth}
 use Rattle.life_islands.specs.declared.labels.Labels.{Labels}
 use Rattle.life_classes.specs.Forest.{root}
 use Rattle.life_islands.specs.Labels.{Fits, label_of, mark_of, sets_by}

@@ -8,10 +8,10 @@ use Rattle.life_model.specs.Rule.{Rule, born}
 use Rattle.life_model.specs.Generation.{Generation, contains, empty}
 use Rattle.life_model.specs.Evolution.{count_at, generation, next}
 use Rattle.life_model.proofs.Near.{near_itself}
-use Rattle.life_objects.specs.Parts.Groups.{ColoursIslands, IsAround, IsFair, bears, in_group}
-use Rattle.life_objects.specs.Parts.Ties.{AreTied, bearing, meeting, swapped, through}
-use Rattle.life_objects.proofs.PartsLemmas.Around.{near_swapped, next-born}
-use Rattle.life_objects.proofs.PartsLemmas.Classed.{of_bearing, of_group, to_group}
+use Rattle.life_parts.specs.Parts.Groups.{ColoursIslands, IsAround, IsFair, bears, in_group}
+use Rattle.life_parts.specs.Parts.Ties.{AreTied, bearing, meeting, swapped, through}
+use Rattle.life_parts.proofs.PartsLemmas.Around.{near_swapped, next-born}
+use Rattle.life_parts.proofs.PartsLemmas.Classed.{of_bearing, of_group, to_group}
 use Rattle.life_islands.specs.declared.colours.Seat.{Seat}
 use Rattle.life_islands.specs.Seats.{AreAllSound, AreOfOne, AreSeats, IsBorneBy, IsColouring, IsFairAround, IsOf, IsSeatLink, bears_at, cell_at, count_colour, is_born_by, seat, set_at}
 use Rattle.life_islands.specs.Splits.{AreLaidOut, AreTiedWithin, IsLink, IsSettled}

@@ -4,7 +4,7 @@ use Rattle.std.proofs.lemmas.Int.{ints}
 use Rattle.life_model.specs.Cell.{Cell, IsNear}
 use Rattle.life_model.proofs.Cells.{pair}
 use Rattle.life_islands.specs.Seats.{cell_at}
-use Rattle.life_objects.proofs.PartsLemmas.Ring.{three}
+use Rattle.life_objects.proofs.Ring.{three}
 
 -- a cell near a place other than it is one of the eight around
 pub seated : (x c : Cell) → IsNear c x → (c ≡ x → ⊥) → (n : ℕ) × (n < 8) × (cell_at x n ≡ c)

@@ -13,9 +13,9 @@ use Rattle.life_cells.specs.Limits.{IsPlace}
 use Rattle.life_objects.specs.Apart.{AreDisjoint}
 use Rattle.life_objects.specs.Union.{union_of}
 use Rattle.life_objects.proofs.Unions.{contains-union_of}
-use Rattle.life_objects.specs.Parts.Apart.{AreHeldApart, AreOfOneSet, HaveBoth}
-use Rattle.life_objects.proofs.PartsLemmas.Around.{near_swapped, one_around}
-use Rattle.life_objects.specs.Parts.Groups.{IsAround}
+use Rattle.life_parts.specs.Parts.Apart.{AreHeldApart, AreOfOneSet, HaveBoth}
+use Rattle.life_parts.proofs.PartsLemmas.Around.{near_swapped, one_around}
+use Rattle.life_parts.specs.Parts.Groups.{IsAround}
 use Rattle.life_islands.specs.declared.colours.Seat.{Seat}
 use Rattle.life_islands.specs.Seats.{IsSeat, cell_at, listed, seat}
 use Rattle.life_islands.specs.Reach.{IsInReach, IsWithinTwo}

@@ -13,14 +13,14 @@ use Rattle.life_model.proofs.Cells.{same_cell-is}
 use Rattle.life_model.proofs.Near.{near_live}
 use Rattle.life_objects.proofs.Members.{in_list_now}
 use Rattle.life_objects.proofs.Unions.{contains-union_of}
-use Rattle.life_objects.proofs.PartsLemmas.Around.{any_around, count_at-alike, near_swapped, next-born}
+use Rattle.life_parts.proofs.PartsLemmas.Around.{any_around, count_at-alike, near_swapped, next-born}
 use Rattle.life_model.specs.Cell.{Cell, IsNear, around, origin}
 use Rattle.life_model.specs.Rule.{Rule, born}
 use Rattle.life_model.specs.Generation.{Generation, contains, empty}
 use Rattle.life_model.specs.Evolution.{count_at, next}
-use Rattle.life_objects.specs.Parts.Apart.{HaveBoth, IsEachFair}
-use Rattle.life_objects.specs.Parts.Groups.{ColoursIslands, IsAround, IsFair, bears, in_group}
-use Rattle.life_objects.proofs.PartsLemmas.Classed.{of_group, to_group}
+use Rattle.life_parts.specs.Parts.Apart.{HaveBoth, IsEachFair}
+use Rattle.life_parts.specs.Parts.Groups.{ColoursIslands, IsAround, IsFair, bears, in_group}
+use Rattle.life_parts.proofs.PartsLemmas.Classed.{of_group, to_group}
 use Rattle.life_islands.specs.declared.colours.Seat.{Seat}
 use Rattle.life_islands.specs.Seats.{AreSeats, AreTried, IsSound, bears_at, cell_at, count_colour, count_to, seat}
 use Rattle.life_islands.specs.Splits.{AreIslands, MakeUp}

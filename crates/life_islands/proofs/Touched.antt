@@ -10,8 +10,8 @@ use Rattle.life_model.specs.Rule.{Rule}
 use Rattle.life_model.specs.Generation.{Generation, cells, contains}
 use Rattle.life_model.proofs.Cells.{pair, same_cell-is}
 use Rattle.life_cells.specs.Limits.{IsPlace}
-use Rattle.life_objects.specs.Parts.Ties.{AreTied, swapped, through, touching}
-use Rattle.life_objects.proofs.PartsLemmas.Ring.{three}
+use Rattle.life_parts.specs.Parts.Ties.{AreTied, swapped, through, touching}
+use Rattle.life_objects.proofs.Ring.{three}
 use Rattle.life_islands.specs.declared.labels.Labels.{Labels}
 use Rattle.life_classes.specs.Forest.{IsJoined, root}
 use Rattle.life_islands.specs.Labels.{AreJoinedByTouch, AreJoinedFurther, AreJoinedWithin, AreNumbered, AreOne, Fits, HasMet, KeepsTied, mark_of, sets_of}

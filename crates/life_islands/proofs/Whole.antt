@@ -10,7 +10,7 @@ use Rattle.life_objects.specs.Union.{generations}
 use Rattle.life_objects.proofs.Lists.{Contains-head, Contains-later, head_or_later}
 use Rattle.life_objects.proofs.Times.{generation-empty}
 use Rattle.life_objects.proofs.Unions.{in_empty}
-use Rattle.life_objects.specs.Parts.Apart.{AreHeldApart, HaveBoth}
+use Rattle.life_parts.specs.Parts.Apart.{AreHeldApart, HaveBoth}
 use Rattle.life_islands.specs.Labels.{AreThoseWithCells}
 
 -- a set a while later is one of the sets a while later

@@ -4,7 +4,7 @@ use Rattle.life_model.specs.Cell.{Cell, origin, plus}
 use Rattle.life_model.specs.Rule.{Rule}
 use Rattle.life_model.specs.Generation.{Generation, cells, contains, empty}
 use Rattle.life_model.specs.Evolution.{generation, next}
-use Rattle.life_objects.specs.Parts.Ties.{AreTied}
+use Rattle.life_parts.specs.Parts.Ties.{AreTied}
 use Rattle.life_islands.specs.declared.labels.Labels.{Labels}
 use Rattle.life_classes.specs.Forest.{root}
 use Rattle.life_islands.specs.Labels.{sets_of}

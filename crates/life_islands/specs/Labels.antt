@@ -8,7 +8,7 @@ use Rattle.life_model.specs.Evolution.{generation}
 use Rattle.life_objects.specs.Apart.{AreDisjoint}
 use Rattle.life_objects.specs.Union.{union_of}
 use Rattle.life_classes.specs.Tags.{place_number}
-use Rattle.life_objects.specs.Parts.Ties.{AreTied}
+use Rattle.life_parts.specs.Parts.Ties.{AreTied}
 use Rattle.life_islands.specs.declared.labels.Labels.{Labels}
 use Rattle.life_classes.specs.Forest.{root}
 use Rattle.life_islands.specs.Seats.{cell_at}

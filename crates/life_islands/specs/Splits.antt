@@ -7,8 +7,8 @@ use Rattle.life_model.specs.Generation.{Generation, contains, empty}
 use Rattle.life_model.specs.Evolution.{generation}
 use Rattle.life_objects.specs.Apart.{AreDisjoint}
 use Rattle.life_objects.specs.Union.{IsSubsetOf, union_of}
-use Rattle.life_objects.specs.Parts.Apart.{AreOfOneSet, HaveBoth, IsEachFair}
-use Rattle.life_objects.specs.Parts.Ties.{AreTied}
+use Rattle.life_parts.specs.Parts.Apart.{AreOfOneSet, HaveBoth, IsEachFair}
+use Rattle.life_parts.specs.Parts.Ties.{AreTied}
 
 -- G is these sets, of which no two share a cell
 pub record MakeUp (G : Generation) (Hs : List Generation) : Type 0 where

@@ -4,7 +4,7 @@ ghost use Rattle.std.specs.Prelude.{Ok};
 ghost use Rattle.life_model.specs.Cell.{Cell, origin};
 ghost use Rattle.life_model.specs.Generation.{Generation};
 ghost use Rattle.life_model.specs.Rule.{Rule};
-ghost use Rattle.life_objects.specs.Parts.Ties.{AreTied};
+ghost use Rattle.life_parts.specs.Parts.Ties.{AreTied};
 ghost use Rattle.life_classes.specs.Forest.{root};
 ghost use Rattle.life_islands.specs.Labels.{AreJoinedFurther, AreTiedFirsts};
 

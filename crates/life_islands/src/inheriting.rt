@@ -3,7 +3,7 @@ ghost use Rattle.std.specs.Prelude.{◌≡◌, ℕ, ◌<◌, All, IfOk, IfSome, 
 ghost use Rattle.life_model.specs.Cell.{Cell, origin, plus};
 ghost use Rattle.life_model.specs.Evolution.{next};
 ghost use Rattle.life_model.specs.Generation.{cells, contains};
-ghost use Rattle.life_objects.specs.Parts.Apart.{AreHeldApart};
+ghost use Rattle.life_parts.specs.Parts.Apart.{AreHeldApart};
 ghost use Rattle.life_islands.specs.Heirs.{AreHeirs, IsHeir};
 ghost use Rattle.life_islands.specs.Labels.{Fits, sets_of};
 ghost use Rattle.life_islands.specs.Reach.{IsInReach};

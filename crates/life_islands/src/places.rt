@@ -4,7 +4,7 @@ ghost use Rattle.std.specs.Bool.{OnTrue};
 ghost use Rattle.life_model.specs.Cell.{origin};
 ghost use Rattle.life_model.specs.Generation.{contains};
 ghost use Rattle.life_model.specs.Generation as generations;
-ghost use Rattle.life_objects.specs.Parts.Apart.{AreHeldApart};
+ghost use Rattle.life_parts.specs.Parts.Apart.{AreHeldApart};
 ghost use Rattle.life_classes.specs.Tags.{place_number};
 ghost use Rattle.life_classes.specs.Forest.{root};
 ghost use Rattle.life_islands.specs.Labels.{AreJoinedFurther, Fits, KeepsTied, sets_of};

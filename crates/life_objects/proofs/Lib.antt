@@ -20,5 +20,6 @@ pub mod Beginning
 pub mod Settling
 pub mod Phases
 pub mod DecidedLemmas
-pub mod PartsLemmas
-pub mod IndependentLemmas
+pub mod Ring
+pub mod Found
+pub mod Counting

@@ -8,5 +8,3 @@ pub mod Limits
 pub mod Onset
 pub mod Kinds
 pub mod Decided
-pub mod Parts
-pub mod Independent

@@ -1,13 +1,10 @@
 //! The objects that a pattern of a Life-like rule falls apart into: definitions in `specs/`, and their laws as the contracts
-//! of functions that do nothing. `decided` computes whether a set is ash, `parts` says what independent parts are, and
-//! `independent` computes these.
+//! of functions that do nothing. `decided` computes whether a set is ash.
 //!
 //! Tested in `checks/laws`.
 #![tactic(auto)]
 
 mod decided;
-mod independent;
-mod parts;
 
 ghost use Rattle.std.specs.Prelude.{◌≡◌, ◌≢◌, ℕ, ◌+◌, ◌-◌, ◌*◌, ◌<◌, ◌≤◌, ◌↔◌, ◌||◌, ◌≤ℤ◌, true};
 ghost use Rattle.std.specs.Prelude.{List, [], ◌∷◌, map, Contains, All, AllPairs};
@@ -27,20 +24,6 @@ ghost use Rattle.life_objects.specs.Union.{generations, union, union_of};
 ghost use Rattle.life_objects.specs.Whole.{IsCore, StaysWhole};
 
 pub use decided::{ash_is_decided, parts_are_found, what_was_found_lasts};
-pub use independent::{
-    each_set_that_recurs_has_independent_parts, splittings_are_all_ways, the_bound_does_not_matter,
-    the_finest_grouping_is_the_independent_parts, the_test_decides_what_is_held_apart,
-    what_is_found_lasts,
-};
-pub use parts::{
-    a_part_is_one_by_itself, a_set_has_one_list_of_independent_parts, each_part_comes_again,
-    each_part_evolves_alone, independent_parts_are_a_splitting, no_splitting_is_finer,
-    one_period_decides_the_parts, parts_of_ash_last,
-    parts_of_many_that_keep_apart_are_those_of_each, parts_of_what_keeps_apart_are_those_of_both,
-    phase_and_place_do_not_matter, phases_of_parts_are_of_one_kind,
-    sets_that_come_again_split_throughout, what_is_held_apart_splits_no_part,
-    what_is_tied_is_one_part,
-};
 
 /// A cell is in the union of two sets where it is in one of them, and in that of a list where it is in one of its sets.
 pub fn unions_by_members()

@@ -14,7 +14,7 @@ use Rattle.life_objects.specs.Apart.{AreDisjoint}
 use Rattle.life_objects.specs.Union.{union_of}
 use Rattle.life_objects.proofs.Lists.{AllPairs-head, AllPairs-tail}
 use Rattle.life_objects.proofs.Unions.{in_first, in_second}
-use Rattle.life_objects.proofs.IndependentLemmas.Found.{owner}
+use Rattle.life_objects.proofs.Found.{owner}
 
 -- a cell of each set
 record Chosen (sets : List Generation) : Type 0 where

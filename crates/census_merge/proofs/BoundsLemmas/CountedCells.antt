@@ -4,9 +4,9 @@ use Rattle.std.specs.List.{All, AllPairs}
 use Rattle.std.proofs.lemmas.List.Elements.{All-append, All-cons, All-head, All-nil, All-tail, All-weaker}
 use Rattle.life_answer.specs.Counted.{all_come_again, counted_as, counted_of}
 use Rattle.life_cells.specs.Limits.{IsWithin, age_limit}
-use Rattle.life_objects.specs.Independent.Independent.{independent_parts_of}
-use Rattle.life_objects.proofs.IndependentLemmas.Finest.{are_the_parts}
-use Rattle.life_objects.proofs.IndependentLemmas.Found.{owned}
+use Rattle.life_parts.specs.Independent.Independent.{independent_parts_of}
+use Rattle.life_parts.proofs.IndependentLemmas.Finest.{are_the_parts}
+use Rattle.life_objects.proofs.Found.{owned}
 use Rattle.life_model.specs.Cell.{Cell}
 use Rattle.life_model.specs.Evolution.{generation}
 use Rattle.life_model.specs.Generation.{Generation, contains, empty}
@@ -18,7 +18,7 @@ use Rattle.life_objects.specs.Union.{union, union_of}
 use Rattle.life_objects.proofs.Distances.{apart_from_union_of, disjoint_from_apart}
 use Rattle.life_objects.proofs.Lists.{AllPairs-append, AllPairs-head, AllPairs-nil, AllPairs-tail, AllPairs-weaker}
 use Rattle.life_objects.proofs.Unions.{union-empty, union_of-append}
-use Rattle.life_objects.specs.Parts.Parts.{IsIndependentPart}
+use Rattle.life_parts.specs.Parts.Parts.{IsIndependentPart}
 use Rattle.census_merge.proofs.BoundsLemmas.CellCounts.{few_sets}
 
 -- G is these sets, each of which has a cell, and no two of which share a cell

@@ -19,7 +19,7 @@ use Rattle.life_answer.proofs.Ranges.{lines_in_range, wider}
 use Rattle.life_answer.proofs.Tales.{emits_objects, tale_right}
 use Rattle.life_answer.proofs.Tallying.{counted_all}
 use Rattle.life_answer.proofs.Told.{growth_is_so}
-use Rattle.life_objects.proofs.IndependentLemmas.Found.{owned}
+use Rattle.life_objects.proofs.Found.{owned}
 use Rattle.life_cells.proofs.Places.{generation_within, place_of, subset_within}
 use Rattle.life_cells.specs.Limits.{IsWithin}
 use Rattle.life_growth.specs.Engine.{Emits, IsEngine, IsEngineWithin, Way, joined}

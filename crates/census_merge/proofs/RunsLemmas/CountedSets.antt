@@ -12,8 +12,8 @@ use Rattle.life_model.specs.Rule.{Rule}
 use Rattle.life_objects.specs.Ash.{IsObject, RecursWithin}
 use Rattle.life_objects.specs.Limits.{objects_bound_limit}
 use Rattle.life_objects.proofs.Lists.{head_or_later}
-use Rattle.life_objects.specs.Independent.Independent.{independent_parts_of}
-use Rattle.life_objects.proofs.IndependentLemmas.Found.{of_flat_map}
+use Rattle.life_parts.specs.Independent.Independent.{independent_parts_of}
+use Rattle.life_objects.proofs.Found.{of_flat_map}
 use Rattle.census_merge.specs.Runs.ObjectsOfAsh.{coming_bound}
 
 -- ---- how many of them there are

@@ -17,7 +17,7 @@ use Rattle.life_objects.proofs.Many.{list_ever}
 use Rattle.life_objects.proofs.Members.{found_in}
 use Rattle.life_objects.proofs.Moving.{generation-wrapped}
 use Rattle.life_objects.proofs.DecidedLemmas.Kept.{Contains-map}
-use Rattle.life_objects.proofs.IndependentLemmas.Found.{Contains-flat_map, of_flat_map, of_map}
+use Rattle.life_objects.proofs.Found.{Contains-flat_map, of_flat_map, of_map}
 use Rattle.life_growth.specs.Things.{IsMadeOf, IsSettledThing, Thing, set_then, time_then}
 use Rattle.life_growth.proofs.Things.{settled_is_made}
 use Rattle.life_orbit.specs.Course.{Course, IsCourse}

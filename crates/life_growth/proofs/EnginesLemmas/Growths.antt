@@ -24,7 +24,7 @@ use Rattle.life_objects.specs.Decided.Classes.{classes}
 use Rattle.life_objects.specs.Decided.Tests.{each_below}
 use Rattle.life_objects.proofs.DecidedLemmas.Kept.{Contains-filter, Contains-map, of_filter}
 use Rattle.life_objects.proofs.DecidedLemmas.Tests.{each_below_tells, true_not, not_true}
-use Rattle.life_objects.proofs.IndependentLemmas.Found.{of_map}
+use Rattle.life_objects.proofs.Found.{of_map}
 use Rattle.life_growth.specs.Engine.{FallsApart, IsEngineWithin}
 use Rattle.life_growth.specs.Growth.{IsGrowth}
 use Rattle.life_growth.specs.Unsplit.{AreClasses}

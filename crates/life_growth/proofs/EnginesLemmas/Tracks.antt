@@ -13,7 +13,7 @@ use Rattle.life_objects.proofs.Members.{found_now}
 use Rattle.life_objects.proofs.Unions.{in_union, union-swap}
 use Rattle.life_objects.specs.Decided.Classes.{classes}
 use Rattle.life_objects.proofs.DecidedLemmas.Kept.{Contains-filter, Contains-map, of_filter}
-use Rattle.life_objects.proofs.IndependentLemmas.Found.{Contains-flat_map, of_flat_map, of_map}
+use Rattle.life_objects.proofs.Found.{Contains-flat_map, of_flat_map, of_map}
 use Rattle.life_growth.specs.Engine.{FallsApart}
 use Rattle.life_growth.specs.Unsplit.{IsUnsplit, Leaves}
 use Rattle.life_growth.proofs.Classes.{core_is_a_class}

@@ -17,7 +17,7 @@ use Rattle.life_objects.proofs.Times.{AreApartForEver-swap}
 use Rattle.life_objects.specs.Decided.Decided.{candidate_parts}
 use Rattle.life_objects.specs.Decided.Tests.{each_pair}
 use Rattle.life_objects.proofs.DecidedLemmas.Tests.{each_pair_by, each_pair_tells}
-use Rattle.life_objects.proofs.IndependentLemmas.Found.{of_map}
+use Rattle.life_objects.proofs.Found.{of_map}
 use Rattle.life_growth.specs.Engines.Growths.{growths_of}
 use Rattle.life_growth.specs.Engines.Tracks.{way_along}
 use Rattle.life_growth.proofs.EnginesLemmas.Growths.{found_is_growth, found_once, found_settles, growth_found}

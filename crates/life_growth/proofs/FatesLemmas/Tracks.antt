@@ -5,7 +5,7 @@ use Rattle.std.proofs.lemmas.Option.{none-some}
 use Rattle.life_model.specs.Rule.{Rule}
 use Rattle.life_model.specs.Generation.{Generation}
 use Rattle.life_objects.specs.Ash.{HasFallenApart}
-use Rattle.life_objects.proofs.IndependentLemmas.Found.{Contains-flat_map, of_flat_map}
+use Rattle.life_objects.proofs.Found.{Contains-flat_map, of_flat_map}
 use Rattle.life_growth.specs.Engines.Tracks.{Step, engine_tracks, left_along, way_along}
 use Rattle.life_growth.specs.Engine.{Emits, IsEngine, IsEngineWithin}
 use Rattle.life_growth.specs.Meeting.Engines.{ashes_along, goes_away, is_engine}

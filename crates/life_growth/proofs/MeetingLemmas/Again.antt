@@ -14,7 +14,7 @@ use Rattle.life_objects.specs.Drift.{multiple_of}
 use Rattle.life_objects.proofs.Lists.{Contains-head, head_or_later}
 use Rattle.life_objects.specs.Decided.Tests.{each_below}
 use Rattle.life_objects.proofs.DecidedLemmas.Tests.{each_below_by, each_below_tells}
-use Rattle.life_objects.proofs.IndependentLemmas.Found.{of_map}
+use Rattle.life_objects.proofs.Found.{of_map}
 use Rattle.life_growth.specs.Engine.{Way}
 use Rattle.life_growth.specs.Things.{IsSettledThing, NeverMeet, NeverMeetAgain, Thing, a_period_later, core_thing, left_once, left_thing, lefts_within, move_of, set_then, time_of, time_then}
 use Rattle.life_growth.proofs.Things.{how_often, settled_is_made}

@@ -13,7 +13,7 @@ use Rattle.life_model.proofs.Moves.{moved-moved}
 use Rattle.life_model.proofs.Symmetries.{contains-moved}
 use Rattle.life_objects.specs.Ash.{HasFallenApart}
 use Rattle.life_objects.specs.Drift.{multiple_of}
-use Rattle.life_objects.proofs.IndependentLemmas.Found.{Contains-flat_map, of_flat_map, of_map}
+use Rattle.life_objects.proofs.Found.{Contains-flat_map, of_flat_map, of_map}
 use Rattle.life_growth.specs.Engine.{IsEngine, Way}
 use Rattle.life_growth.specs.Things.{IsEngineThing, IsMadeOf, IsSettledThing, Thing, core_thing, left_thing, lefts_within, move_of, set_then, time_of, time_then}
 use Rattle.life_growth.proofs.Things.{engine_is_made, how_often, lefts_are_made, settled_is_made}

@@ -14,7 +14,7 @@ use Rattle.life_objects.specs.Apart.{AreNear}
 use Rattle.life_objects.specs.Drift.{multiple_of}
 use Rattle.life_objects.proofs.Lists.{Contains-head, Contains-later, head_or_later}
 use Rattle.life_objects.proofs.DecidedLemmas.Tests.{abs_small, not_true, true_not}
-use Rattle.life_objects.proofs.IndependentLemmas.Found.{Contains-flat_map, of_flat_map, of_map}
+use Rattle.life_objects.proofs.Found.{Contains-flat_map, of_flat_map, of_map}
 use Rattle.life_growth.specs.Things.{NeverMeet, Thing, move_of, time_of, time_then}
 use Rattle.life_growth.specs.Meeting.Meeting.{near_by, nearness, never_meet, step_back, step_of, step_to, steps_between}
 use Rattle.life_growth.specs.Meeting.Sums.{Step, and_then, is_sum, stay, sum_of, times}

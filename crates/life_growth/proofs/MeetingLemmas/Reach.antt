@@ -7,7 +7,7 @@ use Rattle.std.proofs.lemmas.Int.{ints}
 use Rattle.life_model.specs.Cell.{Cell}
 use Rattle.life_model.proofs.Cells.{pair}
 use Rattle.life_objects.proofs.Lists.{Contains-head, Contains-later, head_or_later}
-use Rattle.life_objects.proofs.IndependentLemmas.Found.{Contains-flat_map, of_flat_map, of_map}
+use Rattle.life_objects.proofs.Found.{Contains-flat_map, of_flat_map, of_map}
 use Rattle.life_growth.specs.Meeting.Sums.{Step, and_then, stay, sums_within, times}
 
 module _ {X : Type 0} where

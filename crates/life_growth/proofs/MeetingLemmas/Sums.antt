@@ -6,7 +6,7 @@ use Rattle.std.proofs.lemmas.Bool.{eqb-true, eq-eqb}
 use Rattle.std.proofs.lemmas.Int.{ints}
 use Rattle.life_objects.proofs.Lists.{Contains-head, Contains-later}
 use Rattle.life_objects.proofs.DecidedLemmas.Tests.{abs_small}
-use Rattle.life_objects.proofs.IndependentLemmas.Found.{of_map}
+use Rattle.life_objects.proofs.Found.{of_map}
 use Rattle.life_growth.specs.Meeting.Sums.{Step, across, along, and_then, common, enough_steps, is_stay, is_sum, rest_after, rests, returning, stay, sum_of, sums_within, time, times}
 use Rattle.life_growth.proofs.MeetingLemmas.Reach.{IsSum, Within, any_by, any_tells, mapped, none_sum, step_is, sum_of_sums, sum_then, within_one, within_times}
 use Rattle.life_growth.proofs.MeetingLemmas.Blocks.{few_and_back, numbers_of, of_returning, stays_none}

@@ -4,8 +4,8 @@ use Rattle.std.specs.List.{All, Contains}
 use Rattle.std.proofs.lemmas.List.Elements.{All-contains, All-contains_itself, All-weaker}
 use Rattle.life_model.specs.Rule.{Rule}
 use Rattle.life_model.specs.Generation.{Generation}
-use Rattle.life_objects.specs.Parts.Parts.{AreIndependentParts}
-use Rattle.life_objects.proofs.PartsLemmas.Lists.{part_of_both}
+use Rattle.life_parts.specs.Parts.Parts.{AreIndependentParts}
+use Rattle.life_parts.proofs.PartsLemmas.Lists.{part_of_both}
 
 -- what holds of each part of the one list holds of each of the other
 pub holds_of_others : (A : Generation → Type 0) (R : Rule) (P : Generation) (Qs others : List Generation) →

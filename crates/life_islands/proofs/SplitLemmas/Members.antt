@@ -11,7 +11,7 @@ use Rattle.life_model.proofs.Cells.{same_cell-is}
 use Rattle.life_model.proofs.Generations.{cells-contained, contains-cells}
 use Rattle.life_objects.specs.Union.{IsSubsetOf}
 use Rattle.life_orbit.specs.Course.{Course}
-use Rattle.life_objects.specs.Parts.Parts.{AreIndependentParts, IsIndependentPart}
+use Rattle.life_parts.specs.Parts.Parts.{AreIndependentParts, IsIndependentPart}
 
 module _ (A : Cell → Type 0) where
   pub holds_of_cell : (G : Generation) → All A (cells G) → (g : Cell) → contains G g ≡ true → A g

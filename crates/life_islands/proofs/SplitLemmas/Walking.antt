@@ -13,11 +13,11 @@ use Rattle.life_model.specs.Recurrence.{RecursBy}
 use Rattle.life_model.proofs.Recurrences.{generation-zero}
 use Rattle.life_objects.specs.Union.{generations}
 use Rattle.life_objects.proofs.Many.{generations-zero}
-use Rattle.life_objects.specs.Parts.Apart.{AreHeldApart}
-use Rattle.life_objects.specs.Parts.Ties.{AreTied, IsIn, itself}
-use Rattle.life_objects.proofs.PartsLemmas.Deciding.{decided}
-use Rattle.life_objects.proofs.PartsLemmas.Ends.{both_in, contains-later}
-use Rattle.life_objects.proofs.PartsLemmas.Evolving.{at_first, in_at_first}
+use Rattle.life_parts.specs.Parts.Apart.{AreHeldApart}
+use Rattle.life_parts.specs.Parts.Ties.{AreTied, IsIn, itself}
+use Rattle.life_parts.proofs.PartsLemmas.Deciding.{decided}
+use Rattle.life_parts.proofs.PartsLemmas.Ends.{both_in, contains-later}
+use Rattle.life_parts.proofs.PartsLemmas.Evolving.{at_first, in_at_first}
 use Rattle.life_islands.specs.declared.labels.Labels.{Labels}
 use Rattle.life_classes.specs.Forest.{root}
 use Rattle.life_islands.specs.Heirs.{AreHeirs}

@@ -17,10 +17,10 @@ use Rattle.life_model.proofs.Near.{next_near}
 use Rattle.life_model.proofs.Recurrences.{generation-zero}
 use Rattle.life_objects.specs.Union.{generations}
 use Rattle.life_objects.proofs.Many.{generations-zero}
-use Rattle.life_objects.specs.Parts.Apart.{AreHeldApart, HaveBoth}
-use Rattle.life_objects.specs.Parts.Ties.{AreTied, before, itself, swapped, through}
-use Rattle.life_objects.proofs.PartsLemmas.Apart.{AreSplitAt, split_next}
-use Rattle.life_objects.proofs.PartsLemmas.Evolving.{at_first, in_at_first}
+use Rattle.life_parts.specs.Parts.Apart.{AreHeldApart, HaveBoth}
+use Rattle.life_parts.specs.Parts.Ties.{AreTied, before, itself, swapped, through}
+use Rattle.life_parts.proofs.PartsLemmas.Apart.{AreSplitAt, split_next}
+use Rattle.life_parts.proofs.PartsLemmas.Evolving.{at_first, in_at_first}
 use Rattle.life_islands.specs.declared.labels.Labels.{Labels}
 use Rattle.life_classes.specs.Forest.{root}
 use Rattle.life_islands.specs.Heirs.{AreHeirs, IsHeir}

@@ -4,8 +4,8 @@ use Rattle.life_model.specs.Rule.{Rule}
 use Rattle.life_model.specs.Generation.{Generation, cells}
 use Rattle.life_model.specs.Evolution.{generation}
 use Rattle.life_objects.specs.Union.{generations}
-use Rattle.life_objects.specs.Parts.Apart.{AreHeldApart}
-use Rattle.life_objects.specs.Parts.Parts.{AreIndependentParts}
+use Rattle.life_parts.specs.Parts.Apart.{AreHeldApart}
+use Rattle.life_parts.specs.Parts.Parts.{AreIndependentParts}
 use Rattle.life_islands.specs.declared.labels.Labels.{Labels}
 use Rattle.life_islands.specs.Labels.{AreThoseWithCells, AreTiedFirsts, AreTiedLabels, Fits, joined_sets, sets_of}
 

@@ -5,7 +5,7 @@ ghost use Rattle.life_model.specs.Generation as generations;
 ghost use Rattle.life_cells.specs.Limits.{IsWithin};
 ghost use Rattle.life_objects.specs.Ash.{RecursWithin};
 ghost use Rattle.life_orbit.specs.Kept.{orbit_age_limit};
-ghost use Rattle.life_objects.specs.Parts.Parts.{AreIndependentParts};
+ghost use Rattle.life_parts.specs.Parts.Parts.{AreIndependentParts};
 ghost use Rattle.life_islands.specs.Split.Courses.{IsCourseWithin};
 
 use crate::split::splitting::independent_parts;

@@ -4,7 +4,7 @@ ghost use Rattle.std.specs.List.{sum};
 ghost use Rattle.life_model.specs.Cell.{origin};
 ghost use Rattle.life_model.specs.Evolution.{generation};
 ghost use Rattle.life_model.specs.Generation.{cells};
-ghost use Rattle.life_objects.specs.Parts.Apart.{AreHeldApart};
+ghost use Rattle.life_parts.specs.Parts.Apart.{AreHeldApart};
 ghost use Rattle.std.specs.Bool.{OnTrue};
 ghost use Rattle.life_classes.specs.Forest.{root};
 ghost use Rattle.life_islands.specs.Heirs.{AreHeirs};

@@ -1,6 +1,6 @@
 //! The independent parts of a set that recurs.
 ghost use Rattle.std.specs.Prelude.{◌≡◌, IfOk};
-ghost use Rattle.life_objects.specs.Parts.Parts.{AreIndependentParts};
+ghost use Rattle.life_parts.specs.Parts.Parts.{AreIndependentParts};
 
 use crate::gathered;
 use crate::split::rounds::joined_for_good;

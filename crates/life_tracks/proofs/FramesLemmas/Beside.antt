@@ -5,7 +5,7 @@ use Rattle.std.proofs.lemmas.Bool.{cases_lt}
 use Rattle.std.proofs.lemmas.Int.{ints}
 use Rattle.life_model.specs.Cell.{Cell, IsNear, origin}
 use Rattle.life_model.specs.Generation.{Generation, cells, contains, is_rising}
-use Rattle.life_objects.proofs.PartsLemmas.Ring.{near_itself}
+use Rattle.life_objects.proofs.Ring.{near_itself}
 use Rattle.life_cells.specs.Limits.{IsPlace}
 use Rattle.life_classes.specs.Tags.{place_number}
 use Rattle.life_classes.proofs.Lookups.{either}

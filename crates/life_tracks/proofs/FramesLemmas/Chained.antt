@@ -7,7 +7,7 @@ use Rattle.life_model.specs.Cell.{Cell, origin}
 use Rattle.life_model.specs.Generation.{Generation, cells, is_rising}
 use Rattle.life_objects.specs.Apart.{AreNear}
 use Rattle.life_objects.proofs.Distances.{AreNear-swap}
-use Rattle.life_objects.proofs.PartsLemmas.Ring.{near_itself}
+use Rattle.life_objects.proofs.Ring.{near_itself}
 use Rattle.life_cells.specs.Limits.{IsPlace}
 use Rattle.life_classes.specs.Forest.{root}
 use Rattle.life_classes.specs.Tags.{place_number}

@@ -2,7 +2,7 @@ use Rattle.std.proofs.Common.{false, true, sym, subst, arith}
 use Rattle.std.specs.List.{All}
 use Rattle.std.proofs.lemmas.Result.{IfOk-weaker}
 use Rattle.life_objects.specs.Limits.{objects_bound_limit}
-use Rattle.life_objects.specs.Parts.Parts.{AreIndependentParts}
+use Rattle.life_parts.specs.Parts.Parts.{AreIndependentParts}
 use Rattle.life_apart.specs.Sets.{sets_of}
 use Rattle.life_ash.specs.Parts.{IsPlaced, ash_age_limit}
 use Rattle.life_cells.proofs.Places.{itself_within}

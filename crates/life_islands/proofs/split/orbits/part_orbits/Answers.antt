@@ -6,7 +6,7 @@ use Rattle.life_cells.specs.Limits.{IsWithin}
 use Rattle.life_objects.specs.Ash.{RecursWithin}
 use Rattle.life_objects.specs.Limits.{objects_bound_limit}
 use Rattle.life_orbit.specs.Kept.{orbit_age_limit}
-use Rattle.life_objects.specs.Parts.Parts.{AreIndependentParts}
+use Rattle.life_parts.specs.Parts.Parts.{AreIndependentParts}
 use Rattle.life_islands.proofs.Colouring.{none_weaker, some_weaker}
 use Rattle.life_islands.proofs.SplitLemmas.Coming.{holds_of_others}
 use Rattle.life_islands.proofs.SplitLemmas.Members.{holds_of_courses, holds_of_parts}

@@ -2,7 +2,7 @@ use Rattle.std.proofs.Common.{◌≡◌, length, sym, subst, ap, ◌∙◌}
 use Rattle.std.specs.List.{range_with_len}
 use Rattle.life_model.specs.Generation.{cells}
 use Rattle.life_model.proofs.Generations.{size-cells}
-use Rattle.life_objects.specs.Parts.Apart.{AreHeldApart}
+use Rattle.life_parts.specs.Parts.Apart.{AreHeldApart}
 use Rattle.life_islands.specs.declared.labels.Labels.{Labels}
 use Rattle.life_islands.specs.Labels.{Fits, KeepsTied, sets_of}
 use Rattle.life_islands.proofs.Touched.{numbered_fits}

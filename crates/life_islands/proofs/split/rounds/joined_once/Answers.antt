@@ -4,7 +4,7 @@ use Rattle.life_model.specs.Cell.{Cell, origin}
 use Rattle.life_model.specs.Generation.{cells}
 use Rattle.life_model.specs.Evolution.{generation}
 use Rattle.life_model.specs.Recurrence.{RecursBy}
-use Rattle.life_objects.specs.Parts.Apart.{AreHeldApart}
+use Rattle.life_parts.specs.Parts.Apart.{AreHeldApart}
 use Rattle.life_classes.specs.Forest.{root}
 use Rattle.life_islands.specs.Heirs.{AreHeirs}
 use Rattle.life_islands.specs.Labels.{Fits, KeepsTied, sets_of}

@@ -1,5 +1,0 @@
-use Rattle.life_objects.proofs.IndependentLemmas.Finest.{bound_free}
-use Rattle.life_objects.proofs.independent.the_bound_does_not_matter.Goals as goal
-
-pub returns : goal.returns
-returns x = bound_free

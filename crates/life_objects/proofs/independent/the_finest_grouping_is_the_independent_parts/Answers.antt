@@ -1,5 +1,0 @@
-use Rattle.life_objects.proofs.IndependentLemmas.Finest.{same_but_order}
-use Rattle.life_objects.proofs.independent.the_finest_grouping_is_the_independent_parts.Goals as goal
-
-pub returns : goal.returns
-returns c R b P Qs within are = same_but_order R b P within Qs are

@@ -1,6 +1,0 @@
-use Rattle.life_objects.proofs.PartsLemmas.Ashes.{parts_of_whole_ash}
-use Rattle.life_objects.proofs.PartsLemmas.Each.{parts_of_all}
-use Rattle.life_objects.proofs.parts.parts_of_many_that_keep_apart_are_those_of_each.Goals as goal
-
-pub returns : goal.returns
-returns c = record { sets = parts_of_all; ash = parts_of_whole_ash }
