@@ -14,6 +14,7 @@ use Rattle.life_ash.proofs.Finding.{both_then, of_none, of_some}
 use Rattle.life_orbit.proofs.Finding.{none_then}
 use Rattle.life_ash.proofs.Turning.{end_goes_round, end_reached, end_recurs}
 use Rattle.life_ash.proofs.parts.part_of.Goals as goal
+use Rattle.life_ash.proofs.parts.part_of.Given.{Over}
 
 module _ (t : Terms) (ago : ℕ) (last : Generation) (o : Course) (met : IsMet t o) (set : o.set ≡ last) where
   goes_round : (P : Generation) → IsEnd t.rule t.bound ago last P → RecursBy o.rule P o.period o.displacement
@@ -33,14 +34,14 @@ fit_then t s same S within part met set = record {
 }
 
 pub returns-in_default-clause-none : goal.returns-in_default-clause-none
-returns-in_default-clause-none c P end =
+returns-in_default-clause-none g c P end =
     let t = c.args.known.now in
     of_none c.in_default.is c.in_ok-orbit.ensures.none
     (subst (λ n. RecursWithin t.rule n c.args.last.now) (sym c.bound-bound.ensures.value)
     (end_recurs t.rule t.bound c.args.ago c.args.last.now P end))
 
 pub returns-in_default-2-clause-none : goal.returns-in_default-2-clause-none
-returns-in_default-2-clause-none c P end =
+returns-in_default-2-clause-none g c P end =
     let t = c.args.known.now in
     let last = c.args.last.now in
     let o = c.in-Some.orbit in
@@ -50,15 +51,15 @@ returns-in_default-2-clause-none c P end =
     (reached t c.args.ago last o met set P end) end.within
 
 pub returns-clause-fit : goal.returns-clause-fit
-returns-clause-fit c =
+returns-clause-fit g c =
     both_then c.orbit_of-2.result c.orbit_of-2.ensures.met c.orbit_of-2.ensures.set
     (λ part met set. fit_then c.args.known.now c.orbit_of.new.self c.orbit_of.ensures.same c.in-Some-2.set
     (of_some (λ (S : Generation). All (IsWithin ash_age_limit) (cells S)) c.in-Some-2.is c.in_ok-set.ensures.within) part met set)
 
 -- what was before is whatever becomes the last set and recurs
-was_before : (c : goal.After-drop-orbit-inside-2) (P : Generation) →
+was_before : (g : Over) (c : goal.After-drop-orbit-inside-2 g) (P : Generation) →
     IsEnd c.args.known.now.rule c.args.known.now.bound c.args.ago c.args.last.now P → c.in-Some-2.set ≡ P
-was_before c P end =
+was_before g c P end =
     let t = c.args.known.now in
     let last = c.args.last.now in
     let o = c.in-Some.orbit in
@@ -69,16 +70,16 @@ was_before c P end =
     (reached t c.args.ago last o met set P end)
 
 pub returns-clause-set : goal.returns-clause-set
-returns-clause-set c =
-    IfOk-weaker c.orbit_of-2.result _ _ (λ found h. IfSome_then found h (λ part e P end. e ∙ was_before c P end))
+returns-clause-set g c =
+    IfOk-weaker c.orbit_of-2.result _ _ (λ found h. IfSome_then found h (λ part e P end. e ∙ was_before g c P end))
     c.orbit_of-2.ensures.set
 
 pub returns-clause-none : goal.returns-clause-none
-returns-clause-none c =
+returns-clause-none g c =
     IfOk-weaker c.orbit_of-2.result _ _
     (λ found h. none_then found h
     (λ no P end. no (subst (λ (u : Terms). RecursWithin u.rule c.bound-bound.result c.in-Some-2.set)
     (sym c.orbit_of.ensures.same)
     (subst (λ n. RecursWithin c.args.known.now.rule n c.in-Some-2.set) (sym c.bound-bound.ensures.value)
-    (subst (RecursWithin c.args.known.now.rule c.args.known.now.bound) (sym (was_before c P end)) end.recurs)))))
+    (subst (RecursWithin c.args.known.now.rule c.args.known.now.bound) (sym (was_before g c P end)) end.recurs)))))
     c.orbit_of-2.ensures.none

@@ -8,7 +8,7 @@ use Rattle.life_model.proofs.Members.{of_all_members, of_member}
 use Rattle.life_orbit.proofs.walk.next_list.Goals as goal
 
 pub returns-clause-within : goal.returns-clause-within
-returns-clause-within c a all =
+returns-clause-within g c a all =
     let is = c.in_ok-later.ensures.cells ∙ c.in_ok-step.ensures.cells ∙ ap (next c.args.rule.now) c.in_ok-plane.ensures.cells in
     of_all_members (IsWithin (a + 1)) (cells c.in_ok-later.later) (λ q h.
     within_next c.args.rule.now c.args.cells.now c.in_ok-later.later a is

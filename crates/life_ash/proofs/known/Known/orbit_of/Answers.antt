@@ -6,14 +6,14 @@ use Rattle.life_ash.proofs.Finding.{of_some}
 use Rattle.life_ash.proofs.known.Known.orbit_of.Goals as goal
 
 pub returns-in-Some-clause-met : goal.returns-in-Some-clause-met
-returns-in-Some-clause-met c =
+returns-in-Some-clause-met g c =
     let t : Terms = record { rule = c.self.inside.rule; bound = c.self.inside.bound } in
     subst (λ (s : Terms). IsMet s c.in-Some.orbit) c.self.view_is
     (of_some (IsMet t) c.in-Some.is
     (c.in_ok-orbit.ensures.met t (All-same (IsMet t) _ _ c.deref.ensures.value c.self.invariant.right)))
 
 pub invariant_of-self : goal.invariant_of-self
-invariant_of-self c =
+invariant_of-self g c =
     let t : Terms = record { rule = c.self.inside.rule; bound = c.self.inside.bound } in
     record {
       terms = c.self.invariant.terms;
@@ -28,7 +28,7 @@ invariant_of-self c =
     }
 
 pub invariant_of-self-2 : goal.invariant_of-self-2
-invariant_of-self-2 c =
+invariant_of-self-2 g c =
     let t : Terms = record { rule = c.self.inside.rule; bound = c.self.inside.bound } in
     record {
       terms = c.self.invariant.terms;
