@@ -8,6 +8,7 @@ use Rattle.life_model.specs.Cell.{Cell, around, IsNear}
 use Rattle.life_model.specs.Generation.{Generation, contains}
 use Rattle.life_model.specs.Evolution.{next}
 use Rattle.life_model.proofs.Generations.{same_members}
+use Rattle.life_model.proofs.Near.{next_near}
 use Rattle.life_plane.specs.declared.tile.Tile.{Tile}
 use Rattle.life_plane.specs.Bits.{next_state}
 use Rattle.life_plane.specs.Area.{three_wide, area_cell, sum_around, tile_cell, next_in_area}
