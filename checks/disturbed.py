@@ -22,6 +22,11 @@ BUNDLE = b"".join([
 ])
 
 
+def compiler():
+    """The C compiler, if there is one."""
+    return os.environ.get("CC") or shutil.which("cc") or shutil.which("gcc")
+
+
 class Disturbed:
     """The program, run under the shim."""
 
@@ -30,10 +35,9 @@ class Disturbed:
         self.room = tempfile.mkdtemp(prefix="disturbed-")
         self.shim = f"{self.room}/disturb.so"
         self.files = count()
-        compiler = os.environ.get("CC") or shutil.which("cc") or shutil.which("gcc")
-        if not compiler:
+        if not compiler():
             sys.exit("checks: a C compiler (cc) is needed for this check")
-        words = [compiler, "-O2", "-Wall", "-shared", "-fPIC", "-o", self.shim, f"{HERE}/disturb.c", "-ldl"]
+        words = [compiler(), "-O2", "-Wall", "-shared", "-fPIC", "-o", self.shim, f"{HERE}/disturb.c", "-ldl"]
         subprocess.run(words, check=True)
 
     def run(self, words, given, **how):
