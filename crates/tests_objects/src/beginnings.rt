@@ -1,47 +1,46 @@
-//! Patterns of Life that several tests start from, as lists of cells.
+//! Patterns that several tests start from, and their generations on planes.
+
+use life_plane::{AGE_LIMIT, Plane};
+use life_text::Pattern;
+use std::alloc::Global;
+use std::process::Abort;
+use std::test::Fail;
+
+/// A block.
+pub const BLOCK: &[u8] = b"x = 2, y = 2\n2o$2o!";
 
 /// A glider that moves to the right and down by one cell in four generations.
-pub const GLIDER: &[(i32, i32)] = &[(1, 0), (2, 1), (0, 2), (1, 2), (2, 2)];
+pub const GLIDER: &[u8] = b"x = 3, y = 3\nbo$2bo$3o!";
+
+/// A blinker, a glider and a block, which the glider comes near after 75 generations.
+pub const HIT: &[u8] = b"x = 203, y = 22\nbo198b3o$2bo$3o18$23b2o$23b2o!";
 
 /// The R-pentomino, which is ash from generation 1,103 on.
-pub const PENTOMINO: &[(i32, i32)] = &[(1, 0), (2, 0), (0, 1), (1, 1), (1, 2)];
+pub const PENTOMINO: &[u8] = b"x = 3, y = 3\nb2o$2o$bo!";
 
-/// Gosper's glider gun, which has 36 cells, sends out a glider of five every 30 generations and never is ash.
-pub const GUN: &[(i32, i32)] = &[
-    (24, 0),
-    (22, 1),
-    (24, 1),
-    (12, 2),
-    (13, 2),
-    (20, 2),
-    (21, 2),
-    (34, 2),
-    (35, 2),
-    (11, 3),
-    (15, 3),
-    (20, 3),
-    (21, 3),
-    (34, 3),
-    (35, 3),
-    (0, 4),
-    (1, 4),
-    (10, 4),
-    (16, 4),
-    (20, 4),
-    (21, 4),
-    (0, 5),
-    (1, 5),
-    (10, 5),
-    (14, 5),
-    (16, 5),
-    (17, 5),
-    (22, 5),
-    (24, 5),
-    (10, 6),
-    (16, 6),
-    (24, 6),
-    (11, 7),
-    (15, 7),
-    (12, 8),
-    (13, 8),
-];
+/// The acorn, which is ash from generation 5,206 on.
+pub const ACORN: &[u8] = b"x = 7, y = 3\nbo$3bo$2o2b3o!";
+
+/// Gosper's glider gun, which has 36 cells and sends out a glider of five every 30 generations.
+pub const GUN: &[u8] = b"x = 36, y = 9
+24bo$22bobo$12b2o6b2o12b2o$11bo3bo4b2o12b2o$2o8bo5bo3b2o$2o8bo3bob2o4b
+obo$10bo5bo7bo$11bo3bo$12b2o!
+";
+
+/// The generation of this age of a pattern.
+pub fn generation_on<P: Plane>(
+    rt: &impl Abort,
+    alloc: Global,
+    pattern: &Pattern,
+    age: u32,
+) -> Result<P, Fail> {
+    let rule = pattern.rule();
+    let cells = pattern.cells();
+    assert!(rt; cells.fits());
+    let mut plane = P::from_cells(alloc, cells)?;
+    for _ in 0..age {
+        assert!(rt; plane.age() < AGE_LIMIT);
+        plane.step(&rule)?;
+    }
+    Ok(plane)
+}

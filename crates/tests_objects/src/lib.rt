@@ -1,5 +1,8 @@
-//! Tests of sets that recur and of whether they stay apart, of things in space and time, of what patterns fall apart into, of
-//! their growth, of independent parts, of the plane that leaps, and of what is reported about single patterns.
+//! Tests of sets that recur, of what patterns fall apart into, of their growth, of the plane that leaps, and of what is reported
+//! about single patterns: that each call succeeds where there is memory enough, and what no contract says of those that may give
+//! up.
+//!
+//! What the built program finds of patterns, and what it says of faults, is in `checks/rows`.
 #![tactic(auto)]
 
 #[cfg(test)]
@@ -7,56 +10,18 @@ mod ash;
 #[cfg(test)]
 mod beginnings;
 #[cfg(test)]
-mod blocks;
-#[cfg(test)]
 mod classes;
 #[cfg(test)]
-mod codes;
-#[cfg(test)]
-mod coming_back;
-#[cfg(test)]
-mod counted;
-#[cfg(test)]
-mod ends;
+mod engines;
 #[cfg(test)]
 mod faults;
 #[cfg(test)]
-mod films;
-#[cfg(test)]
-mod growing;
-#[cfg(test)]
-mod growing_patterns;
-#[cfg(test)]
-mod growing_texts;
-#[cfg(test)]
-mod growths;
+mod identified;
 #[cfg(test)]
 mod leaps;
-#[cfg(test)]
-mod listed;
 #[cfg(test)]
 mod onsets;
 #[cfg(test)]
 mod orbits;
 #[cfg(test)]
-mod pairs;
-#[cfg(test)]
-mod placed;
-#[cfg(test)]
-mod refusals;
-#[cfg(test)]
-mod rising;
-#[cfg(test)]
-mod samples;
-#[cfg(test)]
-mod sentences;
-#[cfg(test)]
-mod settling;
-#[cfg(test)]
-mod sizes;
-#[cfg(test)]
 mod strays;
-#[cfg(test)]
-mod stretches;
-#[cfg(test)]
-mod words;

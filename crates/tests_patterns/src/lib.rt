@@ -1,5 +1,5 @@
-//! Tests of cells, rules, texts, shapes and codes, of rows of bits, bands of tiles, leaves and planes, and of what
-//! patterns become.
+//! Tests of cells, rules, texts, shapes and codes, of planes and their kernels, and of what patterns become: that each call
+//! succeeds where there is memory enough, and that what is generic does so at each kind of plane.
 //!
 //! Each example's answer was worked by hand or is known from elsewhere: patterns of LifeWiki by their period, displacement
 //! and apgcode, gliders by where they go, texts by their format.
@@ -8,30 +8,10 @@
 #![tactic(auto)]
 
 #[cfg(test)]
-mod any_plane;
+mod calls;
 #[cfg(test)]
-mod bands;
+mod found;
 #[cfg(test)]
-mod cells;
+mod kernels;
 #[cfg(test)]
-mod codes;
-#[cfg(test)]
-mod evolved;
-#[cfg(test)]
-mod fast_plane;
-#[cfg(test)]
-mod leaves;
-#[cfg(test)]
-mod limits;
-#[cfg(test)]
-mod objects;
-#[cfg(test)]
-mod patterns;
-#[cfg(test)]
-mod reading;
-#[cfg(test)]
-mod rows;
-#[cfg(test)]
-mod shapes;
-#[cfg(test)]
-mod writing;
+mod planes;
