@@ -1,6 +1,6 @@
 //! Bundles of patterns, and the tickets that name their patterns.
 //!
-//! Tested in `tests_program` and `tests_reports`.
+//! Tested in `tests_program`.
 #![tactic(auto)]
 
 mod bundle;

@@ -4,7 +4,7 @@
 //! HTML page of reports; `same`, patterns of reports that are one object; `verify`,
 //! claims about patterns compared with reports; help; or the version.
 //!
-//! Tested in `tests_words`.
+//! Tested in `tests_program`.
 #![tactic(auto)]
 
 mod command;

@@ -1,7 +1,7 @@
 //! Folders of pattern files, read into a bundle, hints at what may have been overlooked there, and what is got of one file or of
 //! standard input.
 //!
-//! Tested in `tests_reports`.
+//! Tested in `tests_program`.
 #![tactic(auto)]
 
 mod bytes;

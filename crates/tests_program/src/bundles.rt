@@ -1,4 +1,7 @@
-//! Bundles, and what is known of their reports.
+//! A bundle, and what is known of its report.
+
+use census_crew::Tally;
+use life_answer::Question;
 
 // A folder `demo` of five patterns: two blocks, a glider, a methuselah, and a text without its end.
 pub(crate) const DEMO: &[u8] = b"@folder demo
@@ -32,6 +35,21 @@ close 1 5 3 1 1
 end 1 5
 ";
 
-pub(crate) const BLOCK: &[u8] = b"x = 3, y = 3\n2o$2o!";
+// The question of `DEMO_REPORT`.
+pub(crate) const SETTLES: Question = Question::Settles {
+    bound: 50,
+    cells: None,
+};
 
-pub(crate) const BLINKER: &[u8] = b"x = 3, y = 3\n3o!";
+// The tally of `DEMO`, if the caller worked `caught_up` tickets.
+pub(crate) fn demo_tally(caught_up: u64) -> Tally {
+    Tally {
+        patterns: 5,
+        resolved: 3,
+        unresolved: 1,
+        refused: 1,
+        doubles: 0,
+        strangers: 0,
+        caught_up,
+    }
+}

@@ -1,22 +1,52 @@
-//! Standard streams that fail.
+//! Readers and writers that fail, and standard streams that do.
 
 use crate::program::called;
+use std::alloc::Global;
 use std::io;
 use std::io::{ErrorKind, Read, Write};
 
-/// Fails at each call.
+/// Gives its bytes, and fails once they are gone.
 #[derive(Drop)]
-pub(crate) struct Broken;
+pub(crate) struct FailingReader<'a> {
+    pub(crate) left: &'a [u8],
+}
 
-impl Read for Broken {
-    fn read(&mut self, _buffer: &mut [u8]) -> io::Result<usize> {
-        Err(io::Error::from(ErrorKind::ConnectionReset))
+impl<'a> Read for FailingReader<'a> {
+    fn read(&mut self, buffer: &mut [u8]) -> io::Result<usize> {
+        if self.left.is_empty() {
+            return Err(io::Error::from(ErrorKind::ConnectionReset));
+        }
+        self.left.read(buffer)
     }
 }
 
-impl Write for Broken {
-    fn write(&mut self, _bytes: &[u8]) -> io::Result<usize> {
-        Err(io::Error::from(ErrorKind::BrokenPipe))
+/// Takes a limited number of bytes at a time, and fails once its room is full.
+#[derive(Drop)]
+pub(crate) struct FailingWriter {
+    pub(crate) written: Vec<u8>,
+    room: usize,
+    at_once: usize,
+}
+
+impl FailingWriter {
+    pub(crate) fn after(alloc: Global, room: usize, at_once: usize) -> FailingWriter {
+        FailingWriter {
+            written: Vec::new(alloc),
+            room,
+            at_once,
+        }
+    }
+}
+
+impl Write for FailingWriter {
+    fn write(&mut self, bytes: &[u8]) -> io::Result<usize> {
+        let left = self.room.saturating_sub(self.written.len());
+        if left == 0 {
+            return Err(io::Error::from(ErrorKind::BrokenPipe));
+        }
+        let most = bytes.len().min(left).min(self.at_once);
+        self.written.extend_from_slice(&bytes[..most])?;
+        Ok(most)
     }
 
     fn flush(&mut self) -> io::Result<()> {
@@ -25,21 +55,26 @@ impl Write for Broken {
 }
 
 #[test]
-fn standard_error_that_fails_changes_no_status(rt: HostRuntime) {
-    const CALLS: &[(&[&str], u8)] = &[(&["run"], 4), (&["draw", "A"], 1), (&["draw"], 2)];
-    for (words, known) in CALLS {
-        let output = Vec::new(rt.alloc());
-        let (status, output, _) = called(&rt, rt.alloc(), words, Broken, output, Broken);
-        assert!(rt; status == *known && output.is_empty());
-    }
-}
-
-#[test]
-fn standard_output_that_fails_is_told(rt: HostRuntime) {
-    const CALLS: &[&[&str]] = &[&["draw", "xq4_153"], &["--help"]];
-    for words in CALLS {
-        let errors = Vec::new(rt.alloc());
-        let (status, _, errors) = called(&rt, rt.alloc(), words, Broken, Broken, errors);
-        assert!(rt; status == 4 && errors.as_slice() == b"census: write failed\n".as_slice());
+fn standard_streams_that_fail(rt: HostRuntime) {
+    // The words, the room of standard output and of standard error, the status, and what is written to standard error.
+    const CALLS: &[(&[&str], usize, usize, u8, &[u8])] = &[
+        (&["run"], 0, 0, 4, b""),
+        (&["draw", "A"], 0, 0, 1, b""),
+        (&["draw"], 0, 0, 2, b""),
+        (&["draw", "xq4_153"], 10, 100, 4, b"census: write failed\n"),
+        (&["--help"], 10, 100, 4, b"census: write failed\n"),
+        (&["merge"], 10, 100, 4, b"census: read failed\n"),
+    ];
+    for (words, output_room, errors_room, wanted, told) in CALLS {
+        let ends = (
+            FailingReader { left: b"" },
+            FailingWriter::after(rt.alloc(), *output_room, *output_room),
+            FailingWriter::after(rt.alloc(), *errors_room, *errors_room),
+        );
+        let (status, _, errors) = called(&rt, rt.alloc(), words, ends);
+        assert!(rt;
+            status == *wanted && errors.written.as_slice() == *told,
+            "{words:?}"
+        );
     }
 }

@@ -1,12 +1,13 @@
 //! One call of the program.
 
-use census_command::{Streams, dispatch};
+use census_command::dispatch;
 use census_crew::{Gate, OpenGate};
 use std::alloc::Global;
 use std::io::{Read, Write};
 use std::rt::Files;
 use std::sync::Wait;
 use std::thread::Threads;
+use watched::Streams;
 
 // The exit status of the program with these words, standard input, standard output and standard error, and the last two
 // as they are afterwards.
@@ -15,17 +16,8 @@ pub(crate) fn called<
     O: Write + Drop,
     E: Write + Drop,
     R: Threads + Wait + Sync + Files + Alloc + Clone + Drop,
->(rt: &R, alloc: Global, words: &[&str], input: I, output: O, errors: E) -> (u8, O, E) {
-    called_through(
-        rt,
-        alloc,
-        words,
-        &mut OpenGate,
-        input,
-        output,
-        errors,
-        false,
-    )
+>(rt: &R, alloc: Global, words: &[&str], ends: (I, O, E)) -> (u8, O, E) {
+    called_through(rt, alloc, words, &mut OpenGate, ends, false)
 }
 
 // The exit status and the last two streams of a call through a gate, with or without a terminal as standard error.
@@ -40,11 +32,10 @@ pub(crate) fn called_through<
     alloc: Global,
     words: &[&str],
     gate: &mut G,
-    input: I,
-    output: O,
-    errors: E,
+    ends: (I, O, E),
     is_terminal: bool,
 ) -> (u8, O, E) {
+    let (input, output, errors) = ends;
     let mut streams = Streams::new(input, output, errors);
     let status = dispatch(rt, rt, alloc, words, gate, is_terminal, &mut streams);
     let (_, output, errors) = streams.into_inner();

@@ -1,20 +1,20 @@
-//! Readers and writers that end, fail, stop or go on without end, watched.
+//! Readers and writers that end, fail, stop or go on without end, watched, and bytes that are more than a block holds.
 
-use std::alloc::Global;
+use std::alloc::{AllocError, Global};
 use std::io;
 use std::io::{ErrorKind, Read, Write};
 use std::test::Fail;
-use watched::{Failed, Input, Output, ReadFault, put_all, read_all};
+use watched::{Block, Failed, Input, Output, ReadFault, put, put_all, read_all, send};
 
 /// Gives its bytes one at a time, fails once they are gone, and counts the calls.
 #[derive(Drop)]
-struct FailingReader<'a> {
+pub(crate) struct FailingReader<'a> {
     left: &'a [u8],
     calls: usize,
 }
 
 impl<'a> FailingReader<'a> {
-    fn after(bytes: &'a [u8]) -> FailingReader<'a> {
+    pub(crate) fn after(bytes: &'a [u8]) -> FailingReader<'a> {
         FailingReader {
             left: bytes,
             calls: 0,
@@ -33,21 +33,34 @@ impl<'a> Read for FailingReader<'a> {
     }
 }
 
-/// Takes one byte at a time, fails once its room is full, and counts the calls.
+/// Takes a limited number of bytes at a time, fails once its room is full, and counts the calls.
 #[derive(Drop)]
-struct FailingWriter {
-    written: Vec<u8>,
+pub(crate) struct FailingWriter {
+    pub(crate) written: Vec<u8>,
     room: usize,
+    at_once: usize,
     calls: usize,
+}
+
+impl FailingWriter {
+    pub(crate) fn after(alloc: Global, room: usize, at_once: usize) -> FailingWriter {
+        FailingWriter {
+            written: Vec::new(alloc),
+            room,
+            at_once,
+            calls: 0,
+        }
+    }
 }
 
 impl Write for FailingWriter {
     fn write(&mut self, bytes: &[u8]) -> io::Result<usize> {
         self.calls = self.calls.saturating_add(1);
-        if self.written.len() >= self.room {
+        let left = self.room.saturating_sub(self.written.len());
+        if left == 0 {
             return Err(io::Error::from(ErrorKind::BrokenPipe));
         }
-        let most = bytes.len().min(1);
+        let most = bytes.len().min(left).min(self.at_once);
         self.written.extend_from_slice(&bytes[..most])?;
         Ok(most)
     }
@@ -65,6 +78,13 @@ struct Interrupted<T> {
 }
 
 impl<T> Interrupted<T> {
+    fn of(inner: T) -> Interrupted<T> {
+        Interrupted {
+            inner,
+            next_passes: false,
+        }
+    }
+
     // Whether this call is interrupted.
     fn interrupt(&mut self) -> bool {
         self.next_passes = !self.next_passes;
@@ -100,19 +120,18 @@ const TEXT: &[u8] = b"x = 3, y = 3";
 
 #[test]
 fn calls_that_a_signal_interrupts_are_made_again(rt: HostRuntime) -> Result<(), Fail> {
-    let mut reader = Input::new(Interrupted {
-        inner: TEXT,
-        next_passes: false,
-    });
+    let mut reader = Input::new(Interrupted::of(TEXT));
     let bytes = read_all(rt.alloc(), &mut reader, 100)?;
     assert!(rt; bytes.as_slice() == TEXT && !reader.failed());
-    let mut writer = Output::new(Interrupted {
-        inner: Vec::new(rt.alloc()),
-        next_passes: false,
-    });
+    let mut writer = Output::new(Interrupted::of(Vec::new(rt.alloc())));
     assert!(rt; put_all(&mut writer, TEXT).is_ok() && !writer.failed());
     assert!(rt; writer.into_inner().inner.as_slice() == TEXT);
     Ok(())
+}
+
+// Bytes of which none equals the byte 65,536 places before it.
+fn many(alloc: Global, count: u32) -> Result<Vec<u8>, AllocError> {
+    (0..count).map(|i| (i % 251) as u8).collect(alloc)
 }
 
 // Whether a text is read whole with this limit of bytes.
@@ -124,23 +143,12 @@ fn is_read(alloc: Global, text: &[u8], limit: usize) -> Result<bool, ReadFault> 
 
 #[test]
 fn as_many_bytes_as_the_limit_are_read(rt: HostRuntime) -> Result<(), Fail> {
-    assert!(rt; is_read(rt.alloc(), b"abcd", 4)?);
-    assert!(rt; is_read(rt.alloc(), b"", 0)?);
-    Ok(())
-}
-
-#[test]
-fn bytes_past_the_limit_are_too_many(rt: HostRuntime) {
+    assert!(rt; is_read(rt.alloc(), b"abcd", 4)? && is_read(rt.alloc(), b"", 0)?);
+    assert!(rt; is_read(rt.alloc(), &many(rt.alloc(), 20_000)?, usize::MAX)?);
     assert!(rt; is_read(rt.alloc(), b"abcde", 4) == Err(ReadFault::TooLong));
     let mut endless = Input::new(io::repeat(b'@'));
     let fault = read_all(rt.alloc(), &mut endless, 20_000).err();
     assert!(rt; fault == Some(ReadFault::TooLong) && !endless.failed());
-}
-
-#[test]
-fn more_bytes_than_one_call_gives_are_read(rt: HostRuntime) -> Result<(), Fail> {
-    let text: Vec<u8> = (0..20_000u32).map(|i| (i % 251) as u8).collect(rt.alloc())?;
-    assert!(rt; is_read(rt.alloc(), &text, usize::MAX)?);
     Ok(())
 }
 
@@ -161,12 +169,7 @@ fn a_reader_that_failed_is_not_called_again(rt: HostRuntime) -> Result<(), Fail>
 #[test]
 fn a_writer_that_failed_is_not_called_again(rt: HostRuntime) -> Result<(), Fail> {
     for k in 0..TEXT.len() {
-        let written = Vec::new(rt.alloc());
-        let mut writer = Output::new(FailingWriter {
-            written,
-            room: k,
-            calls: 0,
-        });
+        let mut writer = Output::new(FailingWriter::after(rt.alloc(), k, 1));
         for bytes in [TEXT, TEXT, b""] {
             assert!(rt; put_all(&mut writer, bytes) == Err(Failed) && writer.failed());
         }
@@ -174,21 +177,6 @@ fn a_writer_that_failed_is_not_called_again(rt: HostRuntime) -> Result<(), Fail>
         let inner = writer.into_inner();
         assert!(rt; inner.written.as_slice() == &TEXT[..k] && inner.calls == k + 1);
     }
-    Ok(())
-}
-
-#[test]
-fn all_bytes_go_out_one_at_a_time(rt: HostRuntime) -> Result<(), Fail> {
-    let written = Vec::new(rt.alloc());
-    let mut writer = Output::new(FailingWriter {
-        written,
-        room: 2 * TEXT.len(),
-        calls: 0,
-    });
-    assert!(rt; put_all(&mut writer, TEXT).is_ok() && put_all(&mut writer, b"").is_ok());
-    assert!(rt; !writer.failed());
-    let inner = writer.into_inner();
-    assert!(rt; inner.written.as_slice() == TEXT && inner.calls == TEXT.len());
     Ok(())
 }
 
@@ -214,16 +202,37 @@ fn a_call_that_succeeds_raises_no_flag(rt: HostRuntime) -> Result<(), Fail> {
     Ok(())
 }
 
+const BEFORE: &[u8] = b"first ";
+
+const AFTER: &[u8] = b" last";
+
+// Writes these bytes between two short texts, through one block.
+fn put_between<W: Write>(
+    alloc: Global,
+    bytes: &[u8],
+    writer: &mut Output<W>,
+) -> Result<(), Failed> {
+    let mut block = Block::new(alloc);
+    put(BEFORE, &mut block, writer);
+    put(bytes, &mut block, writer);
+    put(AFTER, &mut block, writer);
+    send(&mut block, writer)
+}
+
 #[test]
-fn faults_say_what_happened(rt: HostRuntime) -> Result<(), Fail> {
-    let faults = [
-        (ReadFault::Read, "read failed"),
-        (ReadFault::TooLong, "input too long"),
-        (ReadFault::Memory, "out of memory"),
-    ];
-    for (fault, text) in faults {
-        let shown = format!(in rt.alloc(); "{fault}")?;
-        assert!(rt; shown.as_str() == text);
+fn more_than_a_block_holds_is_written_in_order(rt: HostRuntime) -> Result<(), Fail> {
+    let bytes = many(rt.alloc(), 70_001)?;
+    let mut text = Vec::from_slice(rt.alloc(), BEFORE)?;
+    text.extend_from_slice(bytes.as_slice())?;
+    text.extend_from_slice(AFTER)?;
+    let mut writer = Output::new(Vec::new(rt.alloc()));
+    assert!(rt; put_between(rt.alloc(), &bytes, &mut writer).is_ok() && !writer.failed());
+    assert!(rt; writer.into_inner().as_slice() == text.as_slice());
+    for room in [0, 6, 65_536, 70_007, 70_011] {
+        let mut writer = Output::new(FailingWriter::after(rt.alloc(), room, room));
+        assert!(rt; put_between(rt.alloc(), &bytes, &mut writer).is_err() && writer.failed());
+        let written = writer.into_inner().written;
+        assert!(rt; written.len() == room && text.starts_with(written.as_slice()));
     }
     Ok(())
 }

@@ -1,237 +1,222 @@
-//! Reports as a page.
+//! Reports as a page: its options, in which order its parts stand, and what it has of patterns that grow.
 
-use crate::lines::rows_read;
-use census_page::{PageOptions, default_options, put_page};
-use std::alloc::{AllocError, Global};
-use watched::{Block, Output, send};
+use census_page::{PageOptions, Sort, default_options};
+use census_reports::{Form, Reading, write_reports};
+use std::test::Fail;
+use watched::Streams;
 
-// Two collections that interleave, and a second report, with each status, and names with markup,
-// quotes, an entity, and bytes that are not UTF-8. The second collection has one pattern, which
-// can't be read.
-const REPORT: &[u8] = b"open 2 1 \xc3
-open 1 9 <script>alert('1')</script>
-line 2 1 bad 0 last
-line 1 1 ok B3/S23 5 0 4 1 1 xq4_153 a \"glider\"
-line 1 2 none B3/S23 5 a>b
-line 1 3 large B36/S23 5 1000 \xd7\x90\xe2\x80\xae
-line 1 4 bad 10 broken
-close 2 1 0 0 1
-line 1 5 ok B3/S23 4 0 1 0 0 xs4_33 n\xff\xc3\xa9
-line 1 6 ok B36/S23 4 0 1 0 0 xs4_33 other rule
-line 1 7 ok B3/S23 0 0 1 0 0 xs0_A no text
-line 1 8 bad 12 later
-line 1 9 ok B3/S23 1234 56 1 0 0 xs0_0 dies
-code 1 B3/S23 xq4_153 1
+// Four codes, one of which occurs twice, and one pattern that is not resolved; and a second report, with one that
+// grows.
+const REPORT: &[u8] = b"open 1 6 a&b/c d
+line 1 1 ok B3/S23 4 0 1 0 0 xs4_33 block
+line 1 2 ok B3/S23 3 0 2 0 0 xp2_7 Blinker
+line 1 3 ok B3/S23 22 0 15 0 0 xp15_4r4z4r4 a
+line 1 4 ok B3/S23 5 0 4 1 1 xq4_153 q\"<'>/\xff
+line 1 5 ok B3/S23 3 0 2 0 0 xp2_7 z
+line 1 6 none B3/S23 5 n
 code 1 B3/S23 xs4_33 1
-code 1 B36/S23 xs4_33 1
-code 1 B3/S23 xs0_A 1
-code 1 B3/S23 xs0_0 1
-close 1 9 5 2 2
-end 2 10
-open 1 2 apart
-line 1 1 ash B3/S23 13 9 3 lt&lt;
-part 1 1 xs4_33 2
-part 1 1 xq4_153 1
-line 1 2 ash B3/S23 4 9 1 one
-part 1 2 xs4_33 1
-code 1 B3/S23 xs4_33 3
+code 1 B3/S23 xp2_7 2
+code 1 B3/S23 xp15_4r4z4r4 1
 code 1 B3/S23 xq4_153 1
-close 1 2 2 0 0
-end 1 2
+close 1 6 5 1 0
+end 1 6
+open 1 1 e
+line 1 1 grows B3/S23 36 1 g
+engine 1 1 1 30 0 0 1
+emits 1 1 1 xq4_153 1
+close 1 1 1 0 0
+end 1 1
 ";
 
-const BODY: &str = "<body>
-<header>
-<h1>Census</h1>
-</header>
-<main>
-<dl><div><dt>Collections</dt><dd>3</dd></div><div><dt>Patterns</dt><dd>12</dd></div><div><dt>Resolved</dt><dd>7</dd></div><div><dt>Unresolved</dt><dd>2</dd></div><div><dt>Refused</dt><dd>3</dd></div></dl>
-<nav aria-label=\"Collections\">
-<table class=\"index\">
-<thead><tr><th scope=\"col\">Collection</th><th scope=\"col\">Patterns</th><th scope=\"col\">Resolved</th><th scope=\"col\">Unresolved</th><th scope=\"col\">Refused</th><th scope=\"col\">Still lifes</th><th scope=\"col\">Oscillators</th><th scope=\"col\">Spaceships</th></tr></thead>
-<tbody>
-<tr><th scope=\"row\"><a href=\"#c1\"><bdi>&lt;script&gt;alert(&#39;1&#39;)&lt;/script&gt;</bdi></a></th><td>9</td><td>5</td><td>2</td><td>2</td><td>4</td><td>0</td><td>1</td></tr>
-<tr><th scope=\"row\"><a href=\"#c2\"><bdi>\u{fffd}</bdi></a></th><td>1</td><td>0</td><td>0</td><td>1</td><td>0</td><td>0</td><td>0</td></tr>
-<tr><th scope=\"row\"><a href=\"#c3\"><bdi>apart</bdi></a></th><td>2</td><td>2</td><td>0</td><td>0</td><td>1</td><td>0</td><td>1</td></tr>
-</tbody>
-</table>
-</nav>
-<fieldset><legend>Show</legend><label><input type=\"radio\" name=\"f\" id=\"fa\" checked>All <small>14</small></label><label><input type=\"radio\" name=\"f\" id=\"fs\">Still lifes <small>5</small></label><label><input type=\"radio\" name=\"f\" id=\"fo\">Oscillators <small>0</small></label><label><input type=\"radio\" name=\"f\" id=\"fq\">Spaceships <small>2</small></label><label><input type=\"radio\" name=\"f\" id=\"fu\">Others <small>7</small></label></fieldset>
-<section id=\"c1\">
-<h2><bdi>&lt;script&gt;alert(&#39;1&#39;)&lt;/script&gt;</bdi></h2>
-<p>Patterns: 9. Resolved: 5, unresolved: 2, refused: 2.</p>
-<table class=\"objects\">
-<thead><tr><th scope=\"col\">Picture</th><th scope=\"col\">Object</th><th scope=\"col\">Cells</th><th scope=\"col\">Count</th><th scope=\"col\">Patterns</th></tr></thead>
-<tbody>
-<tr class=\"q\"><td><svg role=\"img\" width=\"24\" height=\"24\" viewBox=\"0 -.5 3 3\" class=\"g\"><title>3 by 3 cells</title><path d=\"M0 0h3M2 1h1M1 2h1\"/></svg></td><th scope=\"row\"><p>spaceship c/4 diagonal, period 4</p><div><code>xq4_153</code><small>B3/S23</small><details class=\"rle\"><summary>RLE</summary><pre>x = 3, y = 3, rule = B3/S23
-3o$2bo$bo!
-</pre></details></div></th><td>5</td><td>1</td><td><ul><li><bdi>a &quot;glider&quot;</bdi> <small>population 5, onset 0</small></li></ul></td></tr>
-<tr class=\"s\"><td><svg role=\"img\" width=\"16\" height=\"16\" viewBox=\"0 -.5 2 2\" class=\"g\"><title>2 by 2 cells</title><path d=\"M0 0h2M0 1h2\"/></svg></td><th scope=\"row\"><p>still life of 4 cells</p><div><code>xs4_33</code><small>B3/S23</small><details class=\"rle\"><summary>RLE</summary><pre>x = 2, y = 2, rule = B3/S23
-2o$2o!
-</pre></details></div></th><td>4</td><td>1</td><td><ul><li><bdi>n\u{fffd}\u{e9}</bdi> <small>population 4, onset 0</small></li></ul></td></tr>
-<tr class=\"s\"><td><svg role=\"img\" width=\"16\" height=\"16\" viewBox=\"0 -.5 2 2\" class=\"g\"><title>2 by 2 cells</title><path d=\"M0 0h2M0 1h2\"/></svg></td><th scope=\"row\"><p>still life of 4 cells</p><div><code>xs4_33</code><small>B36/S23</small><details class=\"rle\"><summary>RLE</summary><pre>x = 2, y = 2, rule = B36/S23
-2o$2o!
-</pre></details></div></th><td>4</td><td>1</td><td><ul><li><bdi>other rule</bdi> <small>population 4, onset 0</small></li></ul></td></tr>
-<tr class=\"s\"><td></td><th scope=\"row\"><p>nothing: all cells die</p><div><code>xs0_A</code><small>B3/S23</small></div></th><td></td><td>1</td><td><ul><li><bdi>no text</bdi> <small>population 0, onset 0</small></li></ul></td></tr>
-<tr class=\"s\"><td><i>no cells</i></td><th scope=\"row\"><p>nothing: all cells die</p><div><code>xs0_0</code><small>B3/S23</small></div></th><td>0</td><td>1</td><td><ul><li><bdi>dies</bdi> <small>population 1,234, onset 56</small></li></ul></td></tr>
-</tbody>
-</table>
-<table class=\"patterns\">
-<thead><tr><th scope=\"col\">Pattern</th><th scope=\"col\">Cells</th><th scope=\"col\">What becomes of it</th></tr></thead>
-<tbody>
-<tr class=\"u\"><th scope=\"row\"><bdi>a&gt;b</bdi> <small>B3/S23</small></th><td>5</td><td>unresolved within the bound</td></tr>
-<tr class=\"u\"><th scope=\"row\"><bdi>\u{5d0}\u{202e}</bdi> <small>B36/S23</small></th><td>5</td><td>unresolved: at generation 1,000 it has more cells than the limit</td></tr>
-<tr class=\"u\"><th scope=\"row\"><bdi>broken</bdi></th><td></td><td>refused: the text ends too early: its body must end with `!`</td></tr>
-<tr class=\"u\"><th scope=\"row\"><bdi>later</bdi></th><td></td><td>refused: fault 12</td></tr>
+// A gun, two of them, a rake, and puffers: one that leaves only still lifes, and two that leave spaceships too.
+const GROWTH: &[u8] = b"open 1 6 c
+line 1 1 grows B3/S23 36 1 gosper
+engine 1 1 1 30 0 0 1
+emits 1 1 1 xq4_153 1
+line 1 2 grows B3/S23 72 2 <two>
+engine 1 2 1 30 0 0 2
+emits 1 2 1 xq4_153 1
+line 1 3 grows B3/S23 65 1 rake
+engine 1 3 1 90 0 -30 1
+emits 1 3 1 xq4_153 1
+line 1 4 ash B3/S23 4 7 2 b
+part 1 4 xs4_33 2
+line 1 5 grows B3/S23 28 4 row
+engine 1 5 1 288 24 24 1
+emits 1 5 1 xs4_33 8
+engine 1 5 2 1000 -1 0 3
+emits 1 5 2 xp2_7 1234
+emits 1 5 2 xs4_33 1
+emits 1 5 2 xq4_153 2
+line 1 6 none B3/S23 5 n
+code 1 B3/S23 xs4_33 2
+close 1 6 5 1 0
+end 1 6
+";
+
+const GROWTH_TABLE: &str = "<tbody>
+<tr class=\"u\"><th scope=\"row\"><bdi>gosper</bdi> <small>B3/S23</small></th><td>36</td><td><div>gun of period 30 that emits</div><ul><li><svg role=\"img\" width=\"24\" height=\"24\" viewBox=\"0 -.5 3 3\" class=\"g\"><title>3 by 3 cells</title><path d=\"M0 0h3M2 1h1M1 2h1\"/></svg><code>xq4_153</code> <small>&times; 1</small></li></ul></td></tr>
+<tr class=\"u\"><th scope=\"row\"><bdi>&lt;two&gt;</bdi> <small>B3/S23</small></th><td>72</td><td><div>2&nbsp;guns of period 30 that emit</div><ul><li><svg role=\"img\" width=\"24\" height=\"24\" viewBox=\"0 -.5 3 3\" class=\"g\"><title>3 by 3 cells</title><path d=\"M0 0h3M2 1h1M1 2h1\"/></svg><code>xq4_153</code> <small>&times; 1</small></li></ul></td></tr>
+<tr class=\"u\"><th scope=\"row\"><bdi>rake</bdi> <small>B3/S23</small></th><td>65</td><td><div>rake of period 90 that moves (0, -30) and emits</div><ul><li><svg role=\"img\" width=\"24\" height=\"24\" viewBox=\"0 -.5 3 3\" class=\"g\"><title>3 by 3 cells</title><path d=\"M0 0h3M2 1h1M1 2h1\"/></svg><code>xq4_153</code> <small>&times; 1</small></li></ul></td></tr>
+<tr class=\"u\"><th scope=\"row\"><bdi>b</bdi> <small>B3/S23</small></th><td>4</td><td>2 objects from generation 7 on<ul><li><code>xs4_33</code> <small>&times; 2</small></li></ul></td></tr>
+<tr class=\"u\"><th scope=\"row\"><bdi>row</bdi> <small>B3/S23</small></th><td>28</td><td><div>puffer of period 288 that moves (24, 24) and leaves</div><ul><li><svg role=\"img\" width=\"16\" height=\"16\" viewBox=\"0 -.5 2 2\" class=\"g\"><title>2 by 2 cells</title><path d=\"M0 0h2M0 1h2\"/></svg><code>xs4_33</code> <small>&times; 8</small></li></ul><div>3&nbsp;puffers of period 1,000 that move (-1, 0) and leave</div><ul><li><svg role=\"img\" width=\"8\" height=\"24\" viewBox=\"0 -.5 1 3\" class=\"g\"><title>1 by 3 cells</title><path d=\"M0 0h1M0 1h1M0 2h1\"/></svg><code>xp2_7</code> <small>&times; 1,234</small></li><li><svg role=\"img\" width=\"16\" height=\"16\" viewBox=\"0 -.5 2 2\" class=\"g\"><title>2 by 2 cells</title><path d=\"M0 0h2M0 1h2\"/></svg><code>xs4_33</code> <small>&times; 1</small></li><li><svg role=\"img\" width=\"24\" height=\"24\" viewBox=\"0 -.5 3 3\" class=\"g\"><title>3 by 3 cells</title><path d=\"M0 0h3M2 1h1M1 2h1\"/></svg><code>xq4_153</code> <small>&times; 2</small></li></ul></td></tr>
+<tr class=\"u\"><th scope=\"row\"><bdi>n</bdi> <small>B3/S23</small></th><td>5</td><td>unresolved within the bound</td></tr>
 </tbody>
 </table>
 </section>
-<section id=\"c2\">
-<h2><bdi>\u{fffd}</bdi></h2>
-<p>Patterns: 1. Resolved: 0, unresolved: 0, refused: 1.</p>
-<table class=\"patterns\">
-<thead><tr><th scope=\"col\">Pattern</th><th scope=\"col\">Cells</th><th scope=\"col\">What becomes of it</th></tr></thead>
-<tbody>
-<tr class=\"u\"><th scope=\"row\"><bdi>last</bdi></th><td></td><td>refused: the file can&#39;t be read</td></tr>
-</tbody>
-</table>
-</section>
-<section id=\"c3\">
-<h2><bdi>apart</bdi></h2>
-<p>Patterns: 2. Resolved: 2, unresolved: 0, refused: 0.</p>
-<table class=\"objects\">
-<thead><tr><th scope=\"col\">Picture</th><th scope=\"col\">Object</th><th scope=\"col\">Cells</th><th scope=\"col\">Count</th><th scope=\"col\">Patterns</th></tr></thead>
-<tbody>
-<tr class=\"s\"><td><svg role=\"img\" width=\"16\" height=\"16\" viewBox=\"0 -.5 2 2\" class=\"g\"><title>2 by 2 cells</title><path d=\"M0 0h2M0 1h2\"/></svg></td><th scope=\"row\"><p>still life of 4 cells</p><div><code>xs4_33</code><small>B3/S23</small><details class=\"rle\"><summary>RLE</summary><pre>x = 2, y = 2, rule = B3/S23
-2o$2o!
-</pre></details></div></th><td>4</td><td>3</td><td><ul><li><bdi>lt&amp;lt;</bdi> <small>&times; 2</small></li><li><bdi>one</bdi> <small>&times; 1</small></li></ul></td></tr>
-<tr class=\"q\"><td><svg role=\"img\" width=\"24\" height=\"24\" viewBox=\"0 -.5 3 3\" class=\"g\"><title>3 by 3 cells</title><path d=\"M0 0h3M2 1h1M1 2h1\"/></svg></td><th scope=\"row\"><p>spaceship of period 4</p><div><code>xq4_153</code><small>B3/S23</small><details class=\"rle\"><summary>RLE</summary><pre>x = 3, y = 3, rule = B3/S23
-3o$2bo$bo!
-</pre></details></div></th><td>5</td><td>1</td><td><ul><li><bdi>lt&amp;lt;</bdi> <small>&times; 1</small></li></ul></td></tr>
-</tbody>
-</table>
-<table class=\"patterns\">
-<thead><tr><th scope=\"col\">Pattern</th><th scope=\"col\">Cells</th><th scope=\"col\">What becomes of it</th></tr></thead>
-<tbody>
-<tr class=\"u\"><th scope=\"row\"><bdi>lt&amp;lt;</bdi> <small>B3/S23</small></th><td>13</td><td>3 objects from generation 9 on<ul><li><code>xs4_33</code> <small>&times; 2</small></li><li><code>xq4_153</code> <small>&times; 1</small></li></ul></td></tr>
-<tr class=\"u\"><th scope=\"row\"><bdi>one</bdi> <small>B3/S23</small></th><td>4</td><td>1 object from generation 9 on<ul><li><code>xs4_33</code> <small>&times; 1</small></li></ul></td></tr>
-</tbody>
-</table>
-</section>
-</main>
-<footer>
-<p>Cells: of the phase that is drawn, which is the one that the code describes. Population: of the first generation. Onset: the generation from which a pattern recurs. Guns, rakes and puffers: how far they move, to the right and down, and what they emit is told of one period. Unresolved: nothing was found within the bound. Refused: the text means no pattern.</p>
-</footer>
-</body>
-</html>
 ";
 
-// Eleven patterns that are one object, whose code has more than 60 letters.
-const ELEVEN: &[u8] = b"open 1 11 many
-line 1 1 ok B3/S23 72 0 1 0 0 xs72_33zzzzzzzzzzzzzzzzzzzzzzzzzzzzzzzzzzzzzzzzzzzzzzzzzzzzzzzzzzz33 1
-line 1 2 ok B3/S23 72 0 1 0 0 xs72_33zzzzzzzzzzzzzzzzzzzzzzzzzzzzzzzzzzzzzzzzzzzzzzzzzzzzzzzzzzz33 2
-line 1 3 ok B3/S23 72 0 1 0 0 xs72_33zzzzzzzzzzzzzzzzzzzzzzzzzzzzzzzzzzzzzzzzzzzzzzzzzzzzzzzzzzz33 3
-line 1 4 ok B3/S23 72 0 1 0 0 xs72_33zzzzzzzzzzzzzzzzzzzzzzzzzzzzzzzzzzzzzzzzzzzzzzzzzzzzzzzzzzz33 4
-line 1 5 ok B3/S23 72 0 1 0 0 xs72_33zzzzzzzzzzzzzzzzzzzzzzzzzzzzzzzzzzzzzzzzzzzzzzzzzzzzzzzzzzz33 5
-line 1 6 ok B3/S23 72 0 1 0 0 xs72_33zzzzzzzzzzzzzzzzzzzzzzzzzzzzzzzzzzzzzzzzzzzzzzzzzzzzzzzzzzz33 6
-line 1 7 ok B3/S23 72 0 1 0 0 xs72_33zzzzzzzzzzzzzzzzzzzzzzzzzzzzzzzzzzzzzzzzzzzzzzzzzzzzzzzzzzz33 7
-line 1 8 ok B3/S23 72 0 1 0 0 xs72_33zzzzzzzzzzzzzzzzzzzzzzzzzzzzzzzzzzzzzzzzzzzzzzzzzzzzzzzzzzz33 8
-line 1 9 ok B3/S23 72 0 1 0 0 xs72_33zzzzzzzzzzzzzzzzzzzzzzzzzzzzzzzzzzzzzzzzzzzzzzzzzzzzzzzzzzz33 9
-line 1 10 ok B3/S23 72 0 1 0 0 xs72_33zzzzzzzzzzzzzzzzzzzzzzzzzzzzzzzzzzzzzzzzzzzzzzzzzzzzzzzzzzz33 10
-line 1 11 ok B3/S23 72 0 1 0 0 xs72_33zzzzzzzzzzzzzzzzzzzzzzzzzzzzzzzzzzzzzzzzzzzzzzzzzzzzzzzzzzz33 11
-code 1 B3/S23 xs72_33zzzzzzzzzzzzzzzzzzzzzzzzzzzzzzzzzzzzzzzzzzzzzzzzzzzzzzzzzzz33 11
-close 1 11 11 0 0
-end 1 11
-";
+const BLOCK: &str = "<code>xs4_33</code>";
 
-// The page of a report.
-pub fn page_with(
-    alloc: Global,
-    options: &PageOptions,
-    report: &[u8],
-) -> Result<Vec<u8>, AllocError> {
-    let rows = rows_read(alloc, report)?;
-    let mut block = Block::new(alloc);
-    let mut writer = Output::new(Vec::new(alloc));
-    put_page(alloc, options, &rows, &mut block, &mut writer)?;
-    match send(&mut block, &mut writer) {
-        Ok(()) => Ok(writer.into_inner()),
-        Err(_) => Err(AllocError),
-    }
-}
+const BLINKER: &str = "<code>xp2_7</code>";
 
-// The page of a report with the default options.
-pub fn page_of(alloc: Global, report: &[u8]) -> Result<Vec<u8>, AllocError> {
-    page_with(alloc, &default_options(), report)
-}
+const FIFTEEN: &str = "<code>xp15_4r4z4r4</code>";
 
-// Whether the text is in UTF-8 and has this part.
-pub fn has(text: &[u8], part: &str) -> bool {
-    match str::from_utf8(text) {
-        Ok(text) => text.contains(part),
-        Err(_) => false,
-    }
-}
+const GLIDER: &str = "<code>xq4_153</code>";
 
-// Whether the text is in UTF-8 and has this part nowhere.
-pub fn lacks(text: &[u8], part: &str) -> bool {
-    match str::from_utf8(text) {
-        Ok(text) => !text.contains(part),
-        Err(_) => false,
-    }
-}
+// The page by default.
+const PLAIN: PageOptions<'static> = PageOptions {
+    title: b"Census",
+    note: b"",
+    sort: Sort::Report,
+    top: None,
+    base: None,
+    links: false,
+    patterns: true,
+};
 
-#[test]
-fn a_report_is_told_as_a_page(rt: HostRuntime) -> Result<(), AllocError> {
-    let text = page_of(rt.alloc(), REPORT)?;
-    assert!(rt;
-        text.as_slice()
-            .starts_with(b"<!DOCTYPE html>\n<html lang=\"en\">")
-    );
-    assert!(rt; text.as_slice().ends_with(BODY.as_bytes()));
-    Ok(())
-}
-
-#[test]
-fn what_is_long_is_shown_when_it_is_asked_for(rt: HostRuntime) -> Result<(), AllocError> {
-    let text = page_of(rt.alloc(), ELEVEN)?;
-    assert!(rt; has(&text, "<i>2 by 297 cells: too large to draw</i>"));
-    assert!(rt;
-        has(
-            &text,
-            "<summary><code>xs72_33zzzzzzzzzzzzzzzzz&hellip;</code></summary>"
-        )
-    );
-    assert!(rt;
-        has(
-            &text,
-            "</li></ul><details><summary>1 more</summary><ul><li><bdi>11</bdi>"
-        )
-    );
-    Ok(())
-}
-
-#[test]
-fn a_page_has_a_title_and_a_note(rt: HostRuntime) -> Result<(), AllocError> {
-    let options = PageOptions {
-        title: b"<Soups>",
-        note: b"1 & 2",
-        ..default_options()
+// The page of the codes in an order.
+macro_rules! sorted {
+    ($sort:ident) => {
+        PageOptions {
+            sort: Sort::$sort,
+            patterns: false,
+            ..PLAIN
+        }
     };
-    let text = page_with(rt.alloc(), &options, b"end 0 0\n")?;
-    assert!(rt; has(&text, "<title>&lt;Soups&gt;</title>"));
-    assert!(rt; has(&text, "<h1>&lt;Soups&gt;</h1>\n<p>1 &amp; 2</p>\n</header>"));
-    Ok(())
+}
+
+/// Options, parts that their page has one after another, and parts that it has nowhere.
+type Case = (
+    PageOptions<'static>,
+    &'static [u8],
+    &'static [&'static str],
+    &'static [&'static str],
+);
+
+const CASES: &[Case] = &[
+    (
+        sorted!(Report),
+        REPORT,
+        &["Others <small>2</small>", BLOCK, BLINKER, FIFTEEN, GLIDER],
+        &["<table class=\"patterns\">", "catagolue", "example"],
+    ),
+    (
+        sorted!(Count),
+        REPORT,
+        &[BLINKER, BLOCK, FIFTEEN, GLIDER],
+        &[],
+    ),
+    (
+        sorted!(Code),
+        REPORT,
+        &[BLINKER, BLOCK, GLIDER, FIFTEEN],
+        &[],
+    ),
+    (
+        sorted!(Period),
+        REPORT,
+        &[FIFTEEN, GLIDER, BLINKER, BLOCK],
+        &[],
+    ),
+    (
+        sorted!(Name),
+        REPORT,
+        &[BLINKER, FIFTEEN, BLOCK, GLIDER],
+        &[],
+    ),
+    (
+        PageOptions {
+            sort: Sort::Period,
+            top: Some(2),
+            ..PLAIN
+        },
+        REPORT,
+        &[
+            "Still lifes <small>1</small>",
+            "<p>oscillator of period 15</p>",
+            "<p>spaceship c/4 diagonal, period 4</p>",
+        ],
+        &[
+            "<p>oscillator of period 2</p>",
+            "<p>still life of 4 cells</p>",
+        ],
+    ),
+    (
+        PageOptions {
+            base: Some(b"https://example.org/?a=1&b=\"<'>\xff/"),
+            links: true,
+            ..PLAIN
+        },
+        REPORT,
+        &[
+            "<a href=\"https://example.org/?a=1&amp;b=&quot;&lt;&#39;&gt;\u{fffd}/a%26b/c%20d/block\"><bdi>block</bdi></a> <small>population 4",
+            "<code><a href=\"https://catagolue.hatsya.com/object/xq4_153/b3s23\">xq4_153</a></code>",
+            "/a%26b/c%20d/q%22%3C%27%3E%2F%FF\"><bdi>q&quot;&lt;&#39;&gt;/\u{fffd}</bdi></a>",
+            "/a%26b/c%20d/n\"><bdi>n</bdi></a> <small>B3/S23</small></th>",
+        ],
+        &[GLIDER, BLOCK],
+    ),
+    (
+        PageOptions {
+            title: b"</title><script>alert(\"1\")</script>\0\xff",
+            note: b"</p>&lt;'\x1b[31m\xc3",
+            ..PLAIN
+        },
+        b"end 0 0\n",
+        &[
+            "<h1>&lt;/title&gt;&lt;script&gt;alert(&quot;1&quot;)&lt;/script&gt;\0\u{fffd}</h1>",
+            "<p>&lt;/p&gt;&amp;lt;&#39;\x1b[31m\u{fffd}</p>",
+        ],
+        &["<script"],
+    ),
+    (
+        PLAIN,
+        GROWTH,
+        &["Others <small>6</small>", GROWTH_TABLE],
+        &[],
+    ),
+];
+
+// Whether a text has these parts one after another.
+fn stand_in_order(text: &str, parts: &[&str]) -> bool {
+    let mut left = text;
+    for part in parts {
+        match left.split_once(*part) {
+            Some((_, rest)) => left = rest,
+            None => return false,
+        }
+    }
+    true
 }
 
 #[test]
-fn a_page_asks_for_nothing(rt: HostRuntime) -> Result<(), AllocError> {
-    let text = page_of(rt.alloc(), b"end 0 0\n")?;
-    assert!(rt; text.as_slice().ends_with(b"</footer>\n</body>\n</html>\n"));
-    assert!(rt; lacks(&text, "<script"));
-    assert!(rt; lacks(&text, "src="));
-    assert!(rt; lacks(&text, "href="));
-    assert!(rt; lacks(&text, "url("));
-    assert!(rt; lacks(&text, "@import"));
+fn a_page_has_what_is_asked_for(rt: HostRuntime) -> Result<(), Fail> {
+    assert!(rt; default_options() == PLAIN);
+    for (options, report, parts, absent) in CASES {
+        let form = Form::Page { options: *options };
+        let mut streams = Streams::new(*report, Vec::new(rt.alloc()), Vec::new(rt.alloc()));
+        let reading = Reading {
+            cut: false,
+            limit: None,
+        };
+        write_reports(&rt, rt.alloc(), form, reading, &[], &mut streams)?;
+        let (_, output, _) = streams.into_inner();
+        let text = str::from_utf8(&output)?;
+        assert!(rt; stand_in_order(text, parts), "{parts:?}");
+        for part in *absent {
+            assert!(rt; !text.contains(*part), "{part}");
+        }
+    }
     Ok(())
 }

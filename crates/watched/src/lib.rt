@@ -4,7 +4,7 @@
 //! raised from then on, and no further call reaches the reader or writer. So whoever holds one can tell a failure of the reader
 //! or writer from every other cause of an error. A call that a signal interrupts has not failed: it is made again.
 //!
-//! Tested in `tests_reports` and `tests_reports`.
+//! Tested in `tests_reports`.
 #![tactic(auto)]
 
 mod block;

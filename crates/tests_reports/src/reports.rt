@@ -1,0 +1,295 @@
+//! Reports from a file and standard input, written as one report, as tables, as what is one object, and as a verdict.
+
+use crate::ends::{FailingReader, FailingWriter};
+use census_merge::Cut;
+use census_readback::read_report;
+use census_reports::{Form, Reading, ReportsError, merge_reports, write_reports};
+use census_rows::Rows;
+use census_table::{Format, Subject, put_table};
+use std::fs;
+use std::test::Fail;
+use watched::{Block, Output, Streams, send};
+
+// The file that has the first report.
+const FILE: &str = "tests_reports_first";
+
+const FIRST: &[u8] = b"open 1 2 a
+line 1 1 ok B3/S23 4 0 1 0 0 xs4_33 block
+line 1 2 bad 10 broken
+code 1 B3/S23 xs4_33 1
+close 1 2 1 0 1
+end 1 2
+";
+
+// Two reports.
+const SECOND: &[u8] = b"open 2 0 c
+open 1 1 b
+line 1 1 none B3/S23 5 r
+close 2 0 0 0 0
+close 1 1 0 1 0
+end 2 1
+end 0 0
+";
+
+const MERGED: &[u8] = b"open 1 2 a
+line 1 1 ok B3/S23 4 0 1 0 0 xs4_33 block
+line 1 2 bad 10 broken
+code 1 B3/S23 xs4_33 1
+close 1 2 1 0 1
+open 3 0 c
+open 2 1 b
+line 2 1 none B3/S23 5 r
+close 3 0 0 0 0
+close 2 1 0 1 0
+end 3 3
+";
+
+const CSV: &[u8] =
+    b"collection,collection_name,pattern,name,status,rule,population,onset,period,dx,dy,code,fault,collection_name_hex,name_hex,objects,generation,engines,fault_text
+1,a,1,block,ok,B3/S23,4,0,1,0,0,xs4_33,,,,,,,
+1,a,2,broken,bad,,,,,,,,10,,,,,,the text ends too early: its body must end with `!`
+2,b,1,r,none,B3/S23,5,,,,,,,,,,,,
+";
+
+// A report that was cut in its fourth line.
+const CUT: &[u8] = b"open 2 0 d\nopen 1 0 e\nclose 2 0 0 0 0\ncl";
+
+// Two collections that interleave, and a second report, with engines one of which emits two codes, two kinds of parts,
+// and faults: of a file that can't be read, of a text, and one that has no sentence.
+const ALL_KINDS: &[u8] = b"open 2 3 second
+open 1 3 first
+line 2 1 ash B3/S23 9 12 3 two kinds
+part 2 1 xp2_7 1
+part 2 1 xs4_33 2
+line 1 1 grows B3/S23 60 3 guns
+engine 1 1 1 30 0 0 2
+emits 1 1 1 xq4_153 1
+engine 1 1 2 288 24 -24 1
+emits 1 1 2 xs4_33 8
+emits 1 1 2 xq4_153 2
+line 2 2 none B3/S23 5 =1
+line 1 2 bad 0 lost
+line 2 3 large B36/S23 5 100 wide
+line 1 3 bad 10 broken
+code 2 B3/S23 xp2_7 1
+code 2 B3/S23 xs4_33 2
+close 2 3 1 2 0
+close 1 3 1 0 2
+end 2 6
+open 1 2 third
+line 1 1 ok B3/S23 5 0 4 -1 1 xq4_153 glider
+line 1 2 bad 11 later
+code 1 B3/S23 xq4_153 1
+close 1 2 1 0 1
+end 1 2
+";
+
+const SAFE: &[u8] =
+    b"collection,collection_name,pattern,name,status,rule,population,onset,period,dx,dy,code,fault,collection_name_hex,name_hex,objects,generation,engines,fault_text
+1,first,1,guns,grows,B3/S23,60,,,,,,,,,,,3,
+1,first,2,lost,bad,,,,,,,,0,,,,,,the file can't be read
+1,first,3,broken,bad,,,,,,,,10,,,,,,the text ends too early: its body must end with `!`
+2,second,1,two kinds,ash,B3/S23,9,12,,,,,,,,3,,,
+2,second,2,'=1,none,B3/S23,5,,,,,,,,,,,,
+2,second,3,wide,large,B36/S23,5,,,,,,,,,,100,,
+3,third,1,glider,ok,B3/S23,5,0,4,-1,1,xq4_153,,,,,,,
+3,third,2,later,bad,,,,,,,,11,,,,,,fault 11
+";
+
+const JSON: &[u8] =
+    b"{\"code\":null,\"collection\":1,\"collection_name\":\"first\",\"collection_name_hex\":null,\"dx\":null,\"dy\":null,\"engines\":[{\"count\":2,\"displacement\":[0,0],\"emits\":[{\"code\":\"xq4_153\",\"count\":1}],\"period\":30},{\"count\":1,\"displacement\":[24,-24],\"emits\":[{\"code\":\"xs4_33\",\"count\":8},{\"code\":\"xq4_153\",\"count\":2}],\"period\":288}],\"fault\":null,\"fault_text\":null,\"generation\":null,\"name\":\"guns\",\"name_hex\":null,\"objects\":null,\"onset\":null,\"parts\":null,\"pattern\":1,\"period\":null,\"population\":60,\"rule\":\"B3/S23\",\"status\":\"grows\"}
+{\"code\":null,\"collection\":1,\"collection_name\":\"first\",\"collection_name_hex\":null,\"dx\":null,\"dy\":null,\"engines\":null,\"fault\":0,\"fault_text\":\"the file can't be read\",\"generation\":null,\"name\":\"lost\",\"name_hex\":null,\"objects\":null,\"onset\":null,\"parts\":null,\"pattern\":2,\"period\":null,\"population\":null,\"rule\":null,\"status\":\"bad\"}
+{\"code\":null,\"collection\":1,\"collection_name\":\"first\",\"collection_name_hex\":null,\"dx\":null,\"dy\":null,\"engines\":null,\"fault\":10,\"fault_text\":\"the text ends too early: its body must end with `!`\",\"generation\":null,\"name\":\"broken\",\"name_hex\":null,\"objects\":null,\"onset\":null,\"parts\":null,\"pattern\":3,\"period\":null,\"population\":null,\"rule\":null,\"status\":\"bad\"}
+{\"code\":null,\"collection\":2,\"collection_name\":\"second\",\"collection_name_hex\":null,\"dx\":null,\"dy\":null,\"engines\":null,\"fault\":null,\"fault_text\":null,\"generation\":null,\"name\":\"two kinds\",\"name_hex\":null,\"objects\":3,\"onset\":12,\"parts\":[{\"code\":\"xp2_7\",\"count\":1},{\"code\":\"xs4_33\",\"count\":2}],\"pattern\":1,\"period\":null,\"population\":9,\"rule\":\"B3/S23\",\"status\":\"ash\"}
+{\"code\":null,\"collection\":2,\"collection_name\":\"second\",\"collection_name_hex\":null,\"dx\":null,\"dy\":null,\"engines\":null,\"fault\":null,\"fault_text\":null,\"generation\":null,\"name\":\"=1\",\"name_hex\":null,\"objects\":null,\"onset\":null,\"parts\":null,\"pattern\":2,\"period\":null,\"population\":5,\"rule\":\"B3/S23\",\"status\":\"none\"}
+{\"code\":null,\"collection\":2,\"collection_name\":\"second\",\"collection_name_hex\":null,\"dx\":null,\"dy\":null,\"engines\":null,\"fault\":null,\"fault_text\":null,\"generation\":100,\"name\":\"wide\",\"name_hex\":null,\"objects\":null,\"onset\":null,\"parts\":null,\"pattern\":3,\"period\":null,\"population\":5,\"rule\":\"B36/S23\",\"status\":\"large\"}
+{\"code\":\"xq4_153\",\"collection\":3,\"collection_name\":\"third\",\"collection_name_hex\":null,\"dx\":-1,\"dy\":1,\"engines\":null,\"fault\":null,\"fault_text\":null,\"generation\":null,\"name\":\"glider\",\"name_hex\":null,\"objects\":null,\"onset\":0,\"parts\":null,\"pattern\":1,\"period\":4,\"population\":5,\"rule\":\"B3/S23\",\"status\":\"ok\"}
+{\"code\":null,\"collection\":3,\"collection_name\":\"third\",\"collection_name_hex\":null,\"dx\":null,\"dy\":null,\"engines\":null,\"fault\":11,\"fault_text\":\"fault 11\",\"generation\":null,\"name\":\"later\",\"name_hex\":null,\"objects\":null,\"onset\":null,\"parts\":null,\"pattern\":2,\"period\":null,\"population\":null,\"rule\":null,\"status\":\"bad\"}
+";
+
+const PARTS: &[u8] = b"collection,collection_name,pattern,name,rule,code,count
+2,second,1,two kinds,B3/S23,xp2_7,1
+2,second,1,two kinds,B3/S23,xs4_33,2
+";
+
+const NAMED_CODES: &[u8] =
+    b"{\"code\":\"xs4_33\",\"common_name\":\"block\",\"count\":2,\"first_collection_name\":\"second\",\"first_name\":\"two kinds\",\"patterns\":1,\"rule\":\"B3/S23\"}
+{\"code\":\"xp2_7\",\"common_name\":null,\"count\":1,\"first_collection_name\":\"second\",\"first_name\":\"two kinds\",\"patterns\":1,\"rule\":\"B3/S23\"}
+{\"code\":\"xq4_153\",\"common_name\":null,\"count\":1,\"first_collection_name\":\"third\",\"first_name\":\"glider\",\"patterns\":1,\"rule\":\"B3/S23\"}
+";
+
+const SAME: &[u8] = b"B3/S23 xs4_33
+  a/block
+  a/block
+";
+
+const SAME_JSON: &[u8] =
+    b"{\"code\":\"xs4_33\",\"collection_name\":\"a\",\"collection_name_hex\":null,\"name\":\"block\",\"name_hex\":null,\"rule\":\"B3/S23\"}
+{\"code\":\"xs4_33\",\"collection_name\":\"a\",\"collection_name_hex\":null,\"name\":\"block\",\"name_hex\":null,\"rule\":\"B3/S23\"}
+";
+
+// A table with a row for each of these, in this format, with the names of a text.
+macro_rules! table {
+    ($subject:ident, $format:expr, $names:expr $(,)?) => {
+        Form::Table {
+            subject: Subject::$subject,
+            format: $format,
+            names: $names,
+        }
+    };
+}
+
+const CSV_FORM: Form<'static> = table!(Patterns, Format::Csv { safe: false }, None);
+
+// Words of the file and of standard input, or of standard input alone.
+const BOTH: &[&str] = &[FILE, "-"];
+
+const INPUT: &[&str] = &[];
+
+/// What is made of the texts of words, with this standard input, or why nothing is.
+type Case = (
+    Form<'static>,
+    &'static [&'static str],
+    &'static [u8],
+    Result<&'static [u8], ReportsError>,
+);
+
+const CASES: &[Case] = &[
+    (Form::Merged, BOTH, SECOND, Ok(MERGED)),
+    (CSV_FORM, BOTH, SECOND, Ok(CSV)),
+    (
+        table!(Patterns, Format::Csv { safe: true }, None),
+        INPUT,
+        ALL_KINDS,
+        Ok(SAFE),
+    ),
+    (
+        table!(Patterns, Format::Json, None),
+        INPUT,
+        ALL_KINDS,
+        Ok(JSON),
+    ),
+    (
+        table!(Parts, Format::Csv { safe: false }, None),
+        INPUT,
+        ALL_KINDS,
+        Ok(PARTS),
+    ),
+    (
+        table!(Codes, Format::Json, Some(b"# names\nxs4_33\tblock\n")),
+        INPUT,
+        ALL_KINDS,
+        Ok(NAMED_CODES),
+    ),
+    (
+        table!(Codes, Format::Json, Some(b"a\tb\na\tc\n")),
+        INPUT,
+        ALL_KINDS,
+        Err(ReportsError::Names { line: 2 }),
+    ),
+    (Form::Same { json: false }, BOTH, FIRST, Ok(SAME)),
+    (Form::Same { json: true }, BOTH, FIRST, Ok(SAME_JSON)),
+    (
+        Form::Verdict {
+            claims: b"name,period\nblock,2\n",
+        },
+        INPUT,
+        FIRST,
+        Ok(b"wrong block period 2 1\nunclaimed a/broken\n"),
+    ),
+    (
+        Form::Verdict {
+            claims: b"name,period\nblock,one\n",
+        },
+        INPUT,
+        FIRST,
+        Err(ReportsError::Claims { line: 2 }),
+    ),
+    (
+        Form::Merged,
+        BOTH,
+        CUT,
+        Err(ReportsError::Fault { text: 2, line: 4 }),
+    ),
+    (Form::Merged, &["-", "none"], FIRST, Err(ReportsError::Read)),
+];
+
+// Texts as they are, however long all of them are together.
+const PLAIN: Reading = Reading {
+    cut: false,
+    limit: None,
+};
+
+// What is made of reports, where memory is ample.
+#[test]
+fn reports_of_a_file_and_of_standard_input(rt: HostRuntime) -> Result<(), Fail> {
+    fs::write(&rt, FILE, FIRST)?;
+    for (form, words, input, wanted) in CASES {
+        let mut streams = Streams::new(*input, Vec::new(rt.alloc()), Vec::new(rt.alloc()));
+        let result = write_reports(&rt, rt.alloc(), *form, PLAIN, words, &mut streams);
+        let (_, output, _) = streams.into_inner();
+        let (found, text) = match (result, wanted) {
+            (Ok(written), Ok(text)) => (Ok(written.found), *text),
+            (Ok(written), Err(_)) => (Ok(written.found), b"".as_slice()),
+            (Err(error), _) => (Err(error), b"".as_slice()),
+        };
+        let looks = matches!(form, Form::Same { .. } | Form::Verdict { .. });
+        assert!(rt; found == wanted.map(|_| looks), "{form:?}");
+        assert!(rt; output.as_slice() == text, "{form:?}");
+    }
+    fs::remove_file(&rt, FILE)?;
+    Ok(())
+}
+
+#[test]
+fn a_text_that_was_cut_is_mended(rt: HostRuntime) -> Result<(), Fail> {
+    let reading = Reading {
+        cut: true,
+        limit: Some(CUT.len() as u64),
+    };
+    let mut streams = Streams::new(CUT, Vec::new(rt.alloc()), Vec::new(rt.alloc()));
+    let written = merge_reports(&rt, rt.alloc(), reading, INPUT, &mut streams)?;
+    let cut = Cut {
+        line: 3,
+        kept: 1,
+        left: 1,
+    };
+    assert!(rt; written.cuts.as_slice() == [cut].as_slice());
+    let (_, output, _) = streams.into_inner();
+    assert!(rt; output.as_slice() == b"open 1 0 d\nclose 1 0 0 0 0\nend 1 0\n".as_slice());
+    Ok(())
+}
+
+#[test]
+fn streams_that_fail(rt: HostRuntime) -> Result<(), Fail> {
+    let alloc = rt.alloc();
+    let reader = FailingReader::after(FIRST);
+    let mut streams = Streams::new(reader, Vec::new(alloc), Vec::new(alloc));
+    let result = merge_reports(&rt, alloc, PLAIN, INPUT, &mut streams);
+    let (_, output, _) = streams.into_inner();
+    assert!(rt; matches!(result, Err(ReportsError::Read)) && output.is_empty());
+    for (form, whole) in [(Form::Merged, FIRST), (CSV_FORM, CSV)] {
+        let writer = FailingWriter::after(alloc, 20, 20);
+        let mut streams = Streams::new(FIRST, writer, Vec::new(alloc));
+        let result = write_reports(&rt, alloc, form, PLAIN, INPUT, &mut streams);
+        assert!(rt; matches!(result, Err(ReportsError::Write)));
+        let (_, output, errors) = streams.into_inner();
+        assert!(rt; output.written.as_slice() == &whole[..20] && errors.is_empty());
+    }
+    Ok(())
+}
+
+#[test]
+fn rows_are_written_as_a_table(rt: HostRuntime) -> Result<(), Fail> {
+    let alloc = rt.alloc();
+    let mut rows = Rows::new(alloc);
+    if read_report(alloc, ALL_KINDS, &mut rows)?.is_err() {
+        panic!(rt; "a fault");
+    }
+    let mut block = Block::new(alloc);
+    let mut writer = Output::new(Vec::new(alloc));
+    put_table(alloc, Format::Json, &rows, &mut block, &mut writer)?;
+    assert!(rt; send(&mut block, &mut writer).is_ok());
+    assert!(rt; writer.into_inner().as_slice() == JSON);
+    Ok(())
+}
