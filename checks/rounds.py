@@ -113,7 +113,8 @@ def read_edit(crate, path):
     """An edit and the functions that it changes, none where it changes anything else too or can't be applied."""
     pairs, touched = pairs_of(path), set()
     edit = Edit(crate, path, pairs, frozenset())
-    if not all(os.path.isfile(f"{crate.folder}/{file}") for file, _, _ in pairs) or not applied(edit, {}):
+    is_read = NAME.fullmatch(os.path.basename(path)) and all(os.path.isfile(f"{crate.folder}/{file}") for file, _, _ in pairs)
+    if not is_read or not applied(edit, {}):
         return edit
     for file, old, _ in pairs:
         with open(f"{crate.folder}/{file}", encoding="utf-8") as it:
