@@ -3,6 +3,7 @@
 use crate::beginnings::GLIDER;
 use life_apart::are_together;
 use life_ash::Known;
+use life_board::Board;
 use life_cells::CellList;
 use life_census::code_of;
 use life_islands::{independent_parts, part_orbits};
@@ -23,7 +24,9 @@ fn a_glider_has_an_orbit(rt: HostRuntime) -> Result<(), Fail> {
     let cells = pattern.cells();
     assert!(rt; cells.fits());
     let mut known = Known::new(alloc, &pattern.rule(), 100);
-    let orbit = known.orbit_of(alloc, cells, 10)?.ok_or("no orbit")?;
+    let orbit = known
+        .orbit_of::<Board>(alloc, cells, 10)?
+        .ok_or("no orbit")?;
     assert!(rt; orbit.period() == 4 && orbit.displacement() == (1, 1));
     let moved = CellList::of(alloc, MOVED)?;
     assert!(rt; orbit.moved_to(alloc, &moved)?.is_some());
@@ -41,10 +44,10 @@ fn a_traffic_light_is_four_blinkers(rt: HostRuntime) -> Result<(), Fail> {
     let pattern = read_rle(alloc, LIGHT)?;
     let cells = pattern.cells();
     assert!(rt; cells.fits());
-    let orbit = Orbit::of(alloc, &pattern.rule(), cells, 100)?.ok_or("no orbit")?;
+    let orbit = Orbit::of::<Board>(alloc, &pattern.rule(), cells, 100)?.ok_or("no orbit")?;
     assert!(rt; orbit.set().fits());
     assert!(rt; independent_parts(alloc, &orbit)?.len() == 5);
-    let parts = part_orbits(alloc, &orbit)?.ok_or("no orbits")?;
+    let parts = part_orbits::<Board>(alloc, &orbit)?.ok_or("no orbits")?;
     assert!(rt; are_together(alloc, &parts, cells)?);
     for part in &parts {
         assert!(rt; part.set().fits());
