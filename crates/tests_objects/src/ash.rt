@@ -11,6 +11,8 @@ use std::alloc::Global;
 use std::process::Abort;
 use std::test::Fail;
 
+const BLOCK_CODE: &[u8] = b"xs4_33";
+
 // A glider that vanishes with a block, and a block far off.
 const VANISHING: &[u8] = b"x = 42, y = 22\nbo$2bo$3o37b2o$40b2o17$20b2o$20b2o!";
 
@@ -18,9 +20,7 @@ const VANISHING: &[u8] = b"x = 42, y = 22\nbo$2bo$3o37b2o$40b2o17$20b2o$20b2o!";
 fn is_a_block(outcome: &Outcome) -> bool {
     match outcome {
         Outcome::Ash { onset, parts } => match parts.as_slice() {
-            [part] => {
-                *onset == 70 && part.count == 1 && part.code.as_slice() == b"xs4_33".as_slice()
-            }
+            [part] => { *onset == 70 && part.count == 1 && part.code.as_slice() == BLOCK_CODE }
             _ => false,
         },
         _ => false,

@@ -9,6 +9,12 @@ use std::sync::atomic::{AtomicU32, Ordering};
 use std::test::Fail;
 use watched::Streams;
 
+const NAMES_TEXT: &[u8] = b"xq4_153\tglider\n";
+
+const FAULTY: &[u8] = b"x = 3, y = 3\n3b?!";
+
+const NO_FILE: &[u8] = b"census: no such file.rle: ";
+
 const INQUIRY: Inquiry = Inquiry {
     bound: 100,
     cells: 1_000_000,
@@ -23,7 +29,7 @@ const NAMED: &str =
 #[test]
 fn a_text_has_its_block(rt: HostRuntime) -> Result<(), Fail> {
     let alloc = rt.alloc();
-    let names = match read_names(alloc, b"xq4_153\tglider\n")? {
+    let names = match read_names(alloc, NAMES_TEXT)? {
         Ok(names) => names,
         Err(_line) => Names::none(alloc),
     };
@@ -39,14 +45,7 @@ fn a_text_has_its_block(rt: HostRuntime) -> Result<(), Fail> {
         Err(_fault) => false,
     };
     assert!(rt; is_named);
-    let broken = block(
-        alloc,
-        &Unobserved,
-        &names,
-        None,
-        b"x = 3, y = 3\n3b?!",
-        INQUIRY,
-    )?;
+    let broken = block(alloc, &Unobserved, &names, None, FAULTY, INQUIRY)?;
     assert!(rt; broken.err() == Some(RleFault::BadChar { at: 15 }));
     Ok(())
 }
@@ -89,6 +88,6 @@ fn an_onlooker_hears_generations_up_to_three_times_the_bound(rt: HostRuntime) ->
     assert!(rt; furthest.generation.load(Ordering::SeqCst) == 300);
     let (_, output, errors) = streams.into_inner();
     assert!(rt; output.as_slice() == TOLD.as_bytes());
-    assert!(rt; errors.as_slice().starts_with(b"census: no such file.rle: "));
+    assert!(rt; errors.as_slice().starts_with(NO_FILE));
     Ok(())
 }

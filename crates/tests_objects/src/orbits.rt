@@ -11,6 +11,10 @@ use life_orbit::Orbit;
 use life_text::read_rle;
 use std::test::Fail;
 
+const BLINKER_CODE: &[u8] = b"xp2_7";
+
+const BLOCK_CODE: &[u8] = b"xs4_33";
+
 // A glider one cell further to the right and down.
 const MOVED: &[(i32, i32)] = &[(2, 1), (3, 2), (1, 3), (2, 3), (3, 3)];
 
@@ -52,9 +56,7 @@ fn a_traffic_light_is_four_blinkers(rt: HostRuntime) -> Result<(), Fail> {
     for part in &parts {
         assert!(rt; part.set().fits());
         let code = code_of(alloc, part)?;
-        assert!(rt;
-            code.as_slice() == b"xp2_7".as_slice() || code.as_slice() == b"xs4_33".as_slice()
-        );
+        assert!(rt; code.as_slice() == BLINKER_CODE || code.as_slice() == BLOCK_CODE);
     }
     Ok(())
 }

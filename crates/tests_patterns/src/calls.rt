@@ -7,6 +7,18 @@ use life_slots::{Leaf, push_row};
 use life_text::{RleFault, read_rle, write_rle};
 use std::test::Fail;
 
+const RULE: &[u8] = b"s32/b33";
+
+const LIFE: &[u8] = b"B3/S23";
+
+const SPELLED: &[u8] = b"x=3,y=3\r\n.A$2.A$3A!";
+
+const WRITTEN: &[u8] = b"B3/S23x = 3, y = 3, rule = B3/S23\nbo$2bo$3o!\n";
+
+const LEAST: &[u8] = b"153";
+
+const PREFIX: &[u8] = b"xq4_";
+
 const CELLS: &[(i32, i32)] = &[(1, 1), (0, 1), (1, 1), (-5, 0)];
 
 const IN_ORDER: &[(i32, i32)] = &[(-5, 0), (0, 1), (1, 1)];
@@ -31,12 +43,11 @@ fn cells_are_listed(rt: HostRuntime) -> Result<(), Fail> {
 #[test]
 fn texts_are_read_and_written(rt: HostRuntime) -> Result<(), Fail> {
     let mut text = Vec::new(rt.alloc());
-    Rule::parse(b"s32/b33")?.text_into(&mut text)?;
-    assert!(rt; text.as_slice() == b"B3/S23".as_slice());
-    let pattern = read_rle(rt.alloc(), b"x=3,y=3\r\n.A$2.A$3A!")?;
+    Rule::parse(RULE)?.text_into(&mut text)?;
+    assert!(rt; text.as_slice() == LIFE);
+    let pattern = read_rle(rt.alloc(), SPELLED)?;
     write_rle(&pattern.rule(), pattern.cells(), &mut text)?;
-    let written = b"B3/S23x = 3, y = 3, rule = B3/S23\nbo$2bo$3o!\n";
-    assert!(rt; text.as_slice() == written.as_slice());
+    assert!(rt; text.as_slice() == WRITTEN);
     Ok(())
 }
 
@@ -57,7 +68,7 @@ fn shapes_have_texts(rt: HostRuntime) -> Result<(), Fail> {
         same.encode(&mut text)?;
         assert!(rt; text.len() == 6);
     }
-    assert!(rt; least.into_text().as_slice() == b"153".as_slice());
+    assert!(rt; least.into_text().as_slice() == LEAST);
     Ok(())
 }
 
@@ -67,7 +78,7 @@ const LONG: &[u8] = b"xs14_123456789012345678901234567890";
 #[test]
 fn codes_are_counted(rt: HostRuntime) -> Result<(), Fail> {
     let head = prefix(rt.alloc(), 5, 4, (1, 1))?;
-    assert!(rt; head.as_slice() == b"xq4_".as_slice());
+    assert!(rt; head.as_slice() == PREFIX);
     let mut emits = Parts::none(rt.alloc());
     for _ in 0..2 {
         let code = Code::of(rt.alloc(), LONG)?;

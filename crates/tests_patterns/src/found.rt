@@ -8,6 +8,10 @@ use std::alloc::Global;
 use std::process::Abort;
 use std::test::Fail;
 
+const REFUSED: &[u8] = b"x = 3, y = 3\n3o1 2b!";
+
+const ROW_OF_THREE: &[u8] = b"x = 3, y = 1\n3o!";
+
 // The pi-heptomino, which settles in generation 173.
 const PI: &[u8] = b"x = 3, y = 3\n3o$obo$obo!";
 
@@ -15,11 +19,11 @@ const PI: &[u8] = b"x = 3, y = 3\n3o$obo$obo!";
 fn texts_are_answered(rt: HostRuntime) -> Result<(), Fail> {
     let found = answer(rt.alloc(), &Unobserved, PI, 175, None)?;
     assert!(rt; is_settled(&found, 173));
-    let refused = answer(rt.alloc(), &Unobserved, b"x = 3, y = 3\n3o1 2b!", 1, None)?;
+    let refused = answer(rt.alloc(), &Unobserved, REFUSED, 1, None)?;
     assert!(rt; matches!(refused, Answer::Refused(7)));
     let open = answer_soon(rt.alloc(), PI, 175, Some(201))?;
     assert!(rt; open.is_none());
-    let soon = answer_soon(rt.alloc(), b"x = 3, y = 1\n3o!", 175, Some(201))?;
+    let soon = answer_soon(rt.alloc(), ROW_OF_THREE, 175, Some(201))?;
     assert!(rt; matches!(&soon, Some(found) if is_settled(found, 0)));
     Ok(())
 }

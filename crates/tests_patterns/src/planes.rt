@@ -11,6 +11,10 @@ use std::alloc::{AllocError, Global};
 use std::process::Abort;
 use std::test::Fail;
 
+const SPREADING: &[u8] = b"B1/S012345678";
+
+const PI: &[u8] = b"x = 3, y = 3\n3o$obo$obo!";
+
 // A glider that moves to the right and down, across the corner of four tiles.
 const GLIDER: &[(i32, i32)] = &[(63, 62), (64, 63), (62, 64), (63, 64), (64, 64)];
 
@@ -58,7 +62,7 @@ fn calls_answer<P: Plane>(rt: &impl Abort, alloc: Global) -> Result<(), Fail> {
 
 // One cell, under the rule by which a cell with one neighbour is born and none dies, after 70 generations.
 fn a_cell_grows<P: Plane>(rt: &impl Abort, alloc: Global) -> Result<(), Fail> {
-    let rule = Rule::parse(b"B1/S012345678")?;
+    let rule = Rule::parse(SPREADING)?;
     let plane: P = after(rt, alloc, CELL, &rule, 70)?;
     let mut corners = 0_u32;
     for (x, y) in plane.cells()?.as_slice() {
@@ -144,7 +148,7 @@ fn patterns_come_again<P: Plane>(rt: &impl Abort, alloc: Global) -> Result<(), F
 
 // The pi-heptomino, whose greatest generation is the 115th, of 201 cells.
 fn a_pattern_is_too_large<P: Plane>(rt: &impl Abort, alloc: Global) -> Result<(), Fail> {
-    let pattern = read_rle(alloc, b"x = 3, y = 3\n3o$obo$obo!")?;
+    let pattern = read_rle(alloc, PI)?;
     let finding = find_limited::<P, _>(alloc, &Unobserved, &pattern, BOUND_LIMIT, Some(200))?;
     assert!(rt; matches!(&finding.outcome, Outcome::Large { generation: 115 }));
     Ok(())

@@ -10,6 +10,8 @@ use std::fmt::Display;
 use std::test::Fail;
 use watched::{Output, ReadFault};
 
+const TWO_PATTERNS: &[u8] = b"@folder a\n@file b.rle\no!\n@file c.rle\no!\n";
+
 #[test]
 fn lines_on_standard_error_are_the_texts_of_errors(rt: HostRuntime) -> Result<(), Fail> {
     const ERRORS: &[(CommandError, &str)] = &[
@@ -89,7 +91,7 @@ fn a_pattern_for_which_memory_ran_out_is_named(rt: HostRuntime) -> Result<(), Fa
     say(run_saying(error).at(&place), &mut errors);
     assert!(rt; errors.into_inner().as_slice() == LINE);
     // That of a folder is named by its path.
-    let bundle = read_bundle(rt.alloc(), b"@folder a\n@file b.rle\no!\n@file c.rle\no!\n")?;
+    let bundle = read_bundle(rt.alloc(), TWO_PATTERNS)?;
     let stopped = RunStopped::running(rt.alloc(), &bundle, RunFault::Memory { ticket });
     let path = stopped.place.path.as_ref().map(|path| path.as_slice());
     assert!(rt; path == Some(b"a/c.rle".as_slice()));
