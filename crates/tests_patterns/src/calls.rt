@@ -1,8 +1,8 @@
-//! Calls on rules, lists of cells, texts, shapes, codes and what is counted by codes.
+//! Calls on rules, lists of cells, texts, codes and what is counted by codes.
 
 use life_answer::{Code, EngineList, Parts, Tale};
-use life_cells::{CellFault, CellList, CodeFault, Orient, Rule, RuleFault, Shape, read_wechsler};
-use life_codes::{LeastText, prefix};
+use life_cells::{CellFault, CellList, CodeFault, Rule, RuleFault};
+use life_codes::prefix;
 use life_slots::{Leaf, push_row};
 use life_text::{RleFault, read_rle, write_rle};
 use std::test::Fail;
@@ -14,8 +14,6 @@ const LIFE: &[u8] = b"B3/S23";
 const SPELLED: &[u8] = b"x=3,y=3\r\n.A$2.A$3A!";
 
 const WRITTEN: &[u8] = b"B3/S23x = 3, y = 3, rule = B3/S23\nbo$2bo$3o!\n";
-
-const LEAST: &[u8] = b"153";
 
 const PREFIX: &[u8] = b"xq4_";
 
@@ -48,27 +46,6 @@ fn texts_are_read_and_written(rt: HostRuntime) -> Result<(), Fail> {
     let pattern = read_rle(rt.alloc(), SPELLED)?;
     write_rle(&pattern.rule(), pattern.cells(), &mut text)?;
     assert!(rt; text.as_slice() == WRITTEN);
-    Ok(())
-}
-
-// Phases of the glider.
-const PHASES: &[&str] = &["456", "263"];
-
-#[test]
-fn shapes_have_texts(rt: HostRuntime) -> Result<(), Fail> {
-    let mut least = LeastText::new(rt.alloc());
-    for phase in PHASES {
-        let shape = read_wechsler(rt.alloc(), phase.as_bytes())?;
-        assert!(rt; shape.width() <= 3 && shape.height() <= 3);
-        least.add(shape.list())?;
-        let (same, corner) = Shape::of(rt.alloc(), shape.list())?;
-        assert!(rt; same == shape && corner == (0, 0));
-        let mut text = same.turned(Orient::Swap)?.turned(Orient::Swap)?.text()?;
-        assert!(rt; text.as_slice() == phase.as_bytes());
-        same.encode(&mut text)?;
-        assert!(rt; text.len() == 6);
-    }
-    assert!(rt; least.into_text().as_slice() == LEAST);
     Ok(())
 }
 

@@ -15,3 +15,5 @@ mod found;
 mod kernels;
 #[cfg(test)]
 mod planes;
+#[cfg(test)]
+mod shapes;

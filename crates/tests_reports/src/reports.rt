@@ -274,7 +274,8 @@ fn streams_that_fail(rt: HostRuntime) -> Result<(), Fail> {
         let result = write_reports(&rt, alloc, form, PLAIN, INPUT, &mut streams);
         assert!(rt; matches!(result, Err(ReportsError::Write)));
         let (_, output, errors) = streams.into_inner();
-        assert!(rt; output.written.as_slice() == &whole[..20] && errors.is_empty());
+        let written = output.written.as_slice();
+        assert!(rt; written.len() == 20 && whole.starts_with(written) && errors.is_empty());
     }
     Ok(())
 }
