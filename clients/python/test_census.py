@@ -803,6 +803,22 @@ end 2 4
         self.assertEqual([row.onset for row in rows], [7, None, 7, None, None])
         self.assertEqual((rows[3].fault, rows[4].generation), (6, 248))
 
+    def test_text_and_bytes_alike(self):
+        rows = read_report(self.INTERLEAVED)
+        text = self.INTERLEAVED.decode("utf-8", "surrogateescape")
+        for given in (text, bytearray(self.INTERLEAVED), memoryview(self.INTERLEAVED)):
+            with self.subTest(type(given)):
+                self.assertEqual(read_report(given), rows)
+        with self.assertRaises(ReportFault) as caught:
+            read_report(text[:-1])
+        self.assertEqual(caught.exception.line, 16)
+        for given in (None, 3, [text]):
+            with self.subTest(given), self.assertRaises(TypeError):
+                read_report(given)
+        with self.assertRaises(CensusError) as caught:
+            read_report("open 1 0 \ud800\n")
+        self.assertEqual(caught.exception.place, "character 9")
+
     def test_growing(self):
         first, second, third, fourth = read_report(self.GROWING)
         self.assertEqual([row.status for row in (first, second, third, fourth)], ["grows", "grows", "none", "ash"])

@@ -25,7 +25,7 @@ __all__ = [
     "CensusError", "PatternFault", "CodeFault", "RuleFault", "FolderFault", "TooLong", "ReadFailed", "ReportFault", "ClaimFault", "OutOfMemory", "TimedOut", "ProgramFailed",
 ]
 
-# one RLE text
+# an RLE text, a report or claims
 Text = Union[str, bytes, bytearray, memoryview]
 # a program or a folder
 Path = Union[str, bytes, "os.PathLike[str]", "os.PathLike[bytes]"]
@@ -533,7 +533,7 @@ def _bytes_of(rle: Text, index: Optional[int] = None) -> bytes:
             raise CensusError("the text has a lone surrogate, which is no character", None, place) from None
     if isinstance(rle, (bytes, bytearray, memoryview)):
         return bytes(rle)
-    raise TypeError(f"an RLE text must be str or bytes, not {type(rle).__name__}")
+    raise TypeError(f"a text must be str or bytes, not {type(rle).__name__}")
 
 
 def _text_or_error(rle: Text, index: int) -> Union[bytes, CensusError]:
@@ -892,7 +892,7 @@ def _rows_of(ran: subprocess.CompletedProcess[bytes], asked: _Asked) -> List[Row
 # Reports
 
 
-def read_report(report: bytes) -> List[Row]:
+def read_report(report: Text) -> List[Row]:
     """The rows of a report of `census run` or `census objects`, by collection and then by pattern. Several reports one after another give the
     rows of the report that `census merge` makes of them: their collections are numbered on.
 
@@ -905,7 +905,7 @@ def read_report(report: bytes) -> List[Row]:
     `engine` line its `emits` lines give what it emits, at least one object, in the order of codes. Raises `ReportFault` at the line at
     which `census merge` finds the fault.
     """
-    return _read(report).rows()
+    return _read(_bytes_of(report)).rows()
 
 
 def _read(report: bytes) -> _Reading:
