@@ -530,7 +530,7 @@ class Tables(Room):
         rows = self.census.table(self.FOLDERS)
         numbers = [(c, i) for c, size in ((1, 4), (2, 2), (3, 4)) for i in range(1, size + 1)]
         self.assertEqual([(row.collection, row.pattern) for row in rows], numbers)
-        self.assertEqual({row.name: (row.population, row.period, row.code) for row in rows}, KNOWN)
+        self.assertEqual({row.name: (row.population, row.period, row.apgcode) for row in rows}, KNOWN)
         for row in rows:
             with self.subTest(row.name):
                 self.assertEqual(row.collection_name, self.FOLDERS[row.collection - 1])
@@ -540,9 +540,15 @@ class Tables(Room):
 
     def test_speed_of_spaceships(self):
         rows = {row.name: row for row in self.census.table(self.FOLDERS[1:2])}
-        self.assertEqual((rows["glider.rle"].dx, rows["glider.rle"].dy), (1, 1))
+        self.assertEqual(rows["glider.rle"].displacement, (1, 1))
         # LifeWiki: c/2 orthogonal; this one flies to the left
-        self.assertEqual((rows["lightweight_spaceship.rle"].dx, rows["lightweight_spaceship.rle"].dy), (-2, 0))
+        self.assertEqual(rows["lightweight_spaceship.rle"].displacement, (-2, 0))
+
+    def test_deprecated_names(self):
+        for row in self.census.table([f"{EXAMPLES}/spaceships"]):
+            self.assertEqual((row.dx, row.dy, row.code), (*row.displacement, row.apgcode))
+        row, = self.census.table([f"{EXAMPLES}/guns"], bound=20)
+        self.assertEqual((row.dx, row.dy, row.code), (None, None, None))
 
     def test_objects(self):
         rows = self.census.table([f"{EXAMPLES}/methuselahs"], objects=True)
@@ -614,7 +620,7 @@ class Tables(Room):
     def test_names_with_blanks(self):
         folder = self.folder("my patterns", **{"two  blanks": GLIDER, "caf\u00e9 1 2": BLOCK})
         rows = self.census.table([folder])
-        self.assertEqual([(row.name, row.code) for row in rows], [("caf\u00e9 1 2.rle", "xs4_33"), ("two  blanks.rle", "xq4_153")])
+        self.assertEqual([(row.name, row.apgcode) for row in rows], [("caf\u00e9 1 2.rle", "xs4_33"), ("two  blanks.rle", "xq4_153")])
         self.assertEqual({row.collection_name for row in rows}, {folder})
 
     def test_paths(self):
@@ -634,7 +640,7 @@ class Tables(Room):
         self.addCleanup(os.chdir, before)
         os.chdir(self.room)
         self.folder("--help", a=BLOCK)
-        self.assertEqual([(row.collection_name, row.code) for row in self.census.table(["--help"])], [("--help", "xs4_33")])
+        self.assertEqual([(row.collection_name, row.apgcode) for row in self.census.table(["--help"])], [("--help", "xs4_33")])
 
     def test_more_than_one_call_holds(self):
         program, calls = self.counted()
@@ -887,14 +893,14 @@ end 2 4
 
     def test_what_comes_again(self):
         row, = read_report(b"open 1 1 a\nline 1 1 ok B3/S23 5 0 4 1 1 xq4_153 b c\ncode 1 B3/S23 xq4_153 1\nclose 1 1 1 0 0\nend 1 1\n")
-        self.assertEqual((row.onset, row.period, row.dx, row.dy, row.code, row.name), (0, 4, 1, 1, "xq4_153", "b c"))
+        self.assertEqual((row.onset, row.period, row.displacement, row.apgcode, row.name), (0, 4, (1, 1), "xq4_153", "b c"))
 
     def test_from_a_bundle(self):
         bundle = b"@folder d\xff\n@file e\xfe  f\n" + BLOCK.encode() + b"\n@file g\n" + FAULTY.encode() + b"@folder h\n"
         report = subprocess.run([PROGRAM, "run"], input=bundle, stdout=subprocess.PIPE, check=True).stdout
         first, second = read_report(report)
         self.assertEqual((os.fsencode(first.collection_name), os.fsencode(first.name)), (b"d\xff", b"e\xfe  f"))
-        self.assertEqual((first.code, second.name, second.fault), ("xs4_33", "g", 5))
+        self.assertEqual((first.apgcode, second.name, second.fault), ("xs4_33", "g", 5))
 
     def test_many_interleaved(self):
         bundle = "".join(f"@folder {c}\n" + "".join(f"@file {i}\n{GLIDER}" for i in range(1, 40)) for c in range(1, 9))
@@ -974,7 +980,7 @@ end 2 4
         ends = f"{2 ** 64 - 1} {2 ** 64 - 1} {2 ** 64 - 1} {2 ** 63 - 1} {-(2 ** 63)}"
         code = f"xq{2 ** 64 - 1}_"
         row, = read_report(f"open 1 1 a\nline 1 1 ok B/S {ends} {code} {'b' * 255}\ncode 1 B/S {code} 1\nclose 1 1 1 0 0\nend 1 1\n".encode())
-        self.assertEqual((row.population, row.dx, row.dy, row.code, row.name), (2 ** 64 - 1, 2 ** 63 - 1, -(2 ** 63), code, "b" * 255))
+        self.assertEqual((row.population, row.displacement, row.apgcode, row.name), (2 ** 64 - 1, (2 ** 63 - 1, -(2 ** 63)), code, "b" * 255))
 
     def test_no_patterns(self):
         self.assertEqual(read_report(b"end 0 0\n"), [])

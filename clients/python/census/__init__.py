@@ -233,12 +233,9 @@ class Row:
     # the first generation that comes again; of `ash`, the first that is ash
     onset: Optional[int] = None
     period: Optional[int] = None
-    # how far it moves to the right
-    dx: Optional[int] = None
-    # and down
-    dy: Optional[int] = None
-    # the apgcode
-    code: Optional[str] = None
+    # how far it moves to the right and down
+    displacement: Optional[Tuple[int, int]] = None
+    apgcode: Optional[str] = None
     # the first one with too many cells
     generation: Optional[int] = None
     # the number of the RLE fault, 1 to 10; `identify` gives place and sentence. 0 where the file could not be read (`census run -k`)
@@ -247,6 +244,21 @@ class Row:
     parts: Optional[Tuple[Tuple[str, int], ...]] = None
     # by which engines it grows for ever, in the order of the report
     engines: Optional[List[Engine]] = field(default=None, hash=False)
+
+    @property
+    def dx(self) -> Optional[int]:
+        """Deprecated: `displacement[0]`."""
+        return None if self.displacement is None else self.displacement[0]
+
+    @property
+    def dy(self) -> Optional[int]:
+        """Deprecated: `displacement[1]`."""
+        return None if self.displacement is None else self.displacement[1]
+
+    @property
+    def code(self) -> Optional[str]:
+        """Deprecated: `apgcode`."""
+        return self.apgcode
 
 
 @dataclass(frozen=True)
@@ -868,7 +880,7 @@ class _Asked:
         if not re.fullmatch(_RULE, row.rule):
             return False
         if row.status == "ok":
-            return not self.objects and row.period > 0 and row.onset + row.period <= bound and bool(re.fullmatch(_CODE, row.code))
+            return not self.objects and row.period > 0 and row.onset + row.period <= bound and bool(re.fullmatch(_CODE, row.apgcode))
         if row.status == "ash":
             return self.objects and row.onset <= bound and all(re.fullmatch(_CODE, code) for code, _ in parts)
         if row.status == "grows":
@@ -1176,9 +1188,12 @@ class _Reading:
         collection.engines.append(self.told.engines.found)
         collection.status = status
         folder = os.fsdecode(collection.name)
+        if status == b"ok":
+            found["displacement"] = found.pop("dx"), found.pop("dy")
+            found["apgcode"] = found.pop("code")
         collection.lines.append(Row(collection.number, folder, _count(pattern), os.fsdecode(_name(name)), status.decode(), **found))
         if status == b"ok":
-            collection.count(found["code"], 1)
+            collection.count(found["apgcode"], 1)
 
     def _behind(self, status: bytes, rest: bytes) -> Tuple[_Collection, bytes]:
         """The collection of a line after one with this status, and what follows the numbers of both."""
