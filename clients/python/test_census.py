@@ -326,15 +326,29 @@ class Faults(Room):
         self.assertEqual((found[1].index, found[1].place, str(found[1])), (1, "rles[1]", "rles[1]: reading failed"))
 
     def test_options_out_of_range(self):
+        program, calls = self.counted()
         for bound in (0, 100001, -1):
-            with self.subTest(bound), self.assertRaises(ProgramFailed) as caught:
-                self.census.identify(GLIDER, bound=bound)
-            self.assertEqual(caught.exception.status, 2)
-            self.assertIn(str(bound), caught.exception.sentence)
-        for options in ({"cells": 0}, {"cells": 2 ** 32}, {"horizon": 0}, {"horizon": 10001}):
-            with self.subTest(options), self.assertRaises(ProgramFailed) as caught:
-                self.census.identify(GLIDER, **options)
-            self.assertEqual(caught.exception.status, 2)
+            with self.subTest(bound), self.assertRaises(ValueError) as caught:
+                program.identify(GLIDER, bound=bound)
+            self.assertEqual(str(caught.exception), f"bound must be 1 to 100000, not {bound}")
+        for options in ({"bound": 0}, {"cells": 0}, {"cells": 2 ** 32}, {"horizon": 0}, {"horizon": 10001}):
+            with self.subTest(options), self.assertRaises(ValueError):
+                program.identify(GLIDER, **options)
+            with self.subTest(options), self.assertRaises(ValueError):
+                program.identify_many([GLIDER], **options)
+        self.assertEqual(calls(), 0)
+
+    def test_options_at_the_ends_of_their_ranges(self):
+        """The program takes what is in range and refuses what is not, so that the ranges here are its own."""
+        for words, most in ((["identify", "--bound"], 100000), (["objects", "--bound"], 100000), (["run", "--bound"], 1000000),
+                            (["identify", "--cells"], 2 ** 32 - 1), (["run", "--cells"], 2 ** 32 - 1), (["objects", "--horizon"], 10000),
+                            (["run", "--workers"], 16), (["objects", "--workers"], 16)):
+            for number, status in ((0, 2), (1, 0), (most, 0), (most + 1, 2)):
+                given = GLIDER if words[0] == "identify" else f"@folder a\n@file b\n{GLIDER}"
+                ran = subprocess.run([PROGRAM, *words[:-1], f"{words[-1]}={number}"], input=given.encode(), stdout=subprocess.DEVNULL,
+                                     stderr=subprocess.DEVNULL, check=False)
+                with self.subTest((words, number)):
+                    self.assertEqual(ran.returncode, status)
 
     def test_out_of_memory(self):
         # the program reports what it can, and then stops
@@ -430,9 +444,21 @@ class Faults(Room):
                     Census(path)
 
     def test_no_program(self):
-        for path, error in ((f"{self.room}/none", FileNotFoundError), (self.room, PermissionError), (__file__, OSError)):
-            with self.subTest(path), self.assertRaises(error):
-                Census(path).identify(GLIDER)
+        for path, error in ((f"{self.room}/none", FileNotFoundError), (self.room, PermissionError), (__file__, PermissionError)):
+            with self.subTest(path), self.assertRaises(error) as caught:
+                Census(path)
+            self.assertEqual(caught.exception.filename, path)
+        with mock.patch.dict(os.environ, {"PATH": self.room}):
+            for words in ((), ("other",)):
+                with self.subTest(words), self.assertRaises(FileNotFoundError) as caught:
+                    Census(*words)
+                self.assertIn("on the PATH", str(caught.exception))
+
+    def test_a_program_that_goes(self):
+        program = self.script("exit 0")
+        os.remove(program.program)
+        with self.assertRaises(FileNotFoundError):
+            program.identify(GLIDER)
 
     def test_errors_can_be_pickled(self):
         errors = [
@@ -687,11 +713,12 @@ class Tables(Room):
         self.assertEqual(caught.exception.place, folder)
 
     def test_options_out_of_range(self):
+        program, calls = self.counted()
         for options in ({"bound": 0}, {"bound": 1000001}, {"workers": 17}, {"cells": 0}, {"bound": 100001, "objects": True},
-                        {"horizon": 0, "objects": True}, {"horizon": 10001, "objects": True}):
-            with self.subTest(options), self.assertRaises(ProgramFailed) as caught:
-                self.census.table(self.FOLDERS, **options)
-            self.assertEqual(caught.exception.status, 2)
+                        {"workers": 0}, {"horizon": 0, "objects": True}, {"horizon": 10001, "objects": True}):
+            with self.subTest(options), self.assertRaises(ValueError):
+                program.table(self.FOLDERS, **options)
+        self.assertEqual(calls(), 0)
         with self.assertRaises(TypeError):
             self.census.table(self.FOLDERS, workers="4")
 
@@ -1210,9 +1237,9 @@ class LaterAndDrawn(Room):
 
     def test_generations_out_of_range(self):
         for generations in (-1, 4_194_305):
-            with self.assertRaises(ProgramFailed) as raised:
+            with self.assertRaises(ValueError) as raised:
                 self.census.advance(BLINKER, generations)
-            self.assertEqual(raised.exception.status, 2)
+            self.assertEqual(str(raised.exception), f"generations must be 0 to 4194304, not {generations}")
         with self.assertRaises(TypeError):
             self.census.advance(BLINKER, 1.0)
 
@@ -1261,7 +1288,7 @@ class Module(unittest.TestCase):
             tree = ast.parse(it.read(), feature_version=(3, 8))
         names = {node.module for node in ast.walk(tree) if isinstance(node, ast.ImportFrom)}
         names |= {alias.name for node in ast.walk(tree) if isinstance(node, ast.Import) for alias in node.names}
-        self.assertEqual(names, {"__future__", "dataclasses", "json", "operator", "os", "re", "signal", "subprocess", "tempfile", "typing"})
+        self.assertEqual(names, {"__future__", "dataclasses", "errno", "json", "operator", "os", "re", "shutil", "signal", "subprocess", "tempfile", "typing"})
 
     def test_examples(self):
         before = os.getcwd()

@@ -10,10 +10,12 @@ the standard library. It uses no shell.
 """
 from __future__ import annotations
 
+import errno
 import json
 import operator
 import os
 import re
+import shutil
 import signal
 import subprocess
 import tempfile
@@ -320,13 +322,15 @@ class Census:
 
     `timeout` is how many seconds each call of it may take, or None for any. Some patterns grow without end, and take long where the bound
     is great. Each call of a method starts the program anew, so that a `Census` may be used by several threads at once.
+
+    Raises `FileNotFoundError` or `PermissionError` where there is no such program, or none that may be run. In each method a number that is
+    out of its range raises `ValueError` before anything runs.
     """
 
     def __init__(self, program: Path = "census", *, timeout: Optional[float] = None) -> None:
-        path = _path_of(program)
         # (the program may be called from another folder)
-        self.program = os.path.abspath(path) if os.path.dirname(path) else path
-        self.timeout = timeout
+        self.program: str = os.path.abspath(_found_program(_path_of(program)))
+        self.timeout: Optional[float] = timeout
 
     def __repr__(self) -> str:
         return f"Census({self.program!r}, timeout={self.timeout!r})"
@@ -410,7 +414,8 @@ class Census:
             raise TypeError("near goes with objects alone")
         if horizon is not None and not objects:
             raise TypeError("horizon goes with objects alone")
-        options = [*_question(bound, near, cells, horizon), *_option("workers", workers), "--"]
+        most = _MOST_BOUND if objects else _MOST_BOUND_OF_RUN
+        options = [*_question(bound, near, cells, horizon, most), *_option("workers", workers, _MOST_WORKERS), "--"]
         rows: List[Row] = []
         before = 0
         for names in _batches([_path_of(folder) for folder in folders]):
@@ -472,7 +477,8 @@ class Census:
 
         Raises what `identify` raises.
         """
-        ran = self._run(["advance", "--explain", "--", str(operator.index(generations)), "-"], _bytes_of(rle))
+        number = _number("generations", generations, 0, _MOST_GENERATIONS)
+        ran = self._run(["advance", "--explain", "--", str(number), "-"], _bytes_of(rle))
         if ran.returncode == 1:
             raise _fault_of_text(ran)
         return _text_of(ran)
@@ -520,9 +526,40 @@ class Census:
         return None
 
 
-def _option(name: str, value: Optional[int]) -> List[str]:
-    """The words for an option; the program reports a number that is out of range."""
-    return [] if value is None else [f"--{name}={operator.index(value)}"]
+def _found_program(path: str) -> str:
+    """The path of the program that is meant by a path, or by a name on the PATH."""
+    if not os.path.dirname(path):
+        found = shutil.which(path)
+        if found is None:
+            raise FileNotFoundError(errno.ENOENT, "there is no such program on the PATH: give Census the path of the program census", path)
+        return found
+    if not os.path.exists(path):
+        raise FileNotFoundError(errno.ENOENT, "there is no such program", path)
+    if os.path.isdir(path) or not os.access(path, os.X_OK):
+        raise PermissionError(errno.EACCES, "this is no program that may be run", path)
+    return path
+
+
+def _number(name: str, value: int, least: int, most: int) -> int:
+    """A number of this range."""
+    number = operator.index(value)
+    if not least <= number <= most:
+        raise ValueError(f"{name} must be {least} to {most}, not {number}")
+    return number
+
+
+# the greatest values of options; the bound of `identify` and `objects`, and that of `run`
+_MOST_CELLS = (1 << 32) - 1
+_MOST_HORIZON = 10000
+_MOST_WORKERS = 16
+_MOST_BOUND = 100000
+_MOST_BOUND_OF_RUN = 1000000
+_MOST_GENERATIONS = 4194304
+
+
+def _option(name: str, value: Optional[int], most: int) -> List[str]:
+    """The words for an option whose value is 1 to a greatest one."""
+    return [] if value is None else [f"--{name}={_number(name, value, 1, most)}"]
 
 
 def _flag(name: str, is_used: bool) -> List[str]:
@@ -530,9 +567,11 @@ def _flag(name: str, is_used: bool) -> List[str]:
     return [f"--{name}"] if is_used else []
 
 
-def _question(bound: Optional[int], near: bool, cells: Optional[int], horizon: Optional[int]) -> List[str]:
-    """The words for what is asked of each pattern."""
-    return [*_option("bound", bound), *_flag("near", near), *_option("cells", cells), *_option("horizon", horizon)]
+def _question(bound: Optional[int], near: bool, cells: Optional[int], horizon: Optional[int], most: int = _MOST_BOUND) -> List[str]:
+    """The words for what is asked of each pattern; the bound is at most `most`."""
+    return [
+        *_option("bound", bound, most), *_flag("near", near), *_option("cells", cells, _MOST_CELLS), *_option("horizon", horizon, _MOST_HORIZON)
+    ]
 
 
 def _bytes_of(rle: Text, index: Optional[int] = None) -> bytes:
