@@ -319,7 +319,7 @@ class Faults(Room):
         self.assertEqual((caught.exception.place, caught.exception.index), ("rles[1]", 1))
 
     def test_unreadable(self):
-        gone = self.script(f"rm -f 1\nexec '{PROGRAM}' \"$@\"")
+        gone = self.script(f"rm -f 1.rle\nexec '{PROGRAM}' \"$@\"")
         found = gone.identify_many([GLIDER, BLOCK, BLINKER], return_exceptions=True)
         self.assertEqual((found[0].apgcode, found[2].apgcode), ("xq4_153", "xp2_7"))
         self.assertIsInstance(found[1], ReadFailed)
@@ -474,12 +474,61 @@ class Faults(Room):
 
 
 class IdentifyMany(Room):
-    def test_one_call(self):
+    def test_as_identify(self):
+        """Of every outcome, what `identify` answers."""
+        two = rle_of(cells_of(GLIDER) | {(x + 40, y) for x, y in cells_of(GLIDER)})
+        apart = rle_of(cells_of(BLOCK) | {(x + 40, y) for x, y in cells_of(GLIDER)})
+        chance = random.Random("identify_many")
+        soups = [rle_of({(x, y) for x in range(9) for y in range(9) if chance.randrange(2)}) for _ in range(8)]
+        texts = [GLIDER, BLINKER, BLOCK, GUN, TEN_CELLS, LIGHT_AND_GLIDER, DIEHARD, R_PENTOMINO, FAULTY, "3o!", "x = 0, y = 0\n!", two, apart,
+                 "#C a\r\n@file b\r\n" + BLOCK, BLOCK + "\n@folder a\n", "x = 2, y = 2, rule = 23/36\n$$bb$3b2o$3b2o!", *soups]
+        for options in ({"bound": 20}, {"bound": 200, "near": True}, {"bound": 100, "horizon": 20}, {"bound": 100, "cells": 40},
+                        {"bound": 200, "workers": 1}):
+            found = self.census.identify_many(texts, return_exceptions=True, **options)
+            alone = {key: value for key, value in options.items() if key != "workers"}
+            for text, answer in zip(texts, found):
+                with self.subTest((options, text)):
+                    try:
+                        wanted = self.census.identify(text, **alone)
+                    except PatternFault as fault:
+                        self.assertEqual((answer.args[:5], answer.index), (fault.args[:5], texts.index(text)))
+                    else:
+                        self.assertEqual(answer, wanted)
+
+    def test_a_program_that_lies(self):
+        """Reports of other patterns, of other rules or populations, or with other statuses than the texts allow."""
+        head = "rule B3/S23;population 4;box 2 2;unresolved 1"
+        ash = "ash B3/S23 4 0 1 0.rle;part 1 1 xs4_33 1;code 1 B3/S23 xs4_33 1"
+        ok = "ok B3/S23 4 0 1 0 0 xs4_33 0.rle;code 1 B3/S23 xs4_33 1"
+
+        def lying(objects, run):
+            reports = [f"open 1 1 .;line 1 1 {lines};close 1 1 1 0 0;end 1 1".replace(";", "\n") for lines in (objects, run)]
+            text = f"file 0.rle;{head}".replace(";", "\n")
+            return self.script(f"case $1 in\nidentify) echo '{text}';;\nobjects) echo '{reports[0]}';;\n*) echo '{reports[1]}';;\nesac")
+
+        self.assertEqual(lying(ash, ok).identify_many([BLOCK]), [self.census.identify(BLOCK)])
+        for objects, run in ((ash.replace("4 0 1", "5 0 1"), ok), (ash.replace("B3/S23", "B36/S23"), ok), (ash, ok.replace("4 0 1", "5 0 1")),
+                             (ash.replace("0.rle", "1.rle"), ok), (ash, ok.replace("0.rle", "1.rle")), (ok, ok), (ash, ash), ("bad 1 0.rle", ok),
+                             (ash, "bad 1 0.rle")):
+            with self.subTest((objects, run)), self.assertRaises(ProgramFailed):
+                lying(objects, run).identify_many([BLOCK])
+
+    def test_a_few_calls(self):
         program, calls = self.counted()
         texts = [GLIDER, BLINKER.encode(), BLOCK] * 700
         found = program.identify_many(texts)
         self.assertEqual([it.apgcode for it in found], ["xq4_153", "xp2_7", "xs4_33"] * 700)
-        self.assertEqual(calls(), 1)
+        self.assertEqual(calls(), 3)
+
+    def test_no_call_more_than_is_needed(self):
+        for texts, count in (([LIGHT_AND_GLIDER], 2), ([FAULTY], 1)):
+            program, calls = self.counted()
+            before = calls()
+            program.identify_many(texts, return_exceptions=True)
+            self.assertEqual(calls() - before, count)
+        with self.assertRaises(PatternFault):
+            program.identify_many([GLIDER, FAULTY])
+        self.assertEqual(calls() - before, 2)
 
     def test_no_texts(self):
         program, calls = self.counted()
@@ -507,10 +556,10 @@ class IdentifyMany(Room):
     def test_more_than_one_call_holds(self):
         program, calls = self.counted()
         texts = [GLIDER, BLINKER, FAULTY] * 40
-        # each word takes 10 to 12 bytes
-        with mock.patch.object(census, "_room", lambda: 500):
+        # each word takes 14 to 16 bytes
+        with mock.patch.object(census, "_room", lambda: 700):
             found = program.identify_many(texts, return_exceptions=True)
-        self.assertTrue(2 <= calls() <= 4, calls())
+        self.assertTrue(2 <= calls() / 3 <= 4, calls())
         self.assertEqual([getattr(it, "apgcode", None) for it in found], ["xq4_153", "xp2_7", None] * 40)
         self.assertEqual([it.index for it in found[2::3]], list(range(2, 120, 3)))
 

@@ -346,27 +346,30 @@ class Census:
         Raises `PatternFault`, `TooLong`, `OutOfMemory`, `TimedOut`, `ProgramFailed`, or `CensusError` itself; `OSError` where the program
         can't be started.
         """
-        ran = self._run(["identify", *_question(bound, near, cells, horizon)], _bytes_of(rle))
-        answer = _answers(ran, ["-"], bound, horizon)["-"]
+        ran = self._run(["identify", *_Question.of_objects(bound, near, cells, horizon).options()], _bytes_of(rle))
+        answer = _answers(ran, ["-"], 10000 if bound is None else bound, horizon)["-"]
         if isinstance(answer, CensusError):
             raise answer
         return answer
 
     @overload
     def identify_many(self, rles: Iterable[Text], *, bound: Optional[int] = None, near: bool = False, cells: Optional[int] = None,
-                      horizon: Optional[int] = None, return_exceptions: Literal[False] = False) -> List[Pattern]: ...
+                      horizon: Optional[int] = None, workers: Optional[int] = None, return_exceptions: Literal[False] = False) -> List[Pattern]: ...
 
     @overload
     def identify_many(self, rles: Iterable[Text], *, bound: Optional[int] = None, near: bool = False, cells: Optional[int] = None,
-                      horizon: Optional[int] = None, return_exceptions: Literal[True]) -> List[Union[Pattern, CensusError]]: ...
+                      horizon: Optional[int] = None, workers: Optional[int] = None, return_exceptions: Literal[True]) -> List[Union[Pattern, CensusError]]: ...
 
     def identify_many(self, rles: Iterable[Text], *, bound: Optional[int] = None, near: bool = False, cells: Optional[int] = None,
-                      horizon: Optional[int] = None, return_exceptions: bool = False
+                      horizon: Optional[int] = None, workers: Optional[int] = None, return_exceptions: bool = False
                       ) -> Union[List[Pattern], List[Union[Pattern, CensusError]]]:
-        """What `identify` reports of each RLE text, in order, by one call of the program.
+        """What `identify` reports of each RLE text, in order, by three calls of the program, of which two use `workers` threads, 1 to 16
+        (None: one for each processor).
 
-        The texts go to files in a temporary folder. One call holds the number of texts that the system allows, some 100,000 on Linux; more
-        texts take several calls in turn. Without a text there is no call.
+        The texts go to files in a temporary folder. `census identify` with a bound of 1 reads them all, for the faults and generation 0.
+        Then `census objects`, and for what may recur as a whole `census run`, report what becomes of them: `identify` answers with what
+        `run` finds within the bound, where that recurs, and else with what `objects` finds. The calls hold as many texts as the system and
+        a collection allow, some 65,000 on Linux; more texts take more calls in turn. Without a text there is no call.
 
         Where texts have faults, the error of the first is raised; with `return_exceptions` the error of each stands in its place in the
         list instead: `PatternFault`, `TooLong`, `ReadFailed` where the text's file was taken away, or `CensusError` itself where a text has
@@ -374,25 +377,63 @@ class Census:
         """
         if isinstance(rles, (str, bytes, bytearray, memoryview)):
             raise TypeError("rles must be a list of texts; identify takes one text")
+        question = _Question.of_objects(bound, near, cells, horizon, min(os.cpu_count() or 1, 16) if workers is None else workers)
         texts = [_text_or_error(rle, index) for index, rle in enumerate(rles)]
+        files = {f"{index}.rle": text for index, text in enumerate(texts) if not isinstance(text, CensusError)}
         found: Dict[str, Union[Pattern, CensusError]] = {
-            str(index): text for index, text in enumerate(texts) if isinstance(text, CensusError)
+            f"{index}.rle": text for index, text in enumerate(texts) if isinstance(text, CensusError)
         }
-        options = _question(bound, near, cells, horizon)
-        judged = 0
-        for names in _batches([str(index) for index in range(len(texts)) if str(index) not in found]):
+        for names in _batches(list(files)):
             with tempfile.TemporaryDirectory(prefix="census-") as folder:
                 for name in names:
                     with open(os.path.join(folder, name), "wb") as it:
-                        it.write(texts[int(name)])
-                found.update(_answers(self._run(["identify", *options, *names], folder=folder), names, bound, horizon))
-            if not return_exceptions:
-                _raise_first([found[str(index)] for index in range(judged, int(names[-1]) + 1)])
-            judged = int(names[-1]) + 1
-        answers = [found[str(index)] for index in range(len(texts))]
+                        it.write(files[name])
+                found.update(self._beginnings(folder, names, question))
+                if not return_exceptions:
+                    _raise_first([found[f"{index}.rle"] for index in range(_index_of(names[-1]) + 1)])
+                found.update(self._outcomes(folder, {name: found[name] for name in names}, question))
+        answers = [found[f"{index}.rle"] for index in range(len(texts))]
         if not return_exceptions:
             _raise_first(answers)
         return answers
+
+    def _beginnings(self, folder: str, names: List[str], question: _Question) -> Dict[str, Union[Pattern, CensusError]]:
+        """What the files of these names in a folder are in generation 0, or what is wrong with them. Files with faults are removed."""
+        ran = self._run(["identify", "--bound=1", *_option("cells", question.cells, _MOST_CELLS), "--", *names], folder=folder)
+        found = _answers(ran, names, 1, None)
+        for name, answer in found.items():
+            if isinstance(answer, CensusError):
+                _remove(folder, name)
+            else:
+                found[name] = Pattern(answer.rule, answer.population, answer.box)
+        return found
+
+    def _outcomes(self, folder: str, begun: Dict[str, Union[Pattern, CensusError]], question: _Question) -> Dict[str, Pattern]:
+        """What becomes of the patterns of a folder, of which this is known of generation 0. It removes files of the folder."""
+        patterns = {name: pattern for name, pattern in begun.items() if isinstance(pattern, Pattern)}
+        rows = self._rows_in(folder, patterns, question)
+        for name, row in rows.items():
+            if not _may_recur(row):
+                _remove(folder, name)
+        again = {name: patterns[name] for name, row in rows.items() if _may_recur(row)}
+        settled = self._rows_in(folder, again, replace(question, objects=False))
+        rows.update((name, row) for name, row in settled.items() if row.status == "ok")
+        return {name: _with_outcome(pattern, rows[name], question.bound) for name, pattern in patterns.items()}
+
+    def _rows_in(self, folder: str, patterns: Dict[str, Pattern], question: _Question) -> Dict[str, Row]:
+        """What is reported of the files of a folder, by their names. The folder must have these patterns."""
+        if not patterns:
+            return {}
+        listed = sorted(map(os.fsencode, patterns))
+        ran = self._run([*question.words(), "--", "."], folder=folder)
+        if ran.returncode != 0:
+            raise _failure(ran)
+        rows = {row.name: row for row in _rows_of(ran, _Asked(["."], [listed], question))}
+        if sorted(map(os.fsencode, rows)) != listed or any(
+            (row.rule, row.population) != (patterns[name].rule, patterns[name].population) for name, row in rows.items()
+        ):
+            raise ProgramFailed(ran.returncode, "a report of other patterns than were asked of")
+        return rows
 
     def table(self, folders: Iterable[Path], *, objects: bool = False, near: bool = False, bound: Optional[int] = None,
               workers: Optional[int] = None, cells: Optional[int] = None, horizon: Optional[int] = None) -> List[Row]:
@@ -414,17 +455,15 @@ class Census:
             raise TypeError("near goes with objects alone")
         if horizon is not None and not objects:
             raise TypeError("horizon goes with objects alone")
-        most = _MOST_BOUND if objects else _MOST_BOUND_OF_RUN
-        options = [*_question(bound, near, cells, horizon, most), *_option("workers", workers, _MOST_WORKERS), "--"]
+        question = _Question.of_objects(bound, near, cells, horizon, workers) if objects else _Question.of_run(bound, cells, workers)
         rows: List[Row] = []
         before = 0
         for names in _batches([_path_of(folder) for folder in folders]):
             listed = [_names_in(name) for name in names]
-            ran = self._run(["objects" if objects else "run", *options, *names])
+            ran = self._run([*question.words(), "--", *names])
             if ran.returncode != 0:
                 self._raise_of_folders(ran, names)
-            asked = _Asked(names, listed, objects, bound, cells, horizon)
-            rows += [replace(row, collection=before + row.collection) for row in _rows_of(ran, asked)]
+            rows += [replace(row, collection=before + row.collection) for row in _rows_of(ran, _Asked(names, listed, question))]
             before += len(names)
         return rows
 
@@ -567,11 +606,60 @@ def _flag(name: str, is_used: bool) -> List[str]:
     return [f"--{name}"] if is_used else []
 
 
-def _question(bound: Optional[int], near: bool, cells: Optional[int], horizon: Optional[int], most: int = _MOST_BOUND) -> List[str]:
-    """The words for what is asked of each pattern; the bound is at most `most`."""
-    return [
-        *_option("bound", bound, most), *_flag("near", near), *_option("cells", cells, _MOST_CELLS), *_option("horizon", horizon, _MOST_HORIZON)
-    ]
+@dataclass(frozen=True)
+class _Question:
+    """What is asked of each pattern, with every number in its range."""
+
+    objects: bool
+    bound: int
+    near: bool
+    # None: any number
+    cells: Optional[int]
+    horizon: int
+    # None: the program's own number
+    workers: Optional[int]
+
+    @staticmethod
+    def of_objects(bound: Optional[int], near: bool, cells: Optional[int], horizon: Optional[int], workers: Optional[int] = None) -> _Question:
+        """The question of `objects` and `identify`, with the program's defaults."""
+        return _Question(
+            True, _number("bound", 10000 if bound is None else bound, 1, _MOST_BOUND), near,
+            _number("cells", 1000000 if cells is None else cells, 1, _MOST_CELLS),
+            _number("horizon", 1000 if horizon is None else horizon, 1, _MOST_HORIZON), _workers(workers),
+        )
+
+    @staticmethod
+    def of_run(bound: Optional[int], cells: Optional[int], workers: Optional[int]) -> _Question:
+        """The question of `run`, with the program's defaults."""
+        return _Question(
+            False, _number("bound", 1000 if bound is None else bound, 1, _MOST_BOUND_OF_RUN), False,
+            None if cells is None else _number("cells", cells, 1, _MOST_CELLS), 1000, _workers(workers),
+        )
+
+    def options(self) -> List[str]:
+        """The words of the options for it, without the workers."""
+        grown = [*_flag("near", self.near), f"--horizon={self.horizon}"] if self.objects else []
+        return [f"--bound={self.bound}", *grown, *_option("cells", self.cells, _MOST_CELLS)]
+
+    def words(self) -> List[str]:
+        """The words of the command that asks it, without its folders."""
+        return ["objects" if self.objects else "run", *self.options(), *_option("workers", self.workers, _MOST_WORKERS)]
+
+    def period_limit(self) -> int:
+        """The most generations after which an engine comes again."""
+        return min(self.bound, self.horizon)
+
+
+def _workers(workers: Optional[int]) -> Optional[int]:
+    return None if workers is None else _number("workers", workers, 1, _MOST_WORKERS)
+
+
+def _remove(folder: str, name: str) -> None:
+    """Removes a file of a folder, where it is still there."""
+    try:
+        os.remove(os.path.join(folder, name))
+    except FileNotFoundError:
+        pass
 
 
 def _bytes_of(rle: Text, index: Optional[int] = None) -> bytes:
@@ -638,7 +726,7 @@ def _batches(words: List[str]) -> Iterator[List[str]]:
     for word in words:
         # its bytes, the one that ends them, and its address
         size = len(os.fsencode(word)) + 9
-        if batch and size > left:
+        if batch and (size > left or len(batch) == _MOST):
             yield batch
             batch, left = [], room
         batch.append(word)
@@ -767,8 +855,8 @@ def _same_of(ran: subprocess.CompletedProcess[bytes]) -> List[Same]:
     return [Same(rule, code, tuple(patterns)) for (rule, code), patterns in found.items()]
 
 
-_FAULT = re.compile(r"census: ([0-9]+|-):([0-9]+):([0-9]+): (.*) \(rle fault ([0-9]+)(?: at ([0-9]+))?\)")
-_REFUSED = re.compile(r"census: ([0-9]+|-): (?:.* \()?(read failed|input too long)\)?")
+_FAULT = re.compile(r"census: ([0-9]+\.rle|-):([0-9]+):([0-9]+): (.*) \(rle fault ([0-9]+)(?: at ([0-9]+))?\)")
+_REFUSED = re.compile(r"census: ([0-9]+\.rle|-): (?:.* \()?(read failed|input too long)\)?")
 
 
 def _error_of(line: str) -> Optional[Tuple[str, CensusError]]:
@@ -785,10 +873,11 @@ def _error_of(line: str) -> Optional[Tuple[str, CensusError]]:
 
 
 def _index_of(name: str) -> Optional[int]:
-    return None if name == "-" else int(name)
+    """The place in its list of the text that a file of the temporary folder has, None of standard input."""
+    return None if name == "-" else int(name[:-len(".rle")])
 
 
-def _answers(ran: subprocess.CompletedProcess[bytes], names: List[str], bound: Optional[int], horizon: Optional[int]
+def _answers(ran: subprocess.CompletedProcess[bytes], names: List[str], bound: int, horizon: Optional[int]
              ) -> Dict[str, Union[Pattern, CensusError]]:
     """What `census identify` has reported of each of these files within bound and horizon, where `-` is standard input."""
     told: List[Tuple[str, Union[Pattern, CensusError]]] = []
@@ -799,8 +888,7 @@ def _answers(ran: subprocess.CompletedProcess[bytes], names: List[str], bound: O
     try:
         text = ran.stdout.decode("ascii")
         _demand(not text or text.endswith("\n"))
-        most = 10000 if bound is None else bound
-        told += [_pattern_of(block, most, _period_limit(most, horizon)) for block in text[:-1].split("\n\n") if text]
+        told += [_pattern_of(block, bound, min(bound, 1000 if horizon is None else horizon)) for block in text[:-1].split("\n\n") if text]
     except ValueError:
         raise _failure(ran) from None
     answers = dict(told)
@@ -824,7 +912,7 @@ _CODE = r"x[spq][0-9]+_[0-9a-z]+"
 _COUNT = r"(?:0|[1-9][0-9]{0,19})"
 _OFFSET = r"(?:0|-?[1-9][0-9]{0,18})"
 
-_BLOCK = re.compile(rf"""(?:file (?P<file>[0-9]+)\n)?rule (?P<rule>{_RULE})
+_BLOCK = re.compile(rf"""(?:file (?P<file>[0-9]+\.rle)\n)?rule (?P<rule>{_RULE})
 population (?P<population>{_COUNT})
 box (?P<width>{_COUNT}) (?P<height>{_COUNT})
 (?:onset (?P<onset>{_COUNT})
@@ -834,11 +922,6 @@ apgcode (?P<code>{_CODE})|onset (?P<first>{_COUNT})
 objects (?P<objects>{_COUNT})(?P<parts>(?:\npart {_CODE} {_COUNT})*)|engines (?P<engines>{_COUNT})(?P<tales>(?:
 (?:engine|emits) .*)*)|large (?P<large>{_COUNT})|unresolved (?P<bound>{_COUNT}))""")
 _PART = re.compile(rf"part ({_CODE}) ({_COUNT})")
-
-
-def _period_limit(bound: int, horizon: Optional[int]) -> int:
-    """The most generations after which an engine comes again."""
-    return min(bound, 1000 if horizon is None else horizon)
 
 
 def _are_within(engines: List[Engine], longest: int) -> bool:
@@ -892,10 +975,7 @@ class _Asked:
     folders: List[str]
     # the names of the patterns of each folder before the call, or None where it could not be listed
     listed: List[Optional[List[bytes]]]
-    objects: bool
-    bound: Optional[int]
-    cells: Optional[int]
-    horizon: Optional[int]
+    question: _Question
 
     def fits(self, reading: _Reading) -> bool:
         """Whether what was read has the folders, their patterns and for each what was asked."""
@@ -913,20 +993,40 @@ class _Asked:
         return is_lawful and (listed == names or has_changed) and all(self._fits_row(*row) for row in rows)
 
     def _fits_row(self, row: Row, parts: List[Tuple[str, int]], engines: List[Engine]) -> bool:
-        bound = self.bound if self.bound is not None else 10000 if self.objects else 1000
+        objects, bound = self.question.objects, self.question.bound
         if row.status == "bad":
             return 1 <= row.fault <= 10
         if not re.fullmatch(_RULE, row.rule):
             return False
         if row.status == "ok":
-            return not self.objects and row.period > 0 and row.onset + row.period <= bound and bool(re.fullmatch(_CODE, row.apgcode))
+            return not objects and row.period > 0 and row.onset + row.period <= bound and bool(re.fullmatch(_CODE, row.apgcode))
         if row.status == "ash":
-            return self.objects and row.onset <= bound and all(re.fullmatch(_CODE, code) for code, _ in parts)
+            return objects and row.onset <= bound and all(re.fullmatch(_CODE, code) for code, _ in parts)
         if row.status == "grows":
-            return self.objects and _are_within(engines, _period_limit(bound, self.horizon))
+            return objects and _are_within(engines, self.question.period_limit())
         if row.status == "large":
-            return (self.objects or self.cells is not None) and row.generation <= bound * (3 if self.objects else 1)
+            return self.question.cells is not None and row.generation <= bound * (3 if objects else 1)
         return True
+
+
+def _may_recur(row: Row) -> bool:
+    """Whether a pattern may recur as a whole, of which `census objects` reports this.
+
+    What grows doesn't. What has too many cells doesn't within the bound: its generations would be as large before. Nor does what leaves both
+    objects that move and objects that stay, since they go ever further apart.
+    """
+    if row.status == "ash":
+        return len({code.startswith("xq") for code, _ in row.parts}) < 2
+    return row.status == "none"
+
+
+def _with_outcome(pattern: Pattern, row: Row, bound: int) -> Pattern:
+    """What is known of generation 0 of a pattern, with what a report says becomes of it within the bound."""
+    return replace(
+        pattern, onset=row.onset, period=row.period, displacement=row.displacement, apgcode=row.apgcode,
+        objects=dict(row.parts) if row.status == "ash" else None, unresolved=bound if row.status == "none" else None,
+        engines=row.engines, large=row.generation,
+    )
 
 
 def _rows_of(ran: subprocess.CompletedProcess[bytes], asked: _Asked) -> List[Row]:
