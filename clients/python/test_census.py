@@ -824,6 +824,40 @@ class Tables(Room):
         self.assertIn("no whole report", caught.exception.sentence)
 
 
+class Bundles(Room):
+    """`run` and `objects` of texts."""
+
+    def test_names_and_lists(self):
+        texts = {"two  words": GLIDER, "\u00e9": BLOCK, "a": FAULTY.encode(), "empty": "", "gun": GUN}
+        rows = self.census.run(texts=texts, bound=50)
+        self.assertEqual([row.name for row in rows], list(texts))
+        self.assertEqual([row.status for row in rows], ["ok", "ok", "bad", "bad", "none"])
+        self.assertEqual((rows[0].apgcode, rows[2].fault, rows[3].fault, rows[0].collection_name), ("xq4_153", 5, 1, "texts"))
+        rows = self.census.objects(texts=iter([GLIDER, LIGHT_AND_GLIDER, GUN]), bound=100, near=True, workers=2)
+        self.assertEqual([(row.name, row.status, row.pattern) for row in rows], [("1", "ash", 1), ("2", "ash", 2), ("3", "grows", 3)])
+        self.assertEqual(rows[1].parts, (("xq4_153", 1), ("xp2_s01110szw222", 1)))
+        self.assertEqual((self.census.run(texts=[]), self.census.objects(texts={}), self.census.run()), ([], [], []))
+
+    def test_what_is_refused(self):
+        program, calls = self.counted()
+        for name in ("", " a", "a ", "a\nb", "a\x7f", "a" * 256):
+            with self.subTest(name), self.assertRaises(ValueError) as caught:
+                program.run(texts={name: BLOCK})
+            self.assertIn("is not lawful", str(caught.exception))
+        for text, line in ((BLOCK + "\n@file b\n", 3), ("@", 1)):
+            with self.subTest(text), self.assertRaises(ValueError) as caught:
+                program.objects(texts=[BLOCK, text])
+            self.assertIn(f"line {line} of the text '2' begins with @", str(caught.exception))
+        for texts in (GLIDER, b"", 3, [3], {"a": None}):
+            with self.subTest(texts), self.assertRaises(TypeError):
+                program.run(texts=texts)
+        with self.assertRaises(TypeError):
+            program.run([EXAMPLES], texts=[GLIDER])
+        self.assertEqual(calls(), 0)
+        with self.assertRaises(ProgramFailed):
+            self.told("open 1 1 texts;line 1 1 none B3/S23 4 2;close 1 1 0 1 0;end 1 1").run(texts=[BLOCK])
+
+
 class Reports(Room):
     INTERLEAVED = b"""open 2 3 \xff\xfe
 open 1 2 first  one

@@ -20,7 +20,7 @@ import signal
 import subprocess
 import tempfile
 from dataclasses import dataclass, field, replace
-from typing import Callable, Dict, Iterable, Iterator, List, Literal, NoReturn, Optional, Set, Tuple, Union, overload
+from typing import Callable, Dict, Iterable, Iterator, List, Literal, Mapping, NoReturn, Optional, Set, Tuple, Union, overload
 
 __all__ = [
     "Census", "Code", "Disagreement", "Engine", "Pattern", "Row", "Same", "read_report",
@@ -29,6 +29,8 @@ __all__ = [
 
 # an RLE text, a report or claims
 Text = Union[str, bytes, bytearray, memoryview]
+# RLE texts by their names, or a list of them
+Texts = Union[Mapping[str, Text], Iterable[Text]]
 # a program or a folder
 Path = Union[str, bytes, "os.PathLike[str]", "os.PathLike[bytes]"]
 
@@ -467,15 +469,36 @@ class Census:
             before += len(names)
         return rows
 
-    def run(self, folders: Iterable[Path], *, bound: Optional[int] = None, workers: Optional[int] = None, cells: Optional[int] = None
-            ) -> List[Row]:
-        """`table` of what comes again: the report of `census run`."""
+    def run(self, folders: Iterable[Path] = (), *, texts: Optional[Texts] = None, bound: Optional[int] = None,
+            workers: Optional[int] = None, cells: Optional[int] = None) -> List[Row]:
+        """`table` of what comes again: the report of `census run`. Or that of `texts`, as in `objects`."""
+        if texts is not None:
+            return self._rows_of_texts(folders, texts, _Question.of_run(bound, cells, workers))
         return self.table(folders, bound=bound, workers=workers, cells=cells)
 
-    def objects(self, folders: Iterable[Path], *, near: bool = False, bound: Optional[int] = None, workers: Optional[int] = None,
-                cells: Optional[int] = None, horizon: Optional[int] = None) -> List[Row]:
-        """`table` of objects that are left, and of growth: the report of `census objects`."""
+    def objects(self, folders: Iterable[Path] = (), *, texts: Optional[Texts] = None, near: bool = False, bound: Optional[int] = None,
+                workers: Optional[int] = None, cells: Optional[int] = None, horizon: Optional[int] = None) -> List[Row]:
+        """`table` of objects that are left, and of growth: the report of `census objects`.
+
+        In place of folders, `texts` are RLE texts by their names, or a list of them, whose names are 1, 2 and so on. They are the patterns
+        of one collection, `texts`, and go to the program as a bundle. Raises `ValueError` for a name that is not lawful, for a text with a
+        line that begins with `@`, which would end it, and for more than 65,535 texts.
+        """
+        if texts is not None:
+            return self._rows_of_texts(folders, texts, _Question.of_objects(bound, near, cells, horizon, workers))
         return self.table(folders, objects=True, near=near, bound=bound, workers=workers, cells=cells, horizon=horizon)
+
+    def _rows_of_texts(self, folders: Iterable[Path], texts: Texts, question: _Question) -> List[Row]:
+        """What is reported of texts."""
+        if list(folders):
+            raise TypeError("give folders or texts, not both")
+        named = _named_texts(texts)
+        ran = self._run(question.words(), _bundle_of(named))
+        if _first_line(ran) == "census: input too long":
+            raise TooLong()
+        if ran.returncode != 0:
+            raise _failure(ran)
+        return _rows_of(ran, _Asked(["texts"], [[name for name, _ in named]], question, is_bundle=True))
 
     def codes(self, report: Text) -> List[Code]:
         """The codes of a report, or of several one after another, by falling count, and then the shorter first: `census table --codes`.
@@ -673,6 +696,34 @@ def _bytes_of(rle: Text, index: Optional[int] = None) -> bytes:
     if isinstance(rle, (bytes, bytearray, memoryview)):
         return bytes(rle)
     raise TypeError(f"a text must be str or bytes, not {type(rle).__name__}")
+
+
+def _named_texts(texts: Texts) -> List[Tuple[bytes, bytes]]:
+    """The names of texts and their bytes."""
+    if isinstance(texts, (str, bytes, bytearray, memoryview)):
+        raise TypeError("texts must be a dict or a list of texts")
+    pairs = texts.items() if isinstance(texts, Mapping) else ((str(number), text) for number, text in enumerate(texts, 1))
+    named = [(_bytes_of(name), _bytes_of(text)) for name, text in pairs]
+    if len(named) > _MOST:
+        raise ValueError(f"there must be at most {_MOST} texts")
+    return named
+
+
+def _bundle_of(named: List[Tuple[bytes, bytes]]) -> bytes:
+    """A bundle with one folder of these names and texts."""
+    lines = [b"@folder texts\n"]
+    for name, text in named:
+        shown = ascii(os.fsdecode(name))
+        try:
+            _name(name)
+        except ValueError:
+            raise ValueError(f"the name {shown} is not lawful: it must have 1 to 255 bytes, none below 32 or 127, and no blank at either end") from None
+        at_line = re.search(rb"^@", text, re.MULTILINE)
+        if at_line:
+            line = text.count(b"\n", 0, at_line.start()) + 1
+            raise ValueError(f"line {line} of the text {shown} begins with @, which would end the text in a bundle: identify_many takes it")
+        lines.append(b"@file " + name + b"\n" + text + (b"" if text.endswith(b"\n") or not text else b"\n"))
+    return b"".join(lines)
 
 
 def _text_or_error(rle: Text, index: int) -> Union[bytes, CensusError]:
@@ -976,6 +1027,8 @@ class _Asked:
     # the names of the patterns of each folder before the call, or None where it could not be listed
     listed: List[Optional[List[bytes]]]
     question: _Question
+    # whether the names are those of a bundle, of one folder
+    is_bundle: bool = False
 
     def fits(self, reading: _Reading) -> bool:
         """Whether what was read has the folders, their patterns and for each what was asked."""
@@ -986,10 +1039,12 @@ class _Asked:
 
     def _fits_folder(self, folder: str, listed: Optional[List[bytes]], collection: _Collection) -> bool:
         names = [os.fsencode(row.name) for row in collection.lines]
+        rows = zip(collection.lines, collection.parts, collection.engines)
+        if self.is_bundle:
+            return names == listed and all(self._fits_row(*row) for row in rows)
         is_lawful = all(name.endswith(b".rle") for name in names) and names == sorted(set(names))
         # (names may have come and gone since they were listed; a folder that is as it was has the names that it had)
         has_changed = listed is None or listed != _names_in(folder)
-        rows = zip(collection.lines, collection.parts, collection.engines)
         return is_lawful and (listed == names or has_changed) and all(self._fits_row(*row) for row in rows)
 
     def _fits_row(self, row: Row, parts: List[Tuple[str, int]], engines: List[Engine]) -> bool:
