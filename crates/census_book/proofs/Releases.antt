@@ -11,10 +11,11 @@ use Rattle.census_bundle.specs.declared.bundle.Folder.{Folder}
 use Rattle.census_bundle.specs.declared.ticket.Ticket.{Ticket}
 use Rattle.census_bundle.specs.Tickets.{Tickets, ticket, ticket_cmp, no_tickets, with_ticket, has_ticket, element_at, entry_in, IsTicketOf, HasAllTickets}
 use Rattle.census_format.specs.Lines.{Group, groups_text, open_line, end_line, pattern_lines, pattern_count}
-use Rattle.census_format.specs.Reports.{IsReport, IsReportFront, text_at_start, text_released, folder_text_released, folder_out, lines_of, owned_text, closing, closing_if, end_if, opening, run_of, run_from, all_from, has_all, section_of, folder_section}
+use Rattle.census_format.specs.Reports.{IsReport, IsReportFront, text_at_start, text_released, folder_text_released, folder_out, lines_of, owned_text, closing, closing_if, end_if, opening, run_of, run_from, all_from, has_all}
 use Rattle.census_book.specs.Released.{IsReleased, lines_released, shown_of, shown_lines}
 use Rattle.census_book.proofs.TicketSets.{has_other, has_kept}
 use Rattle.census_book.proofs.Runs.{run_grows, run_same, run_whole, run_all}
+use Rattle.census_format.proofs.Said.{folder_section, folder_section_if, report-under}
 use Rattle.census_format.proofs.Owning.{own, gathered, given, eqb_same, eqb_apart, lines_of-append, lines_of-own, lines_of-other, owned_text-append, owned_text-own, lines_of-gathered}
 use Rattle.census_rows.specs.Lines.{text_of}
 use Rattle.life_answer.specs.declared.question.Question.{Question}
@@ -209,7 +210,7 @@ entry_here [] k lt = absurd (omega arith)
 entry_here (e ∷ es) zero lt = (e, refl)
 entry_here (e ∷ es) (suc k) lt = entry_here es k (omega arith)
 
-section_shown : (question : Question) (d : ℕ) (taken : Tickets) (o : Option Folder) → ((f : Folder) → o ≡ Some f → run_of taken d f ≡ length f.entries) → shown_of question d o taken ≡ section_of question d o
+section_shown : (question : Question) (d : ℕ) (taken : Tickets) (o : Option Folder) → ((f : Folder) → o ≡ Some f → run_of taken d f ≡ length f.entries) → shown_of question d o taken ≡ folder_section_if question d o
 section_shown question d taken None all = refl
 section_shown question d taken (Some f) all = shown_all question d f (run_of taken d f) (all f refl)
 
@@ -218,13 +219,12 @@ whole_at b taken zero f all at = absurd (cc)
 whole_at b taken (suc j) f all at = all_at taken (suc j) 1 j b f (omega arith) at all
 
 report_when : (b : List Folder) (question : Question) (taken : Tickets) (text : List ℕ) → IsReleased b question taken text → has_all b taken ≡ true → IsReport b question text
-report_when b question taken text released all = record {
-  groups = released.groups;
-  sections = λ d. released.sections d ∙ section_shown question d taken (element_at b d) (λ f at. whole_at b taken d f all at);
-  whole = released.whole ∙ ap (λ x. owned_text released.groups ++ end_if x b) all;
-}
+report_when b question taken text released all =
+    report-under b question text released.groups
+    (λ d. released.sections d ∙ section_shown question d taken (element_at b d) (λ f at. whole_at b taken d f all at))
+    (released.whole ∙ ap (λ x. owned_text released.groups ++ end_if x b) all)
 
-completed : (question : Question) (d : ℕ) (taken : Tickets) (o : Option Folder) → shown_of question d o taken ++ given (λ c f. hidden_lines question c f (run_of taken c f)) d o ≡ section_of question d o
+completed : (question : Question) (d : ℕ) (taken : Tickets) (o : Option Folder) → shown_of question d o taken ++ given (λ c f. hidden_lines question c f (run_of taken c f)) d o ≡ folder_section_if question d o
 completed question d taken None = refl
 completed question d taken (Some f) = shown_and_hidden question d f (run_of taken d f)
 
@@ -249,19 +249,16 @@ released_front b question taken text rest released =
           let shown_text : text ++ rest ≡ owned_text released.groups = released.whole ∙ ap (λ x. owned_text released.groups ++ end_if x b) part ∙ append-nil (owned_text released.groups) in
           record {
             rest = rest ++ (owned_text hidden ++ text_of (end_line b));
-            report = record {
-              groups = released.groups ++ hidden;
-              sections = λ d.
-                  lines_of-append d released.groups hidden
-                  ∙ ap (λ xs. xs ++ lines_of d hidden) (released.sections d)
-                  ∙ ap (λ xs. lines_released b question taken d ++ xs) (lines_of-gathered (λ c f. hidden_lines question c f (run_of taken c f)) d b)
-                  ∙ completed question d taken (element_at b d);
-              whole =
-                  sym (append_assoc text rest (owned_text hidden ++ text_of (end_line b)))
-                  ∙ ap (λ xs. xs ++ (owned_text hidden ++ text_of (end_line b))) shown_text
-                  ∙ sym (append_assoc (owned_text released.groups) (owned_text hidden) (text_of (end_line b)))
-                  ∙ ap (λ xs. xs ++ text_of (end_line b)) (sym (owned_text-append released.groups hidden));
-            };
+            report = report-under b question (text ++ (rest ++ (owned_text hidden ++ text_of (end_line b)))) (released.groups ++ hidden)
+                (λ d.
+                lines_of-append d released.groups hidden
+                ∙ ap (λ xs. xs ++ lines_of d hidden) (released.sections d)
+                ∙ ap (λ xs. lines_released b question taken d ++ xs) (lines_of-gathered (λ c f. hidden_lines question c f (run_of taken c f)) d b)
+                ∙ completed question d taken (element_at b d))
+                (sym (append_assoc text rest (owned_text hidden ++ text_of (end_line b)))
+                ∙ ap (λ xs. xs ++ (owned_text hidden ++ text_of (end_line b))) shown_text
+                ∙ sym (append_assoc (owned_text released.groups) (owned_text hidden) (text_of (end_line b)))
+                ∙ ap (λ xs. xs ++ text_of (end_line b)) (sym (owned_text-append released.groups hidden)));
           }
     ] refl
 

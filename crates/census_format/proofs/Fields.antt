@@ -5,7 +5,7 @@ use Rattle.census_bundle.specs.declared.bundle.Entry.{Entry}
 use Rattle.census_bundle.specs.Tickets.{ticket}
 use Rattle.census_format.specs.Heads.{line_with_head, line_head, line_tail}
 use Rattle.census_format.specs.Found.{outcome_of}
-use Rattle.census_format.specs.Lines.{answer_to_entry, pattern_rows, rows_behind}
+use Rattle.census_format.specs.Lines.{answer_to_entry, pattern_rows, rows_behind, saying_rows}
 use Rattle.census_rows.specs.Lines.{fields_text, outcome_fields, text_of}
 use Rattle.census_rows.proofs.FieldTexts.{behind-append}
 use Rattle.life_answer.specs.declared.question.Question.{Question}
@@ -20,7 +20,7 @@ one_more word name xs =
 -- a pattern's lines are its head, its name and its tail
 pub headed_line : (question : Question) (c i : ℕ) (e : Entry)
     → line_with_head (line_head (ticket c i) (answer_to_entry question e)) e (line_tail (ticket c i) (answer_to_entry question e)) ≡ text_of (pattern_rows question c i e)
-unfolding line_head line_tail pattern_rows
+unfolding line_head line_tail saying_rows
 headed_line question c i e =
     let found = answer_to_entry question e in
     ap (λ text. (text ++ codes "\n") ++ text_of (rows_behind c i found)) (one_more (codes "line") e.name (decimal c ∷ decimal i ∷ outcome_fields (outcome_of found)))

@@ -7,3 +7,4 @@ pub mod Tallies
 pub mod ObjectCounts
 pub mod PartCounts
 pub mod Closings
+pub mod Said

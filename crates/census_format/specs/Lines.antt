@@ -20,14 +20,31 @@ use Rattle.census_format.specs.Found.{is_of, lent, outcome_of}
 abbrev pub Group : Type 0
 Group = List Row
 
+-- What is said of a pattern: its name, and what is found of it.
+pub record Saying : Type 0 where
+  pub name : List ℕ
+  pub found : Answer
+
+-- what is said of a collection: its name, and what is said of its patterns, in their order
+pub record Collection : Type 0 where
+  pub name : List ℕ
+  pub sayings : List Saying
+
+-- what is found of each pattern
+abbrev pub found_of : List Saying → List Answer
+found_of sayings = map (λ (s : Saying). s.found) sayings
+
 -- the bytes of all rows
 abbrev pub groups_text : List Group → List ℕ
 groups_text [] = []
 groups_text (group ∷ groups) = text_of group ++ groups_text groups
 
 -- the collection, how many patterns it has, its name
+abbrev pub opening_line : ℕ → ℕ → List ℕ → Group
+opening_line c patterns name = row.Open c patterns (lent name) ∷ []
+
 unfoldable pub open_line : ℕ → Folder → Group
-open_line c f = row.Open c (length f.entries) (lent f.name) ∷ []
+open_line c f = opening_line c (length f.entries) f.name
 
 -- the collection, the pattern's number, and what is found of it
 abbrev pub pattern_row : ℕ → ℕ → Answer → List ℕ → Row
@@ -73,14 +90,25 @@ unfoldable pub answer_to_entry : Question → Entry → Answer
 answer_to_entry question e = if e.is_lost then Refused 0 else answer_to_question question e.text
 
 -- the `line` row of a pattern, and after it the rows that say more
-unfoldable pub pattern_rows : Question → ℕ → ℕ → Entry → Group
-pattern_rows question c i e =
-    pattern_row c i (answer_to_entry question e) e.name ∷ rows_behind c i (answer_to_entry question e)
+unfoldable pub saying_rows : ℕ → ℕ → Saying → Group
+saying_rows c i s = pattern_row c i s.found s.name ∷ rows_behind c i s.found
 
 -- the rows of these patterns, the first of which has the number i
+abbrev pub saying_lines : ℕ → ℕ → List Saying → List Group
+saying_lines c i [] = []
+saying_lines c i (s ∷ ss) = saying_rows c i s ∷ saying_lines c (suc i) ss
+
+-- what is said of an entry
+abbrev pub saying_to : Question → Entry → Saying
+saying_to question e = record { name = e.name; found = answer_to_entry question e }
+
+-- the rows of an entry
+abbrev pub pattern_rows : Question → ℕ → ℕ → Entry → Group
+pattern_rows question c i e = saying_rows c i (saying_to question e)
+
+-- the rows of these entries, the first of which has the number i
 abbrev pub pattern_lines : Question → ℕ → ℕ → List Entry → List Group
-pattern_lines question c i [] = []
-pattern_lines question c i (e ∷ es) = pattern_rows question c i e ∷ pattern_lines question c (suc i) es
+pattern_lines question c i es = saying_lines c i (map (saying_to question) es)
 
 -- what is found of each of these patterns
 abbrev pub answers : Question → List Entry → List Answer
@@ -100,16 +128,25 @@ is_refused = is_of class.Refused
 
 -- the collection, how many patterns it has, and how many of them are reported as `ok`, `ash` or `grows`, as `none` or `large`,
 -- and as `bad`
+abbrev pub closing_line : ℕ → ℕ → List Answer → Group
+closing_line c patterns found = row.Close c patterns (count_by is_resolved found) (count_by is_unresolved found) (count_by is_refused found) ∷ []
+
 unfoldable pub close_line : Question → ℕ → Folder → Group
-close_line question c f =
-    let found = answers question f.entries in
-    row.Close c (length f.entries) (count_by is_resolved found) (count_by is_unresolved found) (count_by is_refused found) ∷ []
+close_line question c f = closing_line c (length f.entries) (answers question f.entries)
 
 -- how many patterns these collections have
 abbrev pub pattern_count : List Folder → ℕ
 pattern_count [] = 0
 pattern_count (f ∷ fs) = length f.entries + pattern_count fs
 
+-- how many patterns these collections have, of which this is said
+abbrev pub sayings_count : List Collection → ℕ
+sayings_count [] = 0
+sayings_count (f ∷ fs) = length f.sayings + sayings_count fs
+
 -- how many collections there are, and how many patterns in all
+abbrev pub ending_line : ℕ → ℕ → Group
+ending_line collections patterns = row.End collections patterns ∷ []
+
 unfoldable pub end_line : List Folder → Group
-end_line b = row.End (length b) (pattern_count b) ∷ []
+end_line b = ending_line (length b) (pattern_count b)

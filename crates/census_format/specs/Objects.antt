@@ -59,6 +59,9 @@ tally same xs = map (λ x. (x, count_by (same x) xs)) (distinct_elements same xs
 unfoldable pub code_line : ℕ → Object → ℕ → Group
 code_line c k count = Code c (lent (rule_text k.rule)) (lent k.code) count ∷ []
 
--- the `code` rows of a collection
+-- the `code` rows of a collection of whose patterns this is found
+abbrev pub counted_lines : ℕ → List Answer → List Group
+counted_lines c found = map (λ e. code_line c e.0 e.1) (tally same_object (objects found))
+
 abbrev pub code_lines : Question → ℕ → Folder → List Group
-code_lines question c f = map (λ e. code_line c e.0 e.1) (tally same_object (objects (answers question f.entries)))
+code_lines question c f = counted_lines c (answers question f.entries)

@@ -1,28 +1,33 @@
--- The report of a bundle: the sections of its collections, and what each taken ticket releases.
-use Rattle.std.specs.Prelude.{◌≡◌, ℕ, suc, ◌-◌, Bool, true, if◌then◌else◌, ◌==◌, ◌&&◌, List, [], ◌∷◌, ◌++◌, Some, None, Option, length, take, drop}
+-- What a report is: what is said of each pattern. The report of a bundle, and what each taken ticket releases.
+use Rattle.std.specs.Prelude.{◌≡◌, ℕ, suc, ◌-◌, Bool, true, if◌then◌else◌, ◌==◌, ◌&&◌, List, [], ◌∷◌, ◌++◌, Some, None, Option, length, map, take, drop}
 use Rattle.census_bundle.specs.declared.ticket.Ticket.{Ticket}
 use Rattle.census_bundle.specs.declared.bundle.Folder.{Folder}
 use Rattle.census_bundle.specs.declared.bundle.Entry.{Entry}
 use Rattle.census_bundle.specs.Tickets.{Tickets, ticket, with_ticket, has_ticket, element_at}
-use Rattle.census_format.specs.Lines.{Group, groups_text, open_line, pattern_lines, close_line, pattern_count, end_line}
+use Rattle.census_format.specs.Lines.{Collection, Group, close_line, closing_line, end_line, ending_line, found_of, groups_text, open_line, opening_line, pattern_count, pattern_lines, saying_lines, saying_to, sayings_count}
 use Rattle.census_rows.specs.Lines.{text_of}
-use Rattle.census_format.specs.Objects.{code_lines}
+use Rattle.census_format.specs.Objects.{code_lines, counted_lines}
 use Rattle.life_answer.specs.declared.question.Question.{Question}
 
--- what ends a section
+-- what ends the section of a collection, when each of its patterns has arrived
 unfoldable pub closing : Question → ℕ → Folder → List Group
 closing question c f = code_lines question c f ++ close_line question c f ∷ []
 
--- the lines of a collection
-abbrev pub folder_section : Question → ℕ → Folder → List Group
-folder_section question c f = open_line c f ∷ (pattern_lines question c 1 f.entries ++ closing question c f)
+-- The lines of a collection of which this is said: the line that opens it, those of its patterns, one for each object that
+-- these count, and the line that closes it.
+abbrev pub section_of : ℕ → Collection → List Group
+section_of c said =
+    let found = found_of said.sayings in
+    opening_line c (length said.sayings) said.name
+    ∷ (saying_lines c 1 said.sayings ++ (counted_lines c found ++ closing_line c (length said.sayings) found ∷ []))
 
-abbrev pub section_of : Question → ℕ → Option Folder → List Group
-section_of question c None = []
-section_of question c (Some f) = folder_section question c f
+abbrev pub section_if : ℕ → Option Collection → List Group
+section_if c None = []
+section_if c (Some said) = section_of c said
 
-abbrev pub section : List Folder → Question → ℕ → List Group
-section b question c = section_of question c (element_at b c)
+-- the lines of the collection c
+abbrev pub section : List Collection → ℕ → List Group
+section said c = section_if c (element_at said c)
 
 -- rows that stay together, and the collection that they belong to
 pub record Owned : Type 0 where
@@ -39,12 +44,28 @@ abbrev pub owned_text : List Owned → List ℕ
 owned_text [] = []
 owned_text (l ∷ ls) = text_of l.group ++ owned_text ls
 
+-- the last row of a report that says this
+unfoldable pub end_of : List Collection → Group
+end_of said = ending_line (length said) (sayings_count said)
+
 -- The text is the rows of the sections of all collections, interleaved line by line, followed by the `end` row. The rows of one
 -- pattern stay together.
-pub record IsReport (b : List Folder) (question : Question) (text : List ℕ) : Type 0 where
+pub record IsReportOf (said : List Collection) (text : List ℕ) : Type 0 where
   pub groups : List Owned
-  pub sections : (c : ℕ) → lines_of c groups ≡ section b question c
-  pub whole : text ≡ owned_text groups ++ text_of (end_line b)
+  pub sections : (c : ℕ) → lines_of c groups ≡ section said c
+  pub whole : text ≡ owned_text groups ++ text_of (end_of said)
+
+-- what is said of a collection of a bundle under a question
+abbrev pub collection_under : Question → Folder → Collection
+collection_under question f = record { name = f.name; sayings = map (saying_to question) f.entries }
+
+-- what is said of a bundle under a question
+abbrev pub said_under : Question → List Folder → List Collection
+said_under question b = map (collection_under question) b
+
+-- the text is a report of what is said of the bundle under the question
+abbrev pub IsReport : List Folder → Question → List ℕ → Type 0
+IsReport b question text = IsReportOf (said_under question b) text
 
 -- the text begins a report
 pub record IsReportFront (b : List Folder) (question : Question) (text : List ℕ) : Type 0 where

@@ -5,5 +5,5 @@ pub mod CountedCells
 pub mod Codes
 pub mod GrowthRanges
 pub mod ObjectRanges
-pub mod Several
 pub mod Readings
+pub mod Several

@@ -25,6 +25,7 @@ use Rattle.life_cells.specs.TextOrder.{least_text, shorter_cmp}
 use Rattle.life_text.proofs.HeadingLemmas.{decimal_digits}
 use Rattle.census_merge.proofs.Solid.{each-map}
 use Rattle.texts.specs.Bytes.{is_digit}
+use Rattle.census_merge.specs.Lawful.{IsCodeIfSome, IsCodePart}
 
 -- ---- where the first `_` is
 
@@ -136,16 +137,9 @@ outcome-told R G b = from-told R G b (first_onset R G b)
 
 -- ---- the codes of parts
 
--- a text that has a byte is a code
-abbrev pub IsCodeIfSome : List ℕ → Type 0
-IsCodeIfSome code = 0 < length code → is_code code ≡ true
-
 found-told : (outcome : Outcome) → IsToldRecurrence outcome → IsCodeIfSome (code_found outcome)
 found-told (Recurs onset period dx dy code) h = λ some. after-code (not (same_cell (dx, dy) origin)) period code h
 found-told _ h = λ some. absurd (omega (arith, some))
-
-abbrev pub IsCodePart : Part → Type 0
-IsCodePart p = IsCodeIfSome p.code
 
 beside-told : (o : Ordering) (code : List ℕ) (p : Part) (parts rest : List Part) → IsCodeIfSome code → Each IsCodePart (p ∷ parts) → Each IsCodePart rest
     → Each IsCodePart (with_code_by_order o code p parts rest)

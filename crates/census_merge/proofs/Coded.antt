@@ -5,7 +5,7 @@ use Rattle.std.specs.List.{AllByRecursion as Each, fold}
 use Rattle.std.specs.declared.cmp.Ordering.{Ordering}
 use Rattle.std.specs.declared.cmp.Ordering.TheVariants.{Less, Equal, Greater}
 use Rattle.census_bundle.specs.declared.bundle.Entry.{Entry}
-use Rattle.census_format.specs.Lines.{answer_to_entry, answers}
+use Rattle.census_format.specs.Lines.{answer_to_entry}
 use Rattle.census_format.specs.Objects.{Object, distinct_elements, object, objects, outcome_objects, part_objects, tally}
 use Rattle.life_answer.specs.Answers.{outcome_at, outcome_from, outcome_of}
 use Rattle.life_answer.specs.Counted.{code_bound, counted_of}
@@ -17,7 +17,7 @@ use Rattle.life_answer.specs.Questions.{answer_to, answer_to_question, outcome_t
 use Rattle.life_answer.specs.declared.finding.Answer.{Answer}
 use Rattle.life_answer.specs.declared.finding.Answer.TheVariants.{Found, Refused}
 use Rattle.life_answer.specs.declared.finding.Outcome.{Outcome}
-use Rattle.life_answer.specs.declared.finding.Outcome.TheVariants.{Recurs, Ash, Grows}
+use Rattle.life_answer.specs.declared.finding.Outcome.TheVariants.{Recurs, Ash}
 use Rattle.life_answer.specs.declared.part.Part.{Part}
 use Rattle.life_answer.specs.declared.question.Question.{Question}
 use Rattle.life_answer.specs.declared.question.Question.TheVariants.{Objects, Settles}
@@ -32,28 +32,12 @@ use Rattle.life_cells.specs.TextOrder.{shorter_cmp}
 use Rattle.life_text.specs.Picture.{Picture}
 use Rattle.life_text.specs.declared.rle.RleFault.{RleFault}
 use Rattle.census_merge.proofs.Tales.{told-holds}
-use Rattle.census_merge.proofs.Solid.{IsSolid, code-solid, each-append, each-filter, each-map, each-replicate}
-
-abbrev pub IsSolidPart : Part → Type 0
-IsSolidPart part = IsSolid part.code
-
-abbrev pub IsSolidEngines : Engines → Type 0
-IsSolidEngines engines = Each IsSolidPart engines.tale.emits
-
--- the codes of an outcome have no blank
-abbrev pub IsCoded : Outcome → Type 0
-IsCoded (Recurs onset period dx dy code) = IsSolid code
-IsCoded (Ash onset parts) = Each IsSolidPart parts
-IsCoded (Grows engines) = Each IsSolidEngines engines
-IsCoded _ = ⊤
+use Rattle.census_merge.proofs.Solid.{code-solid, each-append, each-filter, each-map, each-replicate}
+use Rattle.census_merge.specs.Lawful.{IsCoded, IsCodedAnswer, IsSolid, IsSolidEngines, IsSolidPart}
 
 pub parts-solid : (outcome : Outcome) → IsCoded outcome → Each IsSolidPart (parts_found outcome)
 parts-solid (Ash onset parts) h = h
 parts-solid _ h = tt
-
-abbrev pub IsCodedAnswer : Answer → Type 0
-IsCodedAnswer (Found rule finding) = IsCoded finding.outcome
-IsCodedAnswer (Refused number) = ⊤
 
 at-coded : (R : Rule) (G : Generation) (onset : ℕ) (period : Option ℕ) → IsCoded (outcome_at R G onset period)
 at-coded R G onset None = tt
@@ -175,9 +159,8 @@ pub counted-each : {A : Type 0} (P : A → Type 0) (f : A → ℕ) (xs : List A)
 counted-each P f [] h = tt
 counted-each P f (x ∷ xs) h = (h.0, counted-each P f xs h.1)
 
-pub tally-coded : (same : Object → Object → Bool) (question : Question) (es : List Entry)
-    → Each (λ (counted : Object × ℕ). IsSolidObject counted.0) (tally same (objects (answers question es)))
-tally-coded same question es =
-    let all = objects-coded (answers question es) (each-map IsCodedAnswer (answer_to_entry question) (entry-coded question) es) in
-    counted-each IsSolidObject (λ x. count_by (same x) (objects (answers question es))) (distinct_elements same (objects (answers question es)))
-    (distinct-each IsSolidObject same (objects (answers question es)) all)
+pub tally-coded : (same : Object → Object → Bool) (found : List Answer) → Each IsCodedAnswer found
+    → Each (λ (counted : Object × ℕ). IsSolidObject counted.0) (tally same (objects found))
+tally-coded same found coded =
+    counted-each IsSolidObject (λ x. count_by (same x) (objects found)) (distinct_elements same (objects found))
+    (distinct-each IsSolidObject same (objects found) (objects-coded found coded))

@@ -16,7 +16,8 @@ use Rattle.census_rows.specs.declared.row.Row.{Row}
 use Rattle.census_rows.specs.declared.row.Row.TheVariants.{Engine, Emits}
 use Rattle.life_answer.specs.declared.part.Part as part
 use Rattle.life_cells.specs.TextOrder.{shorter_cmp}
-use Rattle.census_merge.proofs.Taken.{Rise, fits, told-one}
+use Rattle.census_merge.proofs.Taken.{fits, told-one}
+use Rattle.census_merge.specs.Lawful.{Rise}
 
 -- ---- what an engine emits
 
@@ -106,8 +107,6 @@ ended e comes = by e.rises refl comes
 pub record Engined (t : Told) (rows : List Row) (left e : ℕ) (way : Way) (emits : List Emitted) : Type 0 where
   pub after : Told
   pub tells : told_by t rows ≡ Some after
-  pub recurs : after.recurs ≡ t.recurs
-  pub parted : after.parted ≡ t.parted
   pub collection : after.collection ≡ t.collection
   pub left-are : after.left ≡ left
   pub number : after.engine.number ≡ e
@@ -128,8 +127,6 @@ emits-told : (c i e : ℕ) (parts : List part.Part) (t : Told) → 0 < e → t.c
 emits-told c i e [] t some owner number rise lawful comes = record {
   after = t;
   tells = refl;
-  recurs = refl;
-  parted = refl;
   collection = refl;
   left-are = refl;
   number = number;
@@ -148,8 +145,6 @@ emits-told c i e (p ∷ parts) t some owner number rise lawful comes =
     record {
       after = others.after;
       tells = taken ∙ others.tells;
-      recurs = others.recurs;
-      parted = others.parted;
       collection = others.collection;
       left-are = others.left-are;
       number = others.number;
@@ -205,8 +200,6 @@ engine-told c i e k way parts t owner few counted rises next goes some rise lawf
     record {
       after = others.after;
       tells = taken ∙ others.tells;
-      recurs = others.recurs;
-      parted = others.parted;
       collection = others.collection;
       left-are = others.left-are;
       number = others.number;

@@ -1,14 +1,12 @@
 -- The rows that say what is said of a collection have the shape of a section.
-use Rattle.std.proofs.Common.{◌≡◌, ℕ, suc, ◌+◌, ◌<◌, ◌≤◌, ◌^◌, Bool, true, cond, subst, List, [], ◌∷◌, ◌++◌, map, length, count_by, ap, ◌∙◌, sym, refl, arith, append_assoc}
+use Rattle.std.proofs.Common.{◌≡◌, ℕ, suc, ◌+◌, ◌≤◌, Bool, true, cond, subst, List, [], ◌∷◌, ◌++◌, map, length, count_by, ap, ◌∙◌, sym, refl, arith, append_assoc}
 use Rattle.std.proofs.lemmas.List.Sums.{sum_by-cons}
-use Rattle.census_bundle.specs.declared.bundle.Entry.{Entry}
-use Rattle.census_bundle.specs.declared.bundle.Folder.{Folder}
+use Rattle.census_format.specs.Lines.{Saying, Collection, emits_row, engine_rows, found_of, outcome_rows, part_row, rows_behind, rows_of_engines, saying_lines, saying_rows}
 use Rattle.census_bundle.specs.Sizes.{count_limit}
 use Rattle.census_format.specs.Found.{outcome_of}
-use Rattle.census_format.specs.Lines.{answer_to_entry, answers, emits_row, engine_rows, outcome_rows, part_row, pattern_lines, pattern_rows, rows_behind, rows_of_engines}
 use Rattle.census_format.specs.Lines as book
-use Rattle.census_format.specs.Objects.{Object, code_line, objects}
-use Rattle.census_format.specs.Reports.{folder_section}
+use Rattle.census_format.specs.Objects.{Object, code_line}
+use Rattle.census_format.specs.Reports.{section_of}
 use Rattle.census_readback.specs.Shapes.{AreCodes, AreLines, IsSection, any_outcome, all_rows, lines_that, patterns_in}
 use Rattle.census_rows.specs.declared.kinds.Behind.{Behind}
 use Rattle.census_rows.specs.declared.kinds.Behind.TheVariants as behind
@@ -21,7 +19,6 @@ use Rattle.life_answer.specs.declared.finding.Answer.TheVariants.{Found, Refused
 use Rattle.life_answer.specs.declared.finding.Outcome as becomes
 use Rattle.life_answer.specs.declared.finding.Outcome.TheVariants.{Ash, Grows}
 use Rattle.life_answer.specs.declared.part.Part as part
-use Rattle.life_answer.specs.declared.question.Question.{Question}
 use Rattle.life_answer.specs.declared.tale.Engines.{Engines}
 use Rattle.life_model.specs.Rule.{Rule}
 use Rattle.census_readback.proofs.Kept.{patterns-append}
@@ -29,6 +26,7 @@ use Rattle.census_readback.proofs.Walks.{joined-append}
 use Rattle.census_merge.proofs.OpenedPatterns.{codes-open-none, lines-open-none}
 use Rattle.census_merge.proofs.Rowed.{close_row, code_groups, counted_in, open_row, row_outcome, section-is}
 use Rattle.census_merge.proofs.Tallied.{section-tallied}
+use Rattle.census_merge.specs.Lawful.{IsLawfulCollection}
 
 -- ---- `line` lines and those after them
 
@@ -57,16 +55,16 @@ after-ordered : (c i : ℕ) (found : Answer) (rest : List Row) → ((kind : Behi
 after-ordered c i (Found rule finding) rest h = outcome-ordered c i rule finding.population finding.outcome rest h
 after-ordered c i (Refused number) rest h = h behind.Nothing
 
-ordered : (question : Question) (c last i : ℕ) (kind : Behind) (es : List Entry) → i ≡ last + 1 → AreLines last kind (all_rows (pattern_lines question c i es))
-unfolding pattern_rows
-ordered question c last i kind [] e = tt
-ordered question c last i kind (x ∷ es) e =
-    let found = answer_to_entry question x in
-    let rest = all_rows (pattern_lines question c (suc i) es) in
+ordered : (c last i : ℕ) (kind : Behind) (es : List Saying) → i ≡ last + 1 → AreLines last kind (all_rows (saying_lines c i es))
+unfolding saying_rows
+ordered c last i kind [] e = tt
+ordered c last i kind (x ∷ es) e =
+    let found = x.found in
+    let rest = all_rows (saying_lines c (suc i) es) in
     let next : suc i ≡ i + 1 = omega arith in (
       e,
       subst (λ k. AreLines k (said (outcome_of found)).behind (rows_behind c i found ++ rest)) e
-          (after-ordered c i found rest (λ after. ordered question c i (suc i) after es next)),
+          (after-ordered c i found rest (λ after. ordered c i (suc i) after es next)),
     )
 
 -- ---- how many there are
@@ -100,27 +98,27 @@ no-lines : (kind : Outcome → Bool) (c i : ℕ) (found : Answer) → lines_that
 no-lines kind c i (Found rule finding) = outcome-none kind c i finding.outcome
 no-lines kind c i (Refused number) = refl
 
-lines-counted : (kind : Outcome → Bool) (test : Answer → Bool) → ((found : Answer) → kind (outcome_of found) ≡ test found) → (question : Question) (c i : ℕ) (es : List Entry)
-    → lines_that kind (all_rows (pattern_lines question c i es)) ≡ count_by test (answers question es)
-unfolding pattern_rows
-lines-counted kind test same question c i [] = refl
-lines-counted kind test same question c i (x ∷ es) =
-    let found = answer_to_entry question x in
-    let apart = lines-append kind (rows_behind c i found) (all_rows (pattern_lines question c (suc i) es)) in
+lines-counted : (kind : Outcome → Bool) (test : Answer → Bool) → ((found : Answer) → kind (outcome_of found) ≡ test found) → (c i : ℕ) (es : List Saying)
+    → lines_that kind (all_rows (saying_lines c i es)) ≡ count_by test (found_of es)
+unfolding saying_rows
+lines-counted kind test same c i [] = refl
+lines-counted kind test same c i (x ∷ es) =
+    let found = x.found in
+    let apart = lines-append kind (rows_behind c i found) (all_rows (saying_lines c (suc i) es)) in
     let none = no-lines kind c i found in
-    let rest = lines-counted kind test same question c (suc i) es in
-    let after : lines_that kind (rows_behind c i found ++ all_rows (pattern_lines question c (suc i) es)) ≡ count_by test (answers question es) = omega (arith, apart, none, rest) in
-    ap (λ v. cond v 1 0 + lines_that kind (rows_behind c i found ++ all_rows (pattern_lines question c (suc i) es))) (same found)
+    let rest = lines-counted kind test same c (suc i) es in
+    let after : lines_that kind (rows_behind c i found ++ all_rows (saying_lines c (suc i) es)) ≡ count_by test (found_of es) = omega (arith, apart, none, rest) in
+    ap (λ v. cond v 1 0 + lines_that kind (rows_behind c i found ++ all_rows (saying_lines c (suc i) es))) (same found)
     ∙ ap (λ n. cond (test found) 1 0 + n) after
-    ∙ sym (sum_by-cons (λ found. cond (test found) 1 0) found (answers question es))
+    ∙ sym (sum_by-cons (λ found. cond (test found) 1 0) found (found_of es))
 
 -- ---- a section
 
-all-counted : (question : Question) (es : List Entry) → count_by (λ found. true) (answers question es) ≡ length es
-all-counted question [] = refl
-all-counted question (x ∷ es) =
-    let first = sum_by-cons (λ found. cond true 1 0) (answer_to_entry question x) (answers question es) in
-    let rest = all-counted question es in
+all-counted : (es : List Saying) → count_by (λ found. true) (found_of es) ≡ length es
+all-counted [] = refl
+all-counted (x ∷ es) =
+    let first = sum_by-cons (λ found. cond true 1 0) x.found (found_of es) in
+    let rest = all-counted es in
     omega (arith, first, rest)
 
 codes-are : (c : ℕ) (counted : List (Object × ℕ)) → AreCodes (all_rows (code_groups c counted))
@@ -128,39 +126,39 @@ unfolding code_line
 codes-are c [] = tt
 codes-are c (x ∷ counted) = codes-are c counted
 
-module _ (question : Question) (c : ℕ) (f : Folder) where
+module _ (c : ℕ) (f : Collection) where
   abbrev the_lines : List Row
-  the_lines = all_rows (pattern_lines question c 1 f.entries)
+  the_lines = all_rows (saying_lines c 1 f.sayings)
 
   abbrev the_codes : List Row
-  the_codes = all_rows (code_groups c (counted_in question f))
+  the_codes = all_rows (code_groups c (counted_in f))
 
   abbrev the_close : Row
-  the_close = close_row c (answers question f.entries) (length f.entries)
+  the_close = close_row c (found_of f.sayings) (length f.sayings)
 
-  count-any : lines_that any_outcome the_lines ≡ length f.entries
-  count-any = lines-counted any_outcome (λ found. true) (λ found. refl) question c 1 f.entries ∙ all-counted question f.entries
+  pub count-any : lines_that any_outcome the_lines ≡ length f.sayings
+  count-any = lines-counted any_outcome (λ found. true) (λ found. refl) c 1 f.sayings ∙ all-counted f.sayings
 
-  written : all_rows (folder_section question c f) ≡ open_row c f ∷ (the_lines ++ (the_codes ++ the_close ∷ []))
+  written : all_rows (section_of c f) ≡ open_row c f ∷ (the_lines ++ (the_codes ++ the_close ∷ []))
   written =
-      ap all_rows (section-is question c f)
+      ap all_rows (section-is c f)
       ∙ ap (λ w. open_row c f ∷ w)
-      (joined-append (pattern_lines question c 1 f.entries) (code_groups c (counted_in question f) ++ (the_close ∷ []) ∷ [])
-      ∙ ap (λ w. the_lines ++ w) (joined-append (code_groups c (counted_in question f)) ((the_close ∷ []) ∷ [])))
+      (joined-append (saying_lines c 1 f.sayings) (code_groups c (counted_in f) ++ (the_close ∷ []) ∷ [])
+      ∙ ap (λ w. the_lines ++ w) (joined-append (code_groups c (counted_in f)) ((the_close ∷ []) ∷ [])))
 
-  closed : the_close ≡ Close c (lines_that any_outcome the_lines) (lines_that is_resolved the_lines) (lines_that is_unresolved the_lines) (lines_that is_refused the_lines)
+  pub closed : the_close ≡ Close c (lines_that any_outcome the_lines) (lines_that is_resolved the_lines) (lines_that is_unresolved the_lines) (lines_that is_refused the_lines)
   closed =
       let all = sym count-any in
-      let resolved = sym (lines-counted is_resolved book.is_resolved (λ found. refl) question c 1 f.entries) in
-      let unresolved = sym (lines-counted is_unresolved book.is_unresolved (λ found. refl) question c 1 f.entries) in
-      let refused = sym (lines-counted is_refused book.is_refused (λ found. refl) question c 1 f.entries) in
+      let resolved = sym (lines-counted is_resolved book.is_resolved (λ found. refl) c 1 f.sayings) in
+      let unresolved = sym (lines-counted is_unresolved book.is_unresolved (λ found. refl) c 1 f.sayings) in
+      let refused = sym (lines-counted is_refused book.is_refused (λ found. refl) c 1 f.sayings) in
       λ i. Close c (all i) (resolved i) (unresolved i) (refused i)
 
   lines-are : AreLines 0 behind.Nothing the_lines
-  lines-are = ordered question c 0 1 behind.Nothing f.entries refl
+  lines-are = ordered c 0 1 behind.Nothing f.sayings refl
 
-  pub section-formed : length f.entries ≤ count_limit → length (objects (answers question f.entries)) < 2 ^ 64 → IsSection (all_rows (folder_section question c f))
-  section-formed few all_few = record {
+  pub section-formed : length f.sayings ≤ count_limit → IsLawfulCollection f → IsSection (all_rows (section_of c f))
+  section-formed few lawful = record {
     first = open_row c f;
     lines = the_lines;
     codes = the_codes;
@@ -169,16 +167,16 @@ module _ (question : Question) (c : ℕ) (f : Folder) where
     opens = tt;
     all = sym count-any;
     ordered = lines-are;
-    counts = codes-are c (counted_in question f);
-    tallied = section-tallied question c f all_few;
+    counts = codes-are c (counted_in f);
+    tallied = section-tallied c f lawful;
     few = (let e = count-any in omega (arith, e, few));
   }
 
-  pub section-opens : patterns_in (all_rows (folder_section question c f)) ≡ length f.entries
+  pub section-opens : patterns_in (all_rows (section_of c f)) ≡ length f.sayings
   section-opens =
       let rest = patterns-append the_lines (the_codes ++ the_close ∷ []) in
       let ends = patterns-append the_codes (the_close ∷ []) in
       let none = lines-open-none 0 behind.Nothing the_lines lines-are in
-      let no = codes-open-none the_codes (codes-are c (counted_in question f)) in
-      let all : length f.entries + patterns_in (the_lines ++ (the_codes ++ the_close ∷ [])) ≡ length f.entries = omega (arith, rest, ends, none, no) in
+      let no = codes-open-none the_codes (codes-are c (counted_in f)) in
+      let all : length f.sayings + patterns_in (the_lines ++ (the_codes ++ the_close ∷ [])) ≡ length f.sayings = omega (arith, rest, ends, none, no) in
       ap patterns_in written ∙ all

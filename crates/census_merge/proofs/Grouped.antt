@@ -2,12 +2,11 @@
 use Rattle.std.proofs.Common.{◌≡◌, ℕ, true, false, cond, eqb, List, [], ◌∷◌, ◌++◌, ap, ◌∙◌, sym, refl, subst}
 use Rattle.std.specs.List.{AllByRecursion as Each}
 use Rattle.std.proofs.lemmas.Bool.{eq-eqb, eqb-true}
-use Rattle.census_bundle.specs.declared.bundle.Folder.{Folder}
+use Rattle.census_format.specs.Lines.{Collection}
 use Rattle.census_format.specs.Reports.{Owned, lines_of, section}
 use Rattle.census_readback.specs.Shapes.{all_rows, rows_of}
 use Rattle.census_readback.specs.Steps.{collection_of}
 use Rattle.census_rows.specs.declared.row.Row.{Row}
-use Rattle.life_answer.specs.declared.question.Question.{Question}
 use Rattle.census_merge.specs.Telling.{rows_in}
 use Rattle.census_merge.proofs.Solid.{each-append}
 
@@ -35,9 +34,9 @@ in-rows P Q f [] h = tt
 in-rows P Q f (l ∷ ls) h = each-append Q l.group (rows_in ls) (each-then (P l.owner) Q (f l.owner) l.group h.0) (in-rows P Q f ls h.1)
 
 -- what holds for the rows of a bundle's sections holds for the rows of groups that are these sections
-pub in-sections : (P : ℕ → Row → Type 0) (Q : Row → Type 0) → ((c : ℕ) (row : Row) → P c row → Q row) → (b : List Folder) (question : Question) (groups : List Owned)
-    → ((c : ℕ) → lines_of c groups ≡ section b question c) → ((c : ℕ) → Each (Each (P c)) (section b question c)) → Each Q (rows_in groups)
-in-sections P Q f b question groups are h = in-rows P Q f groups (in-groups P groups (λ c. subst (Each (Each (P c))) (sym (are c)) (h c)))
+pub in-sections : (P : ℕ → Row → Type 0) (Q : Row → Type 0) → ((c : ℕ) (row : Row) → P c row → Q row) → (b : List Collection) (groups : List Owned)
+    → ((c : ℕ) → lines_of c groups ≡ section b c) → ((c : ℕ) → Each (Each (P c)) (section b c)) → Each Q (rows_in groups)
+in-sections P Q f b groups are h = in-rows P Q f groups (in-groups P groups (λ c. subst (Each (Each (P c))) (sym (are c)) (h c)))
 
 abbrev pub IsIn : ℕ → Row → Type 0
 IsIn c row = collection_of row ≡ c

@@ -14,7 +14,8 @@ use Rattle.census_rows.specs.declared.row.Row.TheVariants.{Engine}
 use Rattle.life_answer.specs.declared.part.Part as part
 use Rattle.life_cells.specs.TextOrder.{shorter_cmp}
 use Rattle.census_merge.proofs.Engined.{IsLawfulEmitted, emits_row, emitted_part, engine-told}
-use Rattle.census_merge.proofs.Taken.{Rise, told-then}
+use Rattle.census_merge.proofs.Taken.{told-then}
+use Rattle.census_merge.specs.Lawful.{Rise}
 
 -- engines that are alike: their way, what each emits, and how many they are
 abbrev pub Line : Type 0
@@ -44,8 +45,6 @@ IsLawfulLine l =
 pub record AllEngined (t : Told) (rows : List Row) : Type 0 where
   pub after : Told
   pub tells : told_by t rows ≡ Some after
-  pub recurs : after.recurs ≡ t.recurs
-  pub parted : after.parted ≡ t.parted
   pub told : is_told after ≡ true
 
 pub engines-told : (c i e : ℕ) (lines : List Line) (t : Told) → t.collection ≡ c → t.left ≡ engines_of lines → t.engine.rises ≡ true → e ≡ t.engine.number + 1
@@ -53,8 +52,6 @@ pub engines-told : (c i e : ℕ) (lines : List Line) (t : Told) → t.collection
 engines-told c i e [] t owner left rises next behind lawful = record {
   after = t;
   tells = refl;
-  recurs = refl;
-  parted = refl;
   told = ap (λ b. b && t.engine.rises) (eq-eqb t.left 0 left) ∙ rises;
 }
 engines-told c i e (l ∷ lines) t owner left rises next behind lawful =
@@ -67,8 +64,6 @@ engines-told c i e (l ∷ lines) t owner left rises next behind lawful =
     record {
       after = others.after;
       tells = told-then t one.after (Engine c i e l.0.period l.0.dx l.0.dy l.2 ∷ map (emits_row c i e) l.1) (line_rows c i (suc e) lines) one.tells ∙ others.tells;
-      recurs = others.recurs ∙ one.recurs;
-      parted = others.parted ∙ one.parted;
       told = others.told;
     }
 

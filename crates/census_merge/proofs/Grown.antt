@@ -11,7 +11,7 @@ use Rattle.census_readback.specs.Engines.{emitted_cmp, no_engine, way_cmp}
 use Rattle.census_readback.specs.Lawful.{is_way}
 use Rattle.census_readback.specs.Limits.{period_limit}
 use Rattle.census_readback.specs.declared.engines.Way.{Way}
-use Rattle.life_answer.specs.CountedTales.{engines_in, part_cmp, tale_cmp}
+use Rattle.life_answer.specs.CountedTales.{counted_tales, engines_in, part_cmp, tale_cmp}
 use Rattle.life_answer.specs.Parts.{objects_in}
 use Rattle.life_answer.specs.Tales.{tale_of}
 use Rattle.life_answer.specs.Told.{growth_told}
@@ -26,25 +26,19 @@ use Rattle.life_model.specs.Rule.{Rule}
 use Rattle.life_objects.proofs.DecidedLemmas.Tests.{small_abs}
 use Rattle.life_objects.proofs.Lists.{AllPairs-head, AllPairs-tail}
 use Rattle.census_merge.specs.Ranges.{FitsEmitted, FitsEngines, IsCodedPart}
-use Rattle.census_merge.proofs.CodeStarts.{IsCodePart}
 use Rattle.census_merge.proofs.Engined.{IsLawfulEmitted, emitted_part}
 use Rattle.census_merge.proofs.Growing.{AllBehind, IsLawfulLine, Line, behind-none, engines_of, line_rows, parts-stand, way-first}
-use Rattle.census_merge.proofs.PartsFound.{AreFairParts, IsCounted, parts-fair, rise-some}
+use Rattle.census_merge.proofs.PartsFound.{parts-fair, rise-some}
 use Rattle.census_merge.proofs.Tales.{told-holds}
+use Rattle.census_merge.specs.Lawful.{AreFairEngines, AreFairParts, Ascend, IsCodePart, IsCounted, IsFairGrowth, Rises}
 
 -- ---- what is reported of growth
 
-abbrev Rises : Engines → Engines → Type 0
-Rises line next = tale_cmp line.tale next.tale ≡ Less
-
-abbrev AreFairEngines : Engines → Type 0
-AreFairEngines line = AreFairParts line.tale.emits
-
--- there are some engines, they rise, and so does what each emits
-pub record IsFairGrowth (told : List Engines) : Type 0 where
-  pub some : 1 ≤ engines_in told
-  pub rise : AllPairs Rises told
-  pub emits : Each AreFairEngines told
+ascend : (lines : List Engines) → AllPairs Rises lines → Ascend lines
+ascend [] h = tt
+ascend (line ∷ []) h = tt
+ascend (line ∷ next ∷ lines) h =
+    (All-head (Rises line) next lines (AllPairs-head Rises line (next ∷ lines) h), ascend (next ∷ lines) (AllPairs-tail Rises line (next ∷ lines) h))
 
 pub growth-fair : (near : Bool) (R : Rule) (b : ℕ) (G : Generation) (told : List Engines) → growth_told near R b G ≡ Some told → IsFairGrowth told
 growth-fair near R b G told e =
@@ -52,7 +46,7 @@ growth-fair near R b G told e =
     let is = sym q.3 in
     record {
       some = some_engines R near b G told e;
-      rise = subst (AllPairs Rises) is (lines_rise (map (tale_of near R b) q.0));
+      rise = subst Ascend is (ascend (counted_tales (map (tale_of near R b) q.0)) (lines_rise (map (tale_of near R b) q.0)));
       emits = subst (Each AreFairEngines) is (told-holds AreFairParts near R b (tt, tt, tt) (parts-fair near R b) q.0);
     }
 
@@ -80,19 +74,25 @@ behind s t less =
     ap (ordering_then (way_cmp (way_of s) (way_of t))) (sym (parts-stand s.emits t.emits))
     ∙ sym (way-first (way_of s) (way_of t) (slice_cmp part_cmp s.emits t.emits)) ∙ less
 
-all-behind : (line : Engines) (lines : List Engines) → AllPairs Rises (line ∷ lines)
+all-behind : (line : Engines) (lines : List Engines) → Ascend (line ∷ lines)
     → AllBehind (way_of line.tale) (map emitted_part line.tale.emits) (map line_of lines)
 all-behind line [] rise = tt
-all-behind line (next ∷ lines) rise = (
-  behind line.tale next.tale (All-head (Rises line) next lines (AllPairs-head Rises line (next ∷ lines) rise)),
-  all-behind next lines (AllPairs-tail Rises line (next ∷ lines) rise),
-)
+all-behind line (next ∷ lines) rise = (behind line.tale next.tale rise.0, all-behind next lines rise.1)
 
-pub first-behind : (lines : List Engines) → AllPairs Rises lines → Each FitsEngines lines → AllBehind no_engine.way no_engine.emits (map line_of lines)
+pub first-behind : (lines : List Engines) → Ascend lines → Each FitsEngines lines → AllBehind no_engine.way no_engine.emits (map line_of lines)
 first-behind [] rise fits = tt
 first-behind (line ∷ lines) rise fits = (
   behind-none (way_of line.tale) (map emitted_part line.tale.emits) fits.0.0.later,
   all-behind line lines rise,
+)
+
+-- and the other way round
+pub ascend-back : (line : Engines) (lines : List Engines) → AllBehind (way_of line.tale) (map emitted_part line.tale.emits) (map line_of lines) → Ascend (line ∷ lines)
+ascend-back line [] h = tt
+ascend-back line (next ∷ lines) h = (
+  way-first (way_of line.tale) (way_of next.tale) (slice_cmp part_cmp line.tale.emits next.tale.emits)
+      ∙ ap (ordering_then (way_cmp (way_of line.tale) (way_of next.tale))) (parts-stand line.tale.emits next.tale.emits) ∙ h.0,
+  ascend-back next lines h.1,
 )
 
 -- ---- each is lawful

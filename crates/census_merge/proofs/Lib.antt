@@ -33,9 +33,12 @@ pub mod Engined
 pub mod Growing
 pub mod PartsFound
 pub mod Grown
-pub mod WholeBundles
+pub mod Fair
+pub mod Told
+pub mod Under
 pub mod Tallied
 pub mod Readable
 pub mod RunsLemmas
 pub mod BoundsLemmas
 pub mod CutsLemmas
+pub mod BackLemmas

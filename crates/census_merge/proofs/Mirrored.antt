@@ -231,7 +231,7 @@ run-ends all t u s v nought closed tells reads whole =
     let pass : (list_all is_behind v.places && (eqb (length v.places) count && eqb v.patterns v.patterns)) ≡ true =
     and_from _ _ all-are (and_from _ _ (eq-eqb _ _ size) (eq-eqb _ _ refl)) in
     let told-all : is_told u ≡ true =
-    elim tells.told as (λ _. is_told u ≡ true) [
+    elim tells as (λ _. is_told u ≡ true) [
       | inr stale ↦ stale.0
       | inl same ↦ elim whole as (λ _. is_told u ≡ true) [
         | inl told ↦ told-too all t u tells told

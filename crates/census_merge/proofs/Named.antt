@@ -1,17 +1,15 @@
 -- The rows of a bundle with lawful names can be cut from their lines.
-use Rattle.std.proofs.Common.{◌≡◌, ℕ, zero, suc, ◌*◌, ◌-◌, ◌<◌, ◌≤◌, ◌^◌, ⊎_elim, true, false, Some, All, List, [], ◌∷◌, ◌++◌, map, length, codes, count_by, decimal, slice_get, ap, ◌∙◌, sym, subst, refl, arith, eq-zero-or-pos}
+use Rattle.std.proofs.Common.{◌≡◌, ℕ, zero, suc, ◌*◌, ◌-◌, ◌<◌, ◌≤◌, ◌^◌, ⊎_elim, true, false, All, List, [], ◌∷◌, ◌++◌, map, length, codes, count_by, decimal, slice_get, ap, ◌∙◌, sym, subst, refl, arith, eq-zero-or-pos}
 use Rattle.std.specs.Fmt.{signed_decimal}
 use Rattle.std.specs.List.{AllByRecursion as Each, list_all}
 use Rattle.std.proofs.lemmas.Option.{slice_get_past}
 use Rattle.std.proofs.lemmas.Bool.{and_parts}
-use Rattle.census_bundle.specs.declared.bundle.Entry.{Entry}
-use Rattle.census_bundle.specs.declared.bundle.Folder.{Folder}
-use Rattle.census_bundle.specs.Names.{IsNamedEntry, IsNamedFolder, is_name, is_name_byte}
-use Rattle.census_bundle.specs.Sizes.{IsWithinCounts, count_limit}
+use Rattle.census_bundle.specs.Names.{is_name, is_name_byte}
+use Rattle.census_bundle.specs.Sizes.{count_limit}
 use Rattle.census_format.specs.Found.{lent}
-use Rattle.census_format.specs.Lines.{answer_to_entry, answers, is_refused, is_resolved, is_unresolved, emits_row, engine_row, engine_rows, outcome_rows, part_row, pattern_count, pattern_lines, pattern_row, pattern_rows, rows_behind, rows_of_engines}
+use Rattle.census_format.specs.Lines.{Collection, Saying, emits_row, engine_row, engine_rows, found_of, is_refused, is_resolved, is_unresolved, outcome_rows, part_row, pattern_row, rows_behind, rows_of_engines, saying_lines, saying_rows, sayings_count}
 use Rattle.census_format.specs.Objects.{Object, same_object}
-use Rattle.census_format.specs.Reports.{folder_section, section, section_of}
+use Rattle.census_format.specs.Reports.{section, section_if, section_of}
 use Rattle.census_rows.specs.declared.row.Row.{Row}
 use Rattle.census_rows.specs.declared.row.Row.TheVariants.{Line}
 use Rattle.census_rows.specs.Lines.{spelling}
@@ -21,17 +19,16 @@ use Rattle.life_answer.specs.declared.finding.Answer.TheVariants.{Found, Refused
 use Rattle.life_answer.specs.declared.finding.Outcome.{Outcome}
 use Rattle.life_answer.specs.declared.finding.Outcome.TheVariants.{Recurs, Unresolved, Large, Ash, Grows}
 use Rattle.life_answer.specs.declared.part.Part.{Part}
-use Rattle.life_answer.specs.declared.question.Question.{Question}
 use Rattle.life_answer.specs.declared.tale.Engines.{Engines}
 use Rattle.life_answer.specs.CountedTales.{engines_in}
 use Rattle.life_answer.specs.Parts.{objects_in}
 use Rattle.life_cells.specs.Rules.{rule_text}
 use Rattle.life_model.specs.Rule.{Rule}
-use Rattle.census_merge.specs.Joining.{IsBundle}
 use Rattle.census_merge.proofs.Rowed.{close_row, code-is, code_groups, code_row, counted_in, open_row, row_outcome, section-is}
-use Rattle.census_merge.proofs.Coded.{IsCoded, IsCodedAnswer, IsSolidEngines, IsSolidObject, IsSolidPart, entry-coded, tally-coded}
+use Rattle.census_merge.proofs.Coded.{IsSolidObject, tally-coded}
 use Rattle.census_merge.proofs.Parsed.{IsParsed, long-parsed, short-parsed, solid-flat}
 use Rattle.census_merge.proofs.Solid.{decimal-solid, each-append, rule-solid, signed-solid, solid-checked}
+use Rattle.census_merge.specs.Lawful.{AreSayable, IsCoded, IsCodedAnswer, IsSayable, IsSayableCollection, IsSolidEngines, IsSolidPart}
 
 -- ---- names
 
@@ -61,8 +58,8 @@ number-flat n = solid-flat (decimal n) (decimal-solid n)
 abbrev pub IsCut : Row → Type 0
 IsCut row = IsParsed (spelling row) × ((spelling row).number < 2 ^ 64)
 
-open-cut : (c : ℕ) (f : Folder) → HasNoFeed f.name → IsParsed (spelling (open_row c f))
-open-cut c f h = short-parsed (codes "open") c (decimal (length f.entries)) (f.name ∷ []) (solid-checked (codes "open") refl) (decimal-solid (length f.entries), h) (λ found. refl)
+open-cut : (c : ℕ) (f : Collection) → HasNoFeed f.name → IsParsed (spelling (open_row c f))
+open-cut c f h = short-parsed (codes "open") c (decimal (length f.sayings)) (f.name ∷ []) (solid-checked (codes "open") refl) (decimal-solid (length f.sayings), h) (λ found. refl)
 
 part-cut : (c i : ℕ) (part : Part) → IsSolidPart part → IsParsed (spelling (part_row c i part))
 part-cut c i part h =
@@ -134,50 +131,52 @@ behind-cut : (c i : ℕ) (found : Answer) → c < 2 ^ 64 → IsCodedAnswer found
 behind-cut c i (Found rule finding) few h = rows-cut c i finding.outcome few h
 behind-cut c i (Refused number) few h = tt
 
-patterns-cut : (question : Question) (c i : ℕ) (es : List Entry) → c < 2 ^ 64 → Each IsNamedEntry es → Each (Each IsCut) (pattern_lines question c i es)
-unfolding pattern_rows
-patterns-cut question c i [] few h = tt
-patterns-cut question c i (e ∷ es) few h =
-    let found = answer_to_entry question e in
-    let coded = entry-coded question e in
-    (((answer-cut c i found e.name coded (name-flat e.name h.0.name), few), behind-cut c i found few coded), patterns-cut question c (suc i) es few h.1)
+patterns-cut : (c i : ℕ) (ss : List Saying) → c < 2 ^ 64 → Each IsSayable ss → Each (Each IsCut) (saying_lines c i ss)
+unfolding saying_rows
+patterns-cut c i [] few h = tt
+patterns-cut c i (s ∷ ss) few h =
+    (((answer-cut c i s.found s.name h.0.1 (name-flat s.name h.0.0), few), behind-cut c i s.found few h.0.1), patterns-cut c (suc i) ss few h.1)
 
 codes-cut : (c : ℕ) (counted : List (Object × ℕ)) → c < 2 ^ 64 → Each (λ (x : Object × ℕ). IsSolidObject x.0) counted → Each (Each IsCut) (code_groups c counted)
 codes-cut c [] few h = tt
 codes-cut c (x ∷ counted) few h = (subst (Each IsCut) (sym (code-is c x)) ((code-cut c x h.0, few), tt), codes-cut c counted few h.1)
 
-section-cut : (question : Question) (c : ℕ) (f : Folder) → c < 2 ^ 64 → IsNamedFolder f → Each (Each IsCut) (folder_section question c f)
-section-cut question c f few h =
-    let coded = code_groups c (counted_in question f) in
-    let last = (close_row c (answers question f.entries) (length f.entries) ∷ []) ∷ [] in
-    let ends = each-append (Each IsCut) coded last (codes-cut c (counted_in question f) few (tally-coded same_object question f.entries))
-    (((close-cut c (answers question f.entries) (length f.entries), few), tt), tt) in
-    subst (Each (Each IsCut)) (sym (section-is question c f)) (
-      ((open-cut c f (name-flat f.name h.name), few), tt),
-      each-append (Each IsCut) (pattern_lines question c 1 f.entries) (coded ++ last) (patterns-cut question c 1 f.entries few (each-of IsNamedEntry f.entries h.entries)) ends,
+pub found-coded : (ss : List Saying) → Each IsSayable ss → Each IsCodedAnswer (found_of ss)
+found-coded [] h = tt
+found-coded (s ∷ ss) h = (h.0.1, found-coded ss h.1)
+
+section-cut : (c : ℕ) (f : Collection) → c < 2 ^ 64 → IsSayableCollection f → Each (Each IsCut) (section_of c f)
+section-cut c f few h =
+    let coded = code_groups c (counted_in f) in
+    let last = (close_row c (found_of f.sayings) (length f.sayings) ∷ []) ∷ [] in
+    let ends = each-append (Each IsCut) coded last (codes-cut c (counted_in f) few (tally-coded same_object (found_of f.sayings) (found-coded f.sayings h.each)))
+    (((close-cut c (found_of f.sayings) (length f.sayings), few), tt), tt) in
+    subst (Each (Each IsCut)) (sym (section-is c f)) (
+      ((open-cut c f (name-flat f.name h.named), few), tt),
+      each-append (Each IsCut) (saying_lines c 1 f.sayings) (coded ++ last) (patterns-cut c 1 f.sayings few h.each) ends,
     )
 
-at-cut : (question : Question) (c : ℕ) (b : List Folder) (k : ℕ) → c < 2 ^ 64 → Each IsNamedFolder b → Each (Each IsCut) (section_of question c (slice_get b k))
-at-cut question c [] k few h = tt
-at-cut question c (f ∷ b) zero few h = section-cut question c f few h.0
-at-cut question c (f ∷ b) (suc k) few h = at-cut question c b k few h.1
+at-cut : (c : ℕ) (b : List Collection) (k : ℕ) → c < 2 ^ 64 → Each IsSayableCollection b → Each (Each IsCut) (section_if c (slice_get b k))
+at-cut c [] k few h = tt
+at-cut c (f ∷ b) zero few h = section-cut c f few h.0
+at-cut c (f ∷ b) (suc k) few h = at-cut c b k few h.1
 
 -- the rows of each collection can be cut from their lines
-pub sections-cut : (question : Question) (b : List Folder) → IsBundle b → (c : ℕ) → Each (Each IsCut) (section b question c)
-sections-cut question b h zero = tt
-sections-cut question b h (suc k) = ⊎_elim
-    (λ none. subst (λ o. Each (Each IsCut) (section_of question (suc k) o)) (sym (slice_get_past b k (omega arith))) tt)
-    (λ some. at-cut question (suc k) b k (omega (arith, h.0.folders)) (each-of IsNamedFolder b h.1.folders))
+pub sections-cut : (b : List Collection) → AreSayable b → (c : ℕ) → Each (Each IsCut) (section b c)
+sections-cut b h zero = tt
+sections-cut b h (suc k) = ⊎_elim
+    (λ none. subst (λ o. Each (Each IsCut) (section_if (suc k) o)) (sym (slice_get_past b k (omega arith))) tt)
+    (λ some. at-cut (suc k) b k (let few = h.few in omega (arith, few)) h.each)
     (eq-zero-or-pos (length b - k))
 
 -- ---- numbers
 
-pub few-in : (b : List Folder) → ((k : ℕ) (f : Folder) → slice_get b k ≡ Some f → length f.entries ≤ count_limit) → pattern_count b ≤ count_limit * length b
+pub few-in : (b : List Collection) → Each IsSayableCollection b → sayings_count b ≤ count_limit * length b
 few-in [] h = omega arith
 few-in (f ∷ b) h =
-    let here = h 0 f refl in
-    let rest = few-in b (λ k g. h (suc k) g) in
+    let here = h.0.few in
+    let rest = few-in b h.1 in
     omega arith
 
-pub few-patterns : (b : List Folder) → IsWithinCounts b → pattern_count b < 2 ^ 64
-few-patterns b h = let all = few-in b h.entries in omega (arith, h.folders)
+pub few-patterns : (b : List Collection) → AreSayable b → sayings_count b < 2 ^ 64
+few-patterns b h = let all = few-in b h.each in let few = h.few in omega (arith, few)

@@ -1,8 +1,7 @@
 -- How many patterns rows open, by their collections.
 use Rattle.std.proofs.Common.{◌≡◌, ℕ, zero, suc, ◌+◌, ◌<◌, ◌≤◌, true, false, eqb, inl, inr, Option, Some, None, List, [], ◌∷◌, length, slice_get, ap, ◌∙◌, sym, refl, arith}
 use Rattle.std.proofs.lemmas.Bool.{cases_Bool}
-use Rattle.census_bundle.specs.declared.bundle.Folder.{Folder}
-use Rattle.census_format.specs.Lines.{pattern_count}
+use Rattle.census_format.specs.Lines.{Collection, sayings_count}
 use Rattle.census_readback.proofs.Kept.{rows-one}
 use Rattle.census_readback.specs.Shapes.{AreCodes, AreLines, AreOfCollections, patterns_in, rows_of}
 use Rattle.census_readback.specs.Steps.{collection_of, patterns_opened}
@@ -74,23 +73,23 @@ total-all n (r ∷ rows) h =
     omega (arith, here, others)
 
 -- how many patterns a collection has
-abbrev pub size_of : Option Folder → ℕ
+abbrev pub size_of : Option Collection → ℕ
 size_of None = 0
-size_of (Some f) = length f.entries
+size_of (Some f) = length f.sayings
 
-total-count : (body : List Row) (first : ℕ) (fs : List Folder) → ((k : ℕ) → patterns_in (rows_of (first + k) body) ≡ size_of (slice_get fs k))
-    → total first (length fs) body ≡ pattern_count fs
+total-count : (body : List Row) (first : ℕ) (fs : List Collection) → ((k : ℕ) → patterns_in (rows_of (first + k) body) ≡ size_of (slice_get fs k))
+    → total first (length fs) body ≡ sayings_count fs
 total-count body first [] h = refl
 total-count body first (f ∷ fs) h =
     let at : first + 0 ≡ first = omega arith in
-    let here : patterns_in (rows_of first body) ≡ length f.entries = ap (λ c. patterns_in (rows_of c body)) (sym at) ∙ h 0 in
+    let here : patterns_in (rows_of first body) ≡ length f.sayings = ap (λ c. patterns_in (rows_of c body)) (sym at) ∙ h 0 in
     let others = total-count body (suc first) fs (λ k.
     let next : suc first + k ≡ first + suc k = omega arith in
     ap (λ c. patterns_in (rows_of c body)) next ∙ h (suc k)) in
     omega (arith, here, others)
 
-pub patterns-counted : (body : List Row) (b : List Folder) → AreOfCollections (length b) body → ((k : ℕ) → patterns_in (rows_of (suc k) body) ≡ size_of (slice_get b k))
-    → patterns_in body ≡ pattern_count b
+pub patterns-counted : (body : List Row) (b : List Collection) → AreOfCollections (length b) body → ((k : ℕ) → patterns_in (rows_of (suc k) body) ≡ size_of (slice_get b k))
+    → patterns_in body ≡ sayings_count b
 patterns-counted body b owned h =
     sym (total-all (length b) body owned)
     ∙ total-count body 1 b (λ k. let next : 1 + k ≡ suc k = omega arith in ap (λ c. patterns_in (rows_of c body)) next ∙ h k)

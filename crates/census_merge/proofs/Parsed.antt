@@ -11,7 +11,8 @@ use Rattle.census_rows.specs.declared.row.Row.{Row}
 use Rattle.census_rows.specs.declared.row.Row.TheVariants.{Open, Line, Part, Engine, Emits, Code, Close, End}
 use Rattle.census_rows.specs.Lines.{HasNoBlank, IsOutcome, IsRow, Spelling, fields_text, outcome_fields, row_text, spelled, spelling, spelling_text}
 use Rattle.census_merge.proofs.Flat.{flat-append}
-use Rattle.census_merge.proofs.Solid.{IsSolid, decimal-solid, signed-solid, solid-checked}
+use Rattle.census_merge.proofs.Solid.{decimal-solid, signed-solid, solid-checked}
+use Rattle.census_merge.specs.Lawful.{IsSolid}
 
 -- the bytes before the first blank, and those after it
 abbrev first : List ℕ → List ℕ
@@ -91,7 +92,7 @@ parsed-line c i found g fields h sized =
 
 pub solid-plain : (bytes : List ℕ) → IsSolid bytes → HasNoBlank bytes
 solid-plain [] h = tt
-solid-plain (b ∷ bytes) h = (λ e. omega (arith, h.0), solid-plain bytes h.1)
+solid-plain (b ∷ bytes) h = (h.0.0, solid-plain bytes h.1)
 
 number : (n : ℕ) → HasNoBlank (decimal n)
 number n = solid-plain (decimal n) (decimal-solid n)
@@ -199,9 +200,9 @@ row-parsed (End collections patterns) h =
 
 pub solid-flat : (bytes : List ℕ) → IsSolid bytes → HasNoFeed bytes
 solid-flat [] h = tt
-solid-flat (b ∷ bytes) h = (λ e. omega (arith, h.0), solid-flat bytes h.1)
+solid-flat (b ∷ bytes) h = (h.0.1, solid-flat bytes h.1)
 
--- fields without a blank or a control character, but for the last, which has no LF
+-- fields without a blank or LF, but for the last, which has no LF
 abbrev pub AreFields : List (List ℕ) → Type 0
 AreFields [] = ⊤
 AreFields (f ∷ []) = HasNoFeed f

@@ -13,11 +13,8 @@ use Rattle.life_model.specs.Rule.{Rule}
 use Rattle.life_cells.specs.TextOrder.{shorter_cmp}
 use Rattle.life_cells.proofs.TextOrders.{shorter_total}
 use Rattle.census_merge.specs.Ranges.{IsCodedPart}
-use Rattle.census_merge.proofs.CodeStarts.{IsCodePart, parts-told}
-use Rattle.census_merge.proofs.Taken.{IsBehind, Rise}
-
-abbrev pub IsCounted : part.Part → Type 0
-IsCounted p = 0 < p.count
+use Rattle.census_merge.proofs.CodeStarts.{parts-told}
+use Rattle.census_merge.specs.Lawful.{AreFairParts, IsBehind, IsCounted, Rise}
 
 rise-beside : (last : Option (List ℕ)) (code : List ℕ) (p : part.Part) (parts rest : List part.Part) (o : Ordering) → shorter_cmp code p.code ≡ o
     → IsBehind last code → Rise last (p ∷ parts) → (shorter_cmp p.code code ≡ Less → Rise (Some p.code) rest) → Rise last (with_code_by_order o code p parts rest)
@@ -56,10 +53,6 @@ with-counted code (p ∷ parts) h = beside-counted (shorter_cmp code p.code) cod
 all-counted : (codes : List (List ℕ)) (parts : List part.Part) → Each IsCounted parts → Each IsCounted (fold (λ parts code. with_code code parts) parts codes)
 all-counted [] parts h = h
 all-counted (code ∷ codes) parts h = all-counted codes (with_code code parts) (with-counted code parts h)
-
--- the parts rise, each is counted, and each that has a byte has a code
-abbrev pub AreFairParts : List part.Part → Type 0
-AreFairParts parts = Rise Nothing parts × Each IsCounted parts × Each IsCodePart parts
 
 pub parts-fair : (near : Bool) (R : Rule) (b : ℕ) (objects : List Generation) → AreFairParts (counted_parts near R b objects)
 parts-fair near R b objects =

@@ -1,5 +1,5 @@
 -- The rows that say what is said of a bundle are on lines, if their numbers are in range.
-use Rattle.std.proofs.Common.{◌≡◌, ℕ, zero, suc, ◌+◌, ◌-◌, ◌<◌, ⊎_elim, eq-zero-or-pos, replicate, ◌≤◌, ◌^◌, Bool, None as Nothing, Some, List, [], ◌∷◌, ◌++◌, map, length, count_by, slice_get, sym, refl, arith, subst}
+use Rattle.std.proofs.Common.{◌≡◌, ℕ, zero, suc, ◌+◌, ◌-◌, ◌<◌, ⊎_elim, eq-zero-or-pos, replicate, ◌≤◌, ◌^◌, Bool, None as Nothing, List, [], ◌∷◌, ◌++◌, map, length, count_by, slice_get, sym, refl, arith, subst}
 use Rattle.std.specs.List.{AllByRecursion as Each}
 use Rattle.std.specs.Prelude.{FitsSigned}
 use Rattle.std.specs.Int.{w64}
@@ -7,13 +7,11 @@ use Rattle.std.proofs.lemmas.Int.{ints}
 use Rattle.std.proofs.lemmas.List.{length-map}
 use Rattle.std.proofs.lemmas.List.Sums.{count_by-le-length}
 use Rattle.std.proofs.lemmas.Option.{slice_get_past}
-use Rattle.census_bundle.specs.Sizes.{IsWithinCounts, count_limit}
-use Rattle.census_bundle.specs.declared.bundle.Entry.{Entry}
-use Rattle.census_bundle.specs.declared.bundle.Folder.{Folder}
+use Rattle.census_bundle.specs.Sizes.{count_limit}
 use Rattle.census_format.specs.Found.{outcome_of}
-use Rattle.census_format.specs.Lines.{answer_to_entry, answers, is_refused, is_resolved, is_unresolved, emits_row, engine_row, engine_rows, outcome_rows, part_row, pattern_lines, pattern_rows, rows_behind, rows_of_engines}
+use Rattle.census_format.specs.Lines.{Collection, Saying, emits_row, engine_row, engine_rows, found_of, is_refused, is_resolved, is_unresolved, outcome_rows, part_row, rows_behind, rows_of_engines, saying_lines, saying_rows}
 use Rattle.census_format.specs.Objects.{Object, code_line, distinct_elements, object, objects, outcome_objects, part_objects, same_object}
-use Rattle.census_format.specs.Reports.{folder_section, section, section_of}
+use Rattle.census_format.specs.Reports.{section, section_if, section_of}
 use Rattle.census_merge.specs.Sums.{sums_of}
 use Rattle.census_readback.specs.Steps.{collection_of}
 use Rattle.census_rows.specs.declared.row.Row.{Row}
@@ -23,17 +21,18 @@ use Rattle.life_answer.specs.declared.finding.Answer.TheVariants.{Found, Refused
 use Rattle.life_answer.specs.declared.finding.Outcome as becomes
 use Rattle.life_answer.specs.declared.finding.Outcome.TheVariants.{Recurs, Unresolved, Large, Ash, Grows}
 use Rattle.life_answer.specs.declared.part.Part as part
-use Rattle.life_answer.specs.declared.question.Question.{Question}
 use Rattle.life_answer.specs.Parts.{objects_in}
 use Rattle.life_answer.specs.CountedTales.{engines_in}
 use Rattle.life_answer.specs.declared.tale.Engines.{Engines}
 use Rattle.life_cells.specs.Rules.{rule_text}
 use Rattle.life_model.specs.Rule.{Rule}
-use Rattle.census_merge.specs.Ranges.{FitsEmitted, FitsEngines, FitsOutcome, InRange, IsCodedPart, IsToldAnswer, IsToldFolder}
-use Rattle.census_merge.proofs.Coded.{IsCoded, IsCodedAnswer, IsSolidEngines, IsSolidObject, IsSolidPart, counted-each, distinct-each, entry-coded, tally-coded}
+use Rattle.census_merge.specs.Ranges.{FitsEmitted, FitsEngines, FitsOutcome, IsCodedPart, IsToldAnswer}
+use Rattle.census_merge.proofs.Named.{found-coded}
+use Rattle.census_merge.proofs.Coded.{IsSolidObject, counted-each, distinct-each, tally-coded}
 use Rattle.census_merge.proofs.Parsed.{solid-plain}
 use Rattle.census_merge.proofs.Rowed.{close_row, code_groups, counted_in, row_outcome, section-is}
-use Rattle.census_merge.proofs.Solid.{IsSolid, each-append, each-replicate, rule-solid}
+use Rattle.census_merge.proofs.Solid.{each-append, each-replicate, rule-solid}
+use Rattle.census_merge.specs.Lawful.{AreSayable, IsCoded, IsCodedAnswer, IsSayable, IsSayableCollection, IsSolid, IsSolidEngines, IsSolidPart, IsToldCollection}
 
 -- a row of the collection c, with numbers in range
 abbrev pub IsFit : ℕ → Row → Type 0
@@ -105,16 +104,14 @@ after-fit : (c i : ℕ) (found : Answer) → c < 2 ^ 64 → i < 2 ^ 64 → IsTol
 after-fit c i (Found rule finding) a b h k = found-fit c i finding.outcome a b h.1 k
 after-fit c i (Refused number) a b h k = tt
 
-patterns-fit : (question : Question) (c i : ℕ) (es : List Entry) → c < 2 ^ 64 → i + length es < 2 ^ 64 → Each IsToldAnswer (answers question es)
-    → Each (Each (IsFit c)) (pattern_lines question c i es)
-unfolding pattern_rows
-patterns-fit question c i [] a b h = tt
-patterns-fit question c i (e ∷ es) a b h =
-    let found = answer_to_entry question e in
-    let coded = entry-coded question e in
+patterns-fit : (c i : ℕ) (ss : List Saying) → c < 2 ^ 64 → i + length ss < 2 ^ 64 → Each IsSayable ss → Each IsToldAnswer (found_of ss)
+    → Each (Each (IsFit c)) (saying_lines c i ss)
+unfolding saying_rows
+patterns-fit c i [] a b k h = tt
+patterns-fit c i (s ∷ ss) a b k h =
     let here : i < 2 ^ 64 = omega (arith, b) in (
-      ((refl, refl, (a, here, outcome-fits found h.0 coded)), after-fit c i found a here h.0 coded),
-      patterns-fit question c (suc i) es a (omega (arith, b)) h.1,
+      ((refl, refl, (a, here, outcome-fits s.found h.0 k.0.1)), after-fit c i s.found a here h.0 k.0.1),
+      patterns-fit c (suc i) ss a (omega (arith, b)) k.1 h.1,
     )
 
 abbrev pub HasObjectCode : Object → Type 0
@@ -137,7 +134,7 @@ objects-some (Found rule finding ∷ found) h =
     each-append HasObjectCode (outcome_objects rule finding.outcome) (objects found) (outcome-some rule finding.outcome h.0.1) (objects-some found h.1)
 objects-some (Refused number ∷ found) h = objects-some found h.1
 
-counts-fit : (all xs : List Object) → length all < 2 ^ 64 → Each (λ (x : Object × ℕ). x.1 < 2 ^ 64) (map (λ x. (x, count_by (same_object x) all)) xs)
+pub counts-fit : (all xs : List Object) → length all < 2 ^ 64 → Each (λ (x : Object × ℕ). x.1 < 2 ^ 64) (map (λ x. (x, count_by (same_object x) all)) xs)
 counts-fit all [] few = tt
 counts-fit all (x ∷ xs) few = (let most = count_by-le-length (same_object x) all in omega (arith, most, few), counts-fit all xs few)
 
@@ -148,39 +145,39 @@ codes-fit c [] a h k few = tt
 codes-fit c (x ∷ ones) a h k few =
     (((refl, refl, (a, rule-word x.0.rule, word x.0.code k.0 h.0, few.0)), tt), codes-fit c ones a h.1 k.1 few.1)
 
-few-that : (test : Answer → Bool) (question : Question) (es : List Entry) → length es ≤ count_limit → count_by test (answers question es) < 2 ^ 64
-few-that test question es few =
-    let most = count_by-le-length test (answers question es) in
-    let all = length-map es (answer_to_entry question) in
+few-that : (test : Answer → Bool) (ss : List Saying) → length ss ≤ count_limit → count_by test (found_of ss) < 2 ^ 64
+few-that test ss few =
+    let most = count_by-le-length test (found_of ss) in
+    let all = length-map ss (λ (s : Saying). s.found) in
     omega (arith, most, all, few)
 
-section-fit : (question : Question) (c : ℕ) (f : Folder) → c < 2 ^ 64 → length f.entries ≤ count_limit → IsToldFolder question f
-    → Each (Each (IsFit c)) (folder_section question c f)
-section-fit question c f a few h =
-    let all = objects (answers question f.entries) in
-    let coded = code_groups c (counted_in question f) in
-    let last = (close_row c (answers question f.entries) (length f.entries) ∷ []) ∷ [] in
-    let size : length f.entries < 2 ^ 64 = omega (arith, few) in
-    let counted = codes-fit c (counted_in question f) a (tally-coded same_object question f.entries)
-    (counted-each HasObjectCode (λ x. count_by (same_object x) all) (distinct_elements same_object all) (distinct-each HasObjectCode same_object all (objects-some (answers question f.entries) h.0)))
-    (counts-fit all (distinct_elements same_object all) h.1) in
+section-fit : (c : ℕ) (f : Collection) → c < 2 ^ 64 → IsSayableCollection f → IsToldCollection f → Each (Each (IsFit c)) (section_of c f)
+section-fit c f a k h =
+    let few = k.few in
+    let found = found_of f.sayings in
+    let all = objects found in
+    let coded = code_groups c (counted_in f) in
+    let last = (close_row c found (length f.sayings) ∷ []) ∷ [] in
+    let size : length f.sayings < 2 ^ 64 = omega (arith, few) in
+    let counted = codes-fit c (counted_in f) a (tally-coded same_object found (found-coded f.sayings k.each))
+    (counted-each HasObjectCode (λ x. count_by (same_object x) all) (distinct_elements same_object all) (distinct-each HasObjectCode same_object all (objects-some found h.0)))
+    h.1 in
     let closes : Each (Each (IsFit c)) last =
-    (((refl, refl, (a, size, few-that is_resolved question f.entries few, few-that is_unresolved question f.entries few, few-that is_refused question f.entries few)), tt), tt) in
-    subst (Each (Each (IsFit c))) (sym (section-is question c f)) (
+    (((refl, refl, (a, size, few-that is_resolved f.sayings few, few-that is_unresolved f.sayings few, few-that is_refused f.sayings few)), tt), tt) in
+    subst (Each (Each (IsFit c))) (sym (section-is c f)) (
       ((refl, refl, (a, size)), tt),
-      each-append (Each (IsFit c)) (pattern_lines question c 1 f.entries) (coded ++ last) (patterns-fit question c 1 f.entries a (omega (arith, few)) h.0)
+      each-append (Each (IsFit c)) (saying_lines c 1 f.sayings) (coded ++ last) (patterns-fit c 1 f.sayings a (omega (arith, few)) k.each h.0)
           (each-append (Each (IsFit c)) coded last counted closes),
     )
 
-at-fit : (question : Question) (c : ℕ) (b : List Folder) (k : ℕ) → c < 2 ^ 64 → ((j : ℕ) (f : Folder) → slice_get b j ≡ Some f → length f.entries ≤ count_limit)
-    → Each (IsToldFolder question) b → Each (Each (IsFit c)) (section_of question c (slice_get b k))
-at-fit question c [] k a few h = tt
-at-fit question c (f ∷ b) zero a few h = section-fit question c f a (few 0 f refl) h.0
-at-fit question c (f ∷ b) (suc k) a few h = at-fit question c b k a (λ j g. few (suc j) g) h.1
+at-fit : (c : ℕ) (b : List Collection) (k : ℕ) → c < 2 ^ 64 → Each IsSayableCollection b → Each IsToldCollection b → Each (Each (IsFit c)) (section_if c (slice_get b k))
+at-fit c [] k a few h = tt
+at-fit c (f ∷ b) zero a few h = section-fit c f a few.0 h.0
+at-fit c (f ∷ b) (suc k) a few h = at-fit c b k a few.1 h.1
 
-pub rows-fit : (question : Question) (b : List Folder) → IsWithinCounts b → InRange b question → (c : ℕ) → Each (Each (IsFit c)) (section b question c)
-rows-fit question b small h zero = tt
-rows-fit question b small h (suc k) = ⊎_elim
-    (λ none. subst (λ o. Each (Each (IsFit (suc k))) (section_of question (suc k) o)) (sym (slice_get_past b k (omega arith))) tt)
-    (λ some. at-fit question (suc k) b k (omega (arith, small.folders)) small.entries h)
+pub rows-fit : (b : List Collection) → AreSayable b → Each IsToldCollection b → (c : ℕ) → Each (Each (IsFit c)) (section b c)
+rows-fit b small h zero = tt
+rows-fit b small h (suc k) = ⊎_elim
+    (λ none. subst (λ o. Each (Each (IsFit (suc k))) (section_if (suc k) o)) (sym (slice_get_past b k (omega arith))) tt)
+    (λ some. at-fit (suc k) b k (let few = small.few in omega (arith, few)) small.each h)
     (eq-zero-or-pos (length b - k))

@@ -1,9 +1,9 @@
 -- Reports that are read back say what is found of their bundles.
+use Rattle.std.specs.List.{AllByRecursion as Each}
 use Rattle.std.proofs.Common.{◌≡◌, None as Nothing, ℕ, ◌<◌, ◌≤◌, ◌^◌, List, [], ◌∷◌, ◌++◌, length, ap, ◌∙◌, sym, refl, arith, append-nil, append_assoc}
-use Rattle.census_bundle.specs.declared.bundle.Folder.{Folder}
+use Rattle.census_format.specs.Lines.{Collection, sayings_count}
 use Rattle.census_bundle.specs.Sizes.{count_limit}
-use Rattle.census_format.specs.Lines.{end_line, pattern_count}
-use Rattle.census_format.specs.Reports.{IsReport, owned_text}
+use Rattle.census_format.specs.Reports.{IsReportOf, end_of, owned_text}
 use Rattle.census_merge.specs.Merged.{merged_rows}
 use Rattle.census_merge.specs.Sums.{first_excess, no_sums}
 use Rattle.census_readback.specs.Reports.{ReadsAsReports}
@@ -12,9 +12,8 @@ use Rattle.census_readback.specs.Texts.{AllLines}
 use Rattle.census_rows.specs.declared.row.Row.{Row}
 use Rattle.census_rows.specs.declared.row.Row.TheVariants.{End}
 use Rattle.census_rows.specs.Lines.{line_of, row_text, text_of}
-use Rattle.life_answer.specs.declared.question.Question.{Question}
-use Rattle.census_merge.specs.Joining.{AreBundles, EachIsReport, EachTells, IsBundle, bundles, texts}
-use Rattle.census_merge.specs.Telling.{TellsBundle, rows_in}
+use Rattle.census_merge.specs.Joining.{EachIsReportOf, EachTells, joined, texts}
+use Rattle.census_merge.specs.Telling.{Tells, rows_in}
 use Rattle.census_merge.proofs.CutRows.{cut-end, cut-rows, isnt-empty}
 use Rattle.census_merge.proofs.Fitting.{fitting}
 use Rattle.census_merge.proofs.Joined.{joined-tell}
@@ -22,26 +21,27 @@ use Rattle.census_merge.proofs.Grouped.{in-sections}
 use Rattle.census_merge.proofs.Named.{IsCut, few-patterns, sections-cut}
 use Rattle.census_merge.proofs.Rowed.{end-is}
 use Rattle.census_merge.proofs.Texts.{owned-rows, told-report}
+use Rattle.census_merge.specs.Lawful.{AreSayable}
 
-record ReportCut (b : List Folder) (question : Question) (rows : List Row) (more : List ℕ) : Type 0 where
+record ReportCut (b : List Collection) (rows : List Row) (more : List ℕ) : Type 0 where
   told : List Row
   rest : List Row
   whole : rows ≡ told ++ rest
-  tells : TellsBundle b question told
+  tells : Tells b told
   lines : AllLines rest
   left : text_of rest ≡ more
 
-cut-report : (b : List Folder) (question : Question) (text : List ℕ) (rows : List Row) (more : List ℕ) → IsBundle b → IsReport b question text → AllLines rows
-    → text_of rows ≡ text ++ more → ReportCut b question rows more
-cut-report b question text rows more bundle report each e =
+cut-report : (b : List Collection) (text : List ℕ) (rows : List Row) (more : List ℕ) → AreSayable b → IsReportOf b text → AllLines rows
+    → text_of rows ≡ text ++ more → ReportCut b rows more
+cut-report b text rows more bundle report each e =
     let told = rows_in report.groups in
-    let end = End (length b) (pattern_count b) in
-    let last : text_of (end_line b) ≡ line_of end = ap text_of (end-is b) ∙ append-nil (line_of end) in
-    let start = cut-rows told (in-sections (λ c row. IsCut row) IsCut (λ c row h. h) b question report.groups report.sections (sections-cut question b bundle)) rows (text_of (end_line b) ++ more) each
-    (e ∙ ap (λ w. w ++ more) report.whole ∙ append_assoc (owned_text report.groups) (text_of (end_line b)) more
-    ∙ ap (λ w. w ++ (text_of (end_line b) ++ more)) (owned-rows report.groups)) in
-    let few : length b < 2 ^ 64 = omega (arith, bundle.0.folders) in
-    let ended = cut-end (length b) (pattern_count b) start.rest more few (few-patterns b bundle.0) start.lines (start.left ∙ ap (λ w. w ++ more) last) in
+    let end = End (length b) (sayings_count b) in
+    let last : text_of (end_of b) ≡ line_of end = ap text_of (end-is b) ∙ append-nil (line_of end) in
+    let start = cut-rows told (in-sections (λ c row. IsCut row) IsCut (λ c row h. h) b report.groups report.sections (sections-cut b bundle)) rows (text_of (end_of b) ++ more) each
+    (e ∙ ap (λ w. w ++ more) report.whole ∙ append_assoc (owned_text report.groups) (text_of (end_of b)) more
+    ∙ ap (λ w. w ++ (text_of (end_of b) ++ more)) (owned-rows report.groups)) in
+    let few : length b < 2 ^ 64 = (let most_of = bundle.few in omega (arith, most_of)) in
+    let ended = cut-end (length b) (sayings_count b) start.rest more few (few-patterns b bundle) start.lines (start.left ∙ ap (λ w. w ++ more) last) in
     record {
       told = start.body ++ end ∷ [];
       rest = ended.rest;
@@ -55,10 +55,10 @@ none-left : (rows : List Row) → text_of rows ≡ [] → rows ≡ []
 none-left [] e = refl
 none-left (row ∷ rows) e = absurd (isnt-empty (row_text row) (text_of rows) (sym e ∙ append_assoc (row_text row) (10 ∷ []) (text_of rows)))
 
-pub read-tells : (b : List Folder) (question : Question) (text : List ℕ) (rows : List Row)
-    → IsBundle b → IsReport b question text → ReadsAsReports rows text → TellsBundle b question rows
-read-tells b question text rows bundle report read =
-    let one = cut-report b question text rows [] bundle report read.lines (sym read.whole ∙ sym (append-nil text)) in
+pub read-tells : (b : List Collection) (text : List ℕ) (rows : List Row)
+    → AreSayable b → IsReportOf b text → ReadsAsReports rows text → Tells b rows
+read-tells b text rows bundle report read =
+    let one = cut-report b text rows [] bundle report read.lines (sym read.whole ∙ sym (append-nil text)) in
     let all : rows ≡ one.told = one.whole ∙ ap (λ w. one.told ++ w) (none-left one.rest one.left) ∙ append-nil one.told in
     record {
       groups = one.tells.groups;
@@ -68,31 +68,31 @@ read-tells b question text rows bundle report read =
       whole = all ∙ one.tells.whole;
     }
 
-record ReportsCut (question : Question) (parts : List (List Folder)) (rows : List Row) : Type 0 where
+record ReportsCut (parts : List (List Collection)) (rows : List Row) : Type 0 where
   reports : List (List Row)
-  tell : EachTells question parts reports
+  tell : EachTells parts reports
   whole : rows ≡ all_rows reports
 
-cut-reports : (question : Question) (parts : List (List Folder)) (reports : List (List ℕ)) (rows : List Row)
-    → AreBundles parts → EachIsReport question parts reports → AllLines rows → text_of rows ≡ texts reports → ReportsCut question parts rows
-cut-reports question [] [] rows small h each e = record { reports = []; tell = tt; whole = none-left rows e }
-cut-reports question [] (text ∷ reports) rows small h each e = absurd h
-cut-reports question (b ∷ parts) [] rows small h each e = absurd h
-cut-reports question (b ∷ parts) (text ∷ reports) rows small h each e =
-    let one = cut-report b question text rows (texts reports) small.0 h.0 each e in
-    let more = cut-reports question parts reports one.rest small.1 h.1 one.lines one.left in
+cut-reports : (parts : List (List Collection)) (reports : List (List ℕ)) (rows : List Row)
+    → Each AreSayable parts → EachIsReportOf parts reports → AllLines rows → text_of rows ≡ texts reports → ReportsCut parts rows
+cut-reports [] [] rows small h each e = record { reports = []; tell = tt; whole = none-left rows e }
+cut-reports [] (text ∷ reports) rows small h each e = absurd h
+cut-reports (b ∷ parts) [] rows small h each e = absurd h
+cut-reports (b ∷ parts) (text ∷ reports) rows small h each e =
+    let one = cut-report b text rows (texts reports) small.0 h.0 each e in
+    let more = cut-reports parts reports one.rest small.1 h.1 one.lines one.left in
     record {
       reports = one.told ∷ more.reports;
       tell = (one.tells, more.tell);
       whole = one.whole ∙ ap (λ w. one.told ++ w) more.whole;
     }
 
-pub merged-report : (question : Question) (parts : List (List Folder)) (reports : List (List ℕ)) (rows : List Row)
-    → AreBundles parts → EachIsReport question parts reports → ReadsAsReports rows (texts reports) → IsReport (bundles parts) question (text_of (merged_rows rows))
-merged-report question parts reports rows small h read =
-    let all = cut-reports question parts reports rows small h read.lines (sym read.whole) in
-    told-report (bundles parts) question (merged_rows rows)
-    (let tells = joined-tell question parts all.reports all.tell in
+pub merged-report : (parts : List (List Collection)) (reports : List (List ℕ)) (rows : List Row)
+    → Each AreSayable parts → EachIsReportOf parts reports → ReadsAsReports rows (texts reports) → IsReportOf (joined parts) (text_of (merged_rows rows))
+merged-report parts reports rows small h read =
+    let all = cut-reports parts reports rows small h read.lines (sym read.whole) in
+    told-report (joined parts) (merged_rows rows)
+    (let tells = joined-tell parts all.reports all.tell in
     record {
       groups = tells.groups;
       sections = tells.sections;
@@ -101,8 +101,8 @@ merged-report question parts reports rows small h read =
       whole = ap merged_rows all.whole ∙ tells.whole;
     })
 
-pub fitting-reports : (question : Question) (parts : List (List Folder)) (reports : List (List ℕ)) (rows : List Row)
-    → AreBundles parts → EachIsReport question parts reports → ReadsAsReports rows (texts reports) → length (bundles parts) ≤ count_limit → first_excess 1 no_sums rows ≡ Nothing
-fitting-reports question parts reports rows small h read fit =
-    let all = cut-reports question parts reports rows small h read.lines (sym read.whole) in
-    ap (first_excess 1 no_sums) all.whole ∙ fitting question parts all.reports small all.tell fit
+pub fitting-reports : (parts : List (List Collection)) (reports : List (List ℕ)) (rows : List Row)
+    → Each AreSayable parts → EachIsReportOf parts reports → ReadsAsReports rows (texts reports) → length (joined parts) ≤ count_limit → first_excess 1 no_sums rows ≡ Nothing
+fitting-reports parts reports rows small h read fit =
+    let all = cut-reports parts reports rows small h read.lines (sym read.whole) in
+    ap (first_excess 1 no_sums) all.whole ∙ fitting parts all.reports small all.tell fit

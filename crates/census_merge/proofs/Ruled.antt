@@ -10,7 +10,7 @@ use Rattle.std.proofs.lemmas.Bool.Decides.{nat_tests}
 use Rattle.std.proofs.lemmas.Nat.{or_lt}
 use Rattle.std.proofs.lemmas.Nat.Bits.{bit_at_lowest}
 use Rattle.census_bundle.specs.declared.bundle.Entry.{Entry}
-use Rattle.census_format.specs.Lines.{answer_to_entry, answers}
+use Rattle.census_format.specs.Lines.{answer_to_entry}
 use Rattle.census_format.specs.Objects.{Object, object, objects, outcome_objects, part_objects}
 use Rattle.census_readback.specs.Rules.{after_rising, is_rule}
 use Rattle.life_answer.specs.Questions.{answer_to, answer_to_question}
@@ -32,8 +32,9 @@ use Rattle.life_text.specs.Picture.{Picture, picture_of}
 use Rattle.life_text.specs.Rle.{Token, after_rule_name, after_sizes, body_tokens, cells_after, first_fault, header_line, header_rule, line_rule, named_rule, reading, rule_behind, rule_or_fault, unless_fault, with_body}
 use Rattle.life_text.specs.declared.rle.RleFault.{RleFault}
 use Rattle.life_text.specs.declared.rle.RleFault.TheVariants.{NoHeader}
-use Rattle.census_merge.proofs.Solid.{each-append, each-map, each-replicate}
+use Rattle.census_merge.proofs.Solid.{each-append, each-replicate}
 use Rattle.texts.specs.Bytes.{after_one_of, is_blank, is_in, without_ends}
+use Rattle.census_merge.specs.Lawful.{IsLifeLike, IsLifeLikeAnswer}
 
 -- ---- printed rules
 
@@ -57,10 +58,6 @@ after-set set a (suc n) least rest low under within stops =
           ∙ after-set set (a + 1) n (48 + a + 1) rest (omega arith) (omega arith) (omega (arith, within)) stops
       | false ↦ after-set set (a + 1) n least rest low (omega (arith, under)) (omega (arith, within)) stops
     ]
-
--- no birth has 0 neighbours, and no birth or survival has more than 8
-abbrev pub IsLifeLike : Rule → Type 0
-IsLifeLike rule = ((bit_at rule.birth 0 == 1) ≡ false) × (rule.birth < 512) × (rule.survival < 512)
 
 slash-stops : (rest : List ℕ) → Stops (47 ∷ rest)
 slash-stops rest least low = ap (λ b. cond (b && leb 47 56) (after_rising (47 + 1) rest) (47 ∷ rest)) (not-below least low)
@@ -102,7 +99,7 @@ survival-digits text birth survival (inr (inl form)) = form.digits
 survival-digits text birth survival (inr (inr form)) = form.digits
 
 -- the numbers of digits are at most 8
-members-below : (digits : List ℕ) (set : ℕ) → IsDigits digits → set < 512 → fold (λ set c. bit_or set (2 ^ (c - 48))) set digits < 512
+pub members-below : (digits : List ℕ) (set : ℕ) → IsDigits digits → set < 512 → fold (λ set c. bit_or set (2 ^ (c - 48))) set digits < 512
 members-below [] set h small = small
 members-below (c ∷ digits) set h small =
     let high = (count_range c (and_parts (is_count c) (list_all is_count digits) h).0).1 in
@@ -163,10 +160,6 @@ body-fair : (rule : Result Rule RleFault) (ts : List Token) → IsFair rule → 
 body-fair (Ok rule) ts h = unless-fair rule ts (first_fault [] ts) h
 body-fair (Err fault) ts h = tt
 
-abbrev pub IsLifeLikeAnswer : Answer → Type 0
-IsLifeLikeAnswer (Found rule finding) = IsLifeLike rule
-IsLifeLikeAnswer (Refused number) = ⊤
-
 answer-ruled : (question : Question) (read : Result Picture RleFault) → IsFairPicture read → IsLifeLikeAnswer (answer_to question read)
 answer-ruled question (Ok pattern) h = h
 answer-ruled question (Err fault) h = tt
@@ -199,14 +192,11 @@ outcome-ruled rule (Recurs onset period dx dy code) h = (h, tt)
 outcome-ruled rule (Ash onset parts) h = parts-ruled rule parts h
 outcome-ruled rule _ h = tt
 
-objects-ruled : (found : List Answer) → Each IsLifeLikeAnswer found → Each IsLifeLikeObject (objects found)
+pub objects-ruled : (found : List Answer) → Each IsLifeLikeAnswer found → Each IsLifeLikeObject (objects found)
 objects-ruled [] h = tt
 objects-ruled (Found rule finding ∷ found) h =
     each-append IsLifeLikeObject (outcome_objects rule finding.outcome) (objects found) (outcome-ruled rule finding.outcome h.0) (objects-ruled found h.1)
 objects-ruled (Refused number ∷ found) h = objects-ruled found h.1
-
-pub entries-ruled : (question : Question) (es : List Entry) → Each IsLifeLikeObject (objects (answers question es))
-entries-ruled question es = objects-ruled (answers question es) (each-map IsLifeLikeAnswer (answer_to_entry question) (entry-ruled question) es)
 
 -- ---- printed rules that are one
 

@@ -4,11 +4,9 @@ use Rattle.std.specs.List.{AllByRecursion as Each}
 use Rattle.std.proofs.Math.Dec.{eqb-suc-zero}
 use Rattle.std.proofs.lemmas.Bool.{eq-eqb, eqb-false, eqb-true, ne_eqb}
 use Rattle.std.proofs.lemmas.List.{map-append}
-use Rattle.census_bundle.specs.declared.bundle.Entry.{Entry}
-use Rattle.census_bundle.specs.declared.bundle.Folder.{Folder}
-use Rattle.census_format.specs.Lines.{Group, answer_to_entry, answers, emits_row, engine_row, engine_rows, outcome_rows, part_row, pattern_lines, pattern_row, pattern_rows, rows_behind, rows_of_engines}
+use Rattle.census_format.specs.Lines.{Saying, Collection, Group, emits_row, engine_row, engine_rows, found_of, outcome_rows, part_row, pattern_row, rows_behind, rows_of_engines, saying_lines, saying_rows}
 use Rattle.census_format.specs.Objects.{Object, code_line}
-use Rattle.census_format.specs.Reports.{Owned, lines_of, section_of}
+use Rattle.census_format.specs.Reports.{Owned, lines_of, section_if}
 use Rattle.census_merge.specs.declared.report_sums.Sums.{Sums}
 use Rattle.census_merge.specs.Sums.{sums_plus, sums_in, sums_of}
 use Rattle.census_merge.specs.Merged.{numbered_on, renumbered_row}
@@ -20,7 +18,6 @@ use Rattle.life_answer.specs.declared.finding.Answer.TheVariants.{Found, Refused
 use Rattle.life_answer.specs.declared.finding.Outcome.{Outcome}
 use Rattle.life_answer.specs.declared.finding.Outcome.TheVariants.{Ash, Grows}
 use Rattle.life_answer.specs.declared.part.Part as part
-use Rattle.life_answer.specs.declared.question.Question.{Question}
 use Rattle.life_answer.specs.declared.tale.Engines.{Engines}
 use Rattle.census_merge.specs.Telling.{rows_in}
 use Rattle.census_merge.proofs.Rowed.{close_row, code_groups, counted_in, open_row, section-is}
@@ -83,25 +80,25 @@ found-lasting : (c i : ℕ) (found : Answer) → Each IsLasting (rows_behind c i
 found-lasting c i (Found rule finding) = outcome-lasting c i finding.outcome
 found-lasting c i (Refused number) = tt
 
-patterns-lasting : (question : Question) (c i : ℕ) (es : List Entry) → Each (Each IsLasting) (pattern_lines question c i es)
-unfolding pattern_rows
-patterns-lasting question c i [] = tt
-patterns-lasting question c i (e ∷ es) = ((refl, found-lasting c i (answer_to_entry question e)), patterns-lasting question c (suc i) es)
+patterns-lasting : (c i : ℕ) (es : List Saying) → Each (Each IsLasting) (saying_lines c i es)
+unfolding saying_rows
+patterns-lasting c i [] = tt
+patterns-lasting c i (e ∷ es) = ((refl, found-lasting c i e.found), patterns-lasting c (suc i) es)
 
 codes-lasting : (c : ℕ) (counted : List (Object × ℕ)) → Each (Each IsLasting) (code_groups c counted)
 unfolding code_line
 codes-lasting c [] = tt
 codes-lasting c (x ∷ counted) = ((refl, tt), codes-lasting c counted)
 
-pub section-lasting : (question : Question) (c : ℕ) (f : Option Folder) → Each (Each IsLasting) (section_of question c f)
-section-lasting question c Nothing = tt
-section-lasting question c (Some f) =
-    let coded = code_groups c (counted_in question f) in
-    let last = (close_row c (answers question f.entries) (length f.entries) ∷ []) ∷ [] in
-    subst (Each (Each IsLasting)) (sym (section-is question c f)) (
+pub section-lasting : (c : ℕ) (f : Option Collection) → Each (Each IsLasting) (section_if c f)
+section-lasting c Nothing = tt
+section-lasting c (Some f) =
+    let coded = code_groups c (counted_in f) in
+    let last = (close_row c (found_of f.sayings) (length f.sayings) ∷ []) ∷ [] in
+    subst (Each (Each IsLasting)) (sym (section-is c f)) (
       (refl, tt),
-      each-append (Each IsLasting) (pattern_lines question c 1 f.entries) (coded ++ last) (patterns-lasting question c 1 f.entries)
-          (each-append (Each IsLasting) coded last (codes-lasting c (counted_in question f)) ((refl, tt), tt)),
+      each-append (Each IsLasting) (saying_lines c 1 f.sayings) (coded ++ last) (patterns-lasting c 1 f.sayings)
+          (each-append (Each IsLasting) coded last (codes-lasting c (counted_in f)) ((refl, tt), tt)),
     )
 
 -- ---- rows that are numbered on
@@ -151,12 +148,12 @@ found-moved : (n c i : ℕ) (found : Answer) → map (renumbered_row n) (rows_be
 found-moved n c i (Found rule finding) = outcome-moved n c i finding.outcome
 found-moved n c i (Refused number) = refl
 
-patterns-moved : (n : ℕ) (question : Question) (c i : ℕ) (es : List Entry) → map (map (renumbered_row n)) (pattern_lines question c i es) ≡ pattern_lines question (n + c) i es
-unfolding pattern_rows
-patterns-moved n question c i [] = refl
-patterns-moved n question c i (e ∷ es) =
-    let found = answer_to_entry question e in
-    (λ k. (pattern_row (n + c) i found e.name ∷ found-moved n c i found k) ∷ patterns-moved n question c (suc i) es k)
+patterns-moved : (n : ℕ) (c i : ℕ) (es : List Saying) → map (map (renumbered_row n)) (saying_lines c i es) ≡ saying_lines (n + c) i es
+unfolding saying_rows
+patterns-moved n c i [] = refl
+patterns-moved n c i (e ∷ es) =
+    let found = e.found in
+    (λ k. (pattern_row (n + c) i found e.name ∷ found-moved n c i found k) ∷ patterns-moved n c (suc i) es k)
 
 codes-moved : (n c : ℕ) (counted : List (Object × ℕ)) → map (map (renumbered_row n)) (code_groups c counted) ≡ code_groups (n + c) counted
 unfolding code_line
@@ -164,20 +161,20 @@ codes-moved n c [] = refl
 codes-moved n c (x ∷ counted) = ap (λ gs. code_line (n + c) x.0 x.1 ∷ gs) (codes-moved n c counted)
 
 -- the rows of a collection, numbered on
-pub section-moved : (n : ℕ) (question : Question) (c : ℕ) (f : Option Folder) → map (map (renumbered_row n)) (section_of question c f) ≡ section_of question (n + c) f
-section-moved n question c Nothing = refl
-section-moved n question c (Some f) =
+pub section-moved : (n : ℕ) (c : ℕ) (f : Option Collection) → map (map (renumbered_row n)) (section_if c f) ≡ section_if (n + c) f
+section-moved n c Nothing = refl
+section-moved n c (Some f) =
     let moves = map (map (renumbered_row n)) in
-    let patterns = pattern_lines question c 1 f.entries in
-    let coded = code_groups c (counted_in question f) in
-    let last = (close_row c (answers question f.entries) (length f.entries) ∷ []) ∷ [] in
-    let lasts = (close_row (n + c) (answers question f.entries) (length f.entries) ∷ []) ∷ [] in
-    ap moves (section-is question c f)
+    let patterns = saying_lines c 1 f.sayings in
+    let coded = code_groups c (counted_in f) in
+    let last = (close_row c (found_of f.sayings) (length f.sayings) ∷ []) ∷ [] in
+    let lasts = (close_row (n + c) (found_of f.sayings) (length f.sayings) ∷ []) ∷ [] in
+    ap moves (section-is c f)
     ∙ ap (λ gs. (open_row (n + c) f ∷ []) ∷ gs)
     (map-append (map (renumbered_row n)) patterns (coded ++ last)
-    ∙ ap (λ gs. gs ++ moves (coded ++ last)) (patterns-moved n question c 1 f.entries)
-    ∙ ap (λ gs. pattern_lines question (n + c) 1 f.entries ++ gs) (map-append (map (renumbered_row n)) coded last ∙ ap (λ gs. gs ++ lasts) (codes-moved n c (counted_in question f))))
-    ∙ sym (section-is question (n + c) f)
+    ∙ ap (λ gs. gs ++ moves (coded ++ last)) (patterns-moved n c 1 f.sayings)
+    ∙ ap (λ gs. saying_lines (n + c) 1 f.sayings ++ gs) (map-append (map (renumbered_row n)) coded last ∙ ap (λ gs. gs ++ lasts) (codes-moved n c (counted_in f))))
+    ∙ sym (section-is (n + c) f)
 
 -- ---- groups that are numbered on
 

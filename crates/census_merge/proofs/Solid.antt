@@ -1,4 +1,4 @@
--- Texts without blanks and control characters.
+-- Texts without blanks and LFs.
 use Rattle.std.proofs.Common.{◌≡◌, ℕ, zero, suc, ◌+◌, ◌/◌, ◌%◌, ◌<◌, Bool, true, false, ◌&&◌, cond, eqb, ltb, ◌==◌, List, [], ◌∷◌, ◌++◌, map, filter, flat_map, replicate, codes, decimal, ℤ, pos, refl, arith}
 use lib.IntN.{negsuc}
 use Rattle.std.specs.Fmt.{digit_glyph, digits, digits_onto, signed_decimal}
@@ -16,6 +16,7 @@ use Rattle.life_model.specs.Symmetry.{normal, image_under}
 use Rattle.life_model.specs.Box.{height, width}
 use Rattle.life_cells.specs.TextOrder.{least_text, lesser_text, shorter_cmp}
 use Rattle.life_cells.specs.Wechsler.{body, column_value, columns_text, digit, full_runs, short_zeros, strip_text, strips_text, zeros}
+use Rattle.census_merge.specs.Lawful.{IsSolid}
 
 pub each-append : {X : Type 0} (P : X → Type 0) (xs ys : List X) → Each P xs → Each P ys → Each P (xs ++ ys)
 each-append P [] ys h k = k
@@ -42,118 +43,139 @@ each-replicate P zero x h = tt
 each-replicate P (suc n) x h = (h, each-replicate P n x h)
 
 -- each byte is greater than the blank
-abbrev pub IsSolid : List ℕ → Type 0
-IsSolid bytes = Each (λ byte. 32 < byte) bytes
+abbrev IsAbove : List ℕ → Type 0
+IsAbove bytes = Each (λ byte. 32 < byte) bytes
 
-pub solid-append : (a b : List ℕ) → IsSolid a → IsSolid b → IsSolid (a ++ b)
-solid-append = each-append (λ byte. 32 < byte)
+above-append : (a b : List ℕ) → IsAbove a → IsAbove b → IsAbove (a ++ b)
+above-append = each-append (λ byte. 32 < byte)
 
-pub solid-checked : (bytes : List ℕ) → list_all (ltb 32) bytes ≡ true → IsSolid bytes
-solid-checked [] e = tt
-solid-checked (b ∷ bytes) e =
-    (elim (ltb 32 b) as (λ v. ltb 32 b ≡ v → (v && list_all (ltb 32) bytes) ≡ true → IsSolid (b ∷ bytes)) [
-      | true ↦ λ h all. (ltb-true 32 b h, solid-checked bytes all)
+above-checked : (bytes : List ℕ) → list_all (ltb 32) bytes ≡ true → IsAbove bytes
+above-checked [] e = tt
+above-checked (b ∷ bytes) e =
+    (elim (ltb 32 b) as (λ v. ltb 32 b ≡ v → (v && list_all (ltb 32) bytes) ≡ true → IsAbove (b ∷ bytes)) [
+      | true ↦ λ h all. (ltb-true 32 b h, above-checked bytes all)
       | false ↦ λ h all. absurd (cc)
     ]) refl e
 
-glyph-solid : (d : ℕ) → 32 < digit_glyph false d
-glyph-solid d = elim (ltb d 10) as (λ v. 32 < cond v (48 + d) (87 + d)) [ true ↦ omega arith | false ↦ omega arith ]
+glyph-above : (d : ℕ) → 32 < digit_glyph false d
+glyph-above d = elim (ltb d 10) as (λ v. 32 < cond v (48 + d) (87 + d)) [ true ↦ omega arith | false ↦ omega arith ]
 
-onto-solid : (k n : ℕ) (acc : List ℕ) → IsSolid acc → IsSolid (digits_onto k 10 false n acc)
-onto-solid zero n acc h = h
-onto-solid (suc k) n acc h =
+onto-above : (k n : ℕ) (acc : List ℕ) → IsAbove acc → IsAbove (digits_onto k 10 false n acc)
+onto-above zero n acc h = h
+onto-above (suc k) n acc h =
     let more = digit_glyph false (n % 10) ∷ acc in
-    elim (eqb (n / 10) 0) as (λ v. IsSolid (cond v more (digits_onto k 10 false (n / 10) more))) [
-      | true ↦ (glyph-solid (n % 10), h)
-      | false ↦ onto-solid k (n / 10) more (glyph-solid (n % 10), h)
+    elim (eqb (n / 10) 0) as (λ v. IsAbove (cond v more (digits_onto k 10 false (n / 10) more))) [
+      | true ↦ (glyph-above (n % 10), h)
+      | false ↦ onto-above k (n / 10) more (glyph-above (n % 10), h)
     ]
 
-pub decimal-solid : (n : ℕ) → IsSolid (decimal n)
+decimal-above : (n : ℕ) → IsAbove (decimal n)
 unfolding digits
-decimal-solid n = onto-solid 64 n [] tt
+decimal-above n = onto-above 64 n [] tt
 
-pub signed-solid : (z : ℤ) → IsSolid (signed_decimal z)
-signed-solid (pos n) = decimal-solid n
-signed-solid (negsuc n) = (omega arith, decimal-solid (suc n))
+signed-above : (z : ℤ) → IsAbove (signed_decimal z)
+signed-above (pos n) = decimal-above n
+signed-above (negsuc n) = (omega arith, decimal-above (suc n))
 
 abbrev counts_in : ℕ → List ℕ
 counts_in set = filter (λ n. bit_at set n == 1) (range_with_len 0 9)
 
-pub rule-solid : (r : Rule) → IsSolid (rule_text r)
-rule-solid r =
+rule-above : (r : Rule) → IsAbove (rule_text r)
+rule-above r =
     let birth = set_text r.birth in
     let survival = set_text r.survival in
     let start = codes "B" ++ birth in
-    let counts : (ns : List ℕ) → IsSolid (map (λ n. 48 + n) ns) = each-map (λ byte. 32 < byte) (λ n. 48 + n) (λ n. omega arith) in
-    solid-append (start ++ codes "/S") survival
-    (solid-append start (codes "/S") (solid-append (codes "B") birth (solid-checked (codes "B") refl) (counts (counts_in r.birth))) (solid-checked (codes "/S") refl))
+    let counts : (ns : List ℕ) → IsAbove (map (λ n. 48 + n) ns) = each-map (λ byte. 32 < byte) (λ n. 48 + n) (λ n. omega arith) in
+    above-append (start ++ codes "/S") survival
+    (above-append start (codes "/S") (above-append (codes "B") birth (above-checked (codes "B") refl) (counts (counts_in r.birth))) (above-checked (codes "/S") refl))
     (counts (counts_in r.survival))
 
-digit-solid : (n : ℕ) → 32 < digit n
-digit-solid n = elim (ltb n 10) as (λ v. 32 < cond v (48 + n) (87 + n)) [ true ↦ omega arith | false ↦ omega arith ]
+digit-above : (n : ℕ) → 32 < digit n
+digit-above n = elim (ltb n 10) as (λ v. 32 < cond v (48 + n) (87 + n)) [ true ↦ omega arith | false ↦ omega arith ]
 
-short-solid : (n : ℕ) → IsSolid (short_zeros n)
-short-solid zero = tt
-short-solid (suc zero) = solid-checked (codes "0") refl
-short-solid (suc (suc zero)) = solid-checked (codes "w") refl
-short-solid (suc (suc (suc zero))) = solid-checked (codes "x") refl
-short-solid (suc (suc (suc (suc n)))) = (omega arith, (digit-solid n, tt))
+short-above : (n : ℕ) → IsAbove (short_zeros n)
+short-above zero = tt
+short-above (suc zero) = above-checked (codes "0") refl
+short-above (suc (suc zero)) = above-checked (codes "w") refl
+short-above (suc (suc (suc zero))) = above-checked (codes "x") refl
+short-above (suc (suc (suc (suc n)))) = (omega arith, (digit-above n, tt))
 
-full-solid : (n : ℕ) → IsSolid (full_runs n)
-full-solid zero = tt
-full-solid (suc n) = (omega arith, (omega arith, full-solid n))
+full-above : (n : ℕ) → IsAbove (full_runs n)
+full-above zero = tt
+full-above (suc n) = (omega arith, (omega arith, full-above n))
 
-columns-solid : (skipped : ℕ) (values : List ℕ) → IsSolid (columns_text skipped values)
-columns-solid skipped [] = tt
-columns-solid skipped (zero ∷ values) = columns-solid (skipped + 1) values
-columns-solid skipped (suc v ∷ values) =
-    solid-append (zeros skipped) (digit (suc v) ∷ columns_text 0 values)
-    (solid-append (full_runs (skipped / 39)) (short_zeros (skipped % 39)) (full-solid (skipped / 39)) (short-solid (skipped % 39)))
-    (digit-solid (suc v), columns-solid 0 values)
+columns-above : (skipped : ℕ) (values : List ℕ) → IsAbove (columns_text skipped values)
+columns-above skipped [] = tt
+columns-above skipped (zero ∷ values) = columns-above (skipped + 1) values
+columns-above skipped (suc v ∷ values) =
+    above-append (zeros skipped) (digit (suc v) ∷ columns_text 0 values)
+    (above-append (full_runs (skipped / 39)) (short_zeros (skipped % 39)) (full-above (skipped / 39)) (short-above (skipped % 39)))
+    (digit-above (suc v), columns-above 0 values)
 
-join-solid : (texts : List (List ℕ)) → Each IsSolid texts → IsSolid (join_with_byte 122 texts)
-join-solid [] h = tt
-join-solid (x ∷ []) h = h.0
-join-solid (x ∷ y ∷ xs) h = solid-append x (122 ∷ join_with_byte 122 (y ∷ xs)) h.0 (omega arith, join-solid (y ∷ xs) h.1)
+join-above : (texts : List (List ℕ)) → Each IsAbove texts → IsAbove (join_with_byte 122 texts)
+join-above [] h = tt
+join-above (x ∷ []) h = h.0
+join-above (x ∷ y ∷ xs) h = above-append x (122 ∷ join_with_byte 122 (y ∷ xs)) h.0 (omega arith, join-above (y ∷ xs) h.1)
 
-strips-solid : (text : ℕ → List ℕ) → ((k : ℕ) → IsSolid (text k)) → (n : ℕ) → IsSolid (strips_text text n)
-strips-solid text h zero = solid-checked (codes "0") refl
-strips-solid text h (suc n) = join-solid (map text (range_with_len 0 (suc n))) (each-map IsSolid text h (range_with_len 0 (suc n)))
+strips-above : (text : ℕ → List ℕ) → ((k : ℕ) → IsAbove (text k)) → (n : ℕ) → IsAbove (strips_text text n)
+strips-above text h zero = above-checked (codes "0") refl
+strips-above text h (suc n) = join-above (map text (range_with_len 0 (suc n))) (each-map IsAbove text h (range_with_len 0 (suc n)))
 
-body-solid : (G : Generation) → IsSolid (body G)
+body-above : (G : Generation) → IsAbove (body G)
 unfolding body
-body-solid G = strips-solid (strip_text (normal G) (width G)) (λ k. columns-solid 0 (map (column_value (normal G) k) (range_with_len 0 (width G)))) ((height G + 4) / 5)
+body-above G = strips-above (strip_text (normal G) (width G)) (λ k. columns-above 0 (map (column_value (normal G) k) (range_with_len 0 (width G)))) ((height G + 4) / 5)
 
-lesser-solid : (text : List ℕ) (others : List (List ℕ)) → IsSolid text → Each IsSolid others → IsSolid (fold lesser_text text others)
-lesser-solid text [] h all = h
-lesser-solid text (other ∷ others) h all =
-    let one : IsSolid (lesser_text text other) = elim (is_gt (shorter_cmp text other)) as (λ v. IsSolid (cond v other text)) [ true ↦ all.0 | false ↦ h ] in
-    lesser-solid (lesser_text text other) others one all.1
+lesser-above : (text : List ℕ) (others : List (List ℕ)) → IsAbove text → Each IsAbove others → IsAbove (fold lesser_text text others)
+lesser-above text [] h all = h
+lesser-above text (other ∷ others) h all =
+    let one : IsAbove (lesser_text text other) = elim (is_gt (shorter_cmp text other)) as (λ v. IsAbove (cond v other text)) [ true ↦ all.0 | false ↦ h ] in
+    lesser-above (lesser_text text other) others one all.1
 
-least-solid : (texts : List (List ℕ)) → Each IsSolid texts → IsSolid (least_text texts)
-least-solid [] h = tt
-least-solid (text ∷ others) h = lesser-solid text others h.0 h.1
+least-above : (texts : List (List ℕ)) → Each IsAbove texts → IsAbove (least_text texts)
+least-above [] h = tt
+least-above (text ∷ others) h = lesser-above text others h.0 h.1
 
-bodies-solid : (R : Rule) (H : Generation) (period : ℕ) → Each IsSolid (bodies R H period)
-bodies-solid R H period =
-    each-flat_map IsSolid (λ n. turned_bodies (generation R H n)) (λ n. each-map IsSolid (λ m. body (image_under (generation R H n) m)) (λ m. body-solid (image_under (generation R H n) m)) orientations) (range_with_len 0 period)
+bodies-above : (R : Rule) (H : Generation) (period : ℕ) → Each IsAbove (bodies R H period)
+bodies-above R H period =
+    each-flat_map IsAbove (λ n. turned_bodies (generation R H n)) (λ n. each-map IsAbove (λ m. body (image_under (generation R H n) m)) (λ m. body-above (image_under (generation R H n) m)) orientations) (range_with_len 0 period)
 
-prefix-solid : (population period : ℕ) (displacement : Cell) → IsSolid (prefix population period displacement)
-prefix-solid population period displacement =
-    let still = solid-append (codes "xs") (decimal population) (solid-checked (codes "xs") refl) (decimal-solid population) in
-    let turning = solid-append (codes "xp") (decimal period) (solid-checked (codes "xp") refl) (decimal-solid period) in
-    let moving = solid-append (codes "xq") (decimal period) (solid-checked (codes "xq") refl) (decimal-solid period) in
-    let inner : IsSolid (cond (eqb period 1) (codes "xs" ++ decimal population) (codes "xp" ++ decimal period)) =
-    elim (eqb period 1) as (λ v. IsSolid (cond v (codes "xs" ++ decimal population) (codes "xp" ++ decimal period))) [ true ↦ still | false ↦ turning ] in
-    elim (same_cell displacement origin) as (λ v. IsSolid (cond v (cond (eqb period 1) (codes "xs" ++ decimal population) (codes "xp" ++ decimal period)) (codes "xq" ++ decimal period))) [
+prefix-above : (population period : ℕ) (displacement : Cell) → IsAbove (prefix population period displacement)
+prefix-above population period displacement =
+    let still = above-append (codes "xs") (decimal population) (above-checked (codes "xs") refl) (decimal-above population) in
+    let turning = above-append (codes "xp") (decimal period) (above-checked (codes "xp") refl) (decimal-above period) in
+    let moving = above-append (codes "xq") (decimal period) (above-checked (codes "xq") refl) (decimal-above period) in
+    let inner : IsAbove (cond (eqb period 1) (codes "xs" ++ decimal population) (codes "xp" ++ decimal period)) =
+    elim (eqb period 1) as (λ v. IsAbove (cond v (codes "xs" ++ decimal population) (codes "xp" ++ decimal period))) [ true ↦ still | false ↦ turning ] in
+    elim (same_cell displacement origin) as (λ v. IsAbove (cond v (cond (eqb period 1) (codes "xs" ++ decimal population) (codes "xp" ++ decimal period)) (codes "xq" ++ decimal period))) [
       | true ↦ inner
       | false ↦ moving
     ]
 
-pub code-solid : (R : Rule) (H : Generation) (period : ℕ) (displacement : Cell) → IsSolid (code_of R H period displacement)
+code-above : (R : Rule) (H : Generation) (period : ℕ) (displacement : Cell) → IsAbove (code_of R H period displacement)
 unfolding code_of
-code-solid R H period displacement =
+code-above R H period displacement =
     let start = prefix (size H) period displacement in
-    solid-append (start ++ codes "_") (least_text (bodies R H period))
-    (solid-append start (codes "_") (prefix-solid (size H) period displacement) (solid-checked (codes "_") refl))
-    (least-solid (bodies R H period) (bodies-solid R H period))
+    above-append (start ++ codes "_") (least_text (bodies R H period))
+    (above-append start (codes "_") (prefix-above (size H) period displacement) (above-checked (codes "_") refl))
+    (least-above (bodies R H period) (bodies-above R H period))
+
+-- ---- neither a blank nor LF
+
+above-solid : (bytes : List ℕ) → IsAbove bytes → IsSolid bytes
+above-solid [] h = tt
+above-solid (b ∷ bytes) h = (((λ e. omega (arith, h.0, e)), (λ e. omega (arith, h.0, e))), above-solid bytes h.1)
+
+pub solid-checked : (bytes : List ℕ) → list_all (ltb 32) bytes ≡ true → IsSolid bytes
+solid-checked bytes e = above-solid bytes (above-checked bytes e)
+
+pub decimal-solid : (n : ℕ) → IsSolid (decimal n)
+decimal-solid n = above-solid (decimal n) (decimal-above n)
+
+pub signed-solid : (z : ℤ) → IsSolid (signed_decimal z)
+signed-solid z = above-solid (signed_decimal z) (signed-above z)
+
+pub rule-solid : (r : Rule) → IsSolid (rule_text r)
+rule-solid r = above-solid (rule_text r) (rule-above r)
+
+pub code-solid : (R : Rule) (H : Generation) (period : ℕ) (displacement : Cell) → IsSolid (code_of R H period displacement)
+code-solid R H period displacement = above-solid (code_of R H period displacement) (code-above R H period displacement)

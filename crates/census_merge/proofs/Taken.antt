@@ -1,13 +1,9 @@
 -- Rows that fit what was told, one after another.
-use Rattle.std.proofs.Common.{◌≡◌, ◌++◌, true, cond, Option, Some, None as Nothing, List, ℕ, [], ◌∷◌, ap, ◌∙◌}
-use Rattle.std.specs.Prelude.{⊤}
-use Rattle.std.specs.declared.cmp.Ordering.TheVariants.{Less}
+use Rattle.std.proofs.Common.{◌≡◌, ◌++◌, true, cond, Some, None as Nothing, List, [], ◌∷◌, ap, ◌∙◌}
 use Rattle.census_readback.specs.Lawful.{is_lawful}
 use Rattle.census_readback.proofs.Telling.{and_then}
 use Rattle.census_readback.specs.Told.{Told, told_after, told_by, told_next}
 use Rattle.census_rows.specs.declared.row.Row.{Row}
-use Rattle.life_answer.specs.declared.part.Part as part
-use Rattle.life_cells.specs.TextOrder.{shorter_cmp}
 
 pub told-one : (t u : Told) (row : Row) (rows : List Row) → told_after t row ≡ Some u → told_by t (row ∷ rows) ≡ told_by u rows
 told-one t u row rows h = ap (λ o. and_then o (λ v. told_by v rows)) h
@@ -25,13 +21,3 @@ told-then t v (x ∷ xs) ys h =
     ]) h
 
 -- ---- codes that rise
-
--- the code comes after the last one, if there is one
-abbrev pub IsBehind : Option (List ℕ) → List ℕ → Type 0
-IsBehind Nothing code = ⊤
-IsBehind (Some last) code = shorter_cmp last code ≡ Less
-
--- codes that rise, from after the last one on
-abbrev pub Rise : Option (List ℕ) → List part.Part → Type 0
-Rise last [] = ⊤
-Rise last (p ∷ parts) = IsBehind last p.code × Rise (Some p.code) parts

@@ -1,5 +1,5 @@
 -- What the rows say of the collections that are kept.
-use Rattle.std.proofs.Common.{◌≡◌, ℕ, ◌-◌, ◌<◌, ◌≤◌, Bool, true, false, ◌&&◌, ◌||◌, not, eqb, ltb, leb, Option, Some, None as Nothing, List, [], ap, ◌∙◌, sym, refl, arith, subst, inl, inr}
+use Rattle.std.proofs.Common.{◌≡◌, ℕ, ◌-◌, ◌<◌, ◌≤◌, Bool, true, false, ◌&&◌, eqb, ltb, leb, Option, Some, None as Nothing, List, [], ap, ◌∙◌, sym, refl, arith, subst, inl, inr}
 use Rattle.std.specs.Prelude.{◌⊎◌, if◌then◌else◌}
 use Rattle.std.specs.Option.{option_map}
 use Rattle.std.proofs.lemmas.Bool.{and_from, and_parts, eq-eqb, eqb-true, leb-true, ltb-true}
@@ -11,7 +11,7 @@ use Rattle.census_readback.specs.Codes.{is_code}
 use Rattle.census_readback.specs.Engines.{LastEngine, after_emits, after_engine, no_engine}
 use Rattle.census_readback.specs.Lawful.{is_lawful, is_way}
 use Rattle.census_readback.specs.Steps.{collection_of}
-use Rattle.census_readback.specs.Told.{Told, emits_told, engine_told, has_code, has_rows, is_told, line_told, part_told, to_tell, told_after, told_so_far, with_engine}
+use Rattle.census_readback.specs.Told.{Told, emits_told, engine_told, is_told, line_told, part_told, to_tell, told_after, told_so_far, with_engine}
 use Rattle.census_merge.specs.Kept.{closed_to, is_close, is_closed, is_end, numbered}
 use Rattle.life_cells.specs.TextOrder.{shorter_cmp}
 
@@ -32,19 +32,6 @@ mapped : (f : LastEngine → Told) (o : Option LastEngine) (t : Told) → option
 mapped f Nothing t h = absurd (cc)
 mapped f (Some e) t h = (e, refl, cc)
 
-or-mono : (x a h : Bool) → (x ≡ true → a ≡ true) → (x || h) ≡ true → (a || h) ≡ true
-or-mono true a h f k = ap (λ v. v || h) (f refl)
-or-mono false true h f k = refl
-or-mono false false h f k = k
-
-nand-mono : (p q a b : Bool) → (p ≡ true → a ≡ true) → (q ≡ true → b ≡ true) → not (a && b) ≡ true → not (p && q) ≡ true
-nand-mono true true a b f g h =
-    let both : (a && b) ≡ true = and_from a b (f refl) (g refl) in
-    let off : not true ≡ true = sym (ap not both) ∙ h in
-    absurd (cc)
-nand-mono true false a b f g h = refl
-nand-mono false q a b f g h = refl
-
 -- # What agrees
 
 -- what is told of the last line is the same in both, and that line is of a collection that is kept, under its number
@@ -60,14 +47,12 @@ abbrev pub Stale : List Row → Told → Type 0
 Stale all t = (is_closed all t.collection ≡ false) ⊎ ((t.left ≡ 0) × (t.engine.number ≡ 0))
 
 -- what the rows say, and what those of them that are kept say
-pub record MirrorsTold (all : List Row) (t u : Told) : Type 0 where
-  pub recurs : u.recurs ≡ true → t.recurs ≡ true
-  pub parted : u.parted ≡ true → t.parted ≡ true
-  pub told : SameTold all t u ⊎ ((is_told u ≡ true) × Stale all t)
+abbrev pub MirrorsTold : List Row → Told → Told → Type 0
+MirrorsTold all t u = SameTold all t u ⊎ ((is_told u ≡ true) × Stale all t)
 
 pub told-too : (all : List Row) (t u : Told) → MirrorsTold all t u → is_told t ≡ true → is_told u ≡ true
 told-too all t u m h =
-    elim m.told as (λ _. is_told u ≡ true) [
+    elim m as (λ _. is_told u ≡ true) [
       | inl same ↦ sym (ap (λ n. eqb n 0 && t.engine.rises) same.left ∙ ap (λ (e : LastEngine). eqb u.left 0 && e.rises) same.engine) ∙ h
       | inr stale ↦ stale.0
     ]
@@ -78,57 +63,36 @@ module _ (all : List Row) (t w u : Told) (m : MirrorsTold all t u) where
   line-goes : (c : ℕ) (what : Said) → is_closed all c ≡ true → line_told t c what ≡ Some w
       → (v : Told) × (line_told u (closed_to all c) what ≡ Some v) × MirrorsTold all w v
   line-goes c what held h =
-      let a = t.recurs || has_code what in
-      let b = t.parted || has_rows what.behind in
-      let x = u.recurs || has_code what in
-      let y = u.parted || has_rows what.behind in
-      let now : Told = record { recurs = a; parted = b; collection = c; left = to_tell what.behind what; last = []; engine = no_engine } in
-      let next : Told = record { recurs = x; parted = y; collection = closed_to all c; left = to_tell what.behind what; last = []; engine = no_engine } in
-      let k = if-told (is_told t && not (a && b)) (Some now) w h in
-      let e = and_parts (is_told t) (not (a && b)) k.0 in
-      let recurs = or-mono u.recurs t.recurs (has_code what) m.recurs in
-      let parted = or-mono u.parted t.parted (has_rows what.behind) m.parted in
-      let pass = and_from (is_told u) (not (x && y)) (told-too all t u m e.0) (nand-mono x y a b recurs parted e.1) in (
+      let now : Told = record { collection = c; left = to_tell what.behind what; last = []; engine = no_engine } in
+      let next : Told = record { collection = closed_to all c; left = to_tell what.behind what; last = []; engine = no_engine } in
+      let k = if-told (is_told t) (Some now) w h in (
         next,
-        if-pass (is_told u && not (x && y)) (Some next) next pass refl,
-        subst (λ z. MirrorsTold all z next) (some-of now w k.1)
-            (record { recurs = recurs; parted = parted; told = inl (record { kept = held; collection = refl; left = refl; last = refl; engine = refl }) }),
+        if-pass (is_told u) (Some next) next (told-too all t u m k.0) refl,
+        subst (λ z. MirrorsTold all z next) (some-of now w k.1) (inl (record { kept = held; collection = refl; left = refl; last = refl; engine = refl })),
       )
 
   line-stays : (c : ℕ) (what : Said) → is_closed all c ≡ false → line_told t c what ≡ Some w → MirrorsTold all w u
   line-stays c what off h =
-      let a = t.recurs || has_code what in
-      let b = t.parted || has_rows what.behind in
-      let now : Told = record { recurs = a; parted = b; collection = c; left = to_tell what.behind what; last = []; engine = no_engine } in
-      let k = if-told (is_told t && not (a && b)) (Some now) w h in
-      let e = and_parts (is_told t) (not (a && b)) k.0 in
-      subst (λ z. MirrorsTold all z u) (some-of now w k.1)
-      (record {
-        recurs = λ h. ap (λ v. v || has_code what) (m.recurs h);
-        parted = λ h. ap (λ v. v || has_rows what.behind) (m.parted h);
-        told = inr (told-too all t u m e.0, inl off);
-      })
+      let now : Told = record { collection = c; left = to_tell what.behind what; last = []; engine = no_engine } in
+      let k = if-told (is_told t) (Some now) w h in
+      subst (λ z. MirrorsTold all z u) (some-of now w k.1) (inr (told-too all t u m k.0, inl off))
 
   -- ---- rows after them
 
   -- a row of a collection that is left out
-  stays : (z : Told) → z.recurs ≡ t.recurs → z.parted ≡ t.parted → z.collection ≡ t.collection → is_closed all t.collection ≡ false → MirrorsTold all z u
-  stays z recurs parted collection off = record {
-    recurs = λ h. recurs ∙ m.recurs h;
-    parted = λ h. parted ∙ m.parted h;
-    told = inr (
-      elim m.told as (λ _. is_told u ≡ true) [
-        | inl same ↦ (let clash : true ≡ false = sym same.kept ∙ off in absurd (cc))
-        | inr stale ↦ stale.0
-      ],
-      inl (ap (λ c. is_closed all c) collection ∙ off),
-    );
-  }
+  stays : (z : Told) → z.collection ≡ t.collection → is_closed all t.collection ≡ false → MirrorsTold all z u
+  stays z collection off = inr (
+    elim m as (λ _. is_told u ≡ true) [
+      | inl same ↦ (let clash : true ≡ false = sym same.kept ∙ off in absurd (cc))
+      | inr stale ↦ stale.0
+    ],
+    inl (ap (λ c. is_closed all c) collection ∙ off),
+  )
 
   -- if it is of a collection that is kept, what is told of the last line is the same
   same-told : is_closed all t.collection ≡ true → (t.left ≡ 0 → t.engine.number ≡ 0 → ⊥) → SameTold all t u
   same-told held more =
-      elim m.told as (λ _. SameTold all t u) [
+      elim m as (λ _. SameTold all t u) [
         | inl same ↦ same
         | inr stale ↦ elim stale.1 as (λ _. SameTold all t u) [
           | inl off ↦ (let clash : true ≡ false = sym held ∙ off in absurd (cc))
@@ -153,11 +117,7 @@ module _ (all : List Row) (t w u : Told) (m : MirrorsTold all t u) where
         next,
         if-pass _ (Some next) next pass refl,
         subst (λ z. MirrorsTold all z next) (some-of now w k.1)
-            (record {
-              recurs = m.recurs;
-              parted = m.parted;
-              told = inl (record { kept = same.kept; collection = same.collection; left = ap (λ n. n - count) same.left; last = refl; engine = same.engine });
-            }),
+            (inl (record { kept = same.kept; collection = same.collection; left = ap (λ n. n - count) same.left; last = refl; engine = same.engine })),
       )
 
   part-stays : (c : ℕ) (code : List ℕ) (count : ℕ) → is_closed all c ≡ false → part_told t c code count ≡ Some w → MirrorsTold all w u
@@ -166,7 +126,7 @@ module _ (all : List Row) (t w u : Told) (m : MirrorsTold all t u) where
       let k = if-told (eqb c t.collection && (leb count t.left && is_lt (shorter_cmp t.last code))) (Some now) w h in
       let e = and_parts (eqb c t.collection) (leb count t.left && is_lt (shorter_cmp t.last code)) k.0 in
       let own : c ≡ t.collection = eqb-true _ _ e.0 in
-      subst (λ z. MirrorsTold all z u) (some-of now w k.1) (stays now refl refl refl (ap (λ d. is_closed all d) (sym own) ∙ off))
+      subst (λ z. MirrorsTold all z u) (some-of now w k.1) (stays now refl (ap (λ d. is_closed all d) (sym own) ∙ off))
 
   engine-goes : (c count : ℕ) (after : LastEngine → Option LastEngine) → is_closed all c ≡ true → 0 < count → engine_told t c count (after t.engine) ≡ Some w
       → (v : Told) × (engine_told u (closed_to all c) count (after u.engine) ≡ Some v) × MirrorsTold all w v
@@ -186,11 +146,7 @@ module _ (all : List Row) (t w u : Told) (m : MirrorsTold all t u) where
         next,
         if-pass _ _ next pass goes,
         subst (λ z. MirrorsTold all z next) to.2
-            (record {
-              recurs = m.recurs;
-              parted = m.parted;
-              told = inl (record { kept = same.kept; collection = same.collection; left = ap (λ n. n - count) same.left; last = refl; engine = refl });
-            }),
+            (inl (record { kept = same.kept; collection = same.collection; left = ap (λ n. n - count) same.left; last = refl; engine = refl })),
       )
 
   engine-stays : (c count : ℕ) (o : Option LastEngine) → is_closed all c ≡ false → engine_told t c count o ≡ Some w → MirrorsTold all w u
@@ -199,7 +155,7 @@ module _ (all : List Row) (t w u : Told) (m : MirrorsTold all t u) where
       let e = and_parts (eqb c t.collection) (leb count t.left) k.0 in
       let own : c ≡ t.collection = eqb-true _ _ e.0 in
       let to = mapped (with_engine t (t.left - count) []) o w k.1 in
-      subst (λ z. MirrorsTold all z u) to.2 (stays (with_engine t (t.left - count) [] to.0) refl refl refl (ap (λ d. is_closed all d) (sym own) ∙ off))
+      subst (λ z. MirrorsTold all z u) to.2 (stays (with_engine t (t.left - count) [] to.0) refl (ap (λ d. is_closed all d) (sym own) ∙ off))
 
   emits-goes : (c engine : ℕ) (code : List ℕ) (count : ℕ) → is_closed all c ≡ true → 0 < engine → emits_told t c engine code count ≡ Some w
       → (v : Told) × (emits_told u (closed_to all c) engine code count ≡ Some v) × MirrorsTold all w v
@@ -222,11 +178,7 @@ module _ (all : List Row) (t w u : Told) (m : MirrorsTold all t u) where
         next,
         if-pass _ _ next pass goes,
         subst (λ z. MirrorsTold all z next) to.2
-            (record {
-              recurs = m.recurs;
-              parted = m.parted;
-              told = inl (record { kept = same.kept; collection = same.collection; left = same.left; last = refl; engine = refl });
-            }),
+            (inl (record { kept = same.kept; collection = same.collection; left = same.left; last = refl; engine = refl })),
       )
 
   emits-stays : (c engine : ℕ) (code : List ℕ) (count : ℕ) → is_closed all c ≡ false → emits_told t c engine code count ≡ Some w → MirrorsTold all w u
@@ -236,7 +188,7 @@ module _ (all : List Row) (t w u : Told) (m : MirrorsTold all t u) where
       let e = and_parts (eqb c t.collection) (eqb engine t.engine.number && is_lt (shorter_cmp t.last code)) k.0 in
       let own : c ≡ t.collection = eqb-true _ _ e.0 in
       let to = mapped (with_engine t t.left code) (after t.engine) w k.1 in
-      subst (λ z. MirrorsTold all z u) to.2 (stays (with_engine t t.left code to.0) refl refl refl (ap (λ d. is_closed all d) (sym own) ∙ off))
+      subst (λ z. MirrorsTold all z u) to.2 (stays (with_engine t t.left code to.0) refl (ap (λ d. is_closed all d) (sym own) ∙ off))
 
   -- ---- other rows
 
@@ -250,11 +202,7 @@ module _ (all : List Row) (t w u : Told) (m : MirrorsTold all t u) where
         next,
         if-pass (is_told u) (Some next) next (told-too all t u m k.0) refl,
         subst (λ z. MirrorsTold all z next) (some-of now w k.1)
-            (record {
-              recurs = m.recurs;
-              parted = m.parted;
-              told = inr (and_from (eqb u.left 0) true f.0 refl, inr (eqb-true _ _ e.0, refl));
-            }),
+            (inr (and_from (eqb u.left 0) true f.0 refl, inr (eqb-true _ _ e.0, refl))),
       )
 
   so-far-stays : told_so_far t ≡ Some w → MirrorsTold all w u
@@ -263,7 +211,7 @@ module _ (all : List Row) (t w u : Told) (m : MirrorsTold all t u) where
       let k = if-told (is_told t) (Some now) w h in
       let e = and_parts (eqb t.left 0) t.engine.rises k.0 in
       subst (λ z. MirrorsTold all z u) (some-of now w k.1)
-      (record { recurs = m.recurs; parted = m.parted; told = inr (told-too all t u m k.0, inr (eqb-true _ _ e.0, refl)) })
+      (inr (told-too all t u m k.0, inr (eqb-true _ _ e.0, refl)))
 
 -- # A row of a report's collection
 
@@ -333,10 +281,8 @@ so-far-told t w h =
 
 line-own : (t w : Told) (c : ℕ) (what : Said) → line_told t c what ≡ Some w → w.collection ≡ c
 line-own t w c what h =
-    let a = t.recurs || has_code what in
-    let b = t.parted || has_rows what.behind in
-    let now : Told = record { recurs = a; parted = b; collection = c; left = to_tell what.behind what; last = []; engine = no_engine } in
-    let k = if-told (is_told t && not (a && b)) (Some now) w h in
+    let now : Told = record { collection = c; left = to_tell what.behind what; last = []; engine = no_engine } in
+    let k = if-told (is_told t) (Some now) w h in
     ap (λ (z : Told). z.collection) (sym (some-of now w k.1))
 
 part-own : (t w : Told) (c : ℕ) (code : List ℕ) (count : ℕ) → part_told t c code count ≡ Some w → w.collection ≡ c

@@ -1,14 +1,12 @@
 -- Rows that say what is found of a bundle are, line by line, its report.
 use Rattle.std.proofs.Common.{◌≡◌, ℕ, List, [], ◌∷◌, ◌++◌, map, ap, ◌∙◌, sym, refl}
 use Rattle.std.specs.Prelude.{codes}
-use Rattle.census_bundle.specs.declared.bundle.Folder.{Folder}
-use Rattle.census_format.specs.Lines.{end_line}
-use Rattle.census_format.specs.Reports.{IsReport, Owned, owned_text}
+use Rattle.census_format.specs.Lines.{Collection}
+use Rattle.census_format.specs.Reports.{IsReportOf, Owned, end_of, owned_text}
 use Rattle.census_rows.specs.declared.row.Row.{Row}
 use Rattle.census_rows.specs.Lines.{Spelling, line_of, spelling, spelling_text, text_of}
 use Rattle.census_rows.proofs.Texts.{text-append}
-use Rattle.life_answer.specs.declared.question.Question.{Question}
-use Rattle.census_merge.specs.Telling.{TellsBundle, rows_in}
+use Rattle.census_merge.specs.Telling.{Tells, rows_in}
 
 abbrev spelled_text : List Spelling → List ℕ
 spelled_text [] = []
@@ -26,10 +24,10 @@ pub owned-rows : (groups : List Owned) → owned_text groups ≡ text_of (rows_i
 owned-rows [] = refl
 owned-rows (l ∷ ls) = ap (λ w. text_of l.group ++ w) (owned-rows ls) ∙ sym (text-append l.group (rows_in ls))
 
-pub told-report : (b : List Folder) (question : Question) (rows : List Row) → TellsBundle b question rows → IsReport b question (text_of rows)
-told-report b question rows t = record {
+pub told-report : (b : List Collection) (rows : List Row) → Tells b rows → IsReportOf b (text_of rows)
+told-report b rows t = record {
   groups = t.groups;
   sections = t.sections;
-  whole = ap text_of t.whole ∙ text-append t.body (end_line b)
-      ∙ ap (λ w. w ++ text_of (end_line b)) (text-spelled t.body (rows_in t.groups) t.spelled ∙ sym (owned-rows t.groups));
+  whole = ap text_of t.whole ∙ text-append t.body (end_of b)
+      ∙ ap (λ w. w ++ text_of (end_of b)) (text-spelled t.body (rows_in t.groups) t.spelled ∙ sym (owned-rows t.groups));
 }

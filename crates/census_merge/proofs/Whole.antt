@@ -38,7 +38,7 @@ mirrors-start all s none nothing = record {
 }
 
 told-start : (all : List Row) → MirrorsTold all nothing_told nothing_told
-told-start all = record { recurs = λ h. h; parted = λ h. h; told = inr (refl, inr (refl, refl)) }
+told-start all = inr (refl, inr (refl, refl))
 
 small-rows : (rows : List Row) → AreOfCollections count_limit rows → AreSmall rows
 small-rows [] h = tt

@@ -1,37 +1,53 @@
--- Reports of several bundles.
-use Rattle.std.specs.Prelude.{ℕ, List, [], ◌∷◌, ◌++◌, ⊤}
+-- Reports of several bundles, each under its own question.
+use Rattle.std.specs.Prelude.{ℕ, List, [], ◌∷◌, ◌++◌, map, ⊤}
 use Rattle.census_bundle.specs.declared.bundle.Folder.{Folder}
 use Rattle.census_bundle.specs.Names.{HasLawfulNames}
 use Rattle.census_bundle.specs.Sizes.{IsWithinCounts}
-use Rattle.census_format.specs.Reports.{IsReport}
+use Rattle.census_format.specs.Lines.{Collection}
+use Rattle.census_format.specs.Reports.{IsReportOf, said_under}
 use Rattle.census_rows.specs.declared.row.Row.{Row}
+use Rattle.life_answer.specs.Questions.{IsAnswered}
 use Rattle.life_answer.specs.declared.question.Question.{Question}
-use Rattle.census_merge.specs.Telling.{TellsBundle}
+use Rattle.census_merge.specs.Telling.{Tells}
 
--- the bundles, one after another
-abbrev pub bundles : List (List Folder) → List Folder
-bundles [] = []
-bundles (b ∷ parts) = b ++ bundles parts
+-- the lists, one after another
+abbrev pub joined : {A : Type 0} → List (List A) → List A
+joined [] = []
+joined (xs ∷ lists) = xs ++ joined lists
 
--- each report says what is found of its bundle
-abbrev pub EachTells : Question → List (List Folder) → List (List Row) → Type 0
-EachTells question [] [] = ⊤
-EachTells question (b ∷ parts) (rows ∷ reports) = TellsBundle b question rows × EachTells question parts reports
-EachTells question _ _ = ⊥
+-- a bundle, and the question that is asked of it
+pub record Asked : Type 0 where
+  pub question : Question
+  pub bundle : List Folder
+
+-- what is said of each bundle under its question
+abbrev pub all_said : List Asked → List (List Collection)
+all_said asked = map (λ (a : Asked). said_under a.question a.bundle) asked
+
+-- each report's rows say this of its collections
+abbrev pub EachTells : List (List Collection) → List (List Row) → Type 0
+EachTells [] [] = ⊤
+EachTells (said ∷ parts) (rows ∷ reports) = Tells said rows × EachTells parts reports
+EachTells _ _ = ⊥
 
 -- what a bundle's value has: lawful names, and no more of anything than a bundle may have
 abbrev pub IsBundle : List Folder → Type 0
 IsBundle b = IsWithinCounts b × HasLawfulNames b
 
-abbrev pub AreBundles : List (List Folder) → Type 0
+abbrev pub AreBundles : List Asked → Type 0
 AreBundles [] = ⊤
-AreBundles (b ∷ parts) = IsBundle b × AreBundles parts
+AreBundles (a ∷ asked) = IsBundle a.bundle × AreBundles asked
 
--- each text is a lawful report of its bundle
-abbrev pub EachIsReport : Question → List (List Folder) → List (List ℕ) → Type 0
-EachIsReport question [] [] = ⊤
-EachIsReport question (b ∷ parts) (text ∷ reports) = IsReport b question text × EachIsReport question parts reports
-EachIsReport question _ _ = ⊥
+-- each question is within its bounds
+abbrev pub AreAnswered : List Asked → Type 0
+AreAnswered [] = ⊤
+AreAnswered (a ∷ asked) = IsAnswered a.question × AreAnswered asked
+
+-- each text is the report of what is said
+abbrev pub EachIsReportOf : List (List Collection) → List (List ℕ) → Type 0
+EachIsReportOf [] [] = ⊤
+EachIsReportOf (said ∷ parts) (text ∷ reports) = IsReportOf said text × EachIsReportOf parts reports
+EachIsReportOf _ _ = ⊥
 
 -- the texts, one after another
 abbrev pub texts : List (List ℕ) → List ℕ

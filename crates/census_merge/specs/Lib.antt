@@ -12,3 +12,5 @@ pub mod Ranges
 pub mod Runs
 pub mod Bounds
 pub mod Cuts
+pub mod Lawful
+pub mod LawfulTexts

@@ -6,7 +6,7 @@ ghost use Rattle.census_format.specs.Reports.{IsReport};
 ghost use Rattle.life_answer.specs.Questions.{IsAnswered};
 ghost use Rattle.life_answer.specs.declared.question.Question.{Question};
 ghost use Rattle.census_merge.specs.Bounds.Merging.{AreMade};
-ghost use Rattle.census_merge.specs.Joining.{AreBundles, EachIsReport, IsBundle};
+ghost use Rattle.census_merge.specs.Joining.{AreAnswered, AreBundles, Asked, EachIsReportOf, IsBundle, all_said};
 ghost use Rattle.census_merge.specs.Ranges.{InRange, Readable};
 
 /// What is found of the patterns of a bundle fits 64 bits, and no code is empty, whichever question is asked within its bounds.
@@ -22,11 +22,10 @@ pub fn every_lawful_report_is_read()
         → IsReport b question text → Readable text }
 {}
 
-/// If each of several texts is a lawful report of its bundle under one question, all of them are read back as one, and the
-/// merged rows as written are a lawful report of the bundles, one after another.
+/// If each of several texts is a lawful report of its bundle under its own question, all of them are read back as one, and the
+/// merged rows as written are the report of what is said of the bundles, one after another.
 pub fn lawful_reports_are_made_one()
-    ensures { (question : Question) (parts : List (List Folder)) (reports : List (List ℕ)) →
-        IsAnswered question
-        → 0 < length parts → AreBundles parts → EachIsReport question parts reports →
-        AreMade question parts reports }
+    ensures { (asked : List Asked) (reports : List (List ℕ)) → AreAnswered asked
+        → 0 < length asked → AreBundles asked → EachIsReportOf (all_said asked) reports →
+        AreMade asked reports }
 {}

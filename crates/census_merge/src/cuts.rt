@@ -5,14 +5,14 @@ ghost use Rattle.census_bundle.specs.declared.bundle.Folder.{Folder};
 ghost use Rattle.census_merge.specs.Kept.{report_of, whole_count};
 ghost use Rattle.census_merge.specs.Mended.{IsCutTo};
 ghost use Rattle.census_merge.specs.declared.mending.Cut.{Cut};
-ghost use Rattle.census_format.specs.Reports.{IsReport};
+ghost use Rattle.census_format.specs.Reports.{IsReport, said_under};
 ghost use Rattle.census_readback.specs.Texts.{AllLines};
 ghost use Rattle.census_rows.specs.Lines.{text_of};
 ghost use Rattle.census_rows.specs.declared.row.Row.{Row};
-ghost use Rattle.census_merge.specs.Cuts.Closed.{closed_folders};
+ghost use Rattle.census_merge.specs.Cuts.Closed.{closed_collections};
 ghost use Rattle.life_answer.specs.declared.question.Question.{Question};
 ghost use Rattle.census_merge.specs.Joining.{IsBundle};
-ghost use Rattle.census_merge.specs.Telling.{TellsBundle};
+ghost use Rattle.census_merge.specs.Telling.{Tells};
 
 /// If a lawful report was cut before its `end` row was whole, the rows that are kept say what is found of the patterns of the
 /// collections that are closed.
@@ -20,7 +20,7 @@ pub fn what_is_kept_tells_the_closed_collections()
     ensures { (b : List Folder) (question : Question) (rows : List Row) (rest : List ℕ) →
         IsBundle b → AllLines rows
         → IsReport b question (text_of rows ++ rest) → whole_count rows ≡ 0 →
-        TellsBundle (closed_folders rows 1 b) question (report_of rows) }
+        Tells (said_under question (closed_collections rows 1 b)) (report_of rows) }
 {}
 
 /// If a lawful report was cut before its `end` row was whole, the rows that are kept, written line by line, are a lawful report
@@ -29,7 +29,7 @@ pub fn what_is_kept_of_a_cut_report_is_a_report()
     ensures { (b : List Folder) (question : Question) (rows : List Row) (rest : List ℕ) →
         IsBundle b → AllLines rows
         → IsReport b question (text_of rows ++ rest) → whole_count rows ≡ 0 →
-        IsReport (closed_folders rows 1 b) question (text_of (report_of rows)) }
+        IsReport (closed_collections rows 1 b) question (text_of (report_of rows)) }
 {}
 
 /// If something was cut off the end of a lawful report, what is left is mended to a lawful report of the collections that are
@@ -37,5 +37,5 @@ pub fn what_is_kept_of_a_cut_report_is_a_report()
 pub fn a_cut_report_is_mended_to_a_report()
     ensures { (b : List Folder) (question : Question) (text more mended : List ℕ) (cut : Cut) →
         IsBundle b → IsReport b question (text ++ more) → 0 < length more
-        → (is : IsCutTo text mended cut) → IsReport (closed_folders is.rows 1 b) question mended }
+        → (is : IsCutTo text mended cut) → IsReport (closed_collections is.rows 1 b) question mended }
 {}

@@ -1,8 +1,8 @@
 //! Several reports merged into one, what is kept of a text that was cut in the middle of a report, and laws of reports. The
 //! merged report has the collections of all, numbered consecutively, and one `end` line with the sums. `laws` says what rows say
-//! of a bundle, that a report's rows say it of its bundle, and that merged reports are a report of their bundles, one after
-//! another; `runs` says what a report's numbers count, `bounds` that every lawful report is read back, and `cuts` what is kept
-//! of one that was cut.
+//! of collections, that a report's rows say it of its bundle, and that merged reports are a report of their bundles, one after
+//! another; `said` that a text is read exactly where it is lawful reports; `runs` says what a report's numbers count, `bounds`
+//! that what is found of patterns is in range, and `cuts` what is kept of a report that was cut.
 //!
 //! Tested in `tests_reports`.
 #![tactic(auto)]
@@ -21,6 +21,7 @@ mod numbering;
 mod renumber;
 mod report_sums;
 mod runs;
+mod said;
 mod written;
 
 pub use bounds::{
@@ -32,7 +33,8 @@ pub use cuts::{
 };
 pub use laws::{
     a_lawful_report_in_range_is_read, a_report_read_back_tells_its_bundle,
-    merged_reports_are_a_report, merged_rows_tell_the_bundles_joined, reports_that_fit_are_merged,
+    merged_reports_are_a_report, merged_rows_tell_the_collections_joined,
+    one_question_is_asked_of_the_bundles_joined, reports_that_fit_are_merged,
     rows_that_tell_are_a_report,
 };
 pub use mending::{Cut, Mended, mend};
@@ -41,4 +43,7 @@ pub use report_sums::{Sums, sums_at_end};
 pub use runs::{
     ash_lines_tell_the_onset, codes_count_objects_of_ash, growth_is_told_exactly,
     one_collection_has_one_report,
+};
+pub use said::{
+    lawful_texts_are_read, texts_that_are_read_are_lawful, what_is_said_of_a_bundle_is_lawful,
 };

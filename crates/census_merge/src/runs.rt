@@ -3,10 +3,9 @@
 
 ghost use Rattle.std.specs.Prelude.{◌≡◌, ◌↔◌, ◌++◌, [], ◌∷◌, ℕ, Bool, List, Option, Some, codes};
 ghost use Rattle.census_bundle.specs.declared.bundle.Entry.{Entry};
-ghost use Rattle.census_bundle.specs.declared.bundle.Folder.{Folder};
 ghost use Rattle.census_format.specs.Found.{outcome_of};
-ghost use Rattle.census_format.specs.Lines.{answer_to_entry, end_line, groups_text, pattern_rows};
-ghost use Rattle.census_format.specs.Reports.{IsReport, folder_section};
+ghost use Rattle.census_format.specs.Lines.{Collection, answer_to_entry, groups_text, pattern_rows};
+ghost use Rattle.census_format.specs.Reports.{IsReportOf, end_of, section_of};
 ghost use Rattle.census_rows.specs.Kinds.{said, value_at};
 ghost use Rattle.census_rows.specs.Lines.{text_of};
 ghost use Rattle.census_rows.specs.declared.kinds.Label.TheVariants.{Onset};
@@ -15,7 +14,6 @@ ghost use Rattle.census_merge.specs.Runs.Fallen.{FallsApart};
 ghost use Rattle.census_merge.specs.Runs.Growing.{HasGrown, growing_rows};
 ghost use Rattle.census_merge.specs.Runs.ObjectsOfAsh.{CodesCountObjectsOfAsh};
 ghost use Rattle.life_answer.specs.Told.{told_of_engines};
-ghost use Rattle.life_answer.specs.declared.question.Question.{Question};
 ghost use Rattle.life_answer.specs.declared.question.Question.TheVariants.{Objects};
 ghost use Rattle.life_objects.specs.Onset.{IsAshOnset};
 
@@ -51,6 +49,6 @@ pub fn growth_is_told_exactly()
 
 /// One collection has one report: its lines in their order, and the end line.
 pub fn one_collection_has_one_report()
-    ensures { (f : Folder) (question : Question) (text : List ℕ) → IsReport (f ∷ []) question text
-        ↔ (text ≡ groups_text (folder_section question 1 f) ++ text_of (end_line (f ∷ []))) }
+    ensures { (said : Collection) (text : List ℕ) → IsReportOf (said ∷ []) text
+        ↔ (text ≡ groups_text (section_of 1 said) ++ text_of (end_of (said ∷ []))) }
 {}

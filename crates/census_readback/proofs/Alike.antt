@@ -22,7 +22,7 @@ use Rattle.census_readback.specs.Lawful.{has_lawful_code, has_lawful_engines, ha
 use Rattle.census_readback.specs.Engines.{after_engine, no_engine}
 use Rattle.census_readback.specs.declared.engines.Way.{Way}
 use Rattle.census_readback.specs.Rules.{is_rule}
-use Rattle.census_readback.specs.Told.{Told, emits_told, engine_told, has_code, has_rows, is_told, line_told, part_told, to_tell, told_after, told_next}
+use Rattle.census_readback.specs.Told.{Told, emits_told, engine_told, is_told, line_told, part_told, to_tell, told_after, told_next}
 use Rattle.census_readback.specs.declared.place.Place.{Place}
 use Rattle.census_readback.specs.declared.place.Place.TheVariants.{Before, Within, Behind}
 use Rattle.census_readback.specs.declared.place.Tally.{Tally}
@@ -225,11 +225,8 @@ tell-same behind.Engines s u h = numbers s.fields u.fields h.3 label.Engines
 
 line-told-same : (t : Told) (c : ℕ) (s u : Said) → SameSaid s u → line_told t c s ≡ line_told t c u
 line-told-same t c s u h =
-    let told : Bool → rows.Behind → ℕ → Option Told = λ code kind left.
-    if is_told t && not ((t.recurs || code) && (t.parted || has_rows kind)) then Some (record { recurs = t.recurs || code; parted = t.parted || has_rows kind; collection = c; left = left; last = []; engine = no_engine }) else Nothing in
-    ap (λ text. told (is_some text) s.behind (to_tell s.behind s)) (texts s.fields u.fields h.3 label.Code)
-    ∙ ap (λ kind. told (has_code u) kind (to_tell kind s)) h.2
-    ∙ ap (told (has_code u) u.behind) (tell-same u.behind s u h)
+    let told : ℕ → Option Told = λ left. if is_told t then Some (record { collection = c; left = left; last = []; engine = no_engine }) else Nothing in
+    ap (λ kind. told (to_tell kind s)) h.2 ∙ ap told (tell-same u.behind s u h)
 
 told-same : (t : Told) (r q : Row) → SameRow r q → told_next t r ≡ told_next t q
 told-same t (Open c n name) (Open c2 n2 name2) h = refl

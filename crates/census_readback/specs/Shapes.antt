@@ -77,8 +77,7 @@ patterns_in [] = 0
 patterns_in (row ∷ rows) = patterns_opened row + patterns_in rows
 
 -- The rows of a report: those of its collections' sections, interleaved in any way that keeps each section's order, and then
--- `end`. Each is lawful by itself, the rows after a line report all its objects or engines, and no report has both codes of
--- patterns and objects or engines.
+-- `end`. Each is lawful by itself, and the rows after a line report all its objects or engines.
 pub record IsWholeReport (rows : List Row) : Type 0 where
   pub body : List Row
   pub collections : ℕ

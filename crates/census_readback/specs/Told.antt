@@ -1,5 +1,5 @@
 -- What the rows of a report say together.
-use Rattle.std.specs.Prelude.{ℕ, ◌-◌, Bool, false, true, not, ◌&&◌, ◌||◌, ◌==◌, nat_le, if◌then◌else◌, Option, Some, None as Nothing, is_some, List, [], ◌∷◌}
+use Rattle.std.specs.Prelude.{ℕ, ◌-◌, Bool, ◌&&◌, ◌==◌, nat_le, if◌then◌else◌, Option, Some, None as Nothing, List, [], ◌∷◌}
 use Rattle.std.specs.Option.{option_map}
 use Rattle.std.specs.Ordering.{is_lt}
 use Rattle.census_rows.specs.Kinds.{Said, said, value_at}
@@ -9,16 +9,13 @@ use Rattle.census_rows.specs.declared.kinds.Label.TheVariants as label
 use Rattle.census_rows.specs.declared.row.Row.{Row}
 use Rattle.census_rows.specs.declared.row.Row.TheVariants.{Line, Part, Engine, Emits, End}
 use Rattle.census_readback.specs.Engines.{LastEngine, after_emits, after_engine, engine_of, no_engine}
-use Rattle.census_readback.specs.Lawful.{is_lawful, number_in, text_in}
+use Rattle.census_readback.specs.Lawful.{is_lawful, number_in}
 use Rattle.census_readback.specs.declared.told as rust
 use Rattle.life_cells.specs.TextOrder.{shorter_cmp}
 
--- whether a line had a code, and whether one said how many objects or engines there are; the collection of the last line, how
--- many of its objects or engines are yet to be reported by rows after it, the last code that such a row has, and the last
--- engine
+-- the collection of the last line, how many of its objects or engines are yet to be reported by rows after it, the last code
+-- that such a row has, and the last engine
 pub record Told : Type 0 where
-  pub recurs : Bool
-  pub parted : Bool
   pub collection : ℕ
   pub left : ℕ
   pub last : List ℕ
@@ -26,8 +23,6 @@ pub record Told : Type 0 where
 
 abbrev pub told_of : rust.Told.Told → Told
 told_of told = record {
-  recurs = told.recurs;
-  parted = told.parted;
   collection = told.collection;
   left = told.left;
   last = told.last.now;
@@ -36,16 +31,7 @@ told_of told = record {
 
 -- before any row
 abbrev pub nothing_told : Told
-nothing_told = record { recurs = false; parted = false; collection = 0; left = 0; last = []; engine = no_engine }
-
--- the outcome has a code
-abbrev pub has_code : Said → Bool
-has_code told = is_some (text_in (value_at label.Code told.fields))
-
--- rows come after it
-abbrev pub has_rows : Behind → Bool
-has_rows behind.Nothing = false
-has_rows _ = true
+nothing_told = record { collection = 0; left = 0; last = []; engine = no_engine }
 
 -- how many objects or engines the rows after it have to report
 abbrev pub to_tell : Behind → Said → ℕ
@@ -57,14 +43,10 @@ to_tell behind.Engines what = number_in (value_at label.Engines what.fields)
 abbrev pub is_told : Told → Bool
 is_told t = (t.left == 0) && t.engine.rises
 
--- after a `line` row: no report has both codes of patterns and objects or engines, and those of the line before are reported
+-- after a `line` row: the objects or engines of the line before are reported
 abbrev pub line_told : Told → ℕ → Said → Option Told
 line_told t collection what =
-    let recurs = t.recurs || has_code what in
-    let parted = t.parted || has_rows what.behind in
-    if is_told t && not (recurs && parted)
-    then Some (record { recurs = recurs; parted = parted; collection = collection; left = to_tell what.behind what; last = []; engine = no_engine })
-    else Nothing
+    if is_told t then Some (record { collection = collection; left = to_tell what.behind what; last = []; engine = no_engine }) else Nothing
 
 -- after a `part` row: it comes after its line, its code after the one before it, and at least `count` objects are left
 abbrev pub part_told : Told → ℕ → List ℕ → ℕ → Option Told

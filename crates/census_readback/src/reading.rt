@@ -6,7 +6,7 @@
 //! followed by its `part` lines, a `grows` line by its `engine` lines, and each `engine` line by its `emits` lines. Numbers of
 //! collections and patterns are at most 65,535. Names are lawful, rules are as they are printed, and codes begin as codes. The
 //! code of an `ok` line begins as its period and displacement say. The `part` lines have all objects of their line, in the
-//! order of codes. No report has both `ok` lines and `ash` or `grows` lines.
+//! order of codes. Lines of every kind may stand in any collection.
 //!
 //! The `engine` lines have all engines of their line, at least one, and count from 1. Their periods are 1 to 10,000, and they
 //! move by at most a cell in a generation. Each has `emits` lines, in the order of codes, with numbers from 1 on. The `engine`

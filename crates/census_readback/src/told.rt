@@ -5,10 +5,10 @@ ghost use Rattle.std.specs.Ordering.{is_lt};
 ghost use Rattle.census_rows.specs.Kinds.{said};
 ghost use Rattle.census_rows.specs.Lines.{describes_growth};
 ghost use Rattle.census_readback.specs.Engines.{after_engine};
-ghost use Rattle.census_readback.specs.Told.{emits_told, engine_told, has_code, has_rows, is_told, line_told, nothing_told, part_told, to_tell, told_after, told_next, told_of, told_so_far};
+ghost use Rattle.census_readback.specs.Told.{emits_told, engine_told, is_told, line_told, nothing_told, part_told, to_tell, told_after, told_next, told_of, told_so_far};
 
 use crate::engines::{Emitted, LastEngine, Way};
-use crate::lawful::{is_lawful, number_at, text_at};
+use crate::lawful::{is_lawful, number_at};
 use census_rows::{Behind, Label, Outcome, Row};
 use life_cells::shorter;
 use std::alloc::{AllocError, Global};
@@ -17,10 +17,6 @@ use std::cmp::Ordering;
 // What the rows so far have said.
 #[derive(Drop)]
 pub struct Told<'a> {
-    // Whether a line had a code.
-    pub recurs: bool,
-    // Whether a line said how many objects or engines there are.
-    pub parted: bool,
     // The collection of the last line.
     pub collection: u64,
     // How many of its objects or engines are yet to be reported by rows after it.
@@ -29,25 +25,6 @@ pub struct Told<'a> {
     pub last: &'a [u8],
     // The last engine.
     pub engine: LastEngine<'a>,
-}
-
-fn has_code(outcome: &Outcome) -> bool
-    ensures { result ≡ has_code (said outcome.now) }
-{
-    match text_at(outcome, Label::Code) {
-        Some(_) => true,
-        None => false,
-    }
-}
-
-fn has_rows(behind: Behind) -> bool
-    ensures { result ≡ has_rows behind }
-{
-    match behind {
-        Behind::Nothing => false,
-        Behind::Parts => true,
-        Behind::Engines => true,
-    }
 }
 
 // How many objects or engines the rows after a line have to report.
@@ -77,8 +54,6 @@ impl<'a> Told<'a> {
         ensures { told_of result ≡ nothing_told }
     {
         Told {
-            recurs: false,
-            parted: false,
             collection: 0,
             left: 0,
             last: &[],
@@ -98,12 +73,8 @@ impl<'a> Told<'a> {
         ensures { option_map told_of result ≡
             line_told (told_of self.entry) collection (said outcome.now) }
     {
-        let recurs = self.recurs || has_code(outcome);
-        let parted = self.parted || has_rows(outcome.behind());
-        if self.is_told() && !(recurs && parted) {
+        if self.is_told() {
             Some(Told {
-                recurs,
-                parted,
                 collection,
                 left: to_tell(outcome),
                 last: &[],

@@ -3,18 +3,16 @@ use Rattle.std.proofs.Common.{◌≡◌, ℕ, true, false, ◌||◌, cond, eqb, 
 use Rattle.std.specs.Prelude.{⊤}
 use Rattle.std.specs.List.{AllByRecursion as Each}
 use Rattle.std.proofs.lemmas.Bool.{eq-eqb, eqb-true}
-use Rattle.census_bundle.specs.declared.bundle.Folder.{Folder}
+use Rattle.census_format.specs.Lines.{Collection, Group, found_of, saying_lines}
 use Rattle.census_bundle.specs.Tickets.{element_at}
 use Rattle.census_merge.specs.Kept.{closed_to, closes, is_close, is_closed, kept_of, numbered}
 use Rattle.census_merge.proofs.Placed.{closes-other}
-use Rattle.census_format.specs.Lines.{Group, answers, pattern_lines}
-use Rattle.census_format.specs.Reports.{folder_section, section, section_of}
+use Rattle.census_format.specs.Reports.{section, section_if, section_of}
 use Rattle.census_readback.specs.Shapes.{all_rows, rows_of}
 use Rattle.census_readback.specs.Steps.{collection_of}
 use Rattle.census_readback.proofs.Kept.{rows-append}
 use Rattle.census_rows.specs.declared.row.Row.{Row}
 use Rattle.census_rows.specs.declared.row.Row.TheVariants.{Open, Line, Part, Engine, Emits, Code, Close, End}
-use Rattle.life_answer.specs.declared.question.Question.{Question}
 use Rattle.census_merge.proofs.Rowed.{close_row, code_groups, counted_in, section-is}
 use Rattle.census_merge.proofs.CutsLemmas.Sections.{IsInner, codes-inner, patterns-inner}
 
@@ -33,22 +31,22 @@ once-groups : (c : ℕ) (groups rest : List Group) → Each (Each (IsInner c)) g
 once-groups c [] rest h k = k
 once-groups c (group ∷ groups) rest h k = once-rows c group (all_rows (groups ++ rest)) h.0 (once-groups c groups rest h.1 k)
 
-section-once : (question : Question) (c : ℕ) (f : Folder) → IsOnceClosed (all_rows (folder_section question c f))
-section-once question c f =
-    let coded = code_groups c (counted_in question f) in
-    let last = (close_row c (answers question f.entries) (length f.entries) ∷ []) ∷ [] in
-    subst (λ groups. IsOnceClosed (all_rows groups)) (sym (section-is question c f)) (
+section-once : (c : ℕ) (f : Collection) → IsOnceClosed (all_rows (section_of c f))
+section-once c f =
+    let coded = code_groups c (counted_in f) in
+    let last = (close_row c (found_of f.sayings) (length f.sayings) ∷ []) ∷ [] in
+    subst (λ groups. IsOnceClosed (all_rows groups)) (sym (section-is c f)) (
       (λ e. absurd (let clash : false ≡ true = e in cc)),
-      once-groups c (pattern_lines question c 1 f.entries) (coded ++ last) (patterns-inner question c 1 f.entries)
-          (once-groups c coded last (codes-inner c (counted_in question f)) ((λ e. refl), tt)),
+      once-groups c (saying_lines c 1 f.sayings) (coded ++ last) (patterns-inner c 1 f.sayings)
+          (once-groups c coded last (codes-inner c (counted_in f)) ((λ e. refl), tt)),
     )
 
-at-once : (question : Question) (c : ℕ) (o : Option Folder) → IsOnceClosed (all_rows (section_of question c o))
-at-once question c Nothing = tt
-at-once question c (Some f) = section-once question c f
+at-once : (c : ℕ) (o : Option Collection) → IsOnceClosed (all_rows (section_if c o))
+at-once c Nothing = tt
+at-once c (Some f) = section-once c f
 
-pub sections-once : (question : Question) (b : List Folder) (c : ℕ) → IsOnceClosed (all_rows (section b question c))
-sections-once question b c = at-once question c (element_at b c)
+pub sections-once : (b : List Collection) (c : ℕ) → IsOnceClosed (all_rows (section b c))
+sections-once b c = at-once c (element_at b c)
 
 -- ---- rows after it
 

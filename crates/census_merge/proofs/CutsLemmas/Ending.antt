@@ -1,18 +1,15 @@
 -- If something is cut off a report, its `end` row is.
 use Rattle.std.proofs.Common.{◌≡◌, ℕ, ◌+◌, ◌<◌, ◌^◌, false, cond, ltb, List, [], ◌∷◌, ◌++◌, length, length-append, ap, ◌∙◌, refl, arith, append_assoc}
 use Rattle.std.specs.List.{AllByRecursion as Each}
-use Rattle.census_bundle.specs.declared.bundle.Folder.{Folder}
+use Rattle.census_format.specs.Lines.{Collection, sayings_count}
 use Rattle.census_bundle.specs.Tickets.{element_at}
 use Rattle.census_merge.specs.Kept.{is_end, whole_count}
 use Rattle.census_merge.proofs.Ranks.{one}
-use Rattle.census_format.specs.Lines.{end_line, pattern_count}
-use Rattle.census_format.specs.Reports.{IsReport}
+use Rattle.census_format.specs.Reports.{IsReportOf, end_of}
 use Rattle.census_readback.specs.Texts.{AllLines}
 use Rattle.census_rows.specs.declared.row.Row.{Row}
 use Rattle.census_rows.specs.declared.row.Row.TheVariants.{Open, Line, Part, Engine, Emits, Code, Close, End}
 use Rattle.census_rows.specs.Lines.{line_of, text_of}
-use Rattle.life_answer.specs.declared.question.Question.{Question}
-use Rattle.census_merge.specs.Joining.{IsBundle}
 use Rattle.census_merge.specs.Telling.{rows_in}
 use Rattle.census_merge.proofs.Grouped.{in-sections}
 use Rattle.census_merge.proofs.Named.{IsCut, sections-cut}
@@ -22,6 +19,7 @@ use Rattle.census_merge.proofs.Shifted.{IsLasting, section-lasting}
 use Rattle.census_merge.proofs.Texts.{owned-rows}
 use Rattle.census_merge.proofs.CutsLemmas.Front.{NoneEnds, same-row}
 use Rattle.census_merge.proofs.CutsLemmas.Spelled.{same-end}
+use Rattle.census_merge.specs.Lawful.{AreSayable}
 
 lasting-end : (row : Row) → IsLasting row → is_end row ≡ false
 lasting-end (Open collection patterns name) e = refl
@@ -57,15 +55,15 @@ count-none (row ∷ rows) h =
     ap (λ v. cond v (w + 1) (one (is_end row))) more ∙ ap one h.0
 
 -- if a lawful report was cut, none of its whole rows ends it
-pub no-end : (b : List Folder) (question : Question) (rows : List Row) (rest : List ℕ) → IsBundle b → AllLines rows → 0 < length rest
-    → IsReport b question (text_of rows ++ rest) → whole_count rows ≡ 0
-no-end b question rows rest bundle lines some report =
+pub no-end : (b : List Collection) (rows : List Row) (rest : List ℕ) → AreSayable b → AllLines rows → 0 < length rest
+    → IsReportOf b (text_of rows ++ rest) → whole_count rows ≡ 0
+no-end b rows rest bundle lines some report =
     let told = rows_in report.groups in
-    let last = End (length b) (pattern_count b) in
-    let few : length b < 2 ^ 64 = (let most_of = bundle.0.folders in omega (arith, most_of)) in
+    let last = End (length b) (sayings_count b) in
+    let few : length b < 2 ^ 64 = (let most_of = bundle.few in omega (arith, most_of)) in
     count-none rows
-    (none-end last (end-cut (length b) (pattern_count b), few) told
-    (in-sections (λ c row. IsCut row) IsCut (λ c row h. h) b question report.groups report.sections (sections-cut question b bundle))
-    (in-sections (λ c row. IsLasting row) IsLasting (λ c row h. h) b question report.groups report.sections (λ c. section-lasting question c (element_at b c)))
+    (none-end last (end-cut (length b) (sayings_count b), few) told
+    (in-sections (λ c row. IsCut row) IsCut (λ c row h. h) b report.groups report.sections (sections-cut b bundle))
+    (in-sections (λ c row. IsLasting row) IsLasting (λ c row h. h) b report.groups report.sections (λ c. section-lasting c (element_at b c)))
     rows rest lines some
-    (report.whole ∙ ap (λ w. w ++ text_of (end_line b)) (owned-rows report.groups) ∙ ap (λ w. text_of told ++ text_of w) (end-is b)))
+    (report.whole ∙ ap (λ w. w ++ text_of (end_of b)) (owned-rows report.groups) ∙ ap (λ w. text_of told ++ text_of w) (end-is b)))

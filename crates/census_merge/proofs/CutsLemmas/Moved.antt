@@ -1,18 +1,15 @@
 -- The rows of a collection, under another number.
 use Rattle.std.proofs.Common.{◌≡◌, ℕ, suc, Some, None as Nothing, Option, List, [], ◌∷◌, ◌++◌, map, length, ap, ◌∙◌, sym, refl}
 use Rattle.std.proofs.lemmas.List.{map-append}
-use Rattle.census_bundle.specs.declared.bundle.Entry.{Entry}
-use Rattle.census_bundle.specs.declared.bundle.Folder.{Folder}
+use Rattle.census_format.specs.Lines.{Saying, Collection, emits_row, engine_row, engine_rows, found_of, outcome_rows, part_row, pattern_row, rows_behind, rows_of_engines, saying_lines, saying_rows}
 use Rattle.census_merge.specs.Kept.{numbered}
-use Rattle.census_format.specs.Lines.{answer_to_entry, answers, emits_row, engine_row, engine_rows, outcome_rows, part_row, pattern_lines, pattern_row, pattern_rows, rows_behind, rows_of_engines}
 use Rattle.census_format.specs.Objects.{Object, code_line}
-use Rattle.census_format.specs.Reports.{section_of}
+use Rattle.census_format.specs.Reports.{section_if}
 use Rattle.life_answer.specs.declared.finding.Answer.{Answer}
 use Rattle.life_answer.specs.declared.finding.Answer.TheVariants.{Found, Refused}
 use Rattle.life_answer.specs.declared.finding.Outcome.{Outcome}
 use Rattle.life_answer.specs.declared.finding.Outcome.TheVariants.{Ash, Grows}
 use Rattle.life_answer.specs.declared.part.Part as part
-use Rattle.life_answer.specs.declared.question.Question.{Question}
 use Rattle.life_answer.specs.declared.tale.Engines.{Engines}
 use Rattle.census_merge.proofs.Rowed.{close_row, code_groups, counted_in, open_row, section-is}
 
@@ -39,12 +36,12 @@ found-numbered : (n c i : ℕ) (found : Answer) → map (numbered n) (rows_behin
 found-numbered n c i (Found rule finding) = outcome-numbered n c i finding.outcome
 found-numbered n c i (Refused number) = refl
 
-patterns-numbered : (n : ℕ) (question : Question) (c i : ℕ) (es : List Entry) → map (map (numbered n)) (pattern_lines question c i es) ≡ pattern_lines question n i es
-unfolding pattern_rows
-patterns-numbered n question c i [] = refl
-patterns-numbered n question c i (e ∷ es) =
-    let found = answer_to_entry question e in
-    (λ k. (pattern_row n i found e.name ∷ found-numbered n c i found k) ∷ patterns-numbered n question c (suc i) es k)
+patterns-numbered : (n : ℕ) (c i : ℕ) (es : List Saying) → map (map (numbered n)) (saying_lines c i es) ≡ saying_lines n i es
+unfolding saying_rows
+patterns-numbered n c i [] = refl
+patterns-numbered n c i (e ∷ es) =
+    let found = e.found in
+    (λ k. (pattern_row n i found e.name ∷ found-numbered n c i found k) ∷ patterns-numbered n c (suc i) es k)
 
 codes-numbered : (n c : ℕ) (counted : List (Object × ℕ)) → map (map (numbered n)) (code_groups c counted) ≡ code_groups n counted
 unfolding code_line
@@ -52,17 +49,17 @@ codes-numbered n c [] = refl
 codes-numbered n c (x ∷ counted) = ap (λ gs. code_line n x.0 x.1 ∷ gs) (codes-numbered n c counted)
 
 -- the section of a collection, under another number
-pub section-numbered : (n : ℕ) (question : Question) (c : ℕ) (o : Option Folder) → map (map (numbered n)) (section_of question c o) ≡ section_of question n o
-section-numbered n question c Nothing = refl
-section-numbered n question c (Some f) =
+pub section-numbered : (n : ℕ) (c : ℕ) (o : Option Collection) → map (map (numbered n)) (section_if c o) ≡ section_if n o
+section-numbered n c Nothing = refl
+section-numbered n c (Some f) =
     let moves = map (map (numbered n)) in
-    let patterns = pattern_lines question c 1 f.entries in
-    let coded = code_groups c (counted_in question f) in
-    let last = (close_row c (answers question f.entries) (length f.entries) ∷ []) ∷ [] in
-    let lasts = (close_row n (answers question f.entries) (length f.entries) ∷ []) ∷ [] in
-    ap moves (section-is question c f)
+    let patterns = saying_lines c 1 f.sayings in
+    let coded = code_groups c (counted_in f) in
+    let last = (close_row c (found_of f.sayings) (length f.sayings) ∷ []) ∷ [] in
+    let lasts = (close_row n (found_of f.sayings) (length f.sayings) ∷ []) ∷ [] in
+    ap moves (section-is c f)
     ∙ ap (λ gs. (open_row n f ∷ []) ∷ gs)
     (map-append (map (numbered n)) patterns (coded ++ last)
-    ∙ ap (λ gs. gs ++ moves (coded ++ last)) (patterns-numbered n question c 1 f.entries)
-    ∙ ap (λ gs. pattern_lines question n 1 f.entries ++ gs) (map-append (map (numbered n)) coded last ∙ ap (λ gs. gs ++ lasts) (codes-numbered n c (counted_in question f))))
-    ∙ sym (section-is question n f)
+    ∙ ap (λ gs. gs ++ moves (coded ++ last)) (patterns-numbered n c 1 f.sayings)
+    ∙ ap (λ gs. saying_lines n 1 f.sayings ++ gs) (map-append (map (numbered n)) coded last ∙ ap (λ gs. gs ++ lasts) (codes-numbered n c (counted_in f))))
+    ∙ sym (section-is n f)

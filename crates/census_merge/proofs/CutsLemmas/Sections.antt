@@ -2,13 +2,10 @@
 use Rattle.std.proofs.Common.{◌≡◌, ℕ, zero, suc, ◌-◌, ◌<◌, ◌≤◌, ◌^◌, ⊎_elim, eq-zero-or-pos, false, Some, None as Nothing, Option, List, [], ◌∷◌, ◌++◌, map, length, slice_get, sym, subst, refl, arith}
 use Rattle.std.specs.List.{AllByRecursion as Each}
 use Rattle.std.proofs.lemmas.Option.{slice_get_past}
-use Rattle.census_bundle.specs.declared.bundle.Entry.{Entry}
-use Rattle.census_bundle.specs.declared.bundle.Folder.{Folder}
-use Rattle.census_bundle.specs.Sizes.{IsWithinCounts, count_limit}
+use Rattle.census_format.specs.Lines.{Saying, Collection, Group, emits_row, engine_rows, found_of, outcome_rows, part_row, rows_behind, rows_of_engines, saying_lines, saying_rows}
 use Rattle.census_merge.specs.Kept.{is_close}
-use Rattle.census_format.specs.Lines.{Group, answer_to_entry, answers, emits_row, engine_rows, outcome_rows, part_row, pattern_lines, pattern_rows, rows_behind, rows_of_engines}
 use Rattle.census_format.specs.Objects.{Object, code_line}
-use Rattle.census_format.specs.Reports.{folder_section, section, section_of}
+use Rattle.census_format.specs.Reports.{section, section_if, section_of}
 use Rattle.census_readback.specs.Steps.{collection_of, patterns_opened}
 use Rattle.census_rows.specs.declared.row.Row.{Row}
 use Rattle.life_answer.specs.declared.finding.Answer.{Answer}
@@ -16,11 +13,11 @@ use Rattle.life_answer.specs.declared.finding.Answer.TheVariants.{Found, Refused
 use Rattle.life_answer.specs.declared.finding.Outcome.{Outcome}
 use Rattle.life_answer.specs.declared.finding.Outcome.TheVariants.{Ash, Grows}
 use Rattle.life_answer.specs.declared.part.Part as part
-use Rattle.life_answer.specs.declared.question.Question.{Question}
 use Rattle.life_answer.specs.declared.tale.Engines.{Engines}
 use Rattle.census_merge.proofs.Grouped.{each-then}
 use Rattle.census_merge.proofs.Rowed.{close_row, code_groups, counted_in, section-is}
 use Rattle.census_merge.proofs.Solid.{each-append}
+use Rattle.census_merge.specs.Lawful.{AreSayable, IsSayableCollection}
 
 -- ---- rows within a section
 
@@ -51,10 +48,10 @@ found-inner : (c i : ℕ) (found : Answer) → Each (IsInner c) (rows_behind c i
 found-inner c i (Found rule finding) = outcome-inner c i finding.outcome
 found-inner c i (Refused number) = tt
 
-pub patterns-inner : (question : Question) (c i : ℕ) (es : List Entry) → Each (Each (IsInner c)) (pattern_lines question c i es)
-unfolding pattern_rows
-patterns-inner question c i [] = tt
-patterns-inner question c i (e ∷ es) = (((refl, refl, refl), found-inner c i (answer_to_entry question e)), patterns-inner question c (suc i) es)
+pub patterns-inner : (c i : ℕ) (es : List Saying) → Each (Each (IsInner c)) (saying_lines c i es)
+unfolding saying_rows
+patterns-inner c i [] = tt
+patterns-inner c i (e ∷ es) = (((refl, refl, refl), found-inner c i e.found), patterns-inner c (suc i) es)
 
 pub codes-inner : (c : ℕ) (counted : List (Object × ℕ)) → Each (Each (IsInner c)) (code_groups c counted)
 unfolding code_line
@@ -73,17 +70,17 @@ inner-row m c row h = (let none = h.2 in (h.0, omega (arith, none)))
 inner-rows : (m c : ℕ) (groups : List Group) → Each (Each (IsInner c)) groups → Each (Each (IsRowOf m c)) groups
 inner-rows m c groups = each-then (Each (IsInner c)) (Each (IsRowOf m c)) (each-then (IsInner c) (IsRowOf m c) (inner-row m c)) groups
 
-section-row : (question : Question) (c : ℕ) (f : Folder) → Each (Each (IsRowOf (length f.entries) c)) (folder_section question c f)
-section-row question c f =
-    let m = length f.entries in
+section-row : (c : ℕ) (f : Collection) → Each (Each (IsRowOf (length f.sayings) c)) (section_of c f)
+section-row c f =
+    let m = length f.sayings in
     let P = Each (IsRowOf m c) in
-    let coded = code_groups c (counted_in question f) in
-    let last = (close_row c (answers question f.entries) m ∷ []) ∷ [] in
+    let coded = code_groups c (counted_in f) in
+    let last = (close_row c (found_of f.sayings) m ∷ []) ∷ [] in
     let closes : Each P last = (((refl, omega arith), tt), tt) in
-    subst (Each P) (sym (section-is question c f)) (
+    subst (Each P) (sym (section-is c f)) (
       ((refl, omega arith), tt),
-      each-append P (pattern_lines question c 1 f.entries) (coded ++ last) (inner-rows m c (pattern_lines question c 1 f.entries) (patterns-inner question c 1 f.entries))
-          (each-append P coded last (inner-rows m c coded (codes-inner c (counted_in question f))) closes),
+      each-append P (saying_lines c 1 f.sayings) (coded ++ last) (inner-rows m c (saying_lines c 1 f.sayings) (patterns-inner c 1 f.sayings))
+          (each-append P coded last (inner-rows m c coded (codes-inner c (counted_in f))) closes),
     )
 
 -- ---- rows of a bundle
@@ -98,31 +95,30 @@ IsFewIn c row = patterns_opened row < 2 ^ 64
 each-both : (P Q : Row → Type 0) → ((row : Row) → P row → Q row) → (groups : List Group) → Each (Each P) groups → Each (Each Q) groups
 each-both P Q f groups = each-then (Each P) (Each Q) (each-then P Q f) groups
 
-at-within : (question : Question) (n c : ℕ) (o : Option Folder) → 0 < c → c ≤ n → Each (Each (IsWithin n c)) (section_of question c o)
-at-within question n c Nothing low high = tt
-at-within question n c (Some f) low high =
-    each-both (IsRowOf (length f.entries) c) (IsWithin n c) (λ row h. (h.0, low, high)) (folder_section question c f) (section-row question c f)
+at-within : (n c : ℕ) (o : Option Collection) → 0 < c → c ≤ n → Each (Each (IsWithin n c)) (section_if c o)
+at-within n c Nothing low high = tt
+at-within n c (Some f) low high =
+    each-both (IsRowOf (length f.sayings) c) (IsWithin n c) (λ row h. (h.0, low, high)) (section_of c f) (section-row c f)
 
-at-few : (question : Question) (c : ℕ) (b : List Folder) (k : ℕ) → ((j : ℕ) (f : Folder) → slice_get b j ≡ Some f → length f.entries ≤ count_limit)
-    → Each (Each (IsFewIn c)) (section_of question c (slice_get b k))
-at-few question c [] k few = tt
-at-few question c (f ∷ b) zero few =
-    let most = few 0 f refl in
-    each-both (IsRowOf (length f.entries) c) (IsFewIn c) (λ row h. (let all = h.1 in omega (arith, all, most))) (folder_section question c f) (section-row question c f)
-at-few question c (f ∷ b) (suc k) few = at-few question c b k (λ j g. few (suc j) g)
+at-few : (c : ℕ) (b : List Collection) (k : ℕ) → Each IsSayableCollection b → Each (Each (IsFewIn c)) (section_if c (slice_get b k))
+at-few c [] k few = tt
+at-few c (f ∷ b) zero few =
+    let most = few.0.few in
+    each-both (IsRowOf (length f.sayings) c) (IsFewIn c) (λ row h. (let all = h.1 in omega (arith, all, most))) (section_of c f) (section-row c f)
+at-few c (f ∷ b) (suc k) few = at-few c b k few.1
 
 -- the rows of each section are of its collection, which is one of the bundle's
-pub sections-within : (question : Question) (b : List Folder) (c : ℕ) → Each (Each (IsWithin (length b) c)) (section b question c)
-sections-within question b zero = tt
-sections-within question b (suc k) = ⊎_elim
-    (λ none. subst (λ o. Each (Each (IsWithin (length b) (suc k))) (section_of question (suc k) o)) (sym (slice_get_past b k (omega arith))) tt)
-    (λ some. at-within question (length b) (suc k) (slice_get b k) (omega arith) (omega arith))
+pub sections-within : (b : List Collection) (c : ℕ) → Each (Each (IsWithin (length b) c)) (section b c)
+sections-within b zero = tt
+sections-within b (suc k) = ⊎_elim
+    (λ none. subst (λ o. Each (Each (IsWithin (length b) (suc k))) (section_if (suc k) o)) (sym (slice_get_past b k (omega arith))) tt)
+    (λ some. at-within (length b) (suc k) (slice_get b k) (omega arith) (omega arith))
     (eq-zero-or-pos (length b - k))
 
 -- no row of a section opens 2^64 patterns
-pub sections-few : (question : Question) (b : List Folder) → IsWithinCounts b → (c : ℕ) → Each (Each (IsFewIn c)) (section b question c)
-sections-few question b h zero = tt
-sections-few question b h (suc k) = at-few question (suc k) b k h.entries
+pub sections-few : (b : List Collection) → AreSayable b → (c : ℕ) → Each (Each (IsFewIn c)) (section b c)
+sections-few b h zero = tt
+sections-few b h (suc k) = at-few (suc k) b k h.each
 
 -- each group of a section is of a collection of the bundle
 pub each-any : {X : Type 0} (Q : Type 0) → Q → (xs : List X) → Each (λ (x : X). Q) xs
@@ -132,9 +128,9 @@ each-any Q q (x ∷ xs) = (q, each-any Q q xs)
 abbrev pub IsOf : ℕ → ℕ → Type 0
 IsOf n c = (0 < c) × (c ≤ n)
 
-pub groups-within : (question : Question) (b : List Folder) (c : ℕ) → Each (λ (group : Group). IsOf (length b) c) (section b question c)
-groups-within question b zero = tt
-groups-within question b (suc k) = ⊎_elim
-    (λ none. subst (λ o. Each (λ (group : Group). IsOf (length b) (suc k)) (section_of question (suc k) o)) (sym (slice_get_past b k (omega arith))) tt)
-    (λ some. each-any (IsOf (length b) (suc k)) (omega arith, omega arith) (section b question (suc k)))
+pub groups-within : (b : List Collection) (c : ℕ) → Each (λ (group : Group). IsOf (length b) c) (section b c)
+groups-within b zero = tt
+groups-within b (suc k) = ⊎_elim
+    (λ none. subst (λ o. Each (λ (group : Group). IsOf (length b) (suc k)) (section_if (suc k) o)) (sym (slice_get_past b k (omega arith))) tt)
+    (λ some. each-any (IsOf (length b) (suc k)) (omega arith, omega arith) (section b (suc k)))
     (eq-zero-or-pos (length b - k))

@@ -3,7 +3,7 @@ use Rattle.std.proofs.Common.{◌≡◌, ℕ, Bool, true, List, ◌∷◌, Optio
 use Rattle.std.proofs.lemmas.Bool.{false≢true}
 use Rattle.census_bundle.specs.declared.bundle.Entry.{Entry}
 use Rattle.census_format.specs.Found.{outcome_of}
-use Rattle.census_format.specs.Lines.{pattern_row, pattern_rows, rows_behind}
+use Rattle.census_format.specs.Lines.{pattern_row, pattern_rows, rows_behind, saying_rows}
 use Rattle.census_format.proofs.Lost.{found_kept, kept_answer}
 use Rattle.census_merge.specs.Runs.Growing.{HasGrown, growing_rows}
 use Rattle.census_merge.proofs.RunsLemmas.Fallen.{answer_by, answer_in}
@@ -48,7 +48,7 @@ module _ (near : Bool) (bound : ℕ) (most : Option ℕ) (horizon : ℕ) (e : En
 
   pub rows_grow : (c i : ℕ) (g : HasGrown bound most horizon e) →
       pattern_rows (Objects bound most near horizon) c i e ≡ growing_rows c i g.rule g.cells e.name (lines g)
-  unfolding pattern_rows
+  unfolding saying_rows
   rows_grow c i g = ap (λ found. pattern_row c i found e.name ∷ rows_behind c i found) (answer_grows g)
 
   -- ---- and nothing else is said to grow

@@ -1,11 +1,9 @@
 -- With one collection there is one report.
 use Rattle.std.proofs.Common.{◌≡◌, ◌↔◌, ℕ, zero, suc, true, false, cond, eqb, List, [], ◌∷◌, ◌++◌, refl, sym, ap, ◌∙◌, arith}
-use Rattle.census_bundle.specs.declared.bundle.Folder.{Folder}
-use Rattle.census_format.specs.Lines.{Group, end_line, groups_text}
-use Rattle.census_format.specs.Reports.{IsReport, Owned, folder_section, lines_of, owned_text, section}
+use Rattle.census_format.specs.Lines.{Collection, Group, groups_text}
+use Rattle.census_format.specs.Reports.{IsReportOf, Owned, end_of, lines_of, owned_text, section, section_of}
 use Rattle.census_format.proofs.Owning.{eqb_same, lines_of-other, lines_of-own, own, owned_text-own}
 use Rattle.census_rows.specs.Lines.{text_of}
-use Rattle.life_answer.specs.declared.question.Question.{Question}
 
 -- each line belongs to the first collection
 abbrev AreFirst : List Owned → Type 0
@@ -37,28 +35,28 @@ first_text : (ls : List Owned) → AreFirst ls → owned_text ls ≡ groups_text
 first_text [] first = refl
 first_text (l ∷ ls) first = step l.owner l.group ls first (first_text ls (first_after l ls first))
 
-module _ (f : Folder) (question : Question) where
-  elsewhere : (c : ℕ) → (1 ≡ c → ⊥) → section (f ∷ []) question c ≡ []
+module _ (f : Collection) where
+  elsewhere : (c : ℕ) → (1 ≡ c → ⊥) → section (f ∷ []) c ≡ []
   elsewhere zero ne = refl
   elsewhere (suc zero) ne = absurd (ne refl)
   elsewhere (suc (suc n)) ne = refl
 
-  sections : (c : ℕ) → lines_of c (own 1 (folder_section question 1 f)) ≡ section (f ∷ []) question c
-  sections zero = lines_of-other 1 zero (folder_section question 1 f) (λ e. absurd (omega arith))
-  sections (suc zero) = lines_of-own 1 1 (folder_section question 1 f) refl
-  sections (suc (suc n)) = lines_of-other 1 (suc (suc n)) (folder_section question 1 f) (λ e. absurd (omega arith))
+  sections : (c : ℕ) → lines_of c (own 1 (section_of 1 f)) ≡ section (f ∷ []) c
+  sections zero = lines_of-other 1 zero (section_of 1 f) (λ e. absurd (omega arith))
+  sections (suc zero) = lines_of-own 1 1 (section_of 1 f) refl
+  sections (suc (suc n)) = lines_of-other 1 (suc (suc n)) (section_of 1 f) (λ e. absurd (omega arith))
 
-  the_text : (text : List ℕ) → IsReport (f ∷ []) question text → text ≡ groups_text (folder_section question 1 f) ++ text_of (end_line (f ∷ []))
+  the_text : (text : List ℕ) → IsReportOf (f ∷ []) text → text ≡ groups_text (section_of 1 f) ++ text_of (end_of (f ∷ []))
   the_text text report =
       report.whole
-      ∙ ap (λ t. t ++ text_of (end_line (f ∷ []))) (first_text report.groups (λ c ne. report.sections c ∙ elsewhere c ne) ∙ ap groups_text (report.sections 1))
+      ∙ ap (λ t. t ++ text_of (end_of (f ∷ []))) (first_text report.groups (λ c ne. report.sections c ∙ elsewhere c ne) ∙ ap groups_text (report.sections 1))
 
-  the_report : (text : List ℕ) → text ≡ groups_text (folder_section question 1 f) ++ text_of (end_line (f ∷ [])) → IsReport (f ∷ []) question text
+  the_report : (text : List ℕ) → text ≡ groups_text (section_of 1 f) ++ text_of (end_of (f ∷ [])) → IsReportOf (f ∷ []) text
   the_report text is = record {
-    groups = own 1 (folder_section question 1 f);
+    groups = own 1 (section_of 1 f);
     sections = sections;
-    whole = is ∙ ap (λ t. t ++ text_of (end_line (f ∷ []))) (sym (owned_text-own 1 (folder_section question 1 f)));
+    whole = is ∙ ap (λ t. t ++ text_of (end_of (f ∷ []))) (sym (owned_text-own 1 (section_of 1 f)));
   }
 
-  pub one_report : (text : List ℕ) → IsReport (f ∷ []) question text ↔ (text ≡ groups_text (folder_section question 1 f) ++ text_of (end_line (f ∷ [])))
+  pub one_report : (text : List ℕ) → IsReportOf (f ∷ []) text ↔ (text ≡ groups_text (section_of 1 f) ++ text_of (end_of (f ∷ [])))
   one_report text = (the_text text, the_report text)

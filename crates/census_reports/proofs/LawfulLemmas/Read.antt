@@ -2,7 +2,7 @@
 use Rattle.std.proofs.Common.{◌≡◌, ℕ, ◌<◌, false, List, [], ◌∷◌, ◌++◌, length, refl, sym, ap, ◌∙◌, subst, arith}
 use Rattle.std.proofs.lemmas.List.{take_all}
 use Rattle.std.specs.List.{AllZip}
-use Rattle.census_format.specs.Reports.{IsReport}
+use Rattle.census_format.specs.Reports.{IsReportOf}
 use Rattle.census_folders.specs.Told.{Told}
 use Rattle.census_rows.specs.declared.row.Row.{Row}
 use Rattle.census_readback.specs.Reports.{ReadsAsReports}
@@ -20,8 +20,9 @@ use Rattle.census_reports.specs.declared.reading.Reading.{Reading}
 use Rattle.census_reports.specs.declared.reading.Written.{Written}
 use Rattle.census_reports.proofs.Joined.{at_end}
 use Rattle.census_reports.proofs.Read.{some_text}
-use Rattle.census_merge.specs.Joining.{bundles, texts}
+use Rattle.census_merge.specs.Joining.{all_said, joined, texts}
 use Rattle.census_merge.proofs.ReadBack.{merged-report}
+use Rattle.census_merge.proofs.Under.{all-sayable}
 use Rattle.census_reports.specs.Lawful.Lawful.{MergesLawfully}
 
 read_joined : (parts : List (List Row)) (read : List (List ℕ)) → AllZip ReadsAsReports parts read → AllLines (all_rows parts) × (texts read ≡ text_of (all_rows parts))
@@ -56,8 +57,8 @@ merges_lawfully held words before after reading result plain w =
       reads = w.makes.read;
       made = w.made;
       written = w.written;
-      lawful = λ question parts reports bundled lawful same.
+      lawful = λ asked reports bundled lawful same.
           let back = rows_read is.rows read rows (some_text held words read before.input after.input w.makes.read.read) in
-          subst (λ text. IsReport (bundles parts) question text) (sym is.is.1)
-          (merged-report question parts reports is.rows bundled lawful (subst (ReadsAsReports is.rows) (sym same) back));
+          subst (λ text. IsReportOf (joined (all_said asked)) text) (sym is.is.1)
+          (merged-report (all_said asked) reports is.rows (all-sayable asked bundled) lawful (subst (ReadsAsReports is.rows) (sym same) back));
     }

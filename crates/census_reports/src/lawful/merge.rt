@@ -10,8 +10,8 @@ use std::io::{Read, Write};
 use watched::Streams;
 
 /// Reads the texts of words, and writes one report of all the reports in them, as `write_reports` does. Where these are lawful
-/// reports of bundles under one question, and none is mended, what is written is a lawful report of the bundles, one after
-/// another. Nothing is looked for, and nothing is written to standard error.
+/// reports of bundles, each under its own question, and none is mended, what is written is the report of what is said of the
+/// bundles, one after another. Nothing is looked for, and nothing is written to standard error.
 pub fn merge_reports<S: Shelf, I: Read, O: Write, E: Write>(
     shelf: &S,
     alloc: Global,

@@ -1,0 +1,10 @@
+pub mod Agree
+pub mod Rules
+pub mod Codes
+pub mod Unfed
+pub mod Parts
+pub mod Engines
+pub mod Chunks
+pub mod Sayings
+pub mod Sections
+pub mod Reports
