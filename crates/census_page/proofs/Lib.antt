@@ -1,10 +1,2 @@
-pub mod Counts
-pub mod Held
-pub mod Listing
-pub mod Numbered
-pub mod Numbers
-pub mod Places
-pub mod Ranks
-pub mod Stable
-pub mod Tables
-pub mod PiecesLemmas
+mod Escaping
+mod Steps

@@ -1,10 +1,2 @@
-pub mod Counted
-pub mod Held
-pub mod Holders
-pub mod Linking
-pub mod Lists
 pub mod Options
-pub mod Order
 pub mod Pages
-pub mod Sorting
-pub mod Pieces

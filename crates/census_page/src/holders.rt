@@ -1,157 +1,227 @@
 //! The patterns that have a code.
-ghost use Rattle.std.specs.Prelude.{◌≡◌, ◌<◌, ◌≤◌, ◌==◌, [], ◌∷◌, drop, length, slice_index_or, take, true, false, MatchOption};
-ghost use Rattle.std.specs.List.{All};
-ghost use Rattle.std.specs.List.Sorted.{IsPartitionPoint};
-ghost use Rattle.census_page.specs.Held.{AreHeld, holders_at};
-ghost use Rattle.census_page.specs.Holders.{has_code, having, way_of};
-ghost use Rattle.census_page.specs.Order.{AreInOrder, is_before};
+use crate::speed::Way;
+use census_rows::{Behind, Finding, Outcome, Row, Section};
+use std::alloc::{AllocError, Global};
+use std::cmp::Ordering;
 
-use crate::holder::{Holder, Share};
-use crate::pieces::Way;
-use crate::place::{Place, compared, has_code, holder_at};
-use census_rows::Section;
-use std::marker::Model;
-
-/// Patterns of a collection with their codes, in an order of their own: borrowed, by the places of their rows.
-#[derive(Drop)]
-pub struct Holders<'s, 'b, 'a> {
-    rows: &'s Section<'b, 'a>,
-    places: &'s [Place],
+/// What a pattern has to do with a code.
+#[derive(Clone, Copy)]
+pub enum Share {
+    /// It has the code: how many cells it has at first, from which generation on it recurs, and how far it moves.
+    Whole {
+        population: u64,
+        onset: u64,
+        way: Way,
+    },
+    /// This number of its parts has the code.
+    Parts {
+        count: u64,
+    },
 }
 
-impl<'s, 'b, 'a> Model for Holders<'s, 'b, 'a> {
-    ghost use Rattle.std.specs.Prelude.{List};
-    ghost use Rattle.census_page.specs.declared.holder.Holder.{Holder};
+/// A pattern and a code that it has, or one of its parts.
+#[derive(Clone, Copy)]
+pub struct Holder<'a> {
+    pub rule: &'a [u8],
+    pub code: &'a [u8],
+    pub name: &'a [u8],
+    pub share: Share,
+}
 
-    ghost Value = { List Holder };
+/// The places of the rows of a pattern and of its code among those of a collection, counted from 0, in 8 bytes.
+#[derive(Clone, Copy)]
+pub struct Place {
+    /// The row of the last pattern that has parts; after the last row if none has parts yet.
+    line: u32,
+    /// The row that has the code.
+    row: u32,
+}
 
-    ghost use Rattle.census_page.specs.Held.{AreHeld, holders_at};
+/// Patterns of a collection with their codes, in an order of their own: borrowed, by the places of their rows.
+#[derive(Clone, Copy)]
+pub struct Holders<'s, 'b, 'a> {
+    pub rows: &'s Section<'b, 'a>,
+    pub places: &'s [Place],
+}
 
-    ghost view = { λ s. holders_at s.rows.now s.places.now };
+/// The row with this number, or the end of a report if there is none.
+pub fn row_or_end<'a>(rows: &Section<'_, 'a>, number: usize) -> Row<'a> {
+    if number < rows.len() {
+        rows.row(number)
+    } else {
+        Row::End {
+            collections: 0,
+            patterns: 0,
+        }
+    }
+}
 
-    ghost invariant = { λ s. AreHeld s.rows.now s.places.now };
+// Whether `part` rows follow a row.
+fn has_parts(row: &Row) -> bool {
+    match row {
+        Row::Line { outcome, .. } => match outcome.behind() {
+            Behind::Parts => true,
+            _ => false,
+        },
+        _ => false,
+    }
+}
+
+// The pattern whose row this is, if it recurs.
+fn whole_in<'a>(outcome: &Outcome<'a>, name: &'a [u8]) -> Option<Holder<'a>> {
+    match outcome {
+        Outcome::Found {
+            rule,
+            population,
+            finding: Finding::Ok {
+                onset,
+                period,
+                dx,
+                dy,
+                code,
+            },
+        } => Some(Holder {
+            rule: *rule,
+            code: *code,
+            name,
+            share: Share::Whole {
+                population: *population,
+                onset: *onset,
+                way: Way {
+                    period: *period,
+                    dx: *dx,
+                    dy: *dy,
+                },
+            },
+        }),
+        _ => None,
+    }
+}
+
+// The pattern of a row that has parts, and the code of some of these.
+fn holder_by_part<'a>(line: &Row<'a>, code: &'a [u8], count: u64) -> Option<Holder<'a>> {
+    match line {
+        Row::Line {
+            outcome: Outcome::Found { rule, .. },
+            name,
+            ..
+        } => Some(Holder {
+            rule: *rule,
+            code,
+            name: *name,
+            share: Share::Parts { count },
+        }),
+        _ => None,
+    }
+}
+
+// The pattern whose code the row at an index has, where the last pattern that has parts is at another.
+fn holder_in<'a>(rows: &Section<'_, 'a>, line: usize, row: usize) -> Option<Holder<'a>> {
+    match row_or_end(rows, row) {
+        Row::Line { outcome, name, .. } => whole_in(&outcome, name),
+        Row::Part { code, count, .. } => holder_by_part(&row_or_end(rows, line), code, count),
+        _ => None,
+    }
+}
+
+/// The pattern at a place, if there is one.
+pub fn holder_at<'a>(rows: &Section<'_, 'a>, place: &Place) -> Option<Holder<'a>> {
+    holder_in(rows, place.line as usize, place.row as usize)
+}
+
+// The place that has these indices. The only error is out of memory, where an index is 2^32 or more: that many rows do not fit
+// into the memory of a report.
+fn place_of(line: usize, row: usize) -> Result<Place, AllocError> {
+    Ok(Place {
+        line: u32::try_from(line).map_err(|_| AllocError)?,
+        row: u32::try_from(row).map_err(|_| AllocError)?,
+    })
+}
+
+// How many patterns of a collection's rows have codes.
+fn count_held(rows: &Section) -> usize {
+    let mut count = 0;
+    let mut line = rows.len();
+    for index in 0..rows.len() {
+        if has_parts(&rows.row(index)) {
+            line = index;
+        }
+        if holder_in(rows, line, index).is_some() {
+            count += 1;
+        }
+    }
+    count
+}
+
+/// The places of the patterns of a collection's rows with their codes, in the order of the rows. A pattern that has fallen
+/// apart occurs once for each code of its parts. The only error is out of memory.
+pub fn places(alloc: Global, rows: &Section) -> Result<Vec<Place>, AllocError> {
+    let mut places = Vec::with_capacity(alloc, count_held(rows))?;
+    let mut line = rows.len();
+    for index in 0..rows.len() {
+        if has_parts(&rows.row(index)) {
+            line = index;
+        }
+        if holder_in(rows, line, index).is_some() {
+            places.push(place_of(line, index)?)?;
+        }
+    }
+    Ok(places)
+}
+
+// The code and the rule of the pattern at a place, or nothing if there is none.
+fn key_at<'a>(rows: &Section<'_, 'a>, place: &Place) -> (&'a [u8], &'a [u8]) {
+    match holder_at(rows, place) {
+        Some(holder) => (holder.code, holder.rule),
+        None => (b"", b""),
+    }
+}
+
+// The order of the pattern at a place and of a code under a rule: by codes, and by rules under one code.
+fn compared(rows: &Section, place: &Place, rule: &[u8], code: &[u8]) -> Ordering {
+    let (code_here, rule_here) = key_at(rows, place);
+    code_here.cmp(code).then(rule_here.cmp(rule))
+}
+
+/// Puts the places of patterns in the order of their codes, and of their rules under one code. Patterns with the same code
+/// and rule keep their order. The only error is out of memory.
+pub fn put_in_order(rows: &Section, places: &mut Vec<Place>) -> Result<(), AllocError> {
+    places.sort_by(|one, other| {
+        let (code, rule) = key_at(rows, other);
+        compared(rows, one, rule, code)
+    })
 }
 
 impl<'s, 'b, 'a> Holders<'s, 'b, 'a> {
-    /// The patterns at these places.
-    pub fn new(rows: &'s Section<'b, 'a>, places: &'s [Place]) -> Self
-        requires { AreHeld rows.now places.now }
-        ensures { result ≡ holders_at rows.now places.now }
-    {
+    /// The patterns that have this code under this rule, in their order.
+    pub fn having(&self, rule: &[u8], code: &[u8]) -> Holders<'s, 'b, 'a> {
+        let rows = self.rows;
+        let places = self.places;
+        let before = places.partition_point(|place| compared(rows, place, rule, code).is_lt());
+        let (_, places) = places.split_at(before);
+        let count = places.partition_point(|place| compared(rows, place, rule, code).is_eq());
+        let (places, _) = places.split_at(count);
         Holders { rows, places }
     }
 
-    /// The number of patterns.
-    pub fn len(&self) -> usize
-        ensures { result ≡ length self.now }
-    {
-        self.places.len()
-    }
-
-    /// Whether there are none.
-    pub fn is_empty(&self) -> bool
-        ensures { result ≡ (length self.now == 0) }
-    {
-        self.places.is_empty()
-    }
-
-    /// The pattern at this index.
-    pub fn holder(&self, index: usize) -> Holder<'a>
-        requires { index < length self.now }
-        ensures { result ≡ slice_index_or self.now index result }
-    {
-        let places = self.places;
-        match holder_at(self.rows, &places[index]) {
-            Some(holder) => holder,
-            None => unreachable!(),
-        }
-    }
-
     /// The first pattern.
-    pub fn first(&self) -> Option<Holder<'a>>
-        ensures { MatchOption result (self.now ≡ [])
-            (λ holder. self.now ≡ holder ∷ drop 1 self.now) }
-    {
-        if self.places.is_empty() {
-            return None;
-        }
-        Some(self.holder(0))
-    }
-
-    /// The patterns from this index on.
-    pub fn from(&self, index: usize) -> Holders<'s, 'b, 'a>
-        requires { index ≤ length self.now }
-        ensures { result ≡ drop index self.now }
-    {
-        let (_, places) = self.places.split_at(index);
-        Holders {
-            rows: self.rows,
-            places,
+    pub fn first(&self) -> Option<Holder<'a>> {
+        match self.places {
+            [place, ..] => holder_at(self.rows, place),
+            [] => None,
         }
     }
 
-    /// The patterns before this index.
-    pub fn before(&self, index: usize) -> Holders<'s, 'b, 'a>
-        requires { index ≤ length self.now }
-        ensures { result ≡ take index self.now }
-    {
-        let (places, _) = self.places.split_at(index);
-        Holders {
-            rows: self.rows,
-            places,
+    /// How far the first of these patterns moves, if it recurs.
+    pub fn way(&self) -> Option<Way> {
+        match self.first() {
+            Some(
+                Holder {
+                    share: Share::Whole { way, .. },
+                    ..
+                },
+            ) => Some(way),
+            _ => None,
         }
-    }
-}
-
-// The index of the first pattern that doesn't come before this code and rule.
-fn first_place(holders: &Holders, rule: &[u8], code: &[u8]) -> usize
-    requires { AreInOrder holders.now }
-    ensures bound { result ≤ length holders.now }
-    ensures place { IsPartitionPoint (λ h. is_before rule.now code.now h ≡ true)
-        (λ h. is_before rule.now code.now h ≡ false) holders.now result }
-{
-    let rows = holders.rows;
-    holders
-        .places
-        .partition_point(|place| compared(rows, place, rule, code).is_lt())
-}
-
-// How many patterns from the first on have this code under this rule, where none comes before it.
-fn count_having(holders: &Holders, rule: &[u8], code: &[u8]) -> usize
-    requires order { AreInOrder holders.now }
-    requires from { All (λ h. is_before rule.now code.now h ≡ false) holders.now }
-    ensures bound { result ≤ length holders.now }
-    ensures place { IsPartitionPoint (λ h. has_code rule.now code.now h ≡ true)
-        (λ h. has_code rule.now code.now h ≡ false) holders.now result }
-{
-    let rows = holders.rows;
-    holders
-        .places
-        .partition_point(|place| has_code(rows, place, rule, code))
-}
-
-/// The patterns that have this code under this rule, in their order.
-pub fn having<'s, 'b, 'a>(
-    holders: &Holders<'s, 'b, 'a>,
-    rule: &[u8],
-    code: &[u8],
-) -> Holders<'s, 'b, 'a>
-    requires { AreInOrder holders.now }
-    ensures { result ≡ having rule.now code.now holders.now }
-{
-    let from = holders.from(first_place(holders, rule, code));
-    from.before(count_having(&from, rule, code))
-}
-
-/// How far the first of these patterns moves, if it recurs.
-pub fn way_of(holders: &Holders) -> Option<Way>
-    ensures { result ≡ way_of holders.now }
-{
-    match holders.first() {
-        Some(holder) => match holder.share {
-            Share::Whole { way, .. } => Some(way),
-            Share::Parts { .. } => None,
-        },
-        None => None,
     }
 }

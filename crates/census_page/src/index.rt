@@ -1,111 +1,114 @@
-//! The table of all collections.
-ghost use Rattle.std.specs.Prelude.{◌≡◌, ◌++◌, IfOk, MatchResult, OnOk};
-ghost use Rattle.std.specs.List.{enumerate_from, flat_map};
-ghost use Rattle.watched.specs.Telling.{TellsAfter, TellsFront, sheet};
-ghost use Rattle.census_page.specs.Pages.{index_cells, index_row, link_cell, number_cell};
+//! The table of all collections, and what the page says about each as a whole.
+ghost use Rattle.watched.specs.Telling.{sheet};
+ghost use Rattle.census_page.specs.Pages.{Puts};
 
-use crate::pieces::{Kind, push_grouped, push_number, push_told};
-use crate::tally::count_lent;
+use crate::holders::row_or_end;
+use crate::html::Html;
+use crate::kind::Kind;
+use crate::own::{
+    CELL, CELL_END, COUNT_REFUSED, COUNT_RESOLVED, COUNT_UNRESOLVED, COUNTS, COUNTS_END, HEADING,
+    INDEX_LINK_END, INDEX_ROW, INDEX_ROW_END, LINK_TEXT, SECTION,
+};
+use crate::putting::put_html;
+use crate::tally::{Which, count_among};
 use census_readback::Sections;
 use census_rows::{Row, Section};
 use std::alloc::{AllocError, Global};
 use std::io::Write;
-use watched::{Block, Output, put};
+use watched::{Block, Output};
 
-// Adds a cell with a number.
-#[tactic(auto, unfolding(crate::specs::Pages::number_cell))]
-fn push_cell(text: &mut Vec<u8>, number: u64) -> Result<(), AllocError>
-    ensures { OnOk result (text.new.items ≡ text.old.items ++ number_cell number) }
-{
-    text.extend_from_slice(b"<td>")?;
-    push_grouped(text, number)?;
-    text.extend_from_slice(b"</td>")?;
-    Ok(())
+/// The name of the collection of these rows, the first of which gives it.
+pub fn name_in<'a>(rows: &Section<'_, 'a>) -> &'a [u8] {
+    match row_or_end(rows, 0) {
+        Row::Open { name, .. } => name,
+        _ => b"",
+    }
 }
 
-// Adds a link to a collection.
-#[tactic(auto, unfolding(crate::specs::Pages::link_cell))]
-fn push_link(alloc: Global, text: &mut Vec<u8>, number: u64, name: &[u8]) -> Result<(), AllocError>
-    ensures { OnOk result (text.new.items ≡ text.old.items ++ link_cell number name.now) }
-{
-    text.extend_from_slice(b"<th scope=\"row\"><a href=\"#c")?;
-    push_number(text, number)?;
-    text.extend_from_slice(b"\">")?;
-    push_told(alloc, text, name)?;
-    text.extend_from_slice(b"</a></th>")?;
-    Ok(())
-}
-
-// Adds what the table of all collections has for a row.
-fn push_cells(alloc: Global, text: &mut Vec<u8>, number: u64, row: &Row) -> Result<(), AllocError>
-    ensures { OnOk result (text.new.items ≡ text.old.items ++ index_cells number row.now) }
-{
-    match row {
-        Row::Open { name, .. } => push_link(alloc, text, number, *name)?,
+// How many patterns the collection of these rows has, the last of which says so, and how many are resolved, unresolved and
+// refused.
+fn counts_in(rows: &Section) -> [u64; 4] {
+    match row_or_end(rows, rows.len().saturating_sub(1)) {
         Row::Close {
             patterns,
             resolved,
             unresolved,
             refused,
             ..
-        } => {
-            push_cell(text, *patterns)?;
-            push_cell(text, *resolved)?;
-            push_cell(text, *unresolved)?;
-            push_cell(text, *refused)?;
-        }
-        _ => {}
+        } => [patterns, resolved, unresolved, refused],
+        _ => [0; 4],
     }
-    Ok(())
 }
 
-// Adds what the table of all collections has for each row.
-fn push_all_cells(
-    alloc: Global,
-    text: &mut Vec<u8>,
-    number: u64,
-    rows: &Section,
-) -> Result<(), AllocError>
-    ensures { OnOk result (text.new.items
-        ≡ text.old.items ++ flat_map (index_cells number) rows.now) }
-{
-    for index in 0..rows.len() {
-        push_cells(alloc, text, number, &rows.row(index))?;
-    }
-    Ok(())
+// Adds a cell with a number.
+fn push_cell(html: &mut Html, number: u64) -> Result<(), AllocError> {
+    html.own(CELL)?;
+    html.grouped(number)?;
+    html.own(CELL_END)
 }
 
 // The row of a collection.
-fn row_of(alloc: Global, number: u64, rows: &Section) -> Result<Vec<u8>, AllocError>
-    ensures { IfOk result (λ text. text.items ≡ index_row number rows.now) }
-{
-    let mut text = Vec::new(alloc);
-    text.extend_from_slice(b"<tr>")?;
-    push_all_cells(alloc, &mut text, number, rows)?;
-    push_cell(&mut text, count_lent(Kind::StillLife, rows))?;
-    push_cell(&mut text, count_lent(Kind::Oscillator, rows))?;
-    push_cell(&mut text, count_lent(Kind::Spaceship, rows))?;
-    text.extend_from_slice(b"</tr>\n")?;
-    Ok(text)
+fn index_row(alloc: Global, number: u64, rows: &Section) -> Result<Html, AllocError> {
+    let [patterns, resolved, unresolved, refused] = counts_in(rows);
+    let mut html = Html::new(alloc);
+    html.own(INDEX_ROW)?;
+    html.number(number)?;
+    html.own(LINK_TEXT)?;
+    html.name(alloc, name_in(rows))?;
+    html.own(INDEX_LINK_END)?;
+    push_cell(&mut html, patterns)?;
+    push_cell(&mut html, resolved)?;
+    push_cell(&mut html, unresolved)?;
+    push_cell(&mut html, refused)?;
+    push_cell(
+        &mut html,
+        count_among(Which::ShownAs(Kind::StillLife), rows) as u64,
+    )?;
+    push_cell(
+        &mut html,
+        count_among(Which::ShownAs(Kind::Oscillator), rows) as u64,
+    )?;
+    push_cell(
+        &mut html,
+        count_among(Which::ShownAs(Kind::Spaceship), rows) as u64,
+    )?;
+    html.own(INDEX_ROW_END)?;
+    Ok(html)
 }
 
 /// Writes a row for each collection, with a link to it, its counts, and how many of its codes are still lifes, oscillators
 /// and spaceships. If memory runs out, a prefix has been written.
-pub fn put_rows<W: Write>(
+pub fn put_index<W: Write>(
     alloc: Global,
     sections: &Sections,
     block: &mut Block,
     writer: &mut Output<W>,
 ) -> Result<(), AllocError>
-    ensures { MatchResult result
-        (λ _. TellsAfter (flat_map (λ s. index_row s.0 s.1) (enumerate_from 1 sections.now))
-        (sheet block.old writer.old) (sheet block.new writer.new))
-        (λ _. TellsFront (flat_map (λ s. index_row s.0 s.1) (enumerate_from 1 sections.now))
-        (sheet block.old writer.old) (sheet block.new writer.new)) }
+    ensures { Puts result 0 (sheet block.old writer.old) (sheet block.new writer.new) }
 {
     for index in 0..sections.len() {
-        let text = row_of(alloc, index as u64 + 1, &sections.section(index))?;
-        put(text.as_slice(), block, writer);
+        let html = index_row(alloc, index as u64 + 1, &sections.section(index))?;
+        put_html(&html, block, writer);
     }
     Ok(())
+}
+
+/// The beginning of a collection with this number: its name and its counts. The only error is out of memory.
+pub fn heading(alloc: Global, number: u64, rows: &Section) -> Result<Html, AllocError> {
+    let [patterns, resolved, unresolved, refused] = counts_in(rows);
+    let mut html = Html::new(alloc);
+    html.own(SECTION)?;
+    html.number(number)?;
+    html.own(HEADING)?;
+    html.name(alloc, name_in(rows))?;
+    html.own(COUNTS)?;
+    html.grouped(patterns)?;
+    html.own(COUNT_RESOLVED)?;
+    html.grouped(resolved)?;
+    html.own(COUNT_UNRESOLVED)?;
+    html.grouped(unresolved)?;
+    html.own(COUNT_REFUSED)?;
+    html.grouped(refused)?;
+    html.own(COUNTS_END)?;
+    Ok(html)
 }

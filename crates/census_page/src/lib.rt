@@ -1,27 +1,31 @@
-//! One self-contained HTML page of a report, and its pieces.
+//! One self-contained HTML page of a report.
 //!
-//! `pieces` has what a page is made of. Tested in `tests_reports`.
+//! `own` has each text that pages have from the program; all else is escaped by `html`. Tested in `tests_reports`.
 #![tactic(auto)]
 
 mod chosen;
 mod code_row;
+mod fate;
 mod front;
-mod heading;
-mod holder;
+mod growth;
 mod holders;
+mod html;
 mod index;
-mod linking;
+mod kind;
+mod links;
 mod list;
 mod options;
-mod picked;
-mod pieces;
-mod place;
+mod own;
+mod parts;
+mod picture;
+mod putting;
 mod section;
 mod sorting;
-mod stray;
+mod speed;
+mod stroke;
 mod tally;
 mod whole_page;
 
+pub use html::an_escaped_text_has_no_markup;
 pub use options::{PageOptions, Sort, default_options};
-pub use pieces::an_escaped_text_has_no_markup;
-pub use whole_page::{each_code_has_a_row, put_page};
+pub use whole_page::put_page;

@@ -1,23 +1,19 @@
 //! The page.
-ghost use Rattle.std.specs.Prelude.{◌≡◌, [], List, MatchResult};
-ghost use Rattle.std.specs.List.{enumerate_from, flat_map};
-ghost use Rattle.watched.specs.Telling.{TellsAfter, TellsFront, sheet};
-ghost use Rattle.census_rows.specs.declared.row.Row.{Row};
-ghost use Rattle.census_readback.specs.Grouped.{collections_of};
+ghost use Rattle.watched.specs.Telling.{sheet};
 ghost use Rattle.census_readback.specs.Shapes.{AreReports};
-ghost use Rattle.census_page.specs.Options.{options_of};
-ghost use Rattle.census_page.specs.Pages.{body_text, codes_in, page_of, section_text, sections_codes};
+ghost use Rattle.census_page.specs.Pages.{Puts, in_all, rows_in, rows_shown};
 
 use crate::front::{choices, front};
-use crate::index::put_rows;
+use crate::index::put_index;
 use crate::options::PageOptions;
-use crate::pieces::{index_begin, index_end, page_end};
+use crate::own::{INDEX, INDEX_END, PAGE_END};
+use crate::putting::{put_html, put_own};
 use crate::section::put_section;
 use census_readback::{Sections, collections};
 use census_rows::Rows;
 use std::alloc::{AllocError, Global};
 use std::io::Write;
-use watched::{Block, Output, put};
+use watched::{Block, Output};
 
 // Writes each collection.
 fn put_sections<W: Write>(
@@ -27,21 +23,12 @@ fn put_sections<W: Write>(
     block: &mut Block,
     writer: &mut Output<W>,
 ) -> Result<(), AllocError>
-    ensures { MatchResult result
-        (λ _. TellsAfter (flat_map (λ s. section_text (options_of options.now) s.0 s.1) (enumerate_from 1 sections.now))
-        (sheet block.old writer.old) (sheet block.new writer.new))
-        (λ _. TellsFront (flat_map (λ s. section_text (options_of options.now) s.0 s.1) (enumerate_from 1 sections.now))
-        (sheet block.old writer.old) (sheet block.new writer.new)) }
+    ensures { Puts result (in_all (rows_in options.now) sections.now)
+        (sheet block.old writer.old) (sheet block.new writer.new) }
 {
     for index in 0..sections.len() {
-        put_section(
-            alloc,
-            options,
-            index as u64 + 1,
-            &sections.section(index),
-            block,
-            writer,
-        )?;
+        let rows = sections.section(index);
+        put_section(alloc, options, index as u64 + 1, &rows, block, writer)?;
     }
     Ok(())
 }
@@ -55,19 +42,16 @@ fn put_body<W: Write>(
     block: &mut Block,
     writer: &mut Output<W>,
 ) -> Result<(), AllocError>
-    ensures { MatchResult result
-        (λ _. TellsAfter (body_text (options_of options.now) rows.now sections.now)
-        (sheet block.old writer.old) (sheet block.new writer.new))
-        (λ _. TellsFront (body_text (options_of options.now) rows.now sections.now)
-        (sheet block.old writer.old) (sheet block.new writer.new)) }
+    ensures { Puts result (in_all (rows_in options.now) sections.now)
+        (sheet block.old writer.old) (sheet block.new writer.new) }
 {
-    put(index_begin(), block, writer);
-    put_rows(alloc, sections, block, writer)?;
-    put(index_end(), block, writer);
+    put_own(INDEX, block, writer);
+    put_index(alloc, sections, block, writer)?;
+    put_own(INDEX_END, block, writer);
     let choices = choices(alloc, rows)?;
-    put(choices.as_slice(), block, writer);
+    put_html(&choices, block, writer);
     put_sections(alloc, options, sections, block, writer)?;
-    put(page_end(), block, writer);
+    put_own(PAGE_END, block, writer);
     Ok(())
 }
 
@@ -88,20 +72,11 @@ pub fn put_page<W: Write>(
     writer: &mut Output<W>,
 ) -> Result<(), AllocError>
     requires { AreReports rows.now }
-    ensures { MatchResult result
-        (λ _. TellsAfter (page_of (options_of options.now) rows.now)
-        (sheet block.old writer.old) (sheet block.new writer.new))
-        (λ _. TellsFront (page_of (options_of options.now) rows.now)
-        (sheet block.old writer.old) (sheet block.new writer.new)) }
+    ensures { Puts result (rows_shown options.now rows.now)
+        (sheet block.old writer.old) (sheet block.new writer.new) }
 {
     let sections = collections(alloc, rows)?;
     let front = front(alloc, options, sections.len() as u64, rows)?;
-    put(front.as_slice(), block, writer);
+    put_html(&front, block, writer);
     put_body(alloc, options, rows, &sections, block, writer)
 }
-
-/// The collections of a page have as many code rows as its reports have.
-pub fn each_code_has_a_row()
-    ensures { (rows : List Row) → AreReports rows
-        → sections_codes (collections_of [] rows) ≡ codes_in rows }
-{}

@@ -7,6 +7,7 @@ use Rattle.watched.specs.Telling.{Sheet, TellsAfter, TellsFront}
 use Rattle.watched.proofs.Telling.{all_told, tells_more}
 use Rattle.census_rows.specs.declared.row.Row.{Row}
 use Rattle.census_compare.specs.Same.{has_bytes}
+use Rattle.census_page.specs.Pages.{Puts, PutsFront}
 use Rattle.census_reports.specs.Forms.{IsInPieces, IsMade, is_found}
 use Rattle.census_reports.specs.Written.{HaltsRows, WritesRows, WritesRowsInPart}
 use Rattle.census_reports.specs.declared.form.Form.{Form}
@@ -34,6 +35,11 @@ front_of : {A B : Type 0} (r : Result A B) (text : List ℕ) (a b : Sheet) → M
 front_of (Ok x) text a b h = record { front = text; rest = []; whole = sym (append-nil text); tells = h }
 front_of (Err e) text a b h = h
 
+-- a page that is put, whole or in part, is put in part
+pub page_front : {A B : Type 0} (r : Result A B) (rows : ℕ) (a b : Sheet) → Puts r rows a b → PutsFront rows a b
+page_front (Ok x) rows a b h = record { text = h.text; is = h.is; tells = record { front = h.text; rest = []; whole = sym (append-nil h.text); tells = h.tells } }
+page_front (Err e) rows a b h = h
+
 module _ (form : Form) (rows : List Row) (text : List ℕ) (is : IsMade form rows text) (a b c : Sheet) (empty : a.pending ≡ []) (sent : TellsAfter [] b c) (clear : c.pending ≡ []) where
   told : (bytes : List ℕ) → TellsAfter bytes a b → MatchBool c.failed (AppendsFront a.written c.written bytes) (Appends a.written c.written bytes)
   told bytes h = all_told bytes a c empty clear (subst (λ t. TellsAfter t a c) (append-nil bytes) (tells_more bytes [] a b c h sent))
@@ -57,10 +63,13 @@ module _ (form : Form) (rows : List Row) (text : List ℕ) (is : IsMade form row
     front = record { written = in_front h; sound = sound };
   }
 
-  pub lost : {A B : Type 0} (r : Result A B) → MatchResult r (λ _. TellsAfter text a b) (λ _. TellsFront text a b) → c.failed ≡ true
-      → WritesRowsInPart form rows (sink_of a) (sink_of c)
-  lost r h failed = record {
+  pub lost_front : TellsFront text a b → c.failed ≡ true → WritesRowsInPart form rows (sink_of a) (sink_of c)
+  lost_front h failed = record {
     made = text;
     is = is;
-    front = record { written = in_front (front_of r text a b h); failed = failed };
+    front = record { written = in_front h; failed = failed };
   }
+
+  pub lost : {A B : Type 0} (r : Result A B) → MatchResult r (λ _. TellsAfter text a b) (λ _. TellsFront text a b) → c.failed ≡ true
+      → WritesRowsInPart form rows (sink_of a) (sink_of c)
+  lost r h failed = lost_front (front_of r text a b h) failed

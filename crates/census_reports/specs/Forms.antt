@@ -7,8 +7,7 @@ use Rattle.census_rows.specs.Lines.{text_of}
 use Rattle.census_merge.specs.Merged.{merged_rows}
 use Rattle.census_merge.specs.Sums.{first_excess, no_sums}
 use Rattle.census_facts.specs.NameLines.{names_in}
-use Rattle.census_page.specs.Options.{options_of}
-use Rattle.census_page.specs.Pages.{page_of}
+use Rattle.census_page.specs.Pages.{IsPage, rows_shown}
 use Rattle.census_compare.specs.SamePatterns.{tolds_of}
 use Rattle.census_compare.specs.Same.{has_bytes, same_text}
 use Rattle.census_table.specs.Called.{Names as Named}
@@ -32,7 +31,7 @@ abbrev pub IsMade : Form → List Row → List ℕ → Type 0
 IsMade Merged rows text = (first_excess 1 no_sums rows ≡ None) × (text ≡ text_of (merged_rows rows))
 IsMade (Table subject format given) rows text =
     (names : Named) × (listing : Listing) × (names_given given ≡ Ok names) × IsListingOf subject rows listing × (text ≡ listing_text format names listing)
-IsMade (Page options) rows text = text ≡ page_of (options_of options) rows
+IsMade (Page options) rows text = IsPage (rows_shown options rows) text
 IsMade (Same json) rows text = text ≡ same_text json (tolds_of rows)
 IsMade (Verdict text_of_claims) rows text =
     (claims : List Claim) × (claims_in text_of_claims.now ≡ Ok claims) × (text ≡ verdict_text claims (entries_of rows))

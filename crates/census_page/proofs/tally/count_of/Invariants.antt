@@ -1,7 +1,5 @@
-use Rattle.std.proofs.Common.{◌≡◌, ◌≤◌, take}
-use Rattle.std.specs.List.{count_by}
-use Rattle.census_page.specs.Counted.{counts}
+use Rattle.std.proofs.Common.{◌≤◌}
 use Rattle.census_page.proofs.tally.count_of.Given as goal
 
 abbrev pub invariant-loop-index : goal.invariant-loop-index
-invariant-loop-index l = record { is : l.count ≡ count_by (counts l.which) (take l.index l.rows); few : l.count ≤ l.index }
+invariant-loop-index l = l.count ≤ l.index

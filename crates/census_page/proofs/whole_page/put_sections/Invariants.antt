@@ -1,12 +1,7 @@
-use Rattle.std.proofs.Common.{◌+◌, drop}
-use Rattle.std.specs.List.{enumerate_from, flat_map}
-use Rattle.census_page.specs.Pages.{section_text}
 use Rattle.watched.specs.Telling.{sheet}
-use Rattle.watched.proofs.Prefixes.{TellsUpTo}
-use Rattle.census_page.specs.Options.{options_of}
+use Rattle.census_page.specs.Pages.{rows_in}
+use Rattle.census_page.proofs.Steps.{PutsUpTo}
 use Rattle.census_page.proofs.whole_page.put_sections.Given as goal
 
 abbrev pub invariant-loop-index : goal.invariant-loop-index
-invariant-loop-index g l =
-    TellsUpTo (flat_map (λ s. section_text (options_of l.options) s.0 s.1) (enumerate_from 1 l.sections)) (flat_map (λ s. section_text (options_of l.options) s.0 s.1) (enumerate_from (l.index + 1) (drop l.index l.sections)))
-    (sheet l.fn.block l.fn.writer) (sheet l.block l.writer)
+invariant-loop-index g l = PutsUpTo (rows_in l.options) l.sections l.index (sheet l.fn.block l.fn.writer) (sheet l.block l.writer)

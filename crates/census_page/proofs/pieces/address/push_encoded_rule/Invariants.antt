@@ -1,7 +1,0 @@
-use Rattle.std.proofs.Common.{◌≡◌, ◌++◌, drop}
-use Rattle.std.specs.List.{flat_map}
-use Rattle.census_page.specs.Pieces.Links.{rule_byte}
-use Rattle.census_page.proofs.pieces.address.push_encoded_rule.Given as goal
-
-abbrev pub invariant-loop-byte : goal.invariant-loop-byte
-invariant-loop-byte l = l.text.items ++ flat_map rule_byte (drop l.byte-index l.rule) ≡ l.fn.text.items ++ flat_map rule_byte l.rule

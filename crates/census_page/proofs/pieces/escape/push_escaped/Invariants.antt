@@ -1,7 +1,0 @@
-use Rattle.std.proofs.Common.{◌≡◌, ◌++◌, drop}
-use Rattle.std.specs.List.{flat_map}
-use Rattle.census_page.specs.Pieces.Escapes.{escaped_byte}
-use Rattle.census_page.proofs.pieces.escape.push_escaped.Given as goal
-
-abbrev pub invariant-loop-byte : goal.invariant-loop-byte
-invariant-loop-byte l = l.text.items ++ flat_map escaped_byte (drop l.byte-index l.bytes) ≡ l.fn.text.items ++ flat_map escaped_byte l.bytes

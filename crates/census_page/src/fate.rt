@@ -1,0 +1,186 @@
+//! What becomes of patterns that do not recur.
+ghost use Rattle.std.specs.Prelude.{◌≡◌, if◌then◌else◌};
+ghost use Rattle.watched.specs.Telling.{sheet};
+ghost use Rattle.census_page.specs.Pages.{Puts, in_all, recurs, stray_in};
+
+use crate::growth::put_growth;
+use crate::html::Html;
+use crate::links::{Links, push_name};
+use crate::own::{
+    AT_GENERATION, CELL_NEXT, FROM_GENERATION, NAME_END, OBJECTS, ON, ROW_END, RULE_END,
+    SMALL_NEXT, STRAY_ROW, TOO_MANY_CELLS, WITHIN_BOUND,
+};
+use crate::parts::push_parts;
+use crate::putting::{put_html, put_row};
+use census_faults::fault_words;
+use census_readback::rows_behind;
+use census_rows::{Behind, Finding, Outcome, Row, Section};
+use std::alloc::{AllocError, Global};
+use std::io::Write;
+use watched::{Block, Output};
+
+// Adds that a pattern has fallen apart.
+fn push_ash(html: &mut Html, onset: u64, objects: u64) -> Result<(), AllocError> {
+    html.grouped(objects)?;
+    html.own(OBJECTS)?;
+    html.plural(objects)?;
+    html.own(FROM_GENERATION)?;
+    html.grouped(onset)?;
+    html.own(ON)
+}
+
+// Adds what was found of a pattern that does not recur.
+fn push_finding(html: &mut Html, finding: &Finding) -> Result<(), AllocError> {
+    match finding {
+        Finding::Ok { .. } | Finding::Grows { .. } => Ok(()),
+        Finding::Ash { onset, objects } => push_ash(html, *onset, *objects),
+        Finding::Unresolved => html.own(WITHIN_BOUND),
+        Finding::Large { generation } => {
+            html.own(AT_GENERATION)?;
+            html.grouped(*generation)?;
+            html.own(TOO_MANY_CELLS)
+        }
+    }
+}
+
+// Adds the rule after a name, the number of cells at first, and what was found.
+fn push_found(
+    alloc: Global,
+    html: &mut Html,
+    rule: &[u8],
+    population: u64,
+    finding: &Finding,
+) -> Result<(), AllocError> {
+    html.own(SMALL_NEXT)?;
+    html.text(alloc, rule)?;
+    html.own(RULE_END)?;
+    html.grouped(population)?;
+    html.own(CELL_NEXT)?;
+    push_finding(html, finding)
+}
+
+// Adds what comes after a name: its rule and its cells, and what becomes of it, or why it was refused.
+fn push_fate(alloc: Global, html: &mut Html, outcome: &Outcome) -> Result<(), AllocError> {
+    match outcome {
+        Outcome::Found {
+            rule,
+            population,
+            finding,
+        } => push_found(alloc, html, *rule, *population, finding),
+        Outcome::Bad { fault } => {
+            html.own(NAME_END)?;
+            let words = fault_words(alloc, *fault)?;
+            html.value(words.as_slice())
+        }
+    }
+}
+
+/// Whether a pattern recurs, so that the row of its code describes it.
+pub fn recurs(outcome: &Outcome) -> bool
+    ensures { result ≡ recurs outcome.now }
+{
+    match outcome {
+        Outcome::Found {
+            finding: Finding::Ok { .. },
+            ..
+        } => true,
+        _ => false,
+    }
+}
+
+// The rule of a pattern, if its text means one.
+fn rule_found<'a>(outcome: &Outcome<'a>) -> &'a [u8] {
+    match outcome {
+        Outcome::Found { rule, .. } => *rule,
+        Outcome::Bad { .. } => b"",
+    }
+}
+
+// What comes before the objects of a pattern: its name, its rule and its cells, and what becomes of it.
+fn fate_head(
+    alloc: Global,
+    links: &Links,
+    name: &[u8],
+    outcome: &Outcome,
+) -> Result<Html, AllocError> {
+    let mut html = Html::new(alloc);
+    html.own(STRAY_ROW)?;
+    push_name(alloc, &mut html, links, name)?;
+    push_fate(alloc, &mut html, outcome)?;
+    Ok(html)
+}
+
+// What comes after the objects that it emits: the objects that it consists of.
+fn fate_end(alloc: Global, linked: bool, rule: &[u8], parts: &Section) -> Result<Html, AllocError> {
+    let mut html = Html::new(alloc);
+    push_parts(alloc, &mut html, linked, rule, parts)?;
+    html.own(ROW_END)?;
+    Ok(html)
+}
+
+// Writes a row of a table with the name of a pattern and what becomes of it, or nothing if it recurs. The rows after its row say
+// how it grows, or which parts it has.
+fn put_fate<W: Write>(
+    alloc: Global,
+    links: &Links,
+    name: &[u8],
+    outcome: &Outcome,
+    behind: &Section,
+    block: &mut Block,
+    writer: &mut Output<W>,
+) -> Result<(), AllocError>
+    ensures { Puts result (if recurs outcome.now then 0 else 1)
+        (sheet block.old writer.old) (sheet block.new writer.new) }
+{
+    if recurs(outcome) {
+        return Ok(());
+    }
+    let linked = links.catalogue;
+    let rule = rule_found(outcome);
+    let head = fate_head(alloc, links, name, outcome)?;
+    let end = fate_end(alloc, linked, rule, &rows_behind(Behind::Parts, behind))?;
+    let growth = rows_behind(Behind::Engines, behind);
+    put_row(block, writer);
+    put_html(&head, block, writer);
+    put_growth(alloc, linked, rule, &growth, block, writer)?;
+    put_html(&end, block, writer);
+    Ok(())
+}
+
+// Writes the table's row for a report's row that comes before these, if that reports a pattern that does not recur.
+fn put_stray<W: Write>(
+    alloc: Global,
+    links: &Links,
+    row: &Row,
+    behind: &Section,
+    block: &mut Block,
+    writer: &mut Output<W>,
+) -> Result<(), AllocError>
+    ensures { Puts result (stray_in row.now) (sheet block.old writer.old) (sheet block.new writer.new) }
+{
+    match row {
+        Row::Line { outcome, name, .. } => {
+            put_fate(alloc, links, *name, outcome, behind, block, writer)
+        }
+        _ => Ok(()),
+    }
+}
+
+/// Writes a row of a table for each pattern that does not recur. If memory runs out, a prefix has been written.
+pub fn put_strays<W: Write>(
+    alloc: Global,
+    links: &Links,
+    rows: &Section,
+    block: &mut Block,
+    writer: &mut Output<W>,
+) -> Result<(), AllocError>
+    ensures { Puts result (in_all stray_in rows.now)
+        (sheet block.old writer.old) (sheet block.new writer.new) }
+{
+    for index in 0..rows.len() {
+        let row = rows.row(index);
+        let behind = rows.from(index + 1);
+        put_stray(alloc, links, &row, &behind, block, writer)?;
+    }
+    Ok(())
+}
