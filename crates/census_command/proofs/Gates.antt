@@ -1,6 +1,5 @@
 -- What the gate was told, by what was asked for and by the outcome.
-use Rattle.std.proofs.Common.{◌≡◌, ◌⊎◌, ℕ, Bool, List, Result, Ok, Err, Vec, inl, inr, sym, subst, ◌∙◌, arith, string_bytes, IfErr, MatchResult}
-use Rattle.std.specs.Global.{Global}
+use Rattle.std.proofs.Common.{◌≡◌, ◌⊎◌, ℕ, Bool, List, Result, Ok, Err, inl, inr, sym, subst, ◌∙◌, arith, string_bytes, IfErr, MatchResult}
 use Rattle.watched.specs.Streams.{Reader, Sink, Streams}
 use Rattle.census_cli.specs.Asking.{AsksFor}
 use Rattle.census_cli.specs.Refusing.{AsksHelp, AsksText, RefusesWords}
@@ -41,10 +40,10 @@ module _ (shelf : Tellings) (before after : Reader) (old new : Heard) where
   hears_kept census quiet asked status is (inr (error, why, status_is, same)) = inr ((λ done. absurd (failed error (sym status_is ∙ done))), same)
 
   -- what ends at the first thing that goes wrong
-  pub hears_concluded : (request : Request) (quiet explain : Bool) (ended : Result (Vec ℕ Global) Stopped) (status : ℕ) (all left : Streams) (errors told : Sink)
+  pub hears_concluded : {A : Type 0} (request : Request) (quiet explain : Bool) (ended : Result A Stopped) (status : ℕ) (all left : Streams) (errors told : Sink)
       → IfErr ended (λ stopped. Fails stopped.error shelf request all left)
       → MatchResult ended (λ lines. HearsRequest shelf request quiet before after old new) (λ stopped. (new ≡ old) ⊎ HearsRequest shelf request quiet before after old new)
-      → Concludes request ended explain status errors told
+      → Concludes ended explain status errors told
       → HearsEnd shelf request quiet status before after old new
   hears_concluded request quiet explain (Ok lines) status all left errors told fails heard concludes = inl heard
   hears_concluded request quiet explain (Err stopped) status all left errors told fails (inl same) concludes =

@@ -1,17 +1,14 @@
 -- The streams after a command, and how what is asked for ends.
-use Rattle.std.proofs.Common.{◌≡◌, ◌≢◌, ◌⊎◌, ℕ, Bool, ◌++◌, Result, Ok, Err, Vec, false, inl, inr, ⊎_elim, sym, ap, ◌∙◌, subst, true, true≢false, IfErr, IfOk, OnOk}
-use Rattle.std.specs.Global.{Global}
-use Rattle.watched.specs.Streams.{PutsBytes, Reader, Sink, Streams}
+use Rattle.std.proofs.Common.{◌≡◌, ◌≢◌, ◌⊎◌, ℕ, Bool, Result, Ok, Err, false, inl, inr, ⊎_elim, sym, ap, ◌∙◌, subst, true, true≢false, IfErr, OnOk}
+use Rattle.watched.specs.Streams.{Reader, Sink, Streams}
 use Rattle.census_cli.specs.declared.request.Census.{Census as CensusAsked}
 use Rattle.census_cli.specs.declared.request.Request.{Request}
 use Rattle.census_cli.specs.declared.request.Request.TheVariants.{Census}
 use Rattle.census_command.specs.Keeps.{Keeps}
 use Rattle.census_command.specs.Outcomes.{Concludes, EndsAtFirst, EndsCensus, EndsOnLoss}
 use Rattle.census_command.specs.Requests.{Does, Fails}
-use Rattle.census_command.specs.Streams.{HasFailed, HasSoundStreams, IsUntouched, TellsIf, untold}
-use Rattle.census_errors.specs.Messages.{error_line}
-use Rattle.census_errors.specs.Places.{IsPlaceOf}
-use Rattle.census_errors.specs.Sayings.{line_said, said_if}
+use Rattle.census_command.specs.Streams.{HasFailed, HasSoundStreams, IsUntouched, TellsBeside, untold}
+use Rattle.census_errors.specs.Explained.{TellsOf}
 use Rattle.census_errors.specs.Sources.{Source, Input, Folders, StopsAtFirstLoss}
 use Rattle.census_errors.specs.declared.stopped.Stopped.{Stopped}
 use Rattle.census_folders.specs.Sources.{Asked}
@@ -45,26 +42,22 @@ untold_is before reached told quiet = λ i. record { input = reached.input; outp
 -- # What ends at the first thing that goes wrong
 
 module _ (shelf : Tellings) (request : Request) (explain : Bool) (before reached : Streams) (errors : Sink) (quiet : reached.errors ≡ before.errors) where
-  pub concluded : (ended : Result (Vec ℕ Global) Stopped) (status : ℕ)
-      → IfOk ended (λ lines. Does shelf request explain lines.items before reached) → OnOk ended (HasSoundStreams reached)
+  pub concluded : {A : Type 0} (ended : Result A Stopped) (status : ℕ)
+      → OnOk ended (Does shelf request before reached) → OnOk ended (HasSoundStreams reached)
       → IfErr ended (λ stopped. Fails stopped.error shelf request before reached)
-      → IfErr ended (λ stopped. IsPlaceOf shelf request stopped.error stopped.place)
-      → Concludes request ended explain status reached.errors errors
+      → Concludes ended explain status reached.errors errors
       → EndsAtFirst shelf request explain status before (record { input = reached.input; output = reached.output; errors = errors })
-  concluded (Ok lines) status done sound fails place concludes = inl (record {
+  concluded (Ok lines) status done sound fails concludes = inl (record {
     status_is = concludes.0;
-    lines = lines.items;
-    done = subst (λ (s : Streams). Does shelf request explain lines.items before s) (untold_is before reached errors quiet) done;
+    done = subst (λ (s : Streams). Does shelf request before s) (untold_is before reached errors quiet) done;
     sound = record { read = sound.read; write = sound.write };
-    told = subst (λ (s : Sink). TellsIf explain lines.items s errors) quiet concludes.1;
+    told = subst (λ (s : Sink). TellsBeside explain s errors) quiet concludes.1;
   })
-  concluded (Err stopped) status done sound fails place concludes = inr (record {
+  concluded (Err stopped) status done sound fails concludes = inr (record {
     error = stopped.error;
     status_is = concludes.0;
     fails = subst (λ (s : Streams). Fails stopped.error shelf request before s) (untold_is before reached errors quiet) fails;
-    place = stopped.place;
-    at = place;
-    lines = subst (λ (s : Sink). PutsBytes (error_line stopped.error ++ said_if explain (line_said request stopped.error stopped.place)) s errors) quiet concludes.1;
+    told = subst (λ (s : Sink). TellsOf stopped.error explain s errors) quiet concludes.1;
   })
 
 -- # A census

@@ -11,7 +11,8 @@ use Rattle.census_cli.specs.declared.request.Request.{Request}
 use Rattle.census_cli.specs.declared.request.Request.TheVariants.{Census, Identify, Advance, Draw, Merge, Table, Page, Same, Verify}
 use Rattle.life_answer.specs.declared.question.Question.{Question}
 use Rattle.census_command.specs.Advances.{AdvanceFromFails, AdvancesFromInPart}
-use Rattle.census_errors.specs.Messages.{advance_status, error_line, run_status, status_of}
+use Rattle.census_errors.specs.Explained.{TellsOf}
+use Rattle.census_errors.specs.Messages.{advance_told, error_line, run_status, status_of}
 use Rattle.census_command.specs.Outcomes.{Answers, EndsAtFirst, Shows, ShowsInPart}
 use Rattle.census_command.specs.Statuses.{AreExplained, EndsPlainly, HelpsInPart, Statuses, StatusesSay}
 use Rattle.census_errors.specs.Files.{file_of}
@@ -19,17 +20,14 @@ use Rattle.census_command.specs.Statuses.{MissesFile, RefusesText}
 use Rattle.census_command.specs.Statuses.{MissesSource, RefusesCollections, RefusesInput, ReportsInPart}
 use Rattle.census_command.specs.Statuses.{StopsAtFolder, TellsError, TellsRefusal}
 use Rattle.census_command.proofs.Outcomes.{neither, sound_told}
-use Rattle.census_errors.specs.Places.{IsPlaceOf}
 use Rattle.census_command.specs.Requests.{Does, DoesInPart, Fails}
 use Rattle.census_command.specs.Runs.{FailsInFolders, FoldersFail, ReportsFoldersInPart, RunFails, RunsInPart}
-use Rattle.census_errors.specs.Sayings.{line_said, said_if}
 use Rattle.census_folders.specs.Tellings.{Tellings}
 use Rattle.census_errors.specs.Sources.{Source, Input, Folders, source_of}
-use Rattle.census_command.specs.Streams.{HasFailed, HasSoundStreams, IsUntouched, TellsIf, WritesNothing, untold}
+use Rattle.census_command.specs.Streams.{HasFailed, HasSoundStreams, IsUntouched, TellsBeside, WritesNothing, untold}
 use Rattle.census_errors.specs.declared.advance_error.AdvanceError.{AdvanceError}
 use Rattle.census_errors.specs.declared.advance_error.AdvanceError.TheVariants as advance
 use Rattle.census_errors.specs.declared.draw_error.DrawError.TheVariants as draw
-use Rattle.census_errors.specs.declared.place.Place.{Place}
 use Rattle.census_errors.specs.declared.run_error.RunError.{RunError}
 use Rattle.census_errors.specs.declared.run_error.RunError.TheVariants as run
 use Rattle.census_errors.specs.declared.error.CommandError.{CommandError}
@@ -50,13 +48,13 @@ module _ (shelf : Tellings) (before after : Streams) where
   unread_flag down up = absurd (true≢false (sym up ∙ down))
 
   advance_says : (e : AdvanceError) (file : Option (List ℕ)) (n : ℕ) → AdvanceFromFails e shelf file n before after
-      → Says before after (advance_status e) (RefusesText shelf file before after) ⊥ (AdvancesFromInPart shelf file n before after) (MissesFile shelf file)
-  advance_says (advance.Text fault told spot) None n h = inl (refl, inl (fault, told, spot, h.0), h.1)
+      → Says before after ((advance_told e).1) (RefusesText shelf file before after) ⊥ (AdvancesFromInPart shelf file n before after) (MissesFile shelf file)
+  advance_says (advance.Text fault told spot) None n h = inl (refl, inl (fault, h.0), h.1)
   advance_says advance.TooLong None n h = inl (refl, inr h.0, h.1)
   advance_says advance.Memory None n h = inr (inl (refl, inl h.written, h.sound))
   advance_says (advance.Read why) None n h = inr (inr (refl, inl (inl h.read), inl h.written, λ up. h.written))
   advance_says advance.Write None n h = inr (inr (refl, inl (inr h.1.write), inr h.0, unread_flag h.1.read))
-  advance_says (advance.Text fault told spot) (Some path) n h = inl (refl, inl (fault, told, spot, h.0), record { written = h.1.written; sound = h.1.sound })
+  advance_says (advance.Text fault told spot) (Some path) n h = inl (refl, inl (fault, h.0), record { written = h.1.written; sound = h.1.sound })
   advance_says advance.TooLong (Some path) n h = inl (refl, inr h.0, record { written = h.1.written; sound = h.1.sound })
   advance_says advance.Memory (Some path) n h = inr (inl (refl, inl h.written, h.sound))
   advance_says (advance.Read why) (Some path) n h = inr (inr (refl, inr (why, h.0), inl h.1.written, λ up. h.1.written))
@@ -172,11 +170,11 @@ are_explained words at_terminal asked explain h e = record { asked = asked; is_a
 
 module _ (shelf : Tellings) (words : List (List ℕ)) (at_terminal : Bool) (before after : Streams) where
   -- what was asked for was done
-  pub ends_done : (request : Request) (explain : Bool) (lines : List ℕ) → Asks words request → AreExplained words at_terminal explain
-      → Does shelf request explain lines before (untold before after) → HasSoundStreams after → TellsIf explain lines before.errors after.errors → Statuses shelf words at_terminal 0 before after
-  ends_done request explain lines asked explained done sound told = record {
+  pub ends_done : (request : Request) (explain : Bool) → Asks words request → AreExplained words at_terminal explain
+      → Does shelf request before (untold before after) → HasSoundStreams after → TellsBeside explain before.errors after.errors → Statuses shelf words at_terminal 0 before after
+  ends_done request explain asked explained done sound told = record {
     known = omega arith;
-    done = λ h. inl (record { request = request; explain = explain; asked = asked; explained = explained; lines = lines; done = done; told = told });
+    done = λ h. inl (record { request = request; explain = explain; asked = asked; explained = explained; done = done; told = told });
     quiet = λ h unwanted. unasked explain explained told unwanted;
     faulty = λ h. absurd (omega arith);
     refused = λ h. absurd (omega arith);
@@ -189,18 +187,18 @@ module _ (shelf : Tellings) (words : List (List ℕ)) (at_terminal : Bool) (befo
     told = λ h. absurd (omega arith);
   }
     where
-      unasked : (explain : Bool) → AreExplained words at_terminal explain → TellsIf explain lines before.errors after.errors → (AreExplained words at_terminal true → ⊥) → after.errors ≡ before.errors
+      unasked : (explain : Bool) → AreExplained words at_terminal explain → TellsBeside explain before.errors after.errors → (AreExplained words at_terminal true → ⊥) → after.errors ≡ before.errors
       unasked true asked told unwanted = absurd (unwanted asked)
       unasked false asked told unwanted = told
 
   module _ (request : Request) (explain : Bool) (asked : Asks words request) (explained : AreExplained words at_terminal explain) (error : CommandError)
-      (fails : Fails error shelf request before (untold before after)) (place : Place) (at : IsPlaceOf shelf request error place)
-      (lines : PutsBytes (error_line error ++ said_if explain (line_said request error place)) before.errors after.errors) where
+      (fails : Fails error shelf request before (untold before after))
+      (told : TellsOf error explain before.errors after.errors) where
     tells : TellsError shelf words at_terminal (status_of error) before after
     tells = record {
       error = error;
       status_is = refl;
-      fails = inl (record { request = request; explain = explain; asked = asked; explained = explained; fails = fails; place = place; at = at; lines = lines });
+      fails = inl (record { request = request; explain = explain; asked = asked; explained = explained; fails = fails; told = told });
     }
 
     -- what was asked for failed, and the error was reported
@@ -344,10 +342,10 @@ module _ (shelf : Tellings) (words : List (List ℕ)) (at_terminal : Bool) (befo
       → Statuses shelf words at_terminal status before after
   at_first asked status is (inl h) =
       let explained = are_explained words at_terminal asked.explain (asked.explain || at_terminal) is.1 refl in
-      rw h.status_is (ends_done shelf words at_terminal before after asked.request (asked.explain || at_terminal) h.lines is.0 explained h.done h.sound h.told)
+      rw h.status_is (ends_done shelf words at_terminal before after asked.request (asked.explain || at_terminal) is.0 explained h.done h.sound h.told)
   at_first asked status is (inr h) =
       let explained = are_explained words at_terminal asked.explain (asked.explain || at_terminal) is.1 refl in
-      rw h.status_is (ends_failed shelf words at_terminal before after asked.request (asked.explain || at_terminal) is.0 explained h.error h.fails h.place h.at h.lines)
+      rw h.status_is (ends_failed shelf words at_terminal before after asked.request (asked.explain || at_terminal) is.0 explained h.error h.fails h.told)
 
   says_plainly : (status : ℕ) → EndsPlainly shelf words at_terminal status before after → Statuses shelf words at_terminal status before after
   says_plainly status (inl h) = at_first h.asked status h.is h.ends

@@ -11,10 +11,6 @@ use Rattle.life_text.specs.Rle.{reading, refusal}
 use Rattle.life_text.specs.RleText.{rle_text}
 use Rattle.life_text.specs.declared.rle.RleFault.{RleFault}
 use Rattle.census_folders.specs.Told.{GivesTold, MayExceed, MayFail}
-use Rattle.census_faults.specs.Faults.{text_fault}
-use Rattle.census_faults.specs.Spots.{spot_of_text}
-use Rattle.census_faults.specs.declared.fault.Fault.{Fault}
-use Rattle.census_faults.specs.declared.spot.Spot.{Spot}
 use Rattle.census_folders.specs.Tellings.{Tellings}
 use Rattle.census_command.specs.Streams.{IsUntouched, ReadFails, WriteFails, WritesNothing}
 use Rattle.census_errors.specs.declared.advance_error.AdvanceError.{AdvanceError}
@@ -35,15 +31,9 @@ pub record IsAdvanced (given : TextToAdvance) (written : List ℕ) : Type 0 wher
   pub means : picture_of (reading given.text) ≡ Ok pattern
   pub is : written ≡ advanced_text pattern given.generations
 
--- the text has this fault, and this is said of it
-pub record IsRefusedText (text : List ℕ) (fault : RleFault) (told : Fault) (spot : Spot) : Type 0 where
-  pub refused : refusal text ≡ Some fault
-  pub told_is : told ≡ text_fault text fault
-  pub spot_is : spot ≡ spot_of_text text fault
-
 -- why there is no text of a generation of this text
 abbrev pub RefusesText : AdvanceError → List ℕ → Type 0
-RefusesText (Text fault told spot) text = IsRefusedText text fault told spot
+RefusesText (Text fault told spot) text = refusal text ≡ Some fault
 RefusesText Memory text = Unit {0}
 RefusesText error text = ⊥
 
@@ -59,11 +49,11 @@ pub record AdvancesBy (Puts : Option (List ℕ) → Option (List ℕ) → List �
   pub means : picture_of (reading text) ≡ Ok pattern
   pub written : Puts before.output.written after.output.written (advanced_text pattern n)
 
--- standard input, read to its end, has this fault, and this is said of it
-pub record HasRleFault (fault : RleFault) (told : Fault) (spot : Spot) (before after : Streams) : Type 0 where
+-- standard input, read to its end, has this fault
+pub record HasRleFault (fault : RleFault) (before after : Streams) : Type 0 where
   pub text : List ℕ
   pub read : ReadsText before.input.unread after.input.unread text
-  pub refused : IsRefusedText text fault told spot
+  pub refused : refusal text ≡ Some fault
 
 -- more was read than one text may have
 abbrev pub ReadsTooMuch : Streams → Streams → Type 0
@@ -71,7 +61,7 @@ ReadsTooMuch before after = ConsumesMoreThan input_limit before.input.unread aft
 
 -- Why generation n was not written. Where the writer didn't fail, nothing was.
 abbrev pub AdvanceFails : AdvanceError → ℕ → Streams → Streams → Type 0
-AdvanceFails (Text fault told spot) n before after = HasRleFault fault told spot before after × WritesNothing before after
+AdvanceFails (Text fault told spot) n before after = HasRleFault fault before after × WritesNothing before after
 AdvanceFails TooLong n before after = ReadsTooMuch before after × WritesNothing before after
 AdvanceFails Memory n before after = WritesNothing before after
 AdvanceFails (Read why) n before after = ReadFails before after
@@ -91,15 +81,15 @@ pub record AdvancesFileBy (Puts : Option (List ℕ) → Option (List ℕ) → Li
   pub written : Puts before.output.written after.output.written (advanced_text pattern n)
   pub unread : after.input.unread ≡ before.input.unread
 
--- according to the shelf the file has this fault, and this is said of it
-pub record HasFileFault (fault : RleFault) (told : Fault) (spot : Spot) (shelf : Tellings) (path : List ℕ) : Type 0 where
+-- according to the shelf the file has this fault
+pub record HasFileFault (fault : RleFault) (shelf : Tellings) (path : List ℕ) : Type 0 where
   pub text : List ℕ
   pub gives : GivesTold (shelf.held [] path) text
-  pub refused : IsRefusedText text fault told spot
+  pub refused : refusal text ≡ Some fault
 
 -- Why generation n was not written. Where the writer didn't fail, nothing was.
 abbrev pub AdvanceFileFails : AdvanceError → Tellings → List ℕ → ℕ → Streams → Streams → Type 0
-AdvanceFileFails (Text fault told spot) shelf path n before after = HasFileFault fault told spot shelf path × IsUntouched before after
+AdvanceFileFails (Text fault told spot) shelf path n before after = HasFileFault fault shelf path × IsUntouched before after
 AdvanceFileFails TooLong shelf path n before after = MayExceed input_limit (shelf.held [] path) × IsUntouched before after
 AdvanceFileFails Memory shelf path n before after = IsUntouched before after
 AdvanceFileFails (Read why) shelf path n before after = MayFail (shelf.held [] path) why × IsUntouched before after

@@ -50,7 +50,3 @@ DrawFails error code rule before after = RefusesCode error code rule × IsUntouc
 -- all of it was written
 abbrev pub Draws : List ℕ → List ℕ → Streams → Streams → Type 0
 Draws code rule before after = DrawsBy Appends code rule before after
-
--- or a prefix
-abbrev pub DrawsInPart : List ℕ → List ℕ → Streams → Streams → Type 0
-DrawsInPart code rule before after = DrawsBy AppendsFront code rule before after

@@ -1,5 +1,5 @@
 -- What patterns are, reported with the names of codes.
-use Rattle.std.specs.Prelude.{◌≡◌, ◌⊎◌, ℕ, Bool, true, false, List, [], ◌∷◌, Option, None, Some, Ok, Err}
+use Rattle.std.specs.Prelude.{◌≡◌, ◌⊎◌, ℕ, Bool, true, false, List, [], Option, None, Some, Ok, Err}
 use Rattle.watched.specs.Streams.{Streams}
 use Rattle.census_identify.specs.declared.blocks.inquiry.Inquiry.{Inquiry}
 use Rattle.census_facts.specs.declared.form.Form.{Form}
@@ -10,12 +10,12 @@ use Rattle.census_identify.specs.Identifies.{Identifies}
 use Rattle.census_folders.specs.declared.heard.Heard.TheVariants as heard
 use Rattle.census_facts.specs.NameLines.{names_in}
 use Rattle.census_facts.specs.Names.{Entry}
+use Rattle.census_errors.specs.Explained.{TellsOf}
 use Rattle.census_errors.specs.Messages.{status_of}
 use Rattle.census_errors.specs.declared.error.CommandError.TheVariants as command
 use Rattle.census_reports.specs.Texts.{RefusesWord}
 use Rattle.census_reports.specs.declared.error.ReportsError.{ReportsError}
 use Rattle.census_reports.specs.declared.error.ReportsError.TheVariants.{Memory, Names}
-use Rattle.census_command.specs.Remakes.{TellsOfReports}
 use Rattle.census_command.specs.Streams.{untold}
 
 -- the form of an answer
@@ -67,7 +67,7 @@ pub record MissesNames (held : List ℕ → Told) (word : List ℕ) (explain : B
   pub error : ReportsError
   pub status_is : status ≡ status_of (command.Reports error)
   pub why : LacksNames error held word before (untold before after)
-  pub told : TellsOfReports held (word ∷ []) error explain before.errors after.errors
+  pub told : TellsOf (command.Reports error) explain before.errors after.errors
 
 -- what patterns are was reported, with the names in the text of a word, or with none where there is no word
 abbrev pub TellsPatterns : (List ℕ → Told) → Inquiry → Option (List ℕ) → List (List ℕ) → Bool → ℕ → Streams → Streams → Type 0

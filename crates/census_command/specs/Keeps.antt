@@ -1,20 +1,18 @@
 -- A census that continues past what can't be read: what was lost, and what it says.
-use Rattle.std.specs.Prelude.{◌≡◌, ◌⊎◌, ℕ, Bool, List, [], ◌∷◌, ◌++◌, None, Some, codes}
+use Rattle.std.specs.Prelude.{◌≡◌, ◌⊎◌, ℕ, Bool, List, [], ◌∷◌, ◌++◌, None, codes}
 use Rattle.std.specs.List.{flat_map}
 use Rattle.watched.specs.Streams.{PutsBytes, Streams}
 use Rattle.life_answer.specs.declared.question.Question.{Question}
 use Rattle.census_crew.specs.Writing.{WritesPrefix, WritesReport}
+use Rattle.census_faults.specs.Explanations.{IsExplanation}
 use Rattle.census_faults.specs.Printed.{printable_text}
 use Rattle.census_folders.specs.Sources.{Asked, Reads, Stops}
 use Rattle.census_folders.specs.declared.fault.SourceFault.{SourceFault}
 use Rattle.census_folders.specs.declared.loss.Loss.{Loss}
 use Rattle.census_folders.specs.declared.reading.Kept.{Kept}
 use Rattle.census_errors.specs.Errors.{run_error_of_source}
+use Rattle.census_errors.specs.Explained.{TellsOf}
 use Rattle.census_errors.specs.Messages.{error_line, run_status}
-use Rattle.census_errors.specs.Places.{kept_place, nowhere}
-use Rattle.census_errors.specs.declared.place.Place.{Place}
-use Rattle.census_errors.specs.Sayings.{explained_at, run_said, said_if}
-use Rattle.census_command.specs.BesideReports.{IfExplained, SaysBesideReport}
 use Rattle.census_folders.specs.Tellings.{Tellings}
 use Rattle.census_command.specs.Streams.{HasSoundStreams, IsUntouched, WriteFails}
 use Rattle.census_errors.specs.declared.error.CommandError.TheVariants as command
@@ -37,10 +35,6 @@ kept_status (loss ∷ lost) = 4
 
 -- # What stops it
 
--- the line for an error, and one more where faults are explained, with this place
-abbrev pub error_lines : Bool → RunError → Place → List ℕ
-error_lines explain error place = error_line (command.Run error) ++ said_if explain (explained_at (run_said error) place)
-
 -- why nothing was read: out of memory, or there are too many folders, or too many files in one
 abbrev pub StopsKeeping : Tellings → Asked → RunError → Type 0
 StopsKeeping shelf asked error = (error ≡ Memory None) ⊎ ((fault : SourceFault) × (error ≡ run_error_of_source fault) × Stops shelf asked fault)
@@ -48,8 +42,7 @@ StopsKeeping shelf asked error = (error ≡ Memory None) ⊎ ((fault : SourceFau
 -- # What is written and reported
 
 -- Of a census of folders that continues past what can't be read: a report of what could be read was written. A line was reported
--- for each loss, and then the lines that are said beside the report, where faults are explained. Nothing was read from standard
--- input.
+-- for each loss, and then what is said beside the report, where faults are explained. Nothing was read from standard input.
 pub record KeepsWhole (shelf : Tellings) (asked : Asked) (question : Question) (explain : Bool) (status : ℕ)
     (before after : Streams) : Type 0 where
   pub kept : Kept
@@ -58,7 +51,7 @@ pub record KeepsWhole (shelf : Tellings) (asked : Asked) (question : Question) (
   pub unread : after.input.unread ≡ before.input.unread
   pub sound : HasSoundStreams after
   pub lines : List ℕ
-  pub said : IfExplained explain (SaysBesideReport shelf (Some asked) kept.bundle lines) lines
+  pub explained : IsExplanation explain lines
   pub told : PutsBytes (lost_lines kept.lost ++ lines) before.errors after.errors
   pub status_is : status ≡ kept_status kept.lost
 
@@ -68,8 +61,8 @@ IsCut (Memory ticket) after = HasSoundStreams after
 IsCut Write after = WriteFails after
 IsCut error after = ⊥
 
--- A prefix of that report was written. A line was reported for each loss, and then the error, where faults are explained with the
--- pattern where memory ran out, if it is known.
+-- A prefix of that report was written. A line was reported for each loss, then the error, and what is said of it where faults are
+-- explained.
 pub record KeepsPart (shelf : Tellings) (asked : Asked) (question : Question) (explain : Bool) (status : ℕ)
     (before after : Streams) : Type 0 where
   pub kept : Kept
@@ -78,7 +71,9 @@ pub record KeepsPart (shelf : Tellings) (asked : Asked) (question : Question) (e
   pub unread : after.input.unread ≡ before.input.unread
   pub error : RunError
   pub cut : IsCut error after
-  pub told : PutsBytes (lost_lines kept.lost ++ error_lines explain error (kept_place error)) before.errors after.errors
+  pub lines : List ℕ
+  pub explained : IsExplanation explain lines
+  pub told : PutsBytes (lost_lines kept.lost ++ error_line (command.Run error) ++ lines) before.errors after.errors
   pub status_is : status ≡ run_status error
 
 -- Nothing was read or written, and the error was reported.
@@ -87,7 +82,7 @@ pub record KeepsNothing (shelf : Tellings) (asked : Asked) (question : Question)
   pub error : RunError
   pub why : StopsKeeping shelf asked error
   pub untouched : IsUntouched before after
-  pub told : PutsBytes (error_lines explain error nowhere) before.errors after.errors
+  pub told : TellsOf (command.Run error) explain before.errors after.errors
   pub status_is : status ≡ run_status error
 
 abbrev pub Keeps : Tellings → Asked → Question → Bool → ℕ → Streams → Streams → Type 0

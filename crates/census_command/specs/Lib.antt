@@ -1,5 +1,4 @@
 pub mod Streams
-pub mod BesideReports
 pub mod Advances
 pub mod Draws
 pub mod Runs

@@ -1,6 +1,5 @@
 -- What the program's words come to: what is written and reported, and the exit status.
-use Rattle.std.specs.Prelude.{◌≡◌, ℕ, ◌⊎◌, Bool, ◌||◌, List, [], ◌++◌, map, option_map, None, Some, Result, Ok, Err, Vec, string_bytes}
-use Rattle.std.specs.Global.{Global}
+use Rattle.std.specs.Prelude.{◌≡◌, ℕ, ◌⊎◌, Bool, ◌||◌, List, [], map, option_map, None, Some, Result, Ok, Err, string_bytes}
 use Rattle.std.specs.Io.KnownBytes.{Appends}
 use Rattle.std.specs.declared.io.ErrorKind.{ErrorKind}
 use Rattle.watched.specs.Streams.{PutsBytes, Sink, Streams}
@@ -19,13 +18,11 @@ use Rattle.census_folders.specs.Tellings.{Tellings}
 use Rattle.census_folders.specs.declared.loss.OnLoss.{OnLoss}
 use Rattle.census_folders.specs.declared.loss.OnLoss.TheVariants.{Keep, Stop}
 use Rattle.census_errors.specs.Errors.{IsArgumentsError}
+use Rattle.census_errors.specs.Explained.{TellsOf}
 use Rattle.census_errors.specs.Messages.{error_line, status_of}
-use Rattle.census_errors.specs.Places.{IsPlaceOf}
-use Rattle.census_errors.specs.Sayings.{line_said, said_if}
 use Rattle.census_errors.specs.Sources.{Source, Input, Folders, source_of}
 use Rattle.census_errors.specs.declared.error.CommandError.{CommandError}
 use Rattle.census_errors.specs.declared.error.CommandError.TheVariants as command
-use Rattle.census_errors.specs.declared.place.Place.{Place}
 use Rattle.census_errors.specs.declared.stopped.Stopped.{Stopped}
 use Rattle.census_page.specs.Options.{options_of}
 use Rattle.census_page.specs.declared.options.PageOptions.{PageOptions}
@@ -36,7 +33,7 @@ use Rattle.census_command.specs.Identifying.{TellsPatterns, form_told}
 use Rattle.census_command.specs.Keeps.{Keeps}
 use Rattle.census_command.specs.Remakes.{Remakes, RemakesWith}
 use Rattle.census_command.specs.Requests.{Does, Fails}
-use Rattle.census_command.specs.Streams.{HasSoundStreams, IsUntouched, TellsIf, WriteFails, untold}
+use Rattle.census_command.specs.Streams.{HasSoundStreams, IsUntouched, TellsBeside, WriteFails, untold}
 use Rattle.census_command.specs.declared.forms.Beside.{Beside}
 use Rattle.census_command.specs.declared.forms.Beside.TheVariants.{Names, Claims}
 
@@ -45,26 +42,21 @@ use Rattle.census_command.specs.declared.forms.Beside.TheVariants.{Names, Claims
 -- It was done. Where faults are explained, what is said beside it was reported, otherwise nothing.
 pub record Succeeds (shelf : Tellings) (request : Request) (explain : Bool) (status : ℕ) (before after : Streams) : Type 0 where
   pub status_is : status ≡ 0
-  pub lines : List ℕ
-  pub done : Does shelf request explain lines before (untold before after)
+  pub done : Does shelf request before (untold before after)
   pub sound : HasSoundStreams after
-  pub told : TellsIf explain lines before.errors after.errors
+  pub told : TellsBeside explain before.errors after.errors
 
--- An error ended it. Its line was reported, and where faults are explained one more, with its place as far as that is known.
+-- An error ended it. Its line was reported, and what is said of it where faults are explained.
 pub record FailsTold (shelf : Tellings) (request : Request) (explain : Bool) (status : ℕ) (before after : Streams) : Type 0 where
   pub error : CommandError
   pub status_is : status ≡ status_of error
   pub fails : Fails error shelf request before (untold before after)
-  pub place : Place
-  pub at : IsPlaceOf shelf request error place
-  pub lines : PutsBytes (error_line error ++ said_if explain (line_said request error place)) before.errors after.errors
+  pub told : TellsOf error explain before.errors after.errors
 
--- The lines that are said beside what was done were reported, where faults are explained, or the error that ended it was.
-abbrev pub Concludes : Request → Result (Vec ℕ Global) Stopped → Bool → ℕ → Sink → Sink → Type 0
-Concludes request (Ok lines) explain status before after = (status ≡ 0) × TellsIf explain lines.items before after
-Concludes request (Err stopped) explain status before after =
-    (status ≡ status_of stopped.error)
-    × PutsBytes (error_line stopped.error ++ said_if explain (line_said request stopped.error stopped.place)) before after
+-- What is said beside what was done was reported, where faults are explained, or the error that ended it was.
+abbrev pub Concludes : {A : Type 0} → Result A Stopped → Bool → ℕ → Sink → Sink → Type 0
+Concludes (Ok lines) explain status before after = (status ≡ 0) × TellsBeside explain before after
+Concludes (Err stopped) explain status before after = (status ≡ status_of stopped.error) × TellsOf stopped.error explain before after
 
 abbrev pub EndsAtFirst : Tellings → Request → Bool → ℕ → Streams → Streams → Type 0
 EndsAtFirst shelf request explain status before after =

@@ -1,7 +1,7 @@
 -- What is made of reports that are read back, and what the exit status says of it.
-use Rattle.std.specs.Prelude.{◌≡◌, ◌⊎◌, ℕ, Bool, false, if◌then◌else◌, List, [], ◌∷◌, ◌++◌}
+use Rattle.std.specs.Prelude.{◌≡◌, ◌⊎◌, ℕ, Bool, false, if◌then◌else◌, List, [], ◌∷◌}
 use Rattle.std.specs.Borrow.{Bor}
-use Rattle.watched.specs.Streams.{PutsBytes, PutsMoreBytes, Sink, Streams}
+use Rattle.watched.specs.Streams.{PutsMoreBytes, Sink, Streams}
 use Rattle.census_folders.specs.Told.{Told}
 use Rattle.census_folders.specs.Hearing.{Hears}
 use Rattle.census_folders.specs.declared.heard.Heard.TheVariants as heard
@@ -15,14 +15,12 @@ use Rattle.census_reports.specs.declared.reading.Reading.{Reading}
 use Rattle.census_reports.specs.declared.reading.Written.{Written}
 use Rattle.census_merge.specs.declared.mending.Cut.{Cut}
 use Rattle.census_errors.specs.Cuts.{cut_line}
-use Rattle.census_errors.specs.Messages.{error_line, status_of}
-use Rattle.census_errors.specs.Places.{IsReportsPlace}
-use Rattle.census_errors.specs.Sayings.{explained_at, reports_said, said_if}
+use Rattle.census_errors.specs.Explained.{TellsOf}
+use Rattle.census_errors.specs.Messages.{status_of}
 use Rattle.census_command.specs.Forms.{form_beside}
 use Rattle.census_command.specs.Streams.{untold}
 use Rattle.census_command.specs.declared.forms.Beside.{Beside}
 use Rattle.census_errors.specs.declared.error.CommandError.TheVariants as command
-use Rattle.census_errors.specs.declared.place.Place.{Place}
 
 -- One report of lawful reports of bundles, none of which was cut, is a lawful report of the bundles, one after another.
 abbrev pub KeepsLaw : Form → Reading → (List ℕ → Told) → List (List ℕ) → Streams → Streams → Type 0
@@ -48,20 +46,13 @@ pub record RemakesWhole (held : List ℕ → Told) (form : Form) (reading : Read
   pub lawful : KeepsLaw form reading held files before (untold before after)
   pub told : TellsCuts written.cuts.items before.errors after.errors
 
--- The line of an error of these files was reported, and where faults are explained one more, with its place as far as that is
--- known.
-pub record TellsOfReports (held : List ℕ → Told) (files : List (List ℕ)) (error : ReportsError) (explain : Bool) (old new : Sink) : Type 0 where
-  pub place : Place
-  pub at : IsReportsPlace held error place
-  pub lines : PutsBytes (error_line (command.Reports error) ++ said_if explain (explained_at (reports_said files error) place)) old new
-
 -- An error ended it, and was reported.
 pub record RemakesNot (held : List ℕ → Told) (form : Form) (reading : Reading) (files : List (List ℕ)) (explain : Bool) (status : ℕ)
     (before after : Streams) : Type 0 where
   pub error : ReportsError
   pub status_is : status ≡ status_of (command.Reports error)
   pub fails : ReportsFail error form reading held files before (untold before after)
-  pub told : TellsOfReports held files error explain before.errors after.errors
+  pub told : TellsOf (command.Reports error) explain before.errors after.errors
 
 abbrev pub Remakes : (List ℕ → Told) → Form → Reading → List (List ℕ) → Bool → ℕ → Streams → Streams → Type 0
 Remakes held form reading files explain status before after =
@@ -88,7 +79,7 @@ pub record MissesBeside (held : List ℕ → Told) (word : List ℕ) (explain : 
   pub status_is : status ≡ status_of (command.Reports error)
   pub why : RefusesWord error held word before.input after.input
   pub unwritten : after.output ≡ before.output
-  pub told : TellsOfReports held (word ∷ []) error explain before.errors after.errors
+  pub told : TellsOf (command.Reports error) explain before.errors after.errors
 
 abbrev pub RemakesWith : (List ℕ → Told) → Beside → List ℕ → Reading → List (List ℕ) → Bool → ℕ → Streams → Streams → Type 0
 RemakesWith held beside word reading files explain status before after =

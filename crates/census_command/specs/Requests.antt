@@ -1,5 +1,5 @@
 -- What is done where something is asked for, and what each error says.
-use Rattle.std.specs.Prelude.{◌≡◌, ℕ, Bool, List, [], option_map}
+use Rattle.std.specs.Prelude.{option_map}
 use Rattle.std.specs.Io.KnownBytes.{Appends}
 use Rattle.watched.specs.Streams.{Streams}
 use Rattle.watched.specs.Watching.{AppendsFront}
@@ -14,15 +14,12 @@ use Rattle.census_errors.specs.Sources.{source_of}
 use Rattle.census_errors.specs.declared.error.CommandError.{CommandError}
 use Rattle.census_errors.specs.declared.error.CommandError.TheVariants as error
 
--- What is asked for was done, and these lines are said beside it, where faults are explained.
-abbrev pub Does : Tellings → Request → Bool → List ℕ → Streams → Streams → Type 0
-Does shelf (Census census) explain lines before after =
-    Runs shelf (source_of census.collections) census.question explain lines before after
-Does shelf (Advance generations file) explain lines before after =
-    (lines ≡ []) × AdvancesFrom shelf (file_of (option_map (λ s. s.now) file)) generations before after
-Does shelf (Draw code rule) explain lines before after =
-    (lines ≡ []) × DrawsBy Appends code.now rule.now before after
-Does shelf _ explain lines before after = ⊥
+-- what is asked for was done
+abbrev pub Does : Tellings → Request → Streams → Streams → Type 0
+Does shelf (Census census) before after = Runs shelf (source_of census.collections) census.question before after
+Does shelf (Advance generations file) before after = AdvancesFrom shelf (file_of (option_map (λ s. s.now) file)) generations before after
+Does shelf (Draw code rule) before after = DrawsBy Appends code.now rule.now before after
+Does shelf _ before after = ⊥
 
 -- it was done, but only a prefix was written: as much as the writer took
 abbrev pub DoesInPart : Tellings → Request → Streams → Streams → Type 0

@@ -1,5 +1,5 @@
 -- What `run` reads and writes, and what each of its errors says.
-use Rattle.std.specs.Prelude.{◌≡◌, ◌⊎◌, ℕ, Bool, List, None, Some}
+use Rattle.std.specs.Prelude.{◌≡◌, ◌⊎◌, List}
 use Rattle.watched.specs.Streams.{Streams}
 use Rattle.census_bundle.specs.declared.bundle.Folder.{Folder}
 use Rattle.census_crew.specs.Bytes.{ReadsFault, ReadsFolders}
@@ -11,7 +11,6 @@ use Rattle.census_folders.specs.declared.reading.Kept.{Kept}
 use Rattle.census_command.specs.Advances.{ReadsTooMuch}
 use Rattle.life_answer.specs.declared.question.Question.{Question}
 use Rattle.census_errors.specs.Errors.{run_error_of_source}
-use Rattle.census_command.specs.BesideReports.{IfExplained, SaysBesideReport}
 use Rattle.census_folders.specs.Tellings.{Tellings}
 use Rattle.census_errors.specs.Sources.{Source, Input, Folders}
 use Rattle.census_command.specs.Streams.{HasSoundStreams, IsUntouched, ReadFails, WriteFails, WritesNothing}
@@ -20,13 +19,11 @@ use Rattle.census_errors.specs.declared.run_error.RunError.TheVariants.{Bundle, 
 
 -- # Standard input
 
--- Standard input, read to its end, is the text of a bundle, and a report of that bundle was written. These lines are said
--- beside it, where faults are explained.
-pub record ReportsInput (shelf : Tellings) (question : Question) (explain : Bool) (lines : List ℕ) (before after : Streams) : Type 0 where
+-- standard input, read to its end, is the text of a bundle, and a report of that bundle was written
+pub record ReportsInput (question : Question) (before after : Streams) : Type 0 where
   pub bundle : List Folder
   pub read : ReadsFolders before.input.unread after.input.unread bundle
   pub report : WritesReport before.output.written after.output.written bundle question
-  pub said : IfExplained explain (SaysBesideReport shelf None bundle lines) lines
 
 -- as `ReportsInput`, but only a prefix was written: as much as the writer took
 pub record ReportsInputInPart (question : Question) (before after : Streams) : Type 0 where
@@ -47,13 +44,12 @@ InputFails Write question before after = ReportsInputInPart question before afte
 -- # Folders
 
 -- The folders were read, according to the shelf, where reading ends at the first loss; so nothing was lost. A report of them was
--- written. Nothing was read from standard input. These lines are said beside the report, where faults are explained.
-pub record ReportsFolders (shelf : Tellings) (asked : Asked) (question : Question) (explain : Bool) (lines : List ℕ) (before after : Streams) : Type 0 where
+-- written. Nothing was read from standard input.
+pub record ReportsFolders (shelf : Tellings) (asked : Asked) (question : Question) (before after : Streams) : Type 0 where
   pub stops : asked.on_loss ≡ Stop
   pub kept : Kept
   pub read : Reads shelf asked kept
   pub report : WritesReport before.output.written after.output.written kept.bundle question
-  pub said : IfExplained explain (SaysBesideReport shelf (Some asked) kept.bundle lines) lines
   pub unread : after.input.unread ≡ before.input.unread
 
 -- as `ReportsFolders`, but only a prefix was written: as much as the writer took
@@ -80,10 +76,10 @@ FoldersFail error shelf asked question before after = FailsInFolders shelf asked
 
 -- # Each
 
--- A report of what comes from there was written, and these lines are said beside it, where faults are explained.
-abbrev pub Runs : Tellings → Source → Question → Bool → List ℕ → Streams → Streams → Type 0
-Runs shelf Input question explain lines before after = ReportsInput shelf question explain lines before after
-Runs shelf (Folders asked) question explain lines before after = ReportsFolders shelf asked question explain lines before after
+-- a report of what comes from there was written
+abbrev pub Runs : Tellings → Source → Question → Streams → Streams → Type 0
+Runs shelf Input question before after = ReportsInput question before after
+Runs shelf (Folders asked) question before after = ReportsFolders shelf asked question before after
 
 -- as `Runs`, but only a prefix was written: as much as the writer took
 abbrev pub RunsInPart : Tellings → Source → Question → Streams → Streams → Type 0

@@ -1,5 +1,5 @@
 -- What the exit status says of words that ask for what ends at the first thing that goes wrong, or for nothing that can be done.
-use Rattle.std.specs.Prelude.{◌≡◌, ℕ, ◌≤◌, ◌<◌, ◌⊎◌, Bool, true, ◌||◌, List, [], ◌++◌, option_map, Option, None, Some, Err}
+use Rattle.std.specs.Prelude.{◌≡◌, ℕ, ◌≤◌, ◌<◌, ◌⊎◌, Bool, true, ◌||◌, List, [], option_map, Option, None, Some, Err}
 use Rattle.std.specs.Io.KnownBytes.{Appends}
 use Rattle.watched.specs.Streams.{PutsBytes, Streams}
 use Rattle.watched.specs.Watching.{AppendsFront}
@@ -19,22 +19,18 @@ use Rattle.census_cli.specs.Refusing.{AreRefusedWords, AsksHelp, AsksText, Refus
 use Rattle.census_cli.specs.declared.fault.WordsFault.{WordsFault}
 use Rattle.census_cli.specs.declared.request.Request.{Request}
 use Rattle.census_cli.specs.declared.request.Request.TheVariants.{Census, Advance, Draw}
-use Rattle.census_faults.specs.declared.fault.Fault.{Fault}
-use Rattle.census_faults.specs.declared.spot.Spot.{Spot}
 use Rattle.census_folders.specs.Told.{MayExceed, MayFail}
 use Rattle.census_folders.specs.declared.unread.Unread.{Unread}
 use Rattle.census_command.specs.Advances.{HasFileFault, HasRleFault, ReadsTooMuch}
 use Rattle.census_errors.specs.Files.{file_of}
+use Rattle.census_errors.specs.Explained.{TellsOf}
 use Rattle.census_errors.specs.Messages.{error_line, run_status, status_of}
-use Rattle.census_errors.specs.Places.{IsPlaceOf}
 use Rattle.census_command.specs.Requests.{Does, DoesInPart, Fails}
 use Rattle.census_command.specs.Runs.{FailsInFolders, RunsInPart}
-use Rattle.census_errors.specs.Sayings.{line_said, said_if}
 use Rattle.census_folders.specs.Tellings.{Tellings}
 use Rattle.census_errors.specs.Sources.{Source, Input, Folders, source_of}
-use Rattle.census_command.specs.Streams.{HasFailed, HasSoundStreams, IsUntouched, TellsIf, WriteFails, WritesNothing, untold}
+use Rattle.census_command.specs.Streams.{HasFailed, HasSoundStreams, IsUntouched, TellsBeside, WriteFails, WritesNothing, untold}
 use Rattle.census_errors.specs.declared.error.CommandError.{CommandError}
-use Rattle.census_errors.specs.declared.place.Place.{Place}
 use Rattle.census_errors.specs.declared.run_error.RunError.{RunError}
 use Rattle.census_errors.specs.declared.run_error.RunError.TheVariants as run
 use Rattle.census_errors.specs.declared.error.CommandError.TheVariants as command
@@ -69,9 +65,8 @@ pub record DoesAsked (shelf : Tellings) (words : List (List ℕ)) (at_terminal :
   pub explain : Bool
   pub asked : Asks words request
   pub explained : AreExplained words at_terminal explain
-  pub lines : List ℕ
-  pub done : Does shelf request explain lines before (untold before after)
-  pub told : TellsIf explain lines before.errors after.errors
+  pub done : Does shelf request before (untold before after)
+  pub told : TellsBeside explain before.errors after.errors
 
 -- The words ask for help or for the version, and a text that answers them was written; nothing was read.
 pub record Helps (words : List (List ℕ)) (before after : Streams) : Type 0 where
@@ -91,9 +86,9 @@ RefusesCollections shelf (Folders asked) before after = (error : RunError) × Fa
 -- a file, or standard input where there is none, has a fault or is too long
 abbrev pub RefusesText : Tellings → Option (List ℕ) → Streams → Streams → Type 0
 RefusesText shelf None before after =
-    ((fault : RleFault) × (told : Fault) × (spot : Spot) × HasRleFault fault told spot before after) ⊎ ReadsTooMuch before after
+    ((fault : RleFault) × HasRleFault fault before after) ⊎ ReadsTooMuch before after
 RefusesText shelf (Some path) before after =
-    ((fault : RleFault) × (told : Fault) × (spot : Spot) × HasFileFault fault told spot shelf path) ⊎ MayExceed input_limit (shelf.held [] path)
+    ((fault : RleFault) × HasFileFault fault shelf path) ⊎ MayExceed input_limit (shelf.held [] path)
 
 -- the input of a request is refused
 abbrev pub RefusesInput : Tellings → Request → Streams → Streams → Type 0
@@ -159,17 +154,15 @@ pub record MissesFolder (shelf : Tellings) (words : List (List ℕ)) : Type 0 wh
 
 -- # What is reported
 
--- The words ask for something that failed with this error. Its line was reported, and where faults are explained one more, with
--- its place as far as that is known.
+-- The words ask for something that failed with this error. Its line was reported, and what is said of it where faults are
+-- explained.
 pub record FailsAsked (error : CommandError) (shelf : Tellings) (words : List (List ℕ)) (at_terminal : Bool) (before after : Streams) : Type 0 where
   pub request : Request
   pub explain : Bool
   pub asked : Asks words request
   pub explained : AreExplained words at_terminal explain
   pub fails : Fails error shelf request before (untold before after)
-  pub place : Place
-  pub at : IsPlaceOf shelf request error place
-  pub lines : PutsBytes (error_line error ++ said_if explain (line_said request error place)) before.errors after.errors
+  pub told : TellsOf error explain before.errors after.errors
 
 -- The words ask for nothing that can be done: memory was refused while they were read, or help could not be written.
 abbrev pub FailsReading : CommandError → List (List ℕ) → Streams → Streams → Type 0

@@ -1,6 +1,7 @@
 -- The streams of a command, by one value before and one after.
-use Rattle.std.specs.Prelude.{◌≡◌, ◌⊎◌, ℕ, Bool, true, false, List, MatchBool}
+use Rattle.std.specs.Prelude.{◌≡◌, ◌⊎◌, ℕ, Bool, true, false, List}
 use Rattle.watched.specs.Streams.{PutsBytes, Sink, Streams}
+use Rattle.census_faults.specs.Explanations.{AreLines}
 
 -- neither standard input nor standard output has failed
 pub record HasSoundStreams (s : Streams) : Type 0 where
@@ -37,6 +38,7 @@ HasFailed s = (s.input.failed ≡ true) ⊎ (s.output.failed ≡ true)
 abbrev pub untold : Streams → Streams → Streams
 untold before after = record after { errors = before.errors }
 
--- this text was reported, where it is asked for, otherwise nothing
-abbrev pub TellsIf : Bool → List ℕ → Sink → Sink → Type 0
-TellsIf asked text before after = MatchBool asked (PutsBytes text before after) (after ≡ before)
+-- where faults are explained, what is said beside what was done was reported: whole lines; otherwise nothing
+abbrev pub TellsBeside : Bool → Sink → Sink → Type 0
+TellsBeside true before after = (lines : List ℕ) × AreLines lines × PutsBytes lines before after
+TellsBeside false before after = after ≡ before

@@ -2,7 +2,6 @@
 ghost use Rattle.std.specs.Prelude.{◌≡◌, ◌≤◌, option_map, IfErr, MatchResult, OnOk};
 ghost use Rattle.census_command.specs.Advances.{AdvanceFails, AdvanceFileFails, AdvanceFromFails};
 ghost use Rattle.census_command.specs.Advances.{Advances, AdvancesFile, AdvancesFrom, IsAdvanced, RefusesText};
-ghost use Rattle.census_errors.specs.Errors.{advance_error_of_text};
 ghost use Rattle.census_errors.specs.Files.{file_of};
 ghost use Rattle.census_command.specs.Streams.{HasSoundStreams};
 
@@ -17,20 +16,6 @@ use std::alloc::Global;
 use std::io::{Read, Write};
 use watched::{Streams, put_all, read_all};
 
-// The error for this fault of a text, with what is said of it.
-fn refused(text: &[u8], fault: RleFault) -> AdvanceError
-    ensures { result ≡ advance_error_of_text text.now fault }
-{
-    match fault {
-        RleFault::Memory => AdvanceError::Memory,
-        _ => AdvanceError::Text {
-            fault,
-            told: text_fault(text, fault),
-            spot: spot_of_text(text, &fault),
-        },
-    }
-}
-
 // The RLE text of a generation of the pattern that a text means.
 fn advanced_text(alloc: Global, text: &[u8], generations: u32) -> Result<Vec<u8>, AdvanceError>
     requires { generations ≤ AGE_LIMIT }
@@ -41,7 +26,14 @@ fn advanced_text(alloc: Global, text: &[u8], generations: u32) -> Result<Vec<u8>
 {
     let pattern = match read_rle(alloc, text) {
         Ok(pattern) => pattern,
-        Err(fault) => return Err(refused(text, fault)),
+        Err(RleFault::Memory) => return Err(AdvanceError::Memory),
+        Err(fault) => {
+            return Err(AdvanceError::Text {
+                fault,
+                told: text_fault(text, fault),
+                spot: spot_of_text(text, &fault),
+            });
+        }
     };
     let rule = pattern.rule();
     let cells = generation_of(alloc, &rule, pattern.cells(), generations)?;

@@ -1,16 +1,15 @@
 //! What the program does with its words.
 ghost use Rattle.std.specs.Prelude.{◌≡◌, ◌⊎◌, ◌||◌, false, map, IfErr, IfOk, MatchResult, OnOk};
 ghost use Rattle.census_cli.specs.declared.request.Request.TheVariants as request;
-ghost use Rattle.census_errors.specs.Messages.{status_of};
-ghost use Rattle.census_errors.specs.Messages.{error_line};
-ghost use Rattle.census_errors.specs.Places.{IsPlaceOf};
+ghost use Rattle.census_errors.specs.Messages.{error_line, status_of};
+ghost use Rattle.census_faults.specs.Explanations.{IsExplanation};
 ghost use Rattle.census_errors.specs.Sources.{StopsAtFirstLoss, source_of};
 ghost use Rattle.census_command.specs.Gates.{HearsEnd, HearsOutcome, HearsRequest};
 ghost use Rattle.census_command.specs.Outcomes.{Answers, Concludes, Ends, Outcome};
 ghost use Rattle.census_cli.specs.Holding.{IsLawful};
 ghost use Rattle.census_command.specs.Requests.{Does, Fails};
 ghost use Rattle.watched.specs.Streams.{PutsBytes};
-ghost use Rattle.census_command.specs.Streams.{HasSoundStreams, TellsIf};
+ghost use Rattle.census_command.specs.Streams.{HasSoundStreams, TellsBeside};
 
 use crate::advancing::advance;
 use crate::collections::goes_on;
@@ -23,6 +22,7 @@ use crate::running::run_command;
 use census_cli::{Census, Request, WordsFault, read_words};
 use census_crew::Gate;
 use census_errors::{CommandError, Place, Stopped, file_place, saying_of, stop_saying};
+use census_faults::Lines;
 use census_folders::Shelf;
 use census_identify::Inquiry;
 use census_reports::Form;
@@ -43,17 +43,15 @@ fn report_census<S: Shelf, I: Read, O: Write, E: Write, G: Gate, R: Threads + Wa
     quiet: bool,
     gate: &mut G,
     streams: &mut Streams<I, O, E>,
-) -> Result<Vec<u8>, Stopped>
+) -> Result<Lines, Stopped>
     requires lawful { IsLawful (request.Census census.now) }
     requires stops { StopsAtFirstLoss (source_of census.now.collections) }
     requires sound { HasSoundStreams streams.old }
-    ensures done { IfOk result
-        (λ lines. Does (S.tellings shelf.now) (request.Census census.now) explain lines.items streams.old streams.new) }
+    ensures done { OnOk result (Does (S.tellings shelf.now) (request.Census census.now) streams.old streams.new) }
+    ensures lines { IfOk result (IsExplanation explain) }
     ensures sound { OnOk result (HasSoundStreams streams.new) }
     ensures fails { IfErr result
         (λ stopped. Fails stopped.error (S.tellings shelf.now) (request.Census census.now) streams.old streams.new) }
-    ensures place { IfErr result
-        (λ stopped. IsPlaceOf (S.tellings shelf.now) (request.Census census.now) stopped.error stopped.place) }
     ensures gate { MatchResult result
         (λ _. HearsRequest (S.tellings shelf.now) (request.Census census.now) quiet
         streams.old.input streams.new.input (G.heard gate.old) (G.heard gate.new))
@@ -74,25 +72,20 @@ fn advance_asked<S: Shelf, I: Read, O: Write, E: Write>(
     alloc: Global,
     generations: u32,
     file: Option<&str>,
-    explain: bool,
     streams: &mut Streams<I, O, E>,
-) -> Result<Vec<u8>, Stopped>
+) -> Result<Lines, Stopped>
     requires lawful { IsLawful (request.Advance generations file) }
     requires sound { HasSoundStreams streams.old }
-    ensures done { IfOk result
-        (λ lines. Does (S.tellings shelf.now) (request.Advance generations file.entry) explain lines.items
-        streams.old streams.new) }
+    ensures done { OnOk result
+        (Does (S.tellings shelf.now) (request.Advance generations file.entry) streams.old streams.new) }
     ensures sound { OnOk result (HasSoundStreams streams.new) }
     ensures fails { IfErr result
         (λ stopped. Fails stopped.error (S.tellings shelf.now) (request.Advance generations file.entry)
         streams.old streams.new) }
-    ensures place { IfErr result
-        (λ stopped. IsPlaceOf (S.tellings shelf.now) (request.Advance generations file.entry)
-        stopped.error stopped.place) }
     ensures quiet { streams.new.errors ≡ streams.old.errors }
 {
     match advance(shelf, alloc, generations, file, streams) {
-        Ok(()) => Ok(Vec::new(alloc)),
+        Ok(()) => Ok(Lines::none(alloc)),
         Err(error) => Err(Stopped {
             error: CommandError::Advance(error),
             place: file_place(alloc, error),
@@ -106,24 +99,19 @@ fn draw_asked<S: Shelf, I: Read, O: Write, E: Write>(
     alloc: Global,
     code: &str,
     rule: &str,
-    explain: bool,
     streams: &mut Streams<I, O, E>,
-) -> Result<Vec<u8>, Stopped>
+) -> Result<Lines, Stopped>
     requires sound { HasSoundStreams streams.old }
-    ensures done { IfOk result
-        (λ lines. Does (S.tellings shelf.now) (request.Draw code.entry rule.entry) explain lines.items
-        streams.old streams.new) }
+    ensures done { OnOk result
+        (Does (S.tellings shelf.now) (request.Draw code.entry rule.entry) streams.old streams.new) }
     ensures sound { OnOk result (HasSoundStreams streams.new) }
     ensures fails { IfErr result
         (λ stopped. Fails stopped.error (S.tellings shelf.now) (request.Draw code.entry rule.entry)
         streams.old streams.new) }
-    ensures place { IfErr result
-        (λ stopped. IsPlaceOf (S.tellings shelf.now) (request.Draw code.entry rule.entry)
-        stopped.error stopped.place) }
     ensures quiet { streams.new.errors ≡ streams.old.errors }
 {
     match draw(alloc, code.as_bytes(), rule.as_bytes(), streams) {
-        Ok(()) => Ok(Vec::new(alloc)),
+        Ok(()) => Ok(Lines::none(alloc)),
         Err(error) => Err(Stopped {
             error: CommandError::Draw(error),
             place: Place::nowhere(),
@@ -138,29 +126,29 @@ fn explains(asked: bool, at_terminal: bool) -> bool
     asked || at_terminal
 }
 
-// Reports lines on standard error, where they are asked for.
-fn tell_if<E: Write>(asked: bool, lines: &[u8], errors: &mut Output<E>)
+// Reports lines on standard error, where faults are explained.
+fn tell_if<E: Write>(explain: bool, lines: &Lines, errors: &mut Output<E>)
     requires { errors.old.stream.failed ≡ false }
-    ensures { TellsIf asked lines.now errors.old.stream errors.new.stream }
+    ensures { TellsBeside explain errors.old.stream errors.new.stream }
 {
-    if asked {
-        errors.tell(lines);
+    if explain {
+        errors.tell(lines.as_slice());
     }
 }
 
 // Reports what is said beside what was done, where faults are explained, or the error that ended it. Returns the exit status.
 fn conclude<E: Write>(
     request: &Request<'_>,
-    ended: Result<Vec<u8>, Stopped>,
+    ended: Result<Lines, Stopped>,
     explain: bool,
     errors: &mut Output<E>,
 ) -> u8
     requires { errors.old.stream.failed ≡ false }
-    ensures { Concludes request.now ended explain result errors.old.stream errors.new.stream }
+    ensures { Concludes ended explain result errors.old.stream errors.new.stream }
 {
     match ended {
         Ok(lines) => {
-            tell_if(explain, lines.as_slice(), errors);
+            tell_if(explain, &lines, errors);
             0
         }
         Err(stopped) => {
@@ -248,11 +236,11 @@ fn carry_out<S: Shelf, I: Read, O: Write, E: Write, G: Gate, R: Threads + Wait +
             )
         }
         Request::Advance { generations, file } => {
-            let ended = advance_asked(shelf, alloc, *generations, *file, explain, streams);
+            let ended = advance_asked(shelf, alloc, *generations, *file, streams);
             conclude(request, ended, explain, &mut streams.errors)
         }
         Request::Draw { code, rule } => {
-            let ended = draw_asked(shelf, alloc, *code, *rule, explain, streams);
+            let ended = draw_asked(shelf, alloc, *code, *rule, streams);
             conclude(request, ended, explain, &mut streams.errors)
         }
         Request::Merge { reports } => remake(shelf, alloc, Form::Merged, reports, explain, streams),

@@ -1,12 +1,13 @@
 //! `census run --keep-going` and `census objects --keep-going`: the report of what can be read.
-ghost use Rattle.std.specs.Prelude.{◌≡◌, ◌≢◌, ◌≤◌, ◌++◌, [], false, IfOk, MatchResult, OnOk};
+ghost use Rattle.std.specs.Prelude.{◌≡◌, ◌≢◌, ◌≤◌, ◌++◌, ℕ, List, [], false, IfOk, MatchResult, OnOk};
 ghost use Rattle.life_answer.specs.Questions.{IsAnswered};
 ghost use Rattle.census_folders.specs.Sources.{Reads, asked_by};
-ghost use Rattle.census_errors.specs.Messages.{run_status};
-ghost use Rattle.census_errors.specs.Places.{kept_place};
+ghost use Rattle.census_errors.specs.Messages.{error_line, run_status};
+ghost use Rattle.census_errors.specs.declared.error.CommandError.TheVariants as command;
+ghost use Rattle.census_faults.specs.Explanations.{IsExplanation};
 ghost use Rattle.census_errors.specs.Sources.{asked_of};
 ghost use Rattle.census_command.specs.Gates.{HearsKept};
-ghost use Rattle.census_command.specs.Keeps.{Keeps, StopsKeeping, error_lines, lost_line, lost_lines};
+ghost use Rattle.census_command.specs.Keeps.{Keeps, StopsKeeping, lost_line, lost_lines};
 ghost use Rattle.watched.specs.Streams.{PutsMoreBytes};
 ghost use Rattle.census_command.specs.Streams.{HasSoundStreams};
 ghost use Rattle.census_bundle.specs.Sizes.{worker_limit};
@@ -88,7 +89,8 @@ fn status_of_kept(lines: &[u8]) -> u8
 // Reports the error that cut a report short, after what was reported before, and returns its exit status.
 fn tell_cut<E: Write>(alloc: Global, error: RunError, explain: bool, errors: &mut Output<E>) -> u8
     ensures status { result ≡ run_status error }
-    ensures told { PutsMoreBytes (error_lines explain error (kept_place error)) errors.old.stream errors.new.stream }
+    ensures told { (lines : List ℕ) × IsExplanation explain lines
+        × PutsMoreBytes (error_line (command.Run error) ++ lines) errors.old.stream errors.new.stream }
 {
     let place = kept_place(alloc, error);
     let saying = run_saying(error).at(&place);

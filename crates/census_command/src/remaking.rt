@@ -1,11 +1,12 @@
 //! `census merge`, `table`, `page`, `same` and `verify`: one report, a table, a page, patterns that are one object, or
 //! what does not agree with claims, made of reports.
 ghost use Rattle.std.specs.Prelude.{◌≡◌, [], false, map, IfErr, IfOk, OnOk};
+ghost use Rattle.census_errors.specs.Explained.{TellsOf};
 ghost use Rattle.census_errors.specs.Messages.{status_of};
 ghost use Rattle.census_errors.specs.declared.error.CommandError.TheVariants as command;
 ghost use Rattle.census_reports.specs.Outcomes.{ReportsFail, WritesReports};
 ghost use Rattle.census_command.specs.Forms.{reading_of};
-ghost use Rattle.census_command.specs.Remakes.{KeepsLaw, Remakes, RemakesWith, TellsCuts, TellsOfReports, found_status};
+ghost use Rattle.census_command.specs.Remakes.{KeepsLaw, Remakes, RemakesWith, TellsCuts, found_status};
 ghost use Rattle.census_command.specs.Streams.{HasSoundStreams};
 
 use crate::forms::{Beside, form_beside, reading_of};
@@ -62,8 +63,7 @@ pub(crate) fn stop_of<S: Shelf, E: Write>(
 ) -> u8
     requires { errors.old.stream.failed ≡ false }
     ensures status { result ≡ status_of (command.Reports error) }
-    ensures told { TellsOfReports ((S.tellings shelf.now).held []) (map (λ s. s.now) files.now) error
-        explain errors.old.stream errors.new.stream }
+    ensures told { TellsOf (command.Reports error) explain errors.old.stream errors.new.stream }
 {
     let place = reports_place_if(explain, shelf, alloc, files, error);
     let saying = reports_saying(files, error).at(&place);

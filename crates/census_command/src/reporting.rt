@@ -1,17 +1,16 @@
 //! The report of a bundle, and the lines that are said beside it.
-ghost use Rattle.std.specs.Prelude.{◌≡◌, ◌≤◌, false, option_map, IfOk, MatchResult};
+ghost use Rattle.std.specs.Prelude.{◌≡◌, ◌≤◌, false, IfOk, MatchResult};
 ghost use Rattle.life_answer.specs.Questions.{IsAnswered};
 ghost use Rattle.census_crew.specs.Faults.{FitsFault};
 ghost use Rattle.census_crew.specs.Writing.{WritesPrefix, WritesReport};
-ghost use Rattle.census_folders.specs.Sources.{asked_by};
-ghost use Rattle.census_command.specs.BesideReports.{IfExplained, SaysBesideReport};
+ghost use Rattle.census_faults.specs.Explanations.{IsExplanation};
 ghost use Rattle.census_command.specs.Gates.{HearsBundle};
 ghost use Rattle.census_bundle.specs.Sizes.{worker_limit};
 
 use census_bundle::Bundle;
 use census_crew::{Gate, Tally, run, run_untold};
-use census_faults::{RunFault, refusal_lines};
-use census_folders::{Shelf, Source, hint_lines};
+use census_faults::{Lines, RunFault, refusal_lines};
+use census_folders::{Shelf, Source, push_hints};
 use life_answer::Question;
 use std::alloc::{AllocError, Global};
 use std::io::Write;
@@ -19,42 +18,23 @@ use std::sync::Wait;
 use std::thread::Threads;
 use watched::Output;
 
-// The lines that are said beside a report of a bundle: those that explain what it reports as `bad`, and then the hints at what
-// may have been overlooked in the bundle.
-fn lines_beside<S: Shelf>(
-    shelf: &S,
-    alloc: Global,
-    bundle: &Bundle,
-    source: Option<Source<'_, '_>>,
-) -> Result<Vec<u8>, AllocError>
-    ensures { IfOk result
-        (λ lines. SaysBesideReport (S.tellings shelf.now) (option_map asked_by source.entry)
-        bundle.now lines.items) }
-{
-    let mut lines = refusal_lines(alloc, bundle)?;
-    let hints = hint_lines(shelf, alloc, bundle, source)?;
-    lines.extend_from_slice(hints.as_slice())?;
-    Ok(lines)
-}
-
-// The lines that are said beside a report of a bundle, where faults are explained; otherwise none.
+// What is said beside a report of a bundle, where faults are explained: the lines that explain what it reports as `bad`, and then
+// the hints at what may have been overlooked in the bundle. Otherwise there is none.
 fn lines_of<S: Shelf>(
     shelf: &S,
     alloc: Global,
     bundle: &Bundle,
     source: Option<Source<'_, '_>>,
     explain: bool,
-) -> Result<Vec<u8>, AllocError>
-    ensures { IfOk result
-        (λ lines. IfExplained explain
-        (SaysBesideReport (S.tellings shelf.now) (option_map asked_by source.entry) bundle.now lines.items)
-        lines.items) }
+) -> Result<Lines, AllocError>
+    ensures { IfOk result (IsExplanation explain) }
 {
-    if explain {
-        lines_beside(shelf, alloc, bundle, source)
-    } else {
-        Ok(Vec::new(alloc))
+    if !explain {
+        return Ok(Lines::none(alloc));
     }
+    let mut lines = refusal_lines(alloc, bundle)?;
+    push_hints(shelf, alloc, &mut lines, bundle, source)?;
+    Ok(lines)
 }
 
 // Writes the report of a bundle as `run` does, or as `run_untold` does where it is to be quiet.
@@ -102,7 +82,7 @@ pub fn report<S: Shelf, G: Gate, W: Write, R: Threads + Wait + Sync>(
     quiet: bool,
     gate: &mut G,
     out: &mut Output<W>,
-) -> Result<Vec<u8>, RunFault>
+) -> Result<Lines, RunFault>
     requires question { IsAnswered question }
     requires workers { (1 ≤ workers) × (workers ≤ worker_limit) }
     requires sound { out.old.stream.failed ≡ false }
@@ -112,11 +92,7 @@ pub fn report<S: Shelf, G: Gate, W: Write, R: Threads + Wait + Sync>(
         bundle.now question)
         (λ _. WritesPrefix out.old.stream.written out.new.stream.written
         bundle.now question) }
-    ensures lines { IfOk result
-        (λ lines. IfExplained explain
-        (SaysBesideReport (S.tellings shelf.now) (option_map asked_by source.entry) bundle.now
-        lines.items)
-        lines.items) }
+    ensures lines { IfOk result (IsExplanation explain) }
     ensures gate { HearsBundle quiet bundle.now (G.heard gate.old) (G.heard gate.new) }
 {
     run_as_asked(rt, alloc, bundle, question, workers, quiet, gate, out)?;

@@ -5,7 +5,7 @@ ghost use Rattle.census_faults.specs.declared.run_fault.BytesFault.{BytesFault};
 ghost use Rattle.life_answer.specs.Questions.{IsAnswered};
 ghost use Rattle.census_command.specs.Gates.{HearsFolders, HearsInput, HearsRun};
 ghost use Rattle.census_command.specs.Runs.{FoldersFail, InputFails, ReportsFolders, ReportsInput, RunFails, Runs};
-ghost use Rattle.census_errors.specs.Places.{IsCensusPlace, IsFoldersPlace};
+ghost use Rattle.census_faults.specs.Explanations.{IsExplanation};
 ghost use Rattle.census_errors.specs.Sources.{StopsAtFirstLoss, asked_of, source_of};
 ghost use Rattle.census_command.specs.Streams.{HasSoundStreams};
 ghost use Rattle.census_bundle.specs.Sizes.{worker_limit};
@@ -16,7 +16,7 @@ use census_bundle::{Bundle, BundleFault, INPUT_LIMIT, read_bundle};
 use census_cli::Census;
 use census_crew::Gate;
 use census_errors::{RunError, RunStopped};
-use census_faults::BytesFault;
+use census_faults::{BytesFault, Lines};
 use census_folders::{OnLoss, Shelf, read_source};
 use std::alloc::Global;
 use std::io::{Read, Write};
@@ -53,14 +53,12 @@ fn run_input<S: Shelf, I: Read, O: Write, E: Write, G: Gate, R: Threads + Wait +
     quiet: bool,
     gate: &mut G,
     streams: &mut Streams<I, O, E>,
-) -> Result<Vec<u8>, RunError>
+) -> Result<Lines, RunError>
     requires question { IsAnswered census.now.question }
     requires workers { (1 ≤ census.now.workers) × (census.now.workers ≤ worker_limit) }
     requires sound { HasSoundStreams streams.old }
-    ensures done { IfOk result
-        (λ lines. ReportsInput
-        (S.tellings shelf.now)
-        census.now.question explain lines.items streams.old streams.new) }
+    ensures done { OnOk result (ReportsInput census.now.question streams.old streams.new) }
+    ensures lines { IfOk result (IsExplanation explain) }
     ensures sound { OnOk result (HasSoundStreams streams.new) }
     ensures fails { IfErr result (λ e. InputFails e census.now.question streams.old streams.new) }
     ensures gate { MatchResult result
@@ -96,21 +94,19 @@ fn run_folders<S: Shelf, I: Read, O: Write, E: Write, G: Gate, R: Threads + Wait
     quiet: bool,
     gate: &mut G,
     streams: &mut Streams<I, O, E>,
-) -> Result<Vec<u8>, RunStopped>
+) -> Result<Lines, RunStopped>
     requires question { IsAnswered census.now.question }
     requires workers { (1 ≤ census.now.workers) × (census.now.workers ≤ worker_limit) }
     requires stops { (asked_of census.now.collections).on_loss ≡ OnLoss.Stop }
     requires sound { HasSoundStreams streams.old }
-    ensures done { IfOk result
-        (λ lines. ReportsFolders (S.tellings shelf.now) (asked_of census.now.collections)
-        census.now.question explain lines.items streams.old streams.new) }
+    ensures done { OnOk result
+        (ReportsFolders (S.tellings shelf.now) (asked_of census.now.collections)
+        census.now.question streams.old streams.new) }
+    ensures lines { IfOk result (IsExplanation explain) }
     ensures sound { OnOk result (HasSoundStreams streams.new) }
     ensures fails { IfErr result
         (λ stopped. FoldersFail stopped.error (S.tellings shelf.now) (asked_of census.now.collections)
         census.now.question streams.old streams.new) }
-    ensures place { IfErr result
-        (λ stopped. IsFoldersPlace (S.tellings shelf.now) (asked_of census.now.collections)
-        stopped.error stopped.place) }
     ensures gate { MatchResult result
         (λ _. HearsFolders (S.tellings shelf.now) (asked_of census.now.collections) quiet
         (G.heard gate.old) (G.heard gate.new))
@@ -165,23 +161,21 @@ pub fn run_command<S: Shelf, I: Read, O: Write, E: Write, G: Gate, R: Threads + 
     quiet: bool,
     gate: &mut G,
     streams: &mut Streams<I, O, E>,
-) -> Result<Vec<u8>, RunStopped>
+) -> Result<Lines, RunStopped>
     requires question { IsAnswered census.now.question }
     requires workers { (1 ≤ census.now.workers) × (census.now.workers ≤ worker_limit) }
     requires stops { StopsAtFirstLoss (source_of census.now.collections) }
     requires sound { HasSoundStreams streams.old }
-    ensures done { IfOk result
-        (λ lines. Runs (S.tellings shelf.now)
+    ensures done { OnOk result
+        (Runs (S.tellings shelf.now)
         (source_of census.now.collections) census.now.question
-        explain lines.items streams.old streams.new) }
+        streams.old streams.new) }
+    ensures lines { IfOk result (IsExplanation explain) }
     ensures sound { OnOk result (HasSoundStreams streams.new) }
     ensures fails { IfErr result
         (λ stopped. RunFails stopped.error (S.tellings shelf.now)
         (source_of census.now.collections) census.now.question
         streams.old streams.new) }
-    ensures place { IfErr result
-        (λ stopped. IsCensusPlace (S.tellings shelf.now)
-        (source_of census.now.collections) stopped.error stopped.place) }
     ensures gate { MatchResult result
         (λ _. HearsRun (S.tellings shelf.now)
         (source_of census.now.collections) quiet

@@ -1,2 +1,2 @@
-pub mod Said
-pub mod Placed
+pub mod Telling
+mod Statuses

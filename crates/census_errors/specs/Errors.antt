@@ -1,15 +1,11 @@
 -- The error for the fault of a part.
-use Rattle.std.specs.Prelude.{◌≡◌, ◌≢◌, ◌⊎◌, ℕ, List, None}
+use Rattle.std.specs.Prelude.{◌≡◌, ◌≢◌, ◌⊎◌, None}
 use Rattle.std.specs.declared.io.ErrorKind.{ErrorKind}
 use Rattle.std.specs.declared.io.ErrorKind.TheVariants.{OutOfMemory}
-use Rattle.life_text.specs.declared.rle.RleFault.{RleFault}
-use Rattle.life_text.specs.declared.rle.RleFault.TheVariants as rle
 use Rattle.life_cells.specs.declared.reader.CodeFault.{CodeFault}
 use Rattle.life_cells.specs.declared.reader.CodeFault.TheVariants as codes
 use Rattle.watched.specs.declared.reading.ReadFault.{ReadFault}
 use Rattle.watched.specs.declared.reading.ReadFault.TheVariants as reads
-use Rattle.census_faults.specs.Faults.{text_fault}
-use Rattle.census_faults.specs.Spots.{spot_of_text}
 use Rattle.census_faults.specs.declared.run_fault.BytesFault.{BytesFault}
 use Rattle.census_faults.specs.declared.run_fault.BytesFault.TheVariants as bytes
 use Rattle.census_faults.specs.declared.run_fault.RunFault.{RunFault}
@@ -32,11 +28,6 @@ use Rattle.census_errors.specs.declared.error.CommandError.{CommandError}
 use Rattle.census_errors.specs.declared.error.CommandError.TheVariants.{Arguments, Memory}
 
 -- # Of `advance`
-
--- the fault of a text, with what is said of it
-abbrev pub advance_error_of_text : List ℕ → RleFault → AdvanceError
-advance_error_of_text text rle.Memory = advance.Memory
-advance_error_of_text text fault = advance.Text fault (text_fault text fault) (spot_of_text text fault)
 
 abbrev pub advance_error_of_read : ReadFault → AdvanceError
 advance_error_of_read reads.Read = advance.Read silent

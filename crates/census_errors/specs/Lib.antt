@@ -1,7 +1,6 @@
 pub mod Sources
 pub mod Errors
 pub mod Files
-pub mod Places
-pub mod Sayings
 pub mod Messages
+pub mod Explained
 pub mod Cuts

@@ -1,6 +1,6 @@
 //! Why the program does not do what its arguments ask for, and the exit status of each error.
 ghost use Rattle.std.specs.Prelude.{◌≡◌};
-ghost use Rattle.census_errors.specs.Messages.{advance_status, draw_status, run_status, status_of};
+ghost use Rattle.census_errors.specs.Messages.{advance_told, draw_told, run_status, status_of};
 
 use crate::advance_error::AdvanceError;
 use crate::draw_error::DrawError;
@@ -114,7 +114,7 @@ fn run_status(error: RunError) -> u8
 }
 
 fn advance_status(error: AdvanceError) -> u8
-    ensures { result ≡ advance_status error }
+    ensures { result ≡ (advance_told error).1 }
 {
     match error {
         AdvanceError::Text { .. } | AdvanceError::TooLong => 1,
@@ -124,7 +124,7 @@ fn advance_status(error: AdvanceError) -> u8
 }
 
 fn draw_status(error: DrawError) -> u8
-    ensures { result ≡ draw_status error }
+    ensures { result ≡ (draw_told error).1 }
 {
     match error {
         DrawError::Rule(_) | DrawError::Code(_) => 1,

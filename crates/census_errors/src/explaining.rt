@@ -1,7 +1,4 @@
 //! What is said of each error.
-ghost use Rattle.std.specs.Prelude.{◌≡◌, map, option_map};
-ghost use Rattle.census_errors.specs.Files.{file_of};
-ghost use Rattle.census_errors.specs.Sayings.{Says, advance_said, alone, code_in, draw_said, file_in, nth_file, reports_said, rule_in, run_said, said_of};
 
 use crate::advance_error::AdvanceError;
 use crate::draw_error::DrawError;
@@ -14,41 +11,18 @@ use census_cli::Request;
 use census_faults::{Fault, Spot, rule_fault, spot_of_bundle, spot_of_code};
 use census_reports::ReportsError;
 
-// A fault whose place is not known.
-fn nowhere<'a>(fault: Fault) -> Saying<'a>
-    ensures { Says (alone fault) result }
-{
+// A fault at this place of what is no file, or of a file that is not known.
+fn at<'a>(fault: Fault, spot: Spot) -> Saying<'a> {
     Saying {
         fault,
         name: None,
-        spot: Spot::Nowhere,
+        spot,
         word: None,
     }
 }
 
-/// What is said of an error of `run` or of `objects`.
-pub fn run_saying<'a>(error: RunError) -> Saying<'a>
-    ensures { Says (run_said error) result }
-{
-    match error {
-        RunError::Bundle(fault) => Saying {
-            fault: Fault::Bundle(fault),
-            name: None,
-            spot: spot_of_bundle(fault),
-            word: None,
-        },
-        RunError::Folder(fault) => nowhere(Fault::Folder(fault)),
-        RunError::TooLong => nowhere(Fault::TooLong),
-        RunError::Memory { .. } => nowhere(Fault::Memory),
-        RunError::Read => nowhere(Fault::Read),
-        RunError::Write => nowhere(Fault::Write),
-    }
-}
-
-// What is said of a fault of a file, or of standard input where there is none.
-fn of_file<'a>(fault: Fault, file: Option<&'a str>, spot: Spot) -> Saying<'a>
-    ensures { Says (fault, option_map (λ s. s.now) file.entry, spot) result }
-{
+// A fault at this place of a file, or of standard input where there is none.
+fn of_file<'a>(fault: Fault, file: Option<&'a str>, spot: Spot) -> Saying<'a> {
     match file {
         Some(file) => Saying {
             fault,
@@ -56,115 +30,76 @@ fn of_file<'a>(fault: Fault, file: Option<&'a str>, spot: Spot) -> Saying<'a>
             spot,
             word: None,
         },
-        None => Saying {
-            fault,
-            name: None,
-            spot,
-            word: None,
-        },
+        None => at(fault, spot),
+    }
+}
+
+/// What is said of an error of `run` or of `objects`.
+pub fn run_saying<'a>(error: RunError) -> Saying<'a> {
+    match error {
+        RunError::Bundle(fault) => at(Fault::Bundle(fault), spot_of_bundle(fault)),
+        RunError::Folder(fault) => at(Fault::Folder(fault), Spot::Nowhere),
+        RunError::TooLong => at(Fault::TooLong, Spot::Nowhere),
+        RunError::Memory { .. } => at(Fault::Memory, Spot::Nowhere),
+        RunError::Read => at(Fault::Read, Spot::Nowhere),
+        RunError::Write => at(Fault::Write, Spot::Nowhere),
     }
 }
 
 // What is said of an error of `advance` at a file, or at standard input where there is none.
-fn advance_saying<'a>(file: Option<&'a str>, error: AdvanceError) -> Saying<'a>
-    ensures { Says (advance_said (option_map (λ s. s.now) file.entry) error) result }
-{
+fn advance_saying<'a>(file: Option<&'a str>, error: AdvanceError) -> Saying<'a> {
     match error {
         AdvanceError::Text { told, spot, .. } => of_file(told, file, spot),
         AdvanceError::TooLong => of_file(Fault::TooLong, file, Spot::Nowhere),
-        AdvanceError::Memory => nowhere(Fault::Memory),
+        AdvanceError::Memory => at(Fault::Memory, Spot::Nowhere),
         AdvanceError::Read(_) => of_file(Fault::Read, file, Spot::Nowhere),
-        AdvanceError::Write => nowhere(Fault::Write),
+        AdvanceError::Write => at(Fault::Write, Spot::Nowhere),
     }
 }
 
 // What is said of an error of `draw` at a code and a rule.
-fn draw_saying<'a>(code: &[u8], rule: &[u8], error: DrawError) -> Saying<'a>
-    ensures { Says (draw_said code.now rule.now error) result }
-{
+fn draw_saying<'a>(code: &[u8], rule: &[u8], error: DrawError) -> Saying<'a> {
     match error {
-        DrawError::Rule(fault) => nowhere(rule_fault(rule, fault)),
-        DrawError::Code(fault) => Saying {
-            fault: Fault::Code(fault),
-            name: None,
-            spot: spot_of_code(code, fault),
-            word: None,
-        },
-        DrawError::Memory => nowhere(Fault::Memory),
-        DrawError::Write => nowhere(Fault::Write),
+        DrawError::Rule(fault) => at(rule_fault(rule, fault), Spot::Nowhere),
+        DrawError::Code(fault) => at(Fault::Code(fault), spot_of_code(code, fault)),
+        DrawError::Memory => at(Fault::Memory, Spot::Nowhere),
+        DrawError::Write => at(Fault::Write, Spot::Nowhere),
     }
-}
-
-// The file of the text with this number, from 1, of these files.
-fn nth_file<'a>(files: &[&'a str], number: usize) -> Option<&'a str>
-    ensures { option_map (λ s. s.now) result ≡ nth_file (map (λ s. s.now) files.now) number }
-{
-    file_of(files.get(number.saturating_sub(1)).copied())
 }
 
 /// What is said of an error of what is made of the reports of these files.
-pub fn reports_saying<'a>(files: &[&'a str], error: ReportsError) -> Saying<'a>
-    ensures { Says (reports_said (map (λ s. s.now) files.now) error) result }
-{
+pub fn reports_saying<'a>(files: &[&'a str], error: ReportsError) -> Saying<'a> {
     match error {
         ReportsError::Fault { text, line } => {
-            of_file(
-                Fault::Report,
-                nth_file(files, text),
-                Spot::Line(line as u64),
-            )
+            // (texts are numbered from 1)
+            let file = file_of(files.get(text.saturating_sub(1)).copied());
+            of_file(Fault::Report, file, Spot::Line(line as u64))
         }
-        ReportsError::Claims { line } => of_file(Fault::Claims, None, Spot::Line(line as u64)),
-        ReportsError::Names { line } => of_file(Fault::Names, None, Spot::Line(line as u64)),
-        ReportsError::TooMany { .. } => nowhere(Fault::Folder(AddFault::TooMany)),
-        ReportsError::TooLong => nowhere(Fault::TooLong),
-        ReportsError::Memory => nowhere(Fault::Memory),
-        ReportsError::Read => nowhere(Fault::Read),
-        ReportsError::Write => nowhere(Fault::Write),
-    }
-}
-
-// The file of `advance`.
-fn file_in<'r>(request: &'r Request<'_>) -> Option<&'r str>
-    ensures { option_map (λ s. s.now) result ≡ file_in request.now }
-{
-    match request {
-        Request::Advance { file, .. } => file_of(*file),
-        _ => None,
-    }
-}
-
-// The code of `draw`.
-fn code_in<'r>(request: &'r Request<'_>) -> &'r [u8]
-    ensures { result.now ≡ code_in request.now }
-{
-    match request {
-        Request::Draw { code, .. } => code.as_bytes(),
-        _ => b"",
-    }
-}
-
-// The rule of `draw`.
-fn rule_in<'r>(request: &'r Request<'_>) -> &'r [u8]
-    ensures { result.now ≡ rule_in request.now }
-{
-    match request {
-        Request::Draw { rule, .. } => rule.as_bytes(),
-        _ => b"",
+        ReportsError::Claims { line } => at(Fault::Claims, Spot::Line(line as u64)),
+        ReportsError::Names { line } => at(Fault::Names, Spot::Line(line as u64)),
+        ReportsError::TooMany { .. } => at(Fault::Folder(AddFault::TooMany), Spot::Nowhere),
+        ReportsError::TooLong => at(Fault::TooLong, Spot::Nowhere),
+        ReportsError::Memory => at(Fault::Memory, Spot::Nowhere),
+        ReportsError::Read => at(Fault::Read, Spot::Nowhere),
+        ReportsError::Write => at(Fault::Write, Spot::Nowhere),
     }
 }
 
 /// What is said of an error of this request.
-pub fn saying_of<'r>(request: &'r Request<'_>, error: CommandError) -> Saying<'r>
-    ensures { Says (said_of request.now error) result }
-{
+pub fn saying_of<'r>(request: &'r Request<'_>, error: CommandError) -> Saying<'r> {
     match error {
         CommandError::Run(error) => run_saying(error),
-        CommandError::Advance(error) => advance_saying(file_in(request), error),
-        CommandError::Draw(error) => draw_saying(code_in(request), rule_in(request), error),
+        CommandError::Advance(error) => match request {
+            Request::Advance { file, .. } => advance_saying(file_of(*file), error),
+            _ => advance_saying(None, error),
+        },
+        CommandError::Draw(error) => match request {
+            Request::Draw { code, rule } => draw_saying(code.as_bytes(), rule.as_bytes(), error),
+            _ => draw_saying(b"", b"", error),
+        },
         CommandError::Reports(error) => reports_saying(&[], error),
-        CommandError::Arguments => nowhere(Fault::Arguments),
-        CommandError::Memory => nowhere(Fault::Memory),
-        CommandError::Write => nowhere(Fault::Write),
+        CommandError::Arguments => at(Fault::Arguments, Spot::Nowhere),
+        CommandError::Memory => at(Fault::Memory, Spot::Nowhere),
+        CommandError::Write => at(Fault::Write, Spot::Nowhere),
     }
 }

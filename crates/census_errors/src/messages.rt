@@ -1,8 +1,7 @@
 //! The line on standard error for each error.
 ghost use Rattle.std.specs.Prelude.{◌≡◌, ◌≤◌, ◌++◌, decimal, length};
-ghost use Rattle.census_errors.specs.Messages.{advance_message, bundle_message, code_message};
-ghost use Rattle.census_errors.specs.Messages.{draw_message, error_line, error_message, folder_message};
-ghost use Rattle.census_errors.specs.Messages.{reports_message, rule_message, run_message};
+ghost use Rattle.census_errors.specs.Messages.{advance_told, bundle_message, code_message, draw_told};
+ghost use Rattle.census_errors.specs.Messages.{error_line, error_told, folder_message, reports_told, run_told};
 
 use crate::advance_error::AdvanceError;
 use crate::draw_error::DrawError;
@@ -13,7 +12,7 @@ use census_bundle::{AddFault, BundleFault};
 use census_faults::{Message, fault_name, message, numbered};
 use census_reports::ReportsError;
 use itoa::Buffer;
-use life_cells::{CodeFault, RuleFault};
+use life_cells::CodeFault;
 use life_text::rule_number;
 
 /// The most bytes of a line.
@@ -29,12 +28,6 @@ fn message_at(words: &str, place: usize) -> Message
     message.push_str(words);
     message.push_str(buffer.format(place));
     message
-}
-
-fn rule_message(fault: RuleFault) -> Message
-    ensures { result.bytes ≡ rule_message fault }
-{
-    numbered("rule", rule_number(fault), None)
 }
 
 fn code_message(fault: CodeFault) -> Message
@@ -74,7 +67,7 @@ fn folder_message(fault: AddFault) -> Message
 }
 
 fn advance_message(fault: AdvanceError) -> Message
-    ensures { result.bytes ≡ advance_message fault }
+    ensures { result.bytes ≡ (advance_told fault).0 }
 {
     match fault {
         AdvanceError::TooLong => message("input too long"),
@@ -86,18 +79,18 @@ fn advance_message(fault: AdvanceError) -> Message
 }
 
 fn draw_message(fault: DrawError) -> Message
-    ensures { result.bytes ≡ draw_message fault }
+    ensures { result.bytes ≡ (draw_told fault).0 }
 {
     match fault {
         DrawError::Memory => message("out of memory"),
         DrawError::Write => message("write failed"),
-        DrawError::Rule(fault) => rule_message(fault),
+        DrawError::Rule(fault) => numbered("rule", rule_number(fault), None),
         DrawError::Code(fault) => code_message(fault),
     }
 }
 
 fn run_message(fault: RunError) -> Message
-    ensures { result.bytes ≡ run_message fault }
+    ensures { result.bytes ≡ (run_told fault).0 }
 {
     match fault {
         RunError::TooLong => message("input too long"),
@@ -110,7 +103,7 @@ fn run_message(fault: RunError) -> Message
 }
 
 fn reports_message(fault: ReportsError) -> Message
-    ensures { result.bytes ≡ reports_message fault }
+    ensures { result.bytes ≡ (reports_told fault).0 }
 {
     match fault {
         ReportsError::Fault { line, .. } => message_at("report fault at line ", line),
@@ -125,7 +118,7 @@ fn reports_message(fault: ReportsError) -> Message
 }
 
 fn error_message(fault: CommandError) -> Message
-    ensures { result.bytes ≡ error_message fault }
+    ensures { result.bytes ≡ (error_told fault).0 }
 {
     match fault {
         CommandError::Arguments => message("bad command line"),

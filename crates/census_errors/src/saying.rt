@@ -1,20 +1,21 @@
 //! What is said of an error in addition to its line, where faults are explained.
-ghost use Rattle.std.specs.Prelude.{◌≡◌, ◌++◌, None, Some, codes, decimal, false};
-ghost use Rattle.std.specs.Option.{option_copied};
-ghost use Rattle.census_faults.specs.Explained.{place_heading, spot_text, word_text};
+ghost use Rattle.std.specs.Prelude.{◌≡◌, false, true};
 ghost use Rattle.census_faults.specs.Printed.{printable_text, printed_byte};
-ghost use Rattle.census_errors.specs.Messages.{error_line, status_of};
-ghost use Rattle.census_errors.specs.Sayings.{said, said_if};
-ghost use Rattle.census_errors.specs.Places.{IsSaidAt};
-ghost use Rattle.watched.specs.Streams.{PutsBytes, PutsMoreBytes};
+ghost use Rattle.census_errors.specs.Explained.{Explains, TellsOf, TellsWords};
+ghost use Rattle.census_errors.specs.Messages.{status_of};
+ghost use Rattle.watched.specs.Streams.{PutsMoreBytes};
 
 use crate::error::CommandError;
 use crate::place::Place;
+use arrayvec::ArrayString;
 use census_faults::{Fault, Spot, is_name_byte, sentence};
 use hex::encode_to_slice;
 use itoa::Buffer;
 use std::io::Write;
 use watched::Output;
+
+// The most bytes of a line and a column: two numbers of 20 digits and two `:`.
+const SPOT_LIMIT: usize = 48;
 
 /// What is said of an error: its fault, the place of that, as far as it is known, and the system's word.
 #[derive(Clone, Copy)]
@@ -30,9 +31,7 @@ pub struct Saying<'a> {
 
 impl<'a> Saying<'a> {
     /// What is said of the error at this place, as far as the place is known. What the place leaves open is as in `self`.
-    pub fn at(self, place: &'a Place) -> Saying<'a>
-        ensures { IsSaidAt self.entry place.now result }
-    {
+    pub fn at(self, place: &'a Place) -> Saying<'a> {
         let fault = if place.is_file {
             Fault::FileForFolder
         } else {
@@ -78,101 +77,78 @@ fn tell_bytes<E: Write>(name: &[u8], errors: &mut Output<E>)
     }
 }
 
-// Writes a number and `:`.
-fn tell_number<E: Write>(number: u64, errors: &mut Output<E>)
-    ensures { PutsMoreBytes (decimal number ++ codes ":") errors.old.stream errors.new.stream }
-{
+// `LINE:` or `LINE:COLUMN:`, as far as they are known.
+fn spot_text(spot: Spot) -> ArrayString<SPOT_LIMIT> {
+    let mut text = ArrayString::new();
     let mut buffer = Buffer::new();
-    errors.tell(buffer.format(number).as_bytes());
-    errors.tell(b":");
-}
-
-// Writes `LINE:` or `LINE:COLUMN:`, as far as they are known.
-fn tell_spot<E: Write>(spot: Spot, errors: &mut Output<E>)
-    ensures { PutsMoreBytes (spot_text spot) errors.old.stream errors.new.stream }
-{
     match spot {
-        Spot::Nowhere => errors.tell(b""),
-        Spot::Line(number) => tell_number(number, errors),
+        Spot::Nowhere => {}
+        Spot::Line(line) => {
+            text.push_str(buffer.format(line));
+            text.push_str(":");
+        }
         Spot::At(place) => {
-            tell_number(place.line, errors);
-            tell_number(place.column, errors);
+            text.push_str(buffer.format(place.line));
+            text.push_str(":");
+            text.push_str(buffer.format(place.column));
+            text.push_str(":");
         }
     }
+    text
 }
 
-// Writes the place of a fault whose file is not known, and a blank where anything is known.
-fn tell_place<E: Write>(spot: Spot, errors: &mut Output<E>)
-    ensures { PutsMoreBytes (place_heading None spot) errors.old.stream errors.new.stream }
-{
-    match spot {
-        Spot::Nowhere => errors.tell(b""),
-        _ => {
-            tell_spot(spot, errors);
-            errors.tell(b" ");
-        }
-    }
+// A text, or none.
+fn part(is_there: bool, text: &'static str) -> &'static [u8] {
+    if is_there { text.as_bytes() } else { b"" }
 }
 
-// Writes the file of a fault, its place there as far as it is known, and a blank.
-fn tell_named<E: Write>(name: &[u8], spot: Spot, errors: &mut Output<E>)
-    ensures { PutsMoreBytes (place_heading (Some name.now) spot) errors.old.stream errors.new.stream }
+// Writes bytes as they are shown.
+fn tell_shown<E: Write>(bytes: &[u8], errors: &mut Output<E>)
+    ensures { TellsWords errors.old.stream errors.new.stream }
 {
-    tell_bytes(name, errors);
-    errors.tell(b":");
-    tell_spot(spot, errors);
-    errors.tell(b" ");
+    tell_bytes(bytes, errors);
 }
 
 // Writes what is known of the place of a fault, and a blank where anything is.
-fn tell_heading<E: Write>(name: Option<&[u8]>, spot: Spot, errors: &mut Output<E>)
-    ensures { PutsMoreBytes (place_heading (option_copied name.entry) spot) errors.old.stream errors.new.stream }
+fn tell_place<E: Write>(saying: &Saying<'_>, errors: &mut Output<E>)
+    ensures { TellsWords errors.old.stream errors.new.stream }
 {
-    match name {
-        Some(name) => tell_named(name, spot, errors),
-        None => tell_place(spot, errors),
-    }
+    let is_named = saying.name.is_some();
+    let is_known = is_named || saying.spot != Spot::Nowhere;
+    tell_shown(saying.name.unwrap_or(b""), errors);
+    tell_shown(part(is_named, ":"), errors);
+    tell_shown(spot_text(saying.spot).as_str().as_bytes(), errors);
+    tell_shown(part(is_known, " "), errors);
 }
 
-// Writes ` (WORD)`.
-fn tell_in_brackets<E: Write>(word: &[u8], errors: &mut Output<E>)
-    ensures { PutsMoreBytes (word_text (Some word.now)) errors.old.stream errors.new.stream }
+// Writes the sentence for a fault, and ` (WORD)` where there is a word.
+fn tell_fault<E: Write>(saying: &Saying<'_>, errors: &mut Output<E>)
+    ensures { TellsWords errors.old.stream errors.new.stream }
 {
-    errors.tell(b" (");
-    tell_bytes(word, errors);
-    errors.tell(b")");
+    let has_word = saying.word.is_some();
+    tell_shown(sentence(saying.fault).as_bytes(), errors);
+    tell_shown(part(has_word, " ("), errors);
+    tell_shown(saying.word.unwrap_or(b""), errors);
+    tell_shown(part(has_word, ")"), errors);
 }
 
-// Writes ` (WORD)`, where there is a word.
-fn tell_word<E: Write>(word: Option<&[u8]>, errors: &mut Output<E>)
-    ensures { PutsMoreBytes (word_text (option_copied word.entry)) errors.old.stream errors.new.stream }
-{
-    match word {
-        Some(word) => tell_in_brackets(word, errors),
-        None => errors.tell(b""),
-    }
-}
-
-/// Writes what is said of an error, in a line that begins with two blanks, and asks for no memory. Where the stream has failed
-/// before, the line is lost.
-pub fn say<E: Write>(saying: Saying<'_>, errors: &mut Output<E>)
-    ensures { PutsMoreBytes (said saying.entry) errors.old.stream errors.new.stream }
+// Writes what is said of an error, in a line that begins with two blanks.
+fn say<E: Write>(saying: &Saying<'_>, errors: &mut Output<E>)
+    ensures { Explains true errors.old.stream errors.new.stream }
 {
     errors.tell(b"  ");
-    tell_heading(saying.name, saying.spot, errors);
-    errors.tell(sentence(saying.fault).as_bytes());
-    tell_word(saying.word, errors);
+    tell_place(saying, errors);
+    tell_fault(saying, errors);
     errors.tell(b"\n");
 }
 
-/// Writes what is said of an error, as `say` does, where faults are explained, otherwise nothing.
+/// Writes what is said of an error, where faults are explained, in a line that begins with two blanks, and asks for no memory.
+/// Where the stream has failed before, the line is lost.
 pub fn say_if<E: Write>(explain: bool, saying: Saying<'_>, errors: &mut Output<E>)
-    ensures { PutsMoreBytes (said_if explain (said saying.entry)) errors.old.stream errors.new.stream }
+    ensures { Explains explain errors.old.stream errors.new.stream }
 {
     if explain {
-        say(saying, errors);
-    } else {
-        errors.tell(b"");
+        say(&saying, errors);
     }
 }
 
@@ -186,8 +162,7 @@ pub fn stop_saying<E: Write>(
 ) -> u8
     requires { errors.old.stream.failed ≡ false }
     ensures status { result ≡ status_of error }
-    ensures lines { PutsBytes (error_line error ++ said_if explain (said saying.entry)) errors.old.stream
-        errors.new.stream }
+    ensures lines { TellsOf error explain errors.old.stream errors.new.stream }
 {
     errors.tell(error.line().as_str().as_bytes());
     say_if(explain, saying, errors);

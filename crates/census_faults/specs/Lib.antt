@@ -1,9 +1,4 @@
 pub mod Printed
+pub mod Explanations
 pub mod Numbers
-pub mod Faults
-pub mod Sentences
-pub mod Spots
-pub mod Explained
-pub mod Refusals
-pub mod BundleRefusals
 pub mod Rle

@@ -1,7 +1,4 @@
 //! What can be wrong.
-ghost use Rattle.std.specs.Prelude.{◌≡◌};
-ghost use Rattle.census_faults.specs.Faults.{rule_fault, text_fault};
-ghost use Rattle.census_faults.specs.Sentences.{sentence_of, words_of};
 
 use crate::rle::{FileKind, RuleKind, file_kind, rule_in_header, rule_kind};
 use census_bundle::{AddFault, BundleFault};
@@ -23,8 +20,6 @@ pub enum Fault {
     Folder(AddFault),
     /// The body of a code has this fault.
     Code(CodeFault),
-    /// A number of generations is above 4,194,304, or is not a number.
-    Generation,
     /// A line is not one that a report has there.
     Report,
     /// A row is not one of claims.
@@ -41,19 +36,13 @@ pub enum Fault {
     Write,
     /// An argument is not text.
     Arguments,
-    /// The words of the command line ask for something that does not exist.
-    Words,
     /// Memory was refused.
     Memory,
 }
 
 /// The fault of an RLE text. Where the text has no header line, it is the kind of file that the text is instead, and where the
 /// rule is not Life-like, the kind of the rule that the header names.
-pub fn text_fault(text: &[u8], fault: RleFault) -> Fault
-    ensures value { result ≡ text_fault text.now fault }
-    // Its sentence is the one that is reported for the text elsewhere.
-    ensures words { sentence_of result ≡ words_of text.now fault }
-{
+pub fn text_fault(text: &[u8], fault: RleFault) -> Fault {
     match fault {
         RleFault::NoHeader => Fault::File(file_kind(text)),
         RleFault::Rule(RuleFault::NotLifeLike) => match rule_in_header(text) {
@@ -66,9 +55,7 @@ pub fn text_fault(text: &[u8], fault: RleFault) -> Fault
 
 /// The fault of a rule text: the kind of rule that it names where it is not Life-like, and any other fault as for the rule of an
 /// RLE text.
-pub fn rule_fault(rule: &[u8], fault: RuleFault) -> Fault
-    ensures { result ≡ rule_fault rule.now fault }
-{
+pub fn rule_fault(rule: &[u8], fault: RuleFault) -> Fault {
     match fault {
         RuleFault::NotLifeLike => Fault::Rule(rule_kind(rule)),
         _ => Fault::Text(RleFault::Rule(fault)),

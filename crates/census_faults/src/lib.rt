@@ -4,27 +4,25 @@
 //! Tested in `tests_objects`.
 #![tactic(auto)]
 
-mod explaining;
 mod fault;
+mod lines;
 mod messages;
 mod printing;
-mod refusal;
 mod refusals;
 mod rle;
 mod run_fault;
 mod sentences;
 mod spot;
 
-pub use explaining::explanation;
 pub use fault::{Fault, rule_fault, text_fault};
+pub use lines::{Lines, Words};
 pub use messages::{Message, message, numbered};
 pub use printing::{is_name_byte, printable_text, shown_names};
-pub use refusal::refusal_line;
 pub use refusals::refusal_lines;
 pub use rle::{
     FileKind, Place, RuleKind, fault_line, fault_name, fault_words, line_and_column, place_of,
-    refused_rules_are_told, rule_kind, sentence_line, sentences_differ,
+    rule_kind,
 };
 pub use run_fault::{BytesFault, RunFault};
-pub use sentences::{faults_differ, sentence};
+pub use sentences::sentence;
 pub use spot::{Spot, spot_of_bundle, spot_of_code, spot_of_text};

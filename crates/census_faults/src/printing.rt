@@ -27,7 +27,7 @@ fn push_byte(text: &mut Vec<u8>, byte: u8) -> Result<(), AllocError>
 }
 
 // Appends bytes as they are shown.
-pub(crate) fn push_printed(text: &mut Vec<u8>, bytes: &[u8]) -> Result<(), AllocError>
+fn push_printed(text: &mut Vec<u8>, bytes: &[u8]) -> Result<(), AllocError>
     ensures { OnOk result (text.new.items ≡ text.old.items ++ printable_text bytes.now) }
 {
     for byte in bytes {

@@ -19,7 +19,5 @@ pub use life_text::RleFault;
 pub use line::{line_and_column, place_of};
 pub use places::Place;
 pub use reported::fault_words;
-pub use sentences::{
-    file_sentence, refused_rules_are_told, rule_sentence, sentence, sentences_differ,
-};
-pub use told::{fault_line, fault_name, sentence_line};
+pub use sentences::{file_sentence, rule_sentence, sentence, words_of};
+pub use told::{fault_line, fault_name, place_text};

@@ -1,6 +1,4 @@
 //! The sentence for each fault.
-ghost use Rattle.std.specs.Prelude.{◌≡◌};
-ghost use Rattle.census_faults.specs.Sentences.{FaultsDiffer, bundle_sentence, code_sentence, folder_sentence, sentence_of};
 
 use crate::fault::Fault;
 use crate::rle::{file_sentence, rule_sentence, sentence as text_sentence};
@@ -9,9 +7,7 @@ use life_cells::CodeFault;
 use life_text::RleFault;
 
 // Of a bundle text.
-fn bundle_sentence(fault: BundleFault) -> &'static str
-    ensures { result.now ≡ bundle_sentence fault }
-{
+fn bundle_sentence(fault: BundleFault) -> &'static str {
     match fault {
         BundleFault::StrayText { line: _ } =>
             "text stands on a line that belongs to no pattern: it must come after a line `@file NAME`",
@@ -28,9 +24,7 @@ fn bundle_sentence(fault: BundleFault) -> &'static str
 }
 
 // Of a folder, or of a file of one.
-fn folder_sentence(fault: AddFault) -> &'static str
-    ensures { result.now ≡ folder_sentence fault }
-{
+fn folder_sentence(fault: AddFault) -> &'static str {
     match fault {
         AddFault::BadName =>
             "the name of a folder or of a file is not lawful: it must have 1 to 255 bytes, none of them a control character, and no blank at either end",
@@ -43,9 +37,7 @@ fn folder_sentence(fault: AddFault) -> &'static str
 }
 
 // Of the body of a code.
-fn code_sentence(fault: CodeFault) -> &'static str
-    ensures { result.now ≡ code_sentence fault }
-{
+fn code_sentence(fault: CodeFault) -> &'static str {
     match fault {
         CodeFault::Empty =>
             "the code has no body: something must follow its first `_`, as `153` in `xq4_153`",
@@ -60,9 +52,7 @@ fn code_sentence(fault: CodeFault) -> &'static str
 }
 
 /// The sentence for a fault: what is wrong, and what would be right.
-pub fn sentence(fault: Fault) -> &'static str
-    ensures { result.now ≡ sentence_of fault }
-{
+pub fn sentence(fault: Fault) -> &'static str {
     match fault {
         Fault::Text(fault) => text_sentence(fault),
         Fault::File(kind) => file_sentence(kind),
@@ -70,8 +60,6 @@ pub fn sentence(fault: Fault) -> &'static str
         Fault::Bundle(fault) => bundle_sentence(fault),
         Fault::Folder(fault) => folder_sentence(fault),
         Fault::Code(fault) => code_sentence(fault),
-        Fault::Generation =>
-            "the generation can't be asked for: it must be a number from 0 to 4194304",
         Fault::Report =>
             "a line is not one that a report has in this place: it must be as `census run` or `census objects` writes it",
         Fault::Claims =>
@@ -86,14 +74,6 @@ pub fn sentence(fault: Fault) -> &'static str
             "a file stands where a folder is wanted: `census identify FILE` tells what the pattern of a file is",
         Fault::Write => "writing failed: what the output goes to must stay open and have room",
         Fault::Arguments => "an argument is no text: each must be in UTF-8",
-        Fault::Words =>
-            "the words ask for nothing that there is: they must be as `census --help` tells",
         Fault::Memory => text_sentence(RleFault::Memory),
     }
 }
-
-/// The sentence for a fault identifies it. Two faults with one sentence are one: they differ at most in their places, or both are
-/// out of memory, or both are a rule that is not Life-like, or a text without a header line, and of no kind that has a name.
-pub fn faults_differ()
-    ensures { FaultsDiffer }
-{}

@@ -5,5 +5,3 @@ pub mod Walked
 pub mod Planted
 pub mod Keeps
 pub mod Quiet
-mod Words
-mod Rows

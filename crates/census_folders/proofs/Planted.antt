@@ -8,8 +8,8 @@ use Rattle.census_folders.specs.declared.loss.Loss.{Loss}
 use Rattle.census_folders.specs.declared.loss.OnLoss.{OnLoss}
 use Rattle.census_folders.specs.Losses.{StopsAt}
 use Rattle.census_folders.specs.Tellings.{Tellings}
-use Rattle.census_folders.specs.Trees.{AddsTree, AreTrees, HoldsTrees, LosesInTrees}
-use Rattle.census_folders.specs.Walks.{HoldsTree, IsTree, LosesInTree}
+use Rattle.census_folders.specs.Trees.{AddsTree, HoldsTrees, LosesInTrees}
+use Rattle.census_folders.specs.Walks.{HoldsTree, LosesInTree}
 use Rattle.census_folders.proofs.Listings.{words_of}
 use Rattle.census_folders.proofs.Reaches.{weaker}
 
@@ -35,9 +35,3 @@ pub stops_at_tree : (on_loss : OnLoss) (shelf : Tellings) (words : List (Bor (Li
     → HoldsTrees on_loss shelf (words_of (take i words)) mid lost → StopsAt on_loss (LosesInTree on_loss shelf (get_or words i d).now) ⊥ fault → StopsAt on_loss (LosesInTrees on_loss shelf (words_of words)) ⊥ fault
 stops_at_tree on_loss shelf words i d mid lost fault within before why =
     weaker on_loss (LosesInTree on_loss shelf (get_or words i d).now) (LosesInTrees on_loss shelf (words_of words)) fault (λ loss tree. loses_at_tree on_loss shelf words i d mid lost loss within before tree) why
-
--- all folders of one more word
-pub next_folders : (shelf : Tellings) (words : List (Bor (List ℕ))) (i : ℕ) (d : Bor (List ℕ)) (mid tree new : List (List ℕ)) → i < length words
-    → AreTrees shelf (words_of (take i words)) mid → IsTree shelf (get_or words i d).now tree → new ≡ mid ++ tree → AreTrees shelf (words_of (take (i + 1) words)) new
-next_folders shelf words i d mid tree new within told is added =
-    rw (map_more (λ s. s.now) words i d within) (FoldsTo-push (λ old word new. (tree : List (List ℕ)) × IsTree shelf word tree × (new ≡ old ++ tree)) [] (words_of (take i words)) mid (get_or words i d).now new told (tree, is, added))

@@ -17,7 +17,7 @@ use Rattle.census_folders.specs.Losses.{StopsAt}
 use Rattle.census_folders.specs.Paths.{is_any}
 use Rattle.census_folders.specs.Tellings.{Tellings}
 use Rattle.census_folders.specs.Told.{Told}
-use Rattle.census_folders.specs.Walks.{AddsVisit, HoldsTree, GivesNames, IsFirstInner, IsUnread, IsTree, IsVisit, LosesInTree, LosesInner, LosesVisit, Visit, inner_paths, is_taken, lost_below, lost_in, names_given, paths, paths_below}
+use Rattle.census_folders.specs.Walks.{AddsVisit, HoldsTree, GivesNames, IsFirstInner, IsUnread, IsVisit, LosesInTree, LosesInner, LosesVisit, Visit, inner_paths, is_taken, lost_below, lost_in, names_given, paths, paths_below}
 use Rattle.census_folders.proofs.Reaches.{never, weaker}
 
 -- some name was chosen where some name is there
@@ -92,29 +92,6 @@ pub one_more_left : (on_loss : OnLoss) (shelf : Tellings) (word path : List ℕ)
     → Walked on_loss shelf word found chosen start lost count → AddsVisit on_loss shelf path found more lost later taken → Walked on_loss shelf word more chosen start later (count + 1)
 one_more_left on_loss shelf word path found more chosen start lost later count taken false_ within at before adds =
     more_found on_loss shelf word path found more chosen start lost later count taken within at before adds chosen (pass_it path chosen taken false_)
-
--- # Whichever are taken
-
--- `count` folders of those that were found were walked, and the walk continued past what can't be determined.
-pub record Toured (shelf : Tellings) (word : List ℕ) (found : List (List ℕ)) (lost : List Loss) (count : ℕ) : Type 0 where
-  pub chosen : List (List ℕ)
-  pub walked : Walked Keep shelf word found chosen [] lost count
-
-pub none_toured : (shelf : Tellings) (word : List ℕ) (found : List (List ℕ)) → found ≡ word ∷ [] → Toured shelf word found [] 0
-none_toured shelf word found is = record { chosen = []; walked = none_walked Keep shelf word found [] is }
-
-pub one_more_toured : (shelf : Tellings) (word path : List ℕ) (found more : List (List ℕ)) (lost later : List Loss) (count : ℕ) (taken : Bool) → count < length found → path ≡ get_or found count path
-    → Toured shelf word found lost count → AddsVisit Keep shelf path found more lost later taken → Toured shelf word more later (count + 1)
-one_more_toured shelf word path found more lost later count true within at before adds =
-    record { chosen = before.chosen ++ path ∷ []; walked = one_more_taken Keep shelf word path found more before.chosen [] lost later count true refl within at before.walked adds }
-one_more_toured shelf word path found more lost later count false within at before adds =
-    record { chosen = before.chosen; walked = one_more_left Keep shelf word path found more before.chosen [] lost later count false refl within at before.walked adds }
-
-pub every_one : (shelf : Tellings) (word : List ℕ) (found : List (List ℕ)) (lost : List Loss) (count : ℕ) → length found ≤ count → Toured shelf word found lost count → IsTree shelf word found
-every_one shelf word found lost count all toured =
-    let w = toured.walked in
-    let every : paths w.visits ≡ found = w.order ∙ take_all count found all in
-    record { visits = w.visits; told = w.told; whole = every ∙ w.found_are; are = sym every }
 
 -- # The end
 

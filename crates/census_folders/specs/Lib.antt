@@ -8,5 +8,4 @@ pub mod Walks
 pub mod Trees
 pub mod Reading
 pub mod Sources
-pub mod Hints
 pub mod Hearing

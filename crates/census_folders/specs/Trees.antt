@@ -5,7 +5,7 @@ use Rattle.census_folders.specs.declared.loss.Loss.{Loss}
 use Rattle.census_folders.specs.declared.loss.OnLoss.{OnLoss}
 use Rattle.census_folders.specs.Losses.{EndsAmong}
 use Rattle.census_folders.specs.Tellings.{Tellings}
-use Rattle.census_folders.specs.Walks.{HoldsTree, IsTree, LosesInTree}
+use Rattle.census_folders.specs.Walks.{HoldsTree, LosesInTree}
 
 -- folders that were found, and what was lost on the way to them
 pub record Planted : Type 0 where
@@ -27,8 +27,3 @@ HoldsTrees on_loss shelf words folders lost =
 abbrev pub LosesInTrees : OnLoss → Tellings → List (List ℕ) → Loss → Type 0
 LosesInTrees on_loss shelf words loss =
     EndsAmong (AddsTree on_loss shelf) (λ found word. LosesInTree on_loss shelf word) (record { folders = []; lost = [] }) words loss
-
--- These are all folders at and below each of the words, in the order of the words.
-abbrev pub AreTrees : Tellings → List (List ℕ) → List (List ℕ) → Type 0
-AreTrees shelf words folders =
-    FoldsTo (λ old word new. (tree : List (List ℕ)) × IsTree shelf word tree × (new ≡ old ++ tree)) [] words folders

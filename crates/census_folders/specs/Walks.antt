@@ -109,14 +109,6 @@ pub record HoldsTree (on_loss : OnLoss) (shelf : Tellings) (word : List ℕ) (fo
   pub order : AreInOrder folders
   pub losses : after ≡ before ++ lost_below visits
 
--- All folders at and below the word: its own, and each folder in one of them. A folder whose folders can't be determined has
--- none.
-pub record IsTree (shelf : Tellings) (word : List ℕ) (folders : List (List ℕ)) : Type 0 where
-  pub visits : List Visit
-  pub told : All (IsVisit Keep shelf) visits
-  pub whole : paths visits ≡ word ∷ paths_below visits
-  pub are : folders ≡ paths visits
-
 -- The folders before this one were walked, and nothing was lost in them; in this one this is lost.
 pub record LosesInTree (on_loss : OnLoss) (shelf : Tellings) (word : List ℕ) (loss : Loss) : Type 0 where
   pub visits : List Visit

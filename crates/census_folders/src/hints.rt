@@ -1,98 +1,150 @@
 //! The lines that hint at what may have been overlooked.
-ghost use Rattle.std.specs.Prelude.{◌≡◌, ◌++◌, [], if◌then◌else◌, IfOk, OnOk, decimal, option_map};
-ghost use Rattle.census_folders.specs.Sources.{asked_by};
-ghost use Rattle.census_folders.specs.Hints.{Hints, empty_folder_count, note, passed_text};
 
-use crate::passed::passed_over;
+use crate::loss::{Losses, OnLoss};
 use crate::shelf::Shelf;
 use crate::source::Source;
-use crate::stray::stray_lines;
-use census_bundle::Bundle;
+use crate::unread::ShelfFault;
+use crate::walking::visit;
+use census_bundle::{Bundle, Entry};
+use census_faults::{Lines, Words};
 use itoa::Buffer;
+use memchr::{memchr, memmem};
 use std::alloc::{AllocError, Global};
 
-// How many collections have no pattern.
-fn empty_folder_count(bundle: &Bundle) -> usize
-    ensures { result ≡ empty_folder_count bundle.now }
-{
-    bundle
-        .folders()
-        .iter()
-        .filter(|folder| folder.entries.as_slice().is_empty())
-        .count()
+const STRAY: &[u8] =
+    b": `@file ` or `@folder ` stands after the `!` of a text, on a line that something else begins: the next pattern may be lost in it";
+
+const PASSED: &[u8] = b"; names passed over that look like patterns: ";
+
+const ENDS: &[u8] = b"; the name of a pattern file must end in `.rle`";
+
+// Whether `@file ` or `@folder ` follows the first `!` of a text that isn't lost.
+fn may_hold_lines(entry: &Entry) -> bool {
+    let text = entry.text.as_slice();
+    let after: &[u8] = match memchr(b'!', text) {
+        Some(at) => &text[at + 1..],
+        None => b"",
+    };
+    let is_stray = memmem::find(after, b"@file ").is_some()
+        || memmem::find(after, b"@folder ").is_some();
+    !entry.is_lost && is_stray
 }
 
-// Appends a number.
-fn push_number(lines: &mut Vec<u8>, number: u128) -> Result<(), AllocError>
-    ensures { OnOk result (lines.new.items ≡ lines.old.items ++ decimal number) }
-{
-    let mut buffer = Buffer::new();
-    lines.extend_from_slice(buffer.format(number).as_bytes())?;
-    Ok(())
+// Adds the line of a pattern of this collection in whose text the next pattern may be lost.
+fn push_stray(
+    alloc: Global,
+    lines: &mut Lines,
+    collection: &[u8],
+    entry: &Entry,
+) -> Result<(), AllocError> {
+    let mut words = Words::none(alloc);
+    words.add(collection)?;
+    words.add(b"/")?;
+    words.add(entry.name.as_slice())?;
+    words.add(STRAY)?;
+    lines.push(&words)
 }
 
-// Appends how many names were passed over.
-fn push_passed(lines: &mut Vec<u8>, passed: u128) -> Result<(), AllocError>
-    ensures { OnOk result (lines.new.items ≡ lines.old.items ++ passed_text passed) }
-{
-    lines.extend_from_slice(b"; names passed over that look like patterns: ")?;
-    push_number(lines, passed)?;
-    lines.extend_from_slice(b"; the name of a pattern file must end in `.rle`")?;
-    Ok(())
+// Whether a name looks like that of a pattern, and doesn't end in `.rle`.
+fn is_alike(name: &[u8]) -> bool {
+    name.ends_with(b".RLE")
+        || name.ends_with(b".rle.gz")
+        || name.ends_with(b".cells")
+        || name.ends_with(b".lif")
+        || name.ends_with(b".mc")
 }
 
-// Appends how many names were passed over, if the bundle was read from folders, and otherwise nothing.
-fn push_passed_if(lines: &mut Vec<u8>, from_folders: bool, passed: u128) -> Result<(), AllocError>
-    ensures { OnOk result
-        (lines.new.items ≡ lines.old.items ++ (if from_folders then passed_text passed else [])) }
-{
-    if from_folders {
-        push_passed(lines, passed)?;
+// How many such names a folder lists: none where it can't be listed.
+fn passed_in<S: Shelf>(shelf: &S, alloc: Global, folder: &str) -> Result<usize, AllocError> {
+    match shelf.list(alloc, folder) {
+        Ok(listing) => {
+            let names = listing.as_slice().split(|byte| *byte == 0);
+            Ok(names.filter(|name| is_alike(name)).count())
+        }
+        Err(ShelfFault::Memory) => Err(AllocError),
+        Err(ShelfFault::Unread(_) | ShelfFault::TooLong) => Ok(0),
     }
-    Ok(())
 }
 
-// Appends the line that says how many collections have no pattern and how many names were passed over, if there are any.
+// How many such names the folders of these words list, and where those below them are read too, all at and below them.
+fn passed_over<S: Shelf>(
+    shelf: &S,
+    alloc: Global,
+    words: &[&str],
+    below: bool,
+) -> Result<usize, AllocError> {
+    let mut folders = Vec::new(alloc);
+    for word in words {
+        folders.push(String::from_str(alloc, word)?)?;
+    }
+    let mut lost = Losses::none(alloc);
+    let mut passed = 0;
+    let mut at = 0;
+    while at < folders.len() {
+        let folder = folders[at].clone()?;
+        passed = passed_in(shelf, alloc, folder.as_str())?.saturating_add(passed);
+        if below {
+            let keep = OnLoss::Keep;
+            let Ok(_) = visit(shelf, alloc, keep, &mut folders, &mut lost, folder.as_str()) else {
+                return Err(AllocError);
+            };
+        }
+        at += 1;
+    }
+    Ok(passed)
+}
+
+// Adds the line that says how many collections have no pattern and, of folders, how many names were passed over, if there are any.
 fn push_note(
-    lines: &mut Vec<u8>,
-    from_folders: bool,
+    alloc: Global,
+    lines: &mut Lines,
     empty: usize,
-    passed: u128,
-) -> Result<(), AllocError>
-    ensures { OnOk result (lines.new.items ≡ lines.old.items ++ note from_folders empty passed) }
-{
-    if empty == 0 && passed == 0 {
+    passed: Option<usize>,
+) -> Result<(), AllocError> {
+    if empty == 0 && passed.unwrap_or(0) == 0 {
         return Ok(());
     }
-    lines.extend_from_slice(b"  collections without a pattern: ")?;
-    push_number(lines, empty as u128)?;
-    push_passed_if(lines, from_folders, passed)?;
-    lines.extend_from_slice(b"\n")?;
-    Ok(())
+    let mut buffer = Buffer::new();
+    let mut words = Words::none(alloc);
+    words.add(b"collections without a pattern: ")?;
+    words.add(buffer.format(empty).as_bytes())?;
+    if let Some(passed) = passed {
+        words.add(PASSED)?;
+        words.add(buffer.format(passed).as_bytes())?;
+        words.add(ENDS)?;
+    }
+    lines.push(&words)
 }
 
-/// The lines that hint at what may have been overlooked in the collections of a bundle, each after two blanks. There is one
-/// for each pattern in whose text `@file ` or `@folder ` follows the first `!`, as `COLLECTION/NAME: ` and a sentence, in the
-/// order of the bundle. If there are any, one more says how many collections have no pattern and how many names were passed
-/// over that look like patterns: those that end in `.RLE`, `.rle.gz`, `.cells`, `.lif` or `.mc`. A text that is lost is not
-/// looked at.
+/// Adds the lines that hint at what may have been overlooked in the collections of a bundle. There is one for each pattern in
+/// whose text `@file ` or `@folder ` follows the first `!`, as `COLLECTION/NAME: ` and a sentence, in the order of the bundle. If
+/// there are any, one more says how many collections have no pattern and how many names were passed over that look like
+/// patterns: those that end in `.RLE`, `.rle.gz`, `.cells`, `.lif` or `.mc`. A text that is lost is not looked at.
 ///
 /// Only if the bundle was read from folders, whose source is given, is the shelf asked what these list, and are names
 /// reported that were passed over: those in the folders of its words, and if the folders below them were read too, those in
 /// each of these, whether it became a collection or not. A folder that can't be listed has none.
-pub fn hint_lines<S: Shelf>(
+pub fn push_hints<S: Shelf>(
     shelf: &S,
     alloc: Global,
+    lines: &mut Lines,
     bundle: &Bundle,
     source: Option<Source<'_, '_>>,
-) -> Result<Vec<u8>, AllocError>
-    ensures { IfOk result
-        (λ lines. Hints (S.tellings shelf.now) (option_map asked_by source.entry) bundle.now
-        lines.items) }
-{
-    let mut lines = stray_lines(alloc, bundle)?;
-    let passed = passed_over(shelf, alloc, source)?;
-    let empty = empty_folder_count(bundle);
-    push_note(&mut lines, source.is_some(), empty, passed)?;
-    Ok(lines)
+) -> Result<(), AllocError> {
+    let mut empty = 0_usize;
+    for folder in bundle.folders() {
+        if folder.entries.as_slice().is_empty() {
+            empty = empty.saturating_add(1);
+        }
+        for entry in folder.entries.as_slice() {
+            if may_hold_lines(entry) {
+                push_stray(alloc, lines, folder.name.as_slice(), entry)?;
+            }
+        }
+    }
+    let passed = match source {
+        Some(source) => Some(passed_over(shelf, alloc, source.words, source.below)?),
+        None => None,
+    };
+    push_note(alloc, lines, empty, passed)
 }

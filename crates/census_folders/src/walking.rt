@@ -4,7 +4,7 @@ ghost use Rattle.std.specs.List.{filter};
 ghost use Rattle.std.specs.Str.{is_utf8};
 ghost use Rattle.census_folders.specs.Losses.{IsFirst, StopsAt, lost_at};
 ghost use Rattle.census_folders.specs.Paths.{is_any, names_in, path_of};
-ghost use Rattle.census_folders.specs.Walks.{AddsVisit, AreAllowed, GivesNames, HoldsTree, IsFirstInner, IsTree, IsUnread};
+ghost use Rattle.census_folders.specs.Walks.{AddsVisit, AreAllowed, GivesNames, HoldsTree, IsFirstInner, IsUnread};
 ghost use Rattle.census_folders.specs.Walks.{LosesInTree, LosesVisit, inner_paths, is_taken, lost_in, lost_names, names_given};
 
 use crate::fault::SourceFault;
@@ -196,7 +196,7 @@ fn add_folders(
 }
 
 // Adds the folders of a folder to those that were found. Returns whether the folder is taken.
-fn visit<S: Shelf>(
+pub(crate) fn visit<S: Shelf>(
     shelf: &S,
     alloc: Global,
     on_loss: OnLoss,
@@ -246,34 +246,4 @@ pub fn folders_below<S: Shelf>(
     }
     chosen.sort()?;
     Ok(chosen)
-}
-
-// All folders at and below this one, each under its path. The walk continues past what can't be determined.
-pub fn every_folder_below<S: Shelf>(
-    shelf: &S,
-    alloc: Global,
-    word: &str,
-) -> Result<Vec<String>, AllocError>
-    ensures { IfOk result
-        (λ folders. IsTree (S.tellings shelf.now) word.now (map string_bytes folders.items)) }
-{
-    let mut found = Vec::new(alloc);
-    found.push(String::from_str(alloc, word)?)?;
-    let mut lost = Losses::none(alloc);
-    let mut at = 0;
-    while at < found.len() {
-        let folder = found[at].clone()?;
-        let Ok(_) = visit(
-            shelf,
-            alloc,
-            OnLoss::Keep,
-            &mut found,
-            &mut lost,
-            folder.as_str(),
-        ) else {
-            return Err(AllocError);
-        };
-        at += 1;
-    }
-    Ok(found)
 }

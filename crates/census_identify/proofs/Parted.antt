@@ -1,12 +1,10 @@
 -- What is told of one more.
 use Rattle.std.proofs.Common.{◌≡◌, ℕ, Bool, true, false, List, [], ◌∷◌, ◌++◌, max, refl, sym, ap, ◌∙◌, append_assoc, append-nil, arith}
 use Rattle.std.proofs.lemmas.List.{map-append}
-use Rattle.census_identify.specs.declared.blocks.inquiry.Inquiry.{Inquiry}
-use Rattle.census_facts.specs.Names.{Entry}
 use Rattle.census_facts.specs.Forms.{separator}
 use Rattle.census_facts.specs.declared.form.Form.{Form}
-use Rattle.census_identify.specs.Hearing.{Hearing}
-use Rattle.census_identify.specs.Telling.{block_after, blocks_in, blocks_text, line_told, lines_text, output_of, parted, status_of, told_of, told_words}
+use Rattle.census_identify.specs.Hearing.{Hearing, told_words}
+use Rattle.census_identify.specs.Telling.{block_after, blocks_in, blocks_text, line_told, lines_text, output_of, parted, status_of}
 use Rattle.census_identify.specs.declared.told.Told.{Told}
 use Rattle.census_identify.specs.declared.told.Told.TheVariants.{Block, Line}
 
@@ -67,5 +65,5 @@ any_block told block = ap has_any (block_more told block) ∙ any_more (blocks_i
 pub same_blocks : (told : List Told) (line : List ℕ) (status : ℕ) → has_any (blocks_in (told ++ Line line status ∷ [])) ≡ has_any (blocks_in told)
 same_blocks told line status = ap has_any (no_block_more told line status)
 
-pub tellings_more : (inquiry : Inquiry) (names : List Entry) (heard : List Hearing) (h : Hearing) → told_words inquiry names (heard ++ h ∷ []) ≡ told_words inquiry names heard ++ told_of inquiry names h.word h.heard ∷ []
-tellings_more inquiry names heard h = map-append (λ h. told_of inquiry names h.word h.heard) heard (h ∷ [])
+pub tellings_more : (heard : List Hearing) (h : Hearing) → told_words (heard ++ h ∷ []) ≡ told_words heard ++ h.told ∷ []
+tellings_more heard h = map-append (λ h. h.told) heard (h ∷ [])

@@ -1,6 +1,7 @@
 -- What was told of the words so far, and of one more.
 use Rattle.std.proofs.Common.{◌≡◌, ℕ, suc, ◌+◌, ◌<◌, false, List, [], ◌∷◌, ◌++◌, Bor, map, length, take, drop, get_or, refl, sym, ap, subst, ◌∙◌, append-nil, drop-cons, arith}
 use Rattle.std.proofs.lemmas.List.{map-append, map_more, take-append-drop}
+use Rattle.std.proofs.lemmas.List.Elements.{All-append, All-cons, All-nil}
 use Rattle.watched.specs.Watching.{ConsumesAtMost}
 use Rattle.census_identify.specs.declared.blocks.inquiry.Inquiry.{Inquiry}
 use Rattle.census_facts.specs.Names.{Entry}
@@ -9,10 +10,10 @@ use Rattle.census_folders.specs.Told.{Told as ToldOf}
 use Rattle.census_identify.specs.Courses.{with_told}
 use Rattle.census_identify.specs.Errors.{error_line}
 use Rattle.census_folders.specs.Hearing.{Hears}
-use Rattle.census_identify.specs.Hearing.{Hearing, HearsEach, heard_words}
+use Rattle.census_identify.specs.Hearing.{Hearing, HearsEach, heard_words, told_words}
 use Rattle.census_identify.specs.Identifies.{LacksMemory, LosesOutput, Stops, TellsAll}
 use Rattle.watched.specs.Streams.{PutsBytes, PutsMoreBytes, PutsPrefix, Sink, Reader, Streams, Writes, WritesBetween}
-use Rattle.census_identify.specs.Telling.{blocks_in, blocks_text, line_told, lines_text, output_of, status_of, told_of, told_words}
+use Rattle.census_identify.specs.Telling.{AreTold, IsTold, blocks_in, blocks_text, line_told, lines_text, output_of, status_of}
 use Rattle.census_identify.specs.declared.course.Course.{Course}
 use Rattle.census_identify.specs.declared.error.IdentifyError.{IdentifyError}
 use Rattle.census_identify.specs.declared.error.IdentifyError.TheVariants.{Memory, Write}
@@ -48,9 +49,10 @@ pub record IsUnderWay (held : List ℕ → ToldOf) (inquiry : Inquiry) (names : 
   pub heard : List Hearing
   pub words_are : words ≡ heard_words heard
   pub hears : HearsEach held heard before.input now.input
-  pub blocks : Writes (blocks_text inquiry.form (told_words inquiry names heard)) before.output now.output
-  pub lines : PutsBytes (lines_text (told_words inquiry names heard)) before.errors now.errors
-  pub counts : Counts course (told_words inquiry names heard)
+  pub told : AreTold inquiry names heard
+  pub blocks : Writes (blocks_text inquiry.form (told_words heard)) before.output now.output
+  pub lines : PutsBytes (lines_text (told_words heard)) before.errors now.errors
+  pub counts : Counts course (told_words heard)
 
 pub at_first : (held : List ℕ → ToldOf) (inquiry : Inquiry) (names : List Entry) (course : Course) (streams : Streams) → course.has_block ≡ false → course.status ≡ 0
     → streams.output.failed ≡ false → streams.errors.failed ≡ false → IsUnderWay held inquiry names [] course streams streams
@@ -58,6 +60,7 @@ at_first held inquiry names course streams none zero output errors = record {
   heard = [];
   words_are = refl;
   hears = refl;
+  told = All-nil (λ h. IsTold inquiry names h.word h.heard h.told);
   blocks = writes_none streams.output output;
   lines = tells_none streams.errors errors;
   counts = record { has_block = none; status = zero };
@@ -65,27 +68,27 @@ at_first held inquiry names course streams none zero output errors = record {
 
 -- one more word
 module _ (held : List ℕ → ToldOf) (inquiry : Inquiry) (names : List Entry) (words : List (List ℕ)) (course : Course) (before now : Streams) (w : IsUnderWay held inquiry names words course before now)
-    (word : List ℕ) (heard : Heard) (input : Reader) (hears : Hears held word heard now.input input) where
+    (word : List ℕ) (heard : Heard) (more : Told) (input : Reader) (hears : Hears held word heard now.input input) (is : IsTold inquiry names word heard more) where
   abbrev next : Hearing
-  next = record { word = word; heard = heard }
+  next = record { word = word; heard = heard; told = more }
+
+  are_told : AreTold inquiry names (w.heard ++ next ∷ [])
+  are_told = All-append (λ h. IsTold inquiry names h.word h.heard h.told) w.heard (next ∷ []) w.told (All-cons (λ h. IsTold inquiry names h.word h.heard h.told) next [] is (All-nil (λ h. IsTold inquiry names h.word h.heard h.told)))
 
   abbrev told : List Told
-  told = told_words inquiry names w.heard
+  told = told_words w.heard
 
-  abbrev more : Told
-  more = told_of inquiry names word heard
+  all_told : told_words (w.heard ++ next ∷ []) ≡ told ++ more ∷ []
+  all_told = tellings_more w.heard next
 
-  all_told : told_words inquiry names (w.heard ++ next ∷ []) ≡ told ++ more ∷ []
-  all_told = tellings_more inquiry names w.heard next
-
-  all_blocks : blocks_text inquiry.form (told_words inquiry names (w.heard ++ next ∷ [])) ≡ blocks_text inquiry.form told ++ output_of inquiry.form course.has_block more
+  all_blocks : blocks_text inquiry.form (told_words (w.heard ++ next ∷ [])) ≡ blocks_text inquiry.form told ++ output_of inquiry.form course.has_block more
   all_blocks = ap (blocks_text inquiry.form) all_told ∙ blocks_more inquiry.form told more ∙ ap (λ b. blocks_text inquiry.form told ++ output_of inquiry.form b more) (sym w.counts.has_block)
 
-  all_lines : lines_text (told_words inquiry names (w.heard ++ next ∷ [])) ≡ lines_text told ++ line_told more
+  all_lines : lines_text (told_words (w.heard ++ next ∷ [])) ≡ lines_text told ++ line_told more
   all_lines = ap lines_text all_told ∙ lines_more told more
 
   module _ (course' : Course) (output errors : Sink) (told_more : PutsMoreBytes (line_told more) now.errors errors) where
-    lines_so : PutsBytes (lines_text (told_words inquiry names (w.heard ++ next ∷ []))) before.errors errors
+    lines_so : PutsBytes (lines_text (told_words (w.heard ++ next ∷ []))) before.errors errors
     lines_so = subst (λ l. PutsBytes l before.errors errors) (sym all_lines) (tells_more (lines_text told) (line_told more) before.errors now.errors errors w.lines told_more)
 
     pub one_more_word : Writes (output_of inquiry.form course.has_block more) now.output output → course' ≡ with_told course more
@@ -94,6 +97,7 @@ module _ (held : List ℕ → ToldOf) (inquiry : Inquiry) (names : List Entry) (
       heard = w.heard ++ next ∷ [];
       words_are = ap (λ ws. ws ++ word ∷ []) w.words_are ∙ sym (map-append (λ h. h.word) w.heard (next ∷ []));
       hears = hears_more held w.heard next before.input now.input input w.hears hears;
+      told = are_told;
       blocks = subst (λ l. Writes l before.output output) (sym all_blocks) (writes_more (blocks_text inquiry.form told) (output_of inquiry.form course.has_block more) before.output now.output output w.blocks written);
       lines = lines_so;
       counts = subst (Counts course') (sym all_told) (counts_more course course' told more w.counts is);
@@ -107,9 +111,10 @@ module _ (held : List ℕ → ToldOf) (inquiry : Inquiry) (names : List Entry) (
       left = left;
       words_are = is ∙ ap (λ ws. ws ++ word ∷ left) w.words_are;
       hears = hears_more held w.heard next before.input now.input input w.hears hears;
+      told = are_told;
       blocks = subst (λ l. WritesBetween (blocks_text inquiry.form told) l before.output output) (sym all_blocks)
           (writes_between (blocks_text inquiry.form told) (output_of inquiry.form course.has_block more) before.output now.output output w.blocks front);
-      lines = subst (λ l. PutsBytes l before.errors errors) (sym (append-nil (lines_text (told_words inquiry names (w.heard ++ next ∷ []))))) lines_so;
+      lines = subst (λ l. PutsBytes l before.errors errors) (sym (append-nil (lines_text (told_words (w.heard ++ next ∷ []))))) lines_so;
     }
 
 module _ (held : List ℕ → ToldOf) (inquiry : Inquiry) (names : List Entry) (words : List (List ℕ)) (course : Course) (before now : Streams) (w : IsUnderWay held inquiry names words course before now) where
@@ -122,9 +127,10 @@ module _ (held : List ℕ → ToldOf) (inquiry : Inquiry) (names : List Entry) (
     words_are = is ∙ ap (λ ws. ws ++ word ∷ left) w.words_are;
     reached = now.input;
     hears = w.hears;
+    told = w.told;
     taken = taken;
     blocks = w.blocks;
-    lines = subst (λ l. PutsBytes l before.errors now.errors) (sym (append-nil (lines_text (told_words inquiry names w.heard)))) w.lines;
+    lines = subst (λ l. PutsBytes l before.errors now.errors) (sym (append-nil (lines_text (told_words w.heard)))) w.lines;
   }
 
   pub all_told_of : (all : List (List ℕ)) → all ≡ words → TellsAll held inquiry names all course.status before now
@@ -132,6 +138,7 @@ module _ (held : List ℕ → ToldOf) (inquiry : Inquiry) (names : List Entry) (
     heard = w.heard;
     words_are = is ∙ w.words_are;
     hears = w.hears;
+    told = w.told;
     blocks = w.blocks;
     lines = w.lines;
     status_is = w.counts.status;
@@ -156,23 +163,18 @@ module _ (held : List ℕ → ToldOf) (inquiry : Inquiry) (names : List Entry) (
   lacks_memory input taken = memory_lacks held inquiry names (texts (take i words)) course before now w (texts words) (get_or words i d).now (texts (drop (suc i) words)) (word_between words i d within) input taken
 
   module _ (heard : Heard) (told : Told) (input : Reader) (output errors : Sink) (hears : Hears held (get_or words i d).now heard now.input input)
-      (is : told ≡ told_of inquiry names (get_or words i d).now heard) (told_more : PutsMoreBytes (line_told told) now.errors errors) where
-    line_so : PutsMoreBytes (line_told (told_of inquiry names (get_or words i d).now heard)) now.errors errors
-    line_so = subst (λ t. PutsMoreBytes (line_told t) now.errors errors) is told_more
-
+      (is : IsTold inquiry names (get_or words i d).now heard told) (told_more : PutsMoreBytes (line_told told) now.errors errors) where
     pub next_told : (course' : Course) → Writes (output_of inquiry.form course.has_block told) now.output output → course' ≡ with_told course told
         → IsUnderWay held inquiry names (texts (take (i + 1) words)) course' before (record { input = input; output = output; errors = errors })
     next_told course' written same =
-        let written_so : Writes (output_of inquiry.form course.has_block (told_of inquiry names (get_or words i d).now heard)) now.output output = subst (λ t. Writes (output_of inquiry.form course.has_block t) now.output output) is written in
         let more : IsUnderWay held inquiry names (texts (take i words) ++ (get_or words i d).now ∷ []) course' before (record { input = input; output = output; errors = errors }) =
-        one_more_word held inquiry names (texts (take i words)) course before now w (get_or words i d).now heard input hears course' output errors line_so written_so (same ∙ ap (with_told course) is) in
+        one_more_word held inquiry names (texts (take i words)) course before now w (get_or words i d).now heard told input hears is course' output errors told_more written same in
         subst (λ ws. IsUnderWay held inquiry names ws course' before (record { input = input; output = output; errors = errors })) (sym (map_more (λ s. s.now) words i d within)) more
 
     pub loses_output : PutsPrefix (output_of inquiry.form course.has_block told) now.output output
         → LosesOutput [] held inquiry names (texts words) before (record { input = input; output = output; errors = errors })
     loses_output front =
-        output_lost held inquiry names (texts (take i words)) course before now w (get_or words i d).now heard input hears course output errors line_so (texts words) (texts (drop (suc i) words)) (word_between words i d within)
-        (subst (λ t. PutsPrefix (output_of inquiry.form course.has_block t) now.output output) is front)
+        output_lost held inquiry names (texts (take i words)) course before now w (get_or words i d).now heard told input hears is course output errors told_more (texts words) (texts (drop (suc i) words)) (word_between words i d within) front
 
 -- # The line of the error
 
@@ -188,9 +190,10 @@ stops_told Memory held inquiry names words before now errors stops more = record
   words_are = stops.words_are;
   reached = stops.reached;
   hears = stops.hears;
+  told = stops.told;
   taken = stops.taken;
   blocks = stops.blocks;
-  lines = told_last (lines_text (told_words inquiry names stops.heard)) (error_line Memory) before.errors now.errors errors stops.lines more;
+  lines = told_last (lines_text (told_words stops.heard)) (error_line Memory) before.errors now.errors errors stops.lines more;
 }
 stops_told Write held inquiry names words before now errors stops more = record {
   heard = stops.heard;
@@ -198,6 +201,7 @@ stops_told Write held inquiry names words before now errors stops more = record 
   left = stops.left;
   words_are = stops.words_are;
   hears = stops.hears;
+  told = stops.told;
   blocks = stops.blocks;
-  lines = told_last (lines_text (told_words inquiry names (stops.heard ++ stops.next ∷ []))) (error_line Write) before.errors now.errors errors stops.lines more;
+  lines = told_last (lines_text (told_words (stops.heard ++ stops.next ∷ []))) (error_line Write) before.errors now.errors errors stops.lines more;
 }

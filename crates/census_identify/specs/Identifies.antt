@@ -7,9 +7,9 @@ use Rattle.census_bundle.specs.Sizes.{input_limit}
 use Rattle.census_folders.specs.Hearing.{words_or_input}
 use Rattle.census_folders.specs.Told.{Told}
 use Rattle.census_identify.specs.Errors.{error_line, error_status}
-use Rattle.census_identify.specs.Hearing.{Hearing, HearsEach, heard_words}
+use Rattle.census_identify.specs.Hearing.{Hearing, HearsEach, heard_words, told_words}
 use Rattle.watched.specs.Streams.{PutsBytes, Reader, Streams, Writes, WritesBetween}
-use Rattle.census_identify.specs.Telling.{blocks_text, lines_text, status_of, told_words}
+use Rattle.census_identify.specs.Telling.{AreTold, blocks_text, lines_text, status_of}
 use Rattle.census_identify.specs.declared.error.IdentifyError.{IdentifyError}
 use Rattle.census_identify.specs.declared.error.IdentifyError.TheVariants.{Memory, Write}
 
@@ -19,9 +19,10 @@ pub record TellsAll (held : List ℕ → Told) (inquiry : Inquiry) (names : List
   pub heard : List Hearing
   pub words_are : words ≡ heard_words heard
   pub hears : HearsEach held heard before.input after.input
-  pub blocks : Writes (blocks_text inquiry.form (told_words inquiry names heard)) before.output after.output
-  pub lines : PutsBytes (lines_text (told_words inquiry names heard)) before.errors after.errors
-  pub status_is : status ≡ status_of (told_words inquiry names heard)
+  pub told : AreTold inquiry names heard
+  pub blocks : Writes (blocks_text inquiry.form (told_words heard)) before.output after.output
+  pub lines : PutsBytes (lines_text (told_words heard)) before.errors after.errors
+  pub status_is : status ≡ status_of (told_words heard)
 
 -- Memory was refused for a word. What was got of the words before it was told, and then this last line.
 pub record LacksMemory (last : List ℕ) (held : List ℕ → Told) (inquiry : Inquiry) (names : List Entry) (words : List (List ℕ)) (before after : Streams) : Type 0 where
@@ -32,9 +33,10 @@ pub record LacksMemory (last : List ℕ) (held : List ℕ → Told) (inquiry : I
   -- standard input as the words before it left it
   pub reached : Reader
   pub hears : HearsEach held heard before.input reached
+  pub told : AreTold inquiry names heard
   pub taken : ConsumesAtMost (input_limit + 1) reached.unread after.input.unread
-  pub blocks : Writes (blocks_text inquiry.form (told_words inquiry names heard)) before.output after.output
-  pub lines : PutsBytes (lines_text (told_words inquiry names heard) ++ last) before.errors after.errors
+  pub blocks : Writes (blocks_text inquiry.form (told_words heard)) before.output after.output
+  pub lines : PutsBytes (lines_text (told_words heard) ++ last) before.errors after.errors
 
 -- Standard output failed at the block of a word: what was written is a prefix of the blocks up to that one, and the
 -- blocks before it are whole. The lines up to that word were told, and then this last line.
@@ -44,8 +46,9 @@ pub record LosesOutput (last : List ℕ) (held : List ℕ → Told) (inquiry : I
   pub left : List (List ℕ)
   pub words_are : words ≡ heard_words heard ++ next.word ∷ left
   pub hears : HearsEach held (heard ++ next ∷ []) before.input after.input
-  pub blocks : WritesBetween (blocks_text inquiry.form (told_words inquiry names heard)) (blocks_text inquiry.form (told_words inquiry names (heard ++ next ∷ []))) before.output after.output
-  pub lines : PutsBytes (lines_text (told_words inquiry names (heard ++ next ∷ [])) ++ last) before.errors after.errors
+  pub told : AreTold inquiry names (heard ++ next ∷ [])
+  pub blocks : WritesBetween (blocks_text inquiry.form (told_words heard)) (blocks_text inquiry.form (told_words (heard ++ next ∷ []))) before.output after.output
+  pub lines : PutsBytes (lines_text (told_words (heard ++ next ∷ [])) ++ last) before.errors after.errors
 
 -- what was done before this error ended it, with this line told last
 abbrev pub Stops : IdentifyError → List ℕ → (List ℕ → Told) → Inquiry → List Entry → List (List ℕ) → Streams → Streams → Type 0

@@ -1,7 +1,8 @@
 -- What is told of what was heard: blocks, lines and statuses.
-use Rattle.std.specs.Prelude.{ℕ, Bool, true, false, if◌then◌else◌, List, [], ◌∷◌, ◌++◌, codes, map, max, Option, Some, None, Result, Ok, Err}
+use Rattle.std.specs.Prelude.{◌≡◌, ℕ, Bool, true, false, if◌then◌else◌, List, [], ◌∷◌, ◌++◌, codes, max, Option, Some, None, Result, Ok, Err}
+use Rattle.std.specs.List.{All}
 use Rattle.life_text.specs.declared.rle.RleFault.{RleFault}
-use Rattle.census_faults.specs.Rle.Lines.{fault_line}
+use Rattle.census_faults.specs.Rle.Lines.{IsFaultLine}
 use Rattle.census_identify.specs.Blocks.Blocks.{block_of}
 use Rattle.census_identify.specs.declared.blocks.inquiry.Inquiry.{Inquiry}
 use Rattle.census_facts.specs.Names.{Entry}
@@ -24,26 +25,27 @@ message_line word message = codes "census: " ++ word ++ codes ":" ++ message ++ 
 abbrev pub file_of : List ℕ → Option (List ℕ)
 file_of word = if is_input word then None else Some word
 
--- what is told of a text, by its block or its fault
-abbrev pub told_of_block : List ℕ → List ℕ → Result (List ℕ) RleFault → Told
-told_of_block word text (Ok block) = Block block
-told_of_block word text (Err fault) = Line (message_line word (fault_line text fault)) 1
+-- of a text, by its block or its fault: the block, or a line that ends with the name of the fault, and status 1
+abbrev pub IsToldOfText : List ℕ → Result (List ℕ) RleFault → Told → Type 0
+IsToldOfText word (Ok block) told = told ≡ Block block
+IsToldOfText word (Err fault) told = (line : List ℕ) × IsFaultLine fault line × (told ≡ Line (message_line word line) 1)
 
 -- that it can't be read, after what the system says of it
 abbrev pub unread_message : Option (List ℕ) → List ℕ
 unread_message None = codes " read failed"
 unread_message (Some reason) = codes " " ++ reason ++ codes " (read failed)"
 
--- what is told of a word, by what was got of it
-abbrev pub told_of : Inquiry → List Entry → List ℕ → Heard → Told
-told_of inquiry names word (Text text) = told_of_block word text (block_of inquiry names (file_of word) text)
-told_of inquiry names word TooLong = Line (message_line word (codes " input too long")) 1
-told_of inquiry names word (Unread reason) = Line (message_line word (unread_message reason)) 4
+-- this is told of a word, by what was got of it
+abbrev pub IsTold : Inquiry → List Entry → List ℕ → Heard → Told → Type 0
+IsTold inquiry names word (Text text) told = IsToldOfText word (block_of inquiry names (file_of word) text) told
+IsTold inquiry names word TooLong told = told ≡ Line (message_line word (codes " input too long")) 1
+IsTold inquiry names word (Unread reason) told = told ≡ Line (message_line word (unread_message reason)) 4
 
 -- # All
 
-abbrev pub told_words : Inquiry → List Entry → List Hearing → List Told
-told_words inquiry names hearings = map (λ h. told_of inquiry names h.word h.heard) hearings
+-- each is told by what was got of it
+abbrev pub AreTold : Inquiry → List Entry → List Hearing → Type 0
+AreTold inquiry names hearings = All (λ h. IsTold inquiry names h.word h.heard h.told) hearings
 
 abbrev pub blocks_in : List Told → List (List ℕ)
 blocks_in [] = []

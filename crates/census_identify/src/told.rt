@@ -2,7 +2,7 @@
 ghost use Rattle.std.specs.Prelude.{◌≡◌, ◌≤◌, IfOk};
 ghost use Rattle.std.specs.Option.{option_copied};
 ghost use Rattle.census_identify.specs.Blocks.Blocks.{block_of};
-ghost use Rattle.census_identify.specs.Telling.{file_of, message_line, told_of, told_of_block, unread_message};
+ghost use Rattle.census_identify.specs.Telling.{IsTold, IsToldOfText, file_of, message_line, unread_message};
 
 use crate::blocks::{BlockText, HORIZON_LIMIT, Inquiry, block};
 use census_bundle::Text;
@@ -77,8 +77,7 @@ fn told_of_text<W: Observer>(
 ) -> Result<Told, AllocError>
     requires bound { 1 ≤ inquiry.bound × inquiry.bound ≤ BOUND_LIMIT }
     requires horizon { 1 ≤ inquiry.horizon × inquiry.horizon ≤ HORIZON_LIMIT }
-    ensures { IfOk result (λ told.
-        told ≡ told_of_block word.now text.now (block_of inquiry names.now (file_of word.now) text.now)) }
+    ensures { IfOk result (IsToldOfText word.now (block_of inquiry names.now (file_of word.now) text.now)) }
 {
     match block(alloc, observer, names, file_of(word), text, inquiry)? {
         Ok(block) => Ok(Told::Block(block)),
@@ -107,7 +106,7 @@ pub fn told_of<W: Observer>(
 ) -> Result<Told, AllocError>
     requires bound { 1 ≤ inquiry.bound × inquiry.bound ≤ BOUND_LIMIT }
     requires horizon { 1 ≤ inquiry.horizon × inquiry.horizon ≤ HORIZON_LIMIT }
-    ensures { IfOk result (λ told. told ≡ told_of inquiry names.now word.now heard.now) }
+    ensures { IfOk result (IsTold inquiry names.now word.now heard.now) }
 {
     match heard {
         Heard::Text(text) => told_of_text(alloc, observer, names, word, text.as_slice(), inquiry),

@@ -1,6 +1,6 @@
-//! Bytes that are counted, and bytes side by side.
+//! Bytes that are counted.
 ghost use Rattle.std.specs.Prelude.{◌≡◌, ◌≤◌, ◌==◌, length, not};
-ghost use Rattle.std.specs.List.{after_last, suffix_len};
+ghost use Rattle.std.specs.List.{suffix_len};
 ghost use Rattle.census_faults.specs.Rle.Places.{times_in};
 
 /// The number of times that a byte occurs in a text.
@@ -29,15 +29,4 @@ pub fn last_line_len(text: &[u8]) -> usize
         start -= 1;
     }
     text.len() - start
-}
-
-/// What comes after the last occurrence of a byte in a text, or the text where the byte is not in it.
-pub fn behind_last(text: &[u8], byte: u8) -> &[u8]
-    ensures { result.now ≡ after_last (λ c. c == byte) text.now }
-{
-    let mut start = text.len();
-    while start > 0 && text[start - 1] != byte {
-        start -= 1;
-    }
-    &text[start..]
 }

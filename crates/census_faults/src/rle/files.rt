@@ -1,6 +1,4 @@
 //! Files of patterns that are not RLE texts.
-ghost use Rattle.std.specs.Prelude.{◌≡◌};
-ghost use Rattle.census_faults.specs.Rle.Files.{file_kind};
 
 /// What a text without a header line is, by its first bytes.
 #[derive(Clone, Copy, Debug, PartialEq, Eq, Drop)]
@@ -20,9 +18,7 @@ pub enum FileKind {
 }
 
 /// The kind of a text without a header line, by its first bytes.
-pub fn file_kind(text: &[u8]) -> FileKind
-    ensures { result ≡ file_kind text.now }
-{
+pub fn file_kind(text: &[u8]) -> FileKind {
     if text.starts_with(b"\x1f\x8b") {
         FileKind::Gzip
     } else if text.starts_with(b"[M2]") {

@@ -3,7 +3,7 @@ ghost use Rattle.std.specs.Prelude.{◌≡◌, ◌++◌, IfOk, OnOk, codes, deci
 ghost use Rattle.census_faults.specs.Rle.Reported.{fault_words, unnamed_words};
 
 use crate::rle::sentences::sentence;
-use crate::rle::told::push_number;
+use itoa::Buffer;
 use life_text::RleFault;
 use std::alloc::{AllocError, Global};
 
@@ -11,8 +11,9 @@ use std::alloc::{AllocError, Global};
 fn push_numbered(words: &mut Vec<u8>, number: u64) -> Result<(), AllocError>
     ensures { OnOk result (words.new.items ≡ words.old.items ++ (codes "fault " ++ decimal number)) }
 {
+    let mut buffer = Buffer::new();
     words.extend_from_slice(b"fault ")?;
-    push_number(words, number)?;
+    words.extend_from_slice(buffer.format(number).as_bytes())?;
     Ok(())
 }
 

@@ -1,8 +1,6 @@
 //! The sentence for each fault.
 ghost use Rattle.std.specs.Prelude.{◌≡◌, ◌<◌, length};
-ghost use Rattle.census_faults.specs.Rle.Refused.{RefusedRulesAreTold};
-ghost use Rattle.census_faults.specs.Rle.Sentences.{FileSentencesDiffer, RuleSentencesDiffer, SentencesDiffer, file_sentence_of, rule_sentence_of, sentence_of};
-ghost use Rattle.census_faults.specs.Sentences.{WordsDiffer, words_of};
+ghost use Rattle.census_faults.specs.Rle.Sentences.{sentence_of};
 
 use crate::rle::files::{FileKind, file_kind};
 use crate::rle::header::rule_in_header;
@@ -41,10 +39,7 @@ pub fn sentence(fault: RleFault) -> &'static str
 }
 
 /// The sentence for a kind of rule that is not Life-like: what is wrong, and what would be right.
-pub fn rule_sentence(kind: RuleKind) -> &'static str
-    ensures sentence { result.now ≡ rule_sentence_of kind }
-    ensures told { 0 < length result.now }
-{
+pub fn rule_sentence(kind: RuleKind) -> &'static str {
     match kind {
         RuleKind::Named =>
             "the rule is given by a name: it must be a Life-like rule that is written out, as `B3/S23`",
@@ -66,10 +61,7 @@ pub fn rule_sentence(kind: RuleKind) -> &'static str
 }
 
 /// The sentence for a kind of text without a header line: what it is, and what would be right.
-pub fn file_sentence(kind: FileKind) -> &'static str
-    ensures sentence { result.now ≡ file_sentence_of kind }
-    ensures told { 0 < length result.now }
-{
+pub fn file_sentence(kind: FileKind) -> &'static str {
     match kind {
         FileKind::Gzip =>
             "the text is compressed by gzip: it must be unpacked first, as `gunzip` does",
@@ -87,9 +79,7 @@ pub fn file_sentence(kind: FileKind) -> &'static str
 
 /// The sentence for a fault of a text. Where there is no header line, it says what the text is. Where the rule is not Life-like,
 /// it says of which kind the header's rule is.
-pub fn words_of(text: &[u8], fault: RleFault) -> &'static str
-    ensures { result.now ≡ words_of text.now fault }
-{
+pub fn words_of(text: &[u8], fault: RleFault) -> &'static str {
     match fault {
         RleFault::NoHeader => file_sentence(file_kind(text)),
         RleFault::Rule(RuleFault::NotLifeLike) => match rule_in_header(text) {
@@ -99,19 +89,3 @@ pub fn words_of(text: &[u8], fault: RleFault) -> &'static str
         _ => sentence(fault),
     }
 }
-
-/// The sentence for a fault identifies it. Faults with one sentence differ in their byte at most. Kinds of rules with one
-/// sentence are one, and so are kinds of texts without a header line. This also holds for the sentences for faults of whatever
-/// texts.
-pub fn sentences_differ()
-    ensures faults { SentencesDiffer }
-    ensures rules { RuleSentencesDiffer }
-    ensures files { FileSentencesDiffer }
-    ensures words { WordsDiffer }
-{}
-
-/// A text that the reader refuses for its rule has a rule text in its header, and that is the one with the fault: where the rule
-/// is not Life-like, its kind is reported.
-pub fn refused_rules_are_told()
-    ensures { RefusedRulesAreTold }
-{}

@@ -1,8 +1,8 @@
-use Rattle.std.proofs.Common.{IfErr, IfOk, OnOk, ap, subst, sym, ◌∙◌}
+use Rattle.std.proofs.Common.{IfErr, OnOk, ap, subst, sym, ◌∙◌}
 use Rattle.census_cli.specs.declared.request.Request.{Request}
 use Rattle.census_cli.specs.declared.request.Request.TheVariants as request
 use Rattle.census_errors.specs.Sources.{source_of}
-use Rattle.census_command.specs.Outcomes.{Concludes, Ends}
+use Rattle.census_command.specs.Outcomes.{Ends}
 use Rattle.census_command.specs.Requests.{Does, Fails}
 use Rattle.census_command.specs.Streams.{HasSoundStreams}
 use Rattle.census_command.proofs.Outcomes.{concluded, ends_at_first}
@@ -20,12 +20,12 @@ returns-else-goes_on-clause-ends g c =
     let after : Streams = record { input = inside.input.stream; output = inside.output.stream; errors = c.conclude.new.errors.stream } in
     let quiet = ap (λ (s : Streams). s.errors) c.streams.view_is ∙ c.report_census-ended.ensures.quiet in
     let to = sym c.streams.view_is in
-    let concludes = subst (λ (r : Request). Concludes r ended c.args.explain c.conclude.result reached.errors c.conclude.new.errors.stream) c.in-Census.is c.conclude.ensures in
+    let concludes = c.conclude.ensures in
     let ends = concluded shelf asked c.args.explain before reached c.conclude.new.errors.stream quiet ended c.conclude.result
-    (subst (λ (s : Streams). IfOk ended (λ lines. Does shelf asked c.args.explain lines.items before s)) to c.report_census-ended.ensures.done)
+    (subst (λ (s : Streams). OnOk ended (Does shelf asked before s)) to c.report_census-ended.ensures.done)
     (subst (λ (s : Streams). OnOk ended (HasSoundStreams s)) to c.report_census-ended.ensures.sound)
     (subst (λ (s : Streams). IfErr ended (λ stopped. Fails stopped.error shelf asked before s)) to c.report_census-ended.ensures.fails)
-    c.report_census-ended.ensures.place concludes in
+    concludes in
     subst (λ (r : Request). Ends shelf r c.args.explain c.conclude.result before after) (sym c.in-Census.is) (ends_at_first shelf c.in-Census.census c.args.explain c.conclude.result before after (source_of c.in-Census.census.collections) (c.goes_on.ensures.stops c.if-goes_on.false) ends)
 
 pub returns-in-Advance-clause-ends : goal.returns-in-Advance-clause-ends
@@ -39,12 +39,12 @@ returns-in-Advance-clause-ends g c =
     let after : Streams = record { input = inside.input.stream; output = inside.output.stream; errors = c.conclude-in-Advance.new.errors.stream } in
     let quiet = ap (λ (s : Streams). s.errors) c.streams-in-Advance.view_is ∙ c.advance_asked-ended.ensures.quiet in
     let to = sym c.streams-in-Advance.view_is in
-    let concludes = subst (λ (r : Request). Concludes r ended c.args.explain c.conclude-in-Advance.result reached.errors c.conclude-in-Advance.new.errors.stream) c.in-Advance.is c.conclude-in-Advance.ensures in
+    let concludes = c.conclude-in-Advance.ensures in
     let ends = concluded shelf asked c.args.explain before reached c.conclude-in-Advance.new.errors.stream quiet ended c.conclude-in-Advance.result
-    (subst (λ (s : Streams). IfOk ended (λ lines. Does shelf asked c.args.explain lines.items before s)) to c.advance_asked-ended.ensures.done)
+    (subst (λ (s : Streams). OnOk ended (Does shelf asked before s)) to c.advance_asked-ended.ensures.done)
     (subst (λ (s : Streams). OnOk ended (HasSoundStreams s)) to c.advance_asked-ended.ensures.sound)
     (subst (λ (s : Streams). IfErr ended (λ stopped. Fails stopped.error shelf asked before s)) to c.advance_asked-ended.ensures.fails)
-    c.advance_asked-ended.ensures.place concludes in
+    concludes in
     subst (λ (r : Request). Ends shelf r c.args.explain c.conclude-in-Advance.result before after) (sym c.in-Advance.is) ends
 
 pub returns-in-Draw-clause-ends : goal.returns-in-Draw-clause-ends
@@ -58,10 +58,10 @@ returns-in-Draw-clause-ends g c =
     let after : Streams = record { input = inside.input.stream; output = inside.output.stream; errors = c.conclude-in-Draw.new.errors.stream } in
     let quiet = ap (λ (s : Streams). s.errors) c.streams-in-Draw.view_is ∙ c.draw_asked-ended.ensures.quiet in
     let to = sym c.streams-in-Draw.view_is in
-    let concludes = subst (λ (r : Request). Concludes r ended c.args.explain c.conclude-in-Draw.result reached.errors c.conclude-in-Draw.new.errors.stream) c.in-Draw.is c.conclude-in-Draw.ensures in
+    let concludes = c.conclude-in-Draw.ensures in
     let ends = concluded shelf asked c.args.explain before reached c.conclude-in-Draw.new.errors.stream quiet ended c.conclude-in-Draw.result
-    (subst (λ (s : Streams). IfOk ended (λ lines. Does shelf asked c.args.explain lines.items before s)) to c.draw_asked-ended.ensures.done)
+    (subst (λ (s : Streams). OnOk ended (Does shelf asked before s)) to c.draw_asked-ended.ensures.done)
     (subst (λ (s : Streams). OnOk ended (HasSoundStreams s)) to c.draw_asked-ended.ensures.sound)
     (subst (λ (s : Streams). IfErr ended (λ stopped. Fails stopped.error shelf asked before s)) to c.draw_asked-ended.ensures.fails)
-    c.draw_asked-ended.ensures.place concludes in
+    concludes in
     subst (λ (r : Request). Ends shelf r c.args.explain c.conclude-in-Draw.result before after) (sym c.in-Draw.is) ends

@@ -1,7 +1,7 @@
 use Rattle.std.proofs.Common.{List, ℕ, subst, ◌∙◌}
 use Rattle.watched.specs.Streams.{PutsMoreBytes}
 use Rattle.census_errors.specs.Messages.{error_line}
-use Rattle.census_errors.proofs.Said.{at_sound}
+use Rattle.census_errors.proofs.Telling.{at_sound}
 use Rattle.census_command.proofs.dispatching.stop.Goals as goal
 
 pub returns-clause-line : goal.returns-clause-line

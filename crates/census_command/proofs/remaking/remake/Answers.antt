@@ -4,8 +4,10 @@ use Rattle.census_command.specs.Forms.{reading_of}
 use Rattle.census_reports.specs.declared.reading.Reading.{Reading}
 use Rattle.census_merge.specs.declared.mending.Cut.{Cut}
 use Rattle.census_reports.specs.Outcomes.{ReportsFail, WritesReports}
-use Rattle.census_command.specs.Remakes.{KeepsLaw, TellsCuts, TellsOfReports}
+use Rattle.census_command.specs.Remakes.{KeepsLaw, TellsCuts}
 use Rattle.census_command.specs.Streams.{untold}
+use Rattle.census_errors.specs.Explained.{TellsOf}
+use Rattle.census_errors.specs.declared.error.CommandError.TheVariants as command
 use Rattle.census_command.proofs.Outcomes.{untold_is}
 use Rattle.census_command.proofs.remaking.remake.Goals as goal
 
@@ -40,11 +42,10 @@ returns-in-Err g c =
     let is = sym c.streams.view_is ∙ untold_is c.args.streams.now reached c.stop_of.new.errors.stream quiet in
     let left : Streams = untold c.args.streams.now (record { input = c.streams.inside.input.stream; output = c.streams.inside.output.stream; errors = c.stop_of.new.errors.stream }) in
     let fails = subst (λ (s : Streams). ReportsFail c.in-Err.error c.args.form c.reading_of.result held (map (λ s. s.now) c.as_slice-files.result.now) c.args.streams.now s) is c.in-Err.ensures.fails in
-    let told = subst (λ (s : Sink). TellsOfReports held (map (λ s. s.now) c.as_slice-files.result.now) c.in-Err.error c.args.explain s c.stop_of.new.errors.stream) quiet c.stop_of.ensures.told in
     inr (record {
       error = c.in-Err.error;
       status_is = c.stop_of.ensures.status;
       fails = subst (λ (r : Reading). ReportsFail c.in-Err.error c.args.form r held (map (λ s. s.now) c.args.reports.now.words.items) c.args.streams.now left) c.reading_of.ensures
           (subst (λ (fs : List (List ℕ)). ReportsFail c.in-Err.error c.args.form c.reading_of.result held fs c.args.streams.now left) files fails);
-      told = subst (λ (fs : List (List ℕ)). TellsOfReports held fs c.in-Err.error c.args.explain c.args.streams.now.errors c.stop_of.new.errors.stream) files told;
+      told = subst (λ (s : Sink). TellsOf (command.Reports c.in-Err.error) c.args.explain s c.stop_of.new.errors.stream) quiet c.stop_of.ensures.told;
     })

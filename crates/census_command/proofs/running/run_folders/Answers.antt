@@ -1,7 +1,6 @@
-use Rattle.std.proofs.Common.{Some, refl, ap, ◌∙◌, subst, inl, inr}
+use Rattle.std.proofs.Common.{refl, ap, ◌∙◌, subst, inr}
 use Rattle.census_folders.specs.Sources.{Reads, Stops}
 use Rattle.census_errors.specs.Sources.{asked_of}
-use Rattle.census_command.specs.BesideReports.{IfExplained, SaysBesideReport}
 use Rattle.census_command.proofs.Reports.{folders_fail, folders_stop}
 use Rattle.census_command.proofs.running.run_folders.Goals as goal
 
@@ -9,13 +8,8 @@ pub returns-in-Err-clause-fails : goal.returns-in-Err-clause-fails
 returns-in-Err-clause-fails g c =
     let shelf = g.S.Shelf.tellings c.args.shelf.now in
     folders_stop shelf (asked_of c.args.census.now.collections) c.args.census.now.question c.reading.result.error _ _
-    (record { stops = c.requires.stops; fault = c.in-Err.fault; is = c.reading.ensures.error; why = subst (λ a. Stops shelf a c.in-Err.fault) c.folders_of-source.ensures c.in-Err.ensures })
+    (record { stops = c.requires.stops; fault = c.in-Err.fault; is = c.reading.ensures; why = subst (λ a. Stops shelf a c.in-Err.fault) c.folders_of-source.ensures c.in-Err.ensures })
     (record { unread = refl; written = refl; sound = c.requires.sound })
-
-pub returns-in-Err-clause-place : goal.returns-in-Err-clause-place
-returns-in-Err-clause-place g c =
-    let shelf = g.S.Shelf.tellings c.args.shelf.now in
-    inl (record { fault = c.in-Err.fault; is = c.reading.ensures.error; why = subst (λ a. Stops shelf a c.in-Err.fault) c.folders_of-source.ensures c.in-Err.ensures; at = c.reading.ensures.place })
 
 pub returns-in-Ok-report-clause-done : goal.returns-in-Ok-report-clause-done
 returns-in-Ok-report-clause-done g c =
@@ -25,14 +19,13 @@ returns-in-Ok-report-clause-done g c =
       kept = c.in-Ok.kept;
       read = subst (λ a. Reads shelf a c.in-Ok.kept) c.folders_of-source.ensures c.in-Ok.ensures;
       report = c.in-Ok-report.ensures.report;
-      said = subst (λ a. IfExplained c.args.explain (SaysBesideReport shelf (Some a) c.in-Ok.kept.bundle c.in-Ok-report.lines.items) c.in-Ok-report.lines.items) c.folders_of-source.ensures c.in-Ok-report.ensures.lines;
       unread = refl;
     })
 
 pub returns-clause-fails : goal.returns-clause-fails
 returns-clause-fails g c =
     let shelf = g.S.Shelf.tellings c.args.shelf.now in
-    rw (c.running.ensures.error, ← c.streams.view_is)
+    rw (c.running.ensures, ← c.streams.view_is)
     (folders_fail shelf (asked_of c.args.census.now.collections) c.args.census.now.question _ _ c.in-Err-report.fault
     (record {
       stops = c.requires.stops;
@@ -42,17 +35,6 @@ returns-clause-fails g c =
       unread = refl;
     })
     (ap (λ s. s.input.failed) c.streams.view_is ∙ c.requires.sound.read) c.in-Err-report.ensures.failed)
-
-pub returns-clause-place : goal.returns-clause-place
-returns-clause-place g c =
-    let shelf = g.S.Shelf.tellings c.args.shelf.now in
-    inr (record {
-      kept = c.in-Ok.kept;
-      read = subst (λ a. Reads shelf a c.in-Ok.kept) c.folders_of-source.ensures c.in-Ok.ensures;
-      fault = c.in-Err-report.fault;
-      is = c.running.ensures.error;
-      at = c.running.ensures.place;
-    })
 
 pub returns-in-Ok-report-clause-gate : goal.returns-in-Ok-report-clause-gate
 returns-in-Ok-report-clause-gate g c =

@@ -1,6 +1,6 @@
 use Rattle.std.proofs.Common.{◌≡◌, List, ℕ, [], ◌∷◌, refl, sym, subst, ◌∙◌}
 use Rattle.hex.specs.Hex.{encode_lower}
-use Rattle.census_errors.proofs.Said.{escaped_is, more_after, of_ok}
+use Rattle.census_errors.proofs.Telling.{escaped_is, more_after, of_ok}
 use Rattle.watched.specs.Streams.{PutsMoreBytes}
 use Rattle.census_errors.proofs.saying.tell_byte.Goals as goal
 

@@ -1,7 +1,7 @@
 use Rattle.std.proofs.Common.{List, ℕ, arith, sym, subst}
 use Rattle.std.proofs.lemmas.List.{take_all}
 use Rattle.census_faults.specs.Printed.{printable_text}
-use Rattle.census_errors.proofs.Said.{more_after, printed_more}
+use Rattle.census_errors.proofs.Telling.{more_after, printed_more}
 use Rattle.watched.proofs.Written.{tells_no_more}
 use Rattle.watched.specs.Streams.{PutsMoreBytes}
 use Rattle.census_errors.proofs.saying.tell_bytes.Goals as goal

@@ -1,5 +1,5 @@
 use Rattle.std.proofs.Common.{◌∙◌}
-use Rattle.census_errors.proofs.Placed.{reports_status}
+use Rattle.census_errors.proofs.Statuses.{reports_status}
 use Rattle.census_errors.proofs.error.CommandError.status.Goals as goal
 
 pub returns-in-Reports : goal.returns-in-Reports
