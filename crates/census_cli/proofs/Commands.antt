@@ -436,7 +436,7 @@ objects_has words e = record {
   workers = number_in ObjectsText 1 16 (codes "workers") _
       (read_by_default ObjectsText built_objects objects_rules words e (codes "workers") (inr (inl (refl, record { first = codes "4"; rest = []; is = refl })))) (λ v q. q.1 refl);
   cells = number_in ObjectsText 1 4294967295 (codes "cells") _
-      (read_by_default ObjectsText built_objects objects_rules words e (codes "cells") (inr (inr (inl (refl, record { first = codes "1000000"; rest = []; is = refl }))))) (λ v q. q.2 refl);
+      (read_by_default ObjectsText built_objects objects_rules words e (codes "cells") (inr (inr (inl (refl, record { first = codes "200000"; rest = []; is = refl }))))) (λ v q. q.2 refl);
   near = flag_in ObjectsText (codes "near") _
       (read_by_default ObjectsText built_objects objects_rules words e (codes "near") (inr (inr (inr (inl (refl, false_by_default)))))) (λ v q. q.8 refl);
   horizon = number_in ObjectsText 1 horizon_limit (codes "horizon") _
@@ -459,7 +459,7 @@ identify_has words e = record {
   bound = number_in IdentifyText 1 objects_bound_limit (codes "bound") _
       (read_by_default IdentifyText built_identify identify_rules words e (codes "bound") (inl (refl, record { first = codes "10000"; rest = []; is = refl }))) (λ v q. q.0 refl);
   cells = number_in IdentifyText 1 4294967295 (codes "cells") _
-      (read_by_default IdentifyText built_identify identify_rules words e (codes "cells") (inr (inl (refl, record { first = codes "1000000"; rest = []; is = refl })))) (λ v q. q.1 refl);
+      (read_by_default IdentifyText built_identify identify_rules words e (codes "cells") (inr (inl (refl, record { first = codes "200000"; rest = []; is = refl })))) (λ v q. q.1 refl);
   near = flag_in IdentifyText (codes "near") _
       (read_by_default IdentifyText built_identify identify_rules words e (codes "near") (inr (inr (inl (refl, false_by_default))))) (λ v q. q.2 refl);
   horizon = number_in IdentifyText 1 horizon_limit (codes "horizon") _

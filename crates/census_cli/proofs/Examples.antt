@@ -53,19 +53,19 @@ run_flags : (texts : Texts) → Are texts (codes "a" ∷ []) → Asks (codes "ru
 unfolding clap_on_literals
 run_flags texts are = (refl, ((refl, refl, refl), refl, (refl, refl, refl, are)))
 
-objects_alone : (texts : Texts) → Are texts [] → Asks (codes "objects" ∷ []) (census (Objects 10000 (Some 1000000) false 1000) 4 false false texts)
+objects_alone : (texts : Texts) → Are texts [] → Asks (codes "objects" ∷ []) (census (Objects 10000 (Some 200000) false 1000) 4 false false texts)
 unfolding clap_on_literals
 objects_alone texts are = (refl, ((refl, (refl, refl, refl, refl)), refl, (refl, refl, refl, are)))
 
-objects_flags : (texts : Texts) → Are texts (codes "a" ∷ []) → Asks (codes "objects" ∷ codes "-rb5" ∷ codes "a" ∷ codes "--near" ∷ []) (census (Objects 5 (Some 1000000) true 1000) 4 true false texts)
+objects_flags : (texts : Texts) → Are texts (codes "a" ∷ []) → Asks (codes "objects" ∷ codes "-rb5" ∷ codes "a" ∷ codes "--near" ∷ []) (census (Objects 5 (Some 200000) true 1000) 4 true false texts)
 unfolding clap_on_literals
 objects_flags texts are = (refl, ((refl, (refl, refl, refl, refl)), refl, (refl, refl, refl, are)))
 
-identify_among : (texts : Texts) → Are texts (codes "a" ∷ codes "-" ∷ []) → Asks (codes "identify" ∷ codes "a" ∷ codes "-b" ∷ codes "50" ∷ codes "-" ∷ []) (request.Identify 50 1000000 false 1000 false None texts)
+identify_among : (texts : Texts) → Are texts (codes "a" ∷ codes "-" ∷ []) → Asks (codes "identify" ∷ codes "a" ∷ codes "-b" ∷ codes "50" ∷ codes "-" ∷ []) (request.Identify 50 200000 false 1000 false None texts)
 unfolding clap_on_literals
 identify_among texts are = (refl, (refl, (refl, refl, refl, refl), refl, refl, are))
 
-identify_near : (texts : Texts) → Are texts [] → Asks (codes "identify" ∷ codes "--near" ∷ []) (request.Identify 10000 1000000 true 1000 false None texts)
+identify_near : (texts : Texts) → Are texts [] → Asks (codes "identify" ∷ codes "--near" ∷ []) (request.Identify 10000 200000 true 1000 false None texts)
 unfolding clap_on_literals
 identify_near texts are = (refl, (refl, (refl, refl, refl, refl), refl, refl, are))
 
@@ -73,7 +73,7 @@ identify_small : (texts : Texts) → Are texts (codes "a" ∷ []) → Asks (code
 unfolding clap_on_literals
 identify_small texts are = (refl, (refl, (refl, refl, refl, refl), refl, refl, are))
 
-identify_named : (texts : Texts) → Are texts (codes "a" ∷ []) → Asks (codes "identify" ∷ codes "--json" ∷ codes "--names" ∷ codes "n.tsv" ∷ codes "a" ∷ []) (request.Identify 10000 1000000 false 1000 true (Some (text (codes "n.tsv"))) texts)
+identify_named : (texts : Texts) → Are texts (codes "a" ∷ []) → Asks (codes "identify" ∷ codes "--json" ∷ codes "--names" ∷ codes "n.tsv" ∷ codes "a" ∷ []) (request.Identify 10000 200000 false 1000 true (Some (text (codes "n.tsv"))) texts)
 unfolding clap_on_literals
 identify_named texts are = (refl, (refl, (refl, refl, refl, refl), refl, refl, are))
 

@@ -36,7 +36,7 @@ search_rule = record (number "bound" 100000) { short = Some 98; defaults = codes
 -- their arguments of what an object is, before these
 abbrev pub with_objects : List Rule → List Rule
 with_objects later =
-    record (number "cells" 4294967295) { defaults = codes "1000000" ∷ [] }
+    record (number "cells" 4294967295) { defaults = codes "200000" ∷ [] }
     ∷ flag "near" ∷ record (number "horizon" 10000) { defaults = codes "1000" ∷ [] } ∷ later
 
 -- `-w N` or `--workers N`, of `run` and of `objects`

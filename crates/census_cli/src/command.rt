@@ -59,14 +59,14 @@ fn limit<'a>(alloc: Global) -> Arg<'a>
 }
 
 fn cells<'a>(alloc: Global) -> Arg<'a>
-    ensures { (rule_of result ≡ record (number "cells" 4294967295) { defaults = codes "1000000" ∷ [] })
+    ensures { (rule_of result ≡ record (number "cells" 4294967295) { defaults = codes "200000" ∷ [] })
         × (result.global ≡ false) }
 {
     Arg::new(alloc, "cells")
         .long("cells")
         .value_name("N")
         .value_parser(value_parser!(u64).range(1..=4_294_967_295))
-        .default_value("1000000")
+        .default_value("200000")
         .help("Live cells that a pattern may have, 1 to 4294967295")
 }
 

@@ -125,7 +125,7 @@ objects [--bound N] [--workers N] [--cells N] [--near] [--horizon N] [--input N]
         [-r] [-k] [FOLDER]...
                    as run, but another report ('census help objects'), and
   -b, --bound N    1 to 100000 [default: 10000]
-      --cells N    1 to 4294967295 [default: 1000000]
+      --cells N    1 to 4294967295 [default: 200000]
       --near       count what comes within two cells as one object
       --horizon N  generations within which growth is looked for, 1 to 10000
                    [default: 1000]
@@ -133,7 +133,7 @@ identify [--bound N] [--cells N] [--near] [--horizon N] [--json] [--names FILE]
          [FILE]...
                    what each pattern is ('census help identify')
   -b, --bound N    1 to 100000 [default: 10000]
-      --cells N    1 to 4294967295 [default: 1000000]
+      --cells N    1 to 4294967295 [default: 200000]
       --near       count what comes within two cells as one object
       --horizon N  generations within which growth is looked for, 1 to 10000
                    [default: 1000]

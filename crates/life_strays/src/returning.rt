@@ -14,6 +14,9 @@ use life_cells::CellList;
 use life_plane::{AGE_LIMIT, Plane, is_live, move_between};
 use std::alloc::AllocError;
 
+/// How many cells are looked up for each cell of a generation, to see whether an island has come back there.
+const EACH: u64 = 32;
+
 /// Whether a move goes at most `reach` places to any side.
 fn is_move_within(by: (i32, i32), reach: u32) -> bool
     requires reach { reach ≤ AGE_LIMIT }
@@ -33,12 +36,17 @@ fn back(by: (i32, i32)) -> (i32, i32)
     (-by.0, -by.1)
 }
 
-/// Whether a move may lead all the cells to live ones of a plane. A positive answer means nothing.
-fn may_lead<P: Plane>(plane: &P, cells: &CellList, by: (i32, i32)) -> bool
+/// Whether a move may lead all the cells to live ones of a plane, of which at most `left` are looked up; as many fewer are left
+/// afterwards. A positive answer means nothing.
+fn may_lead<P: Plane>(plane: &P, cells: &CellList, by: (i32, i32), left: &mut u64) -> bool
     requires by { IsMoveWithin AGE_LIMIT by }
     ensures { result ≡ false → IsMovedInto cells.now (P.members plane.now) by → ⊥ }
 {
     for cell in cells.as_slice() {
+        if *left == 0 {
+            return true;
+        }
+        *left -= 1;
         let place = (cell.0 + by.0, cell.1 + by.1);
         if is_place(place) && plane.row(place) % 2 == 0 {
             return false;
@@ -48,7 +56,8 @@ fn may_lead<P: Plane>(plane: &P, cells: &CellList, by: (i32, i32)) -> bool
 }
 
 /// Whether a move may lead a set to live cells of a later plane and, back, its heirs to live cells of the first. The later plane
-/// is at generation `number`, so no move goes further than that.
+/// is at generation `number`, so no move goes further than that. At most `left` cells are looked
+/// up.
 fn may_return<P: Plane>(
     start: &P,
     later: &P,
@@ -56,6 +65,7 @@ fn may_return<P: Plane>(
     heirs: &CellList,
     number: u32,
     by: (i32, i32),
+    left: &mut u64,
 ) -> bool
     requires number { number ≤ AGE_LIMIT }
     ensures { result ≡ false →
@@ -64,10 +74,10 @@ fn may_return<P: Plane>(
     if !is_move_within(by, number) {
         return false;
     }
-    if !may_lead(later, set, by) {
+    if !may_lead(later, set, by, left) {
         return false;
     }
-    may_lead(start, heirs, back(by))
+    may_lead(start, heirs, back(by), left)
 }
 
 /// Whether a move may lead a set to live cells of a later plane, as in `may_return`. First it is checked whether the move leads
@@ -82,6 +92,7 @@ fn may_return_by<P: Plane>(
     number: u32,
     one: (i32, i32),
     by: (i32, i32),
+    left: &mut u64,
 ) -> bool
     requires number { number ≤ AGE_LIMIT }
     requires rising { T (is_rising cells.now) }
@@ -97,11 +108,12 @@ fn may_return_by<P: Plane>(
     if !is_live(cells, cursor, (one.0 + by.0, one.1 + by.1)) {
         return false;
     }
-    may_return(start, later, set, heirs, number, by)
+    may_return(start, later, set, heirs, number, by, left)
 }
 
 /// Whether some move may lead a set to live cells of a later plane and, back, its heirs to live cells of the first. `cells` are
-/// those of the later plane.
+/// those of the later plane. Where most moves lead most cells to live ones, as in a pattern that fills the plane, the search is
+/// given up once it has looked up `EACH` cells for each of the later plane.
 fn some_may_return<P: Plane>(
     start: &P,
     later: &P,
@@ -122,6 +134,7 @@ fn some_may_return<P: Plane>(
     let first = all[0];
     let last = all[all.len() - 1];
     let listed = cells.as_slice();
+    let mut left = EACH.saturating_mul(listed.len() as u64);
     let mut cursor = 0;
     for cell in listed {
         let by = move_between(first, *cell);
@@ -135,6 +148,7 @@ fn some_may_return<P: Plane>(
             number,
             last,
             by,
+            &mut left,
         ) {
             return true;
         }

@@ -1,10 +1,10 @@
 //! Faults, and the lines that explain them.
 
-use census_bundle::read_bundle;
+use census_bundle::{AddFault, BundleFault, read_bundle};
 use census_faults::{
-    Fault, Spot, explanation, fault_line, fault_words, printable_text, refusal_line, refusal_lines,
-    sentence, sentence_line,
+    Fault, FileKind, Lines, RuleKind, Words, fault_line, printable_text, refusal_lines, sentence,
 };
+use life_cells::{CodeFault, RuleFault};
 use life_text::{RleFault, read_rle};
 use std::test::Fail;
 
@@ -18,13 +18,12 @@ const HOSTILE: &[u8] = b" a\n\x00\x1f\x7f\\~\x80\xff";
 
 const HARMLESS: &[u8] = b" a\\x0a\\x00\\x1f\\x7f\\~\x80\xff";
 
+const HARMLESS_LINE: &[u8] = b"   a\\x0a\\x00\\x1f\\x7f\\~\x80\xff\n";
+
 const TEXT: &[u8] = b"x = 3, y = 3\n3o$\nb0o!";
 
 const REFUSAL: &str =
     "  demo/broken:3:2: a count is 0 or has nothing to count: it must be 1 or more and stand before a cell or `$`\n";
-
-const UNREAD: &str =
-    "  soups/a\\x1b.rle: reading failed: a folder must be one that can be listed, and a file a regular file that can be read (Permission denied)\n";
 
 #[test]
 fn faults_are_explained(rt: HostRuntime) -> Result<(), Fail> {
@@ -33,32 +32,79 @@ fn faults_are_explained(rt: HostRuntime) -> Result<(), Fail> {
     let line = fault_line(alloc, TEXT, &fault)?;
     assert!(rt; line.as_slice().starts_with(FAULT_START));
     assert!(rt; line.as_slice().ends_with(FAULT_END));
-    let short = sentence_line(alloc, TEXT, &fault)?;
-    assert!(rt; line.as_slice().starts_with(&short));
-    let words = fault_words(alloc, 7)?;
-    assert!(rt; short.as_slice().ends_with(&words));
-    let refused = refusal_line(alloc, b"demo", b"broken", TEXT)?.ok_or("not refused")?;
-    assert!(rt; refused.as_slice() == REFUSAL.as_bytes());
     let bundle = read_bundle(alloc, BROKEN_BUNDLE)?;
     assert!(rt; refusal_lines(alloc, &bundle)?.as_slice() == REFUSAL.as_bytes());
+    // (where memory is refused, which no row shows)
+    let memory = "memory ran out: what was given may be right, but more memory is needed";
+    assert!(rt; sentence(Fault::Text(RleFault::Memory)) == memory);
     Ok(())
 }
 
 #[test]
-fn what_cannot_be_read_is_explained(rt: HostRuntime) -> Result<(), Fail> {
+fn what_is_said_has_no_control_character(rt: HostRuntime) -> Result<(), Fail> {
     let alloc = rt.alloc();
-    let line = explanation(
-        alloc,
-        Fault::Read,
-        Some(b"soups/a\x1b.rle"),
-        Spot::Nowhere,
-        Some(b"Permission denied"),
-    )?;
-    assert!(rt; line.as_slice() == UNREAD.as_bytes());
     let shown = printable_text(alloc, HOSTILE)?;
     assert!(rt; shown.as_slice() == HARMLESS);
-    // (where memory is refused, which no row shows)
-    let memory = "memory ran out: what was given may be right, but more memory is needed";
-    assert!(rt; sentence(Fault::Text(RleFault::Memory)) == memory);
+    let mut words = Words::none(alloc);
+    words.add(HOSTILE)?;
+    let mut lines = Lines::none(alloc);
+    lines.push(&words)?;
+    assert!(rt; lines.as_slice() == HARMLESS_LINE);
+    Ok(())
+}
+
+#[test]
+fn no_two_faults_have_one_sentence(rt: HostRuntime) -> Result<(), Fail> {
+    // (a rule that isn't Life-like, or a text without a header line, of which no more is known, is a fault of the text)
+    const FAULTS: &[Fault] = &[
+        Fault::Text(RleFault::NoHeader),
+        Fault::Text(RleFault::BadHeader),
+        Fault::Text(RleFault::Rule(RuleFault::NotLifeLike)),
+        Fault::Text(RleFault::Rule(RuleFault::HasB0)),
+        Fault::Text(RleFault::ManyStates { at: 0 }),
+        Fault::Text(RleFault::BadChar { at: 0 }),
+        Fault::Text(RleFault::BadRun { at: 0 }),
+        Fault::Text(RleFault::TooFar { at: 0 }),
+        Fault::Text(RleFault::TooMany { at: 0 }),
+        Fault::Text(RleFault::NoEnd),
+        Fault::File(FileKind::Gzip),
+        Fault::File(FileKind::Macrocell),
+        Fault::File(FileKind::OldLife),
+        Fault::File(FileKind::Plaintext),
+        Fault::File(FileKind::ByteOrderMark),
+        Fault::Rule(RuleKind::Named),
+        Fault::Rule(RuleKind::Bounded),
+        Fault::Rule(RuleKind::History),
+        Fault::Rule(RuleKind::Generations),
+        Fault::Rule(RuleKind::LargerThanLife),
+        Fault::Rule(RuleKind::NonTotalistic),
+        Fault::Rule(RuleKind::Blank),
+        Fault::Bundle(BundleFault::StrayText { line: 1 }),
+        Fault::Bundle(BundleFault::FileBeforeFolder { line: 1 }),
+        Fault::Bundle(BundleFault::BadAtLine { line: 1 }),
+        Fault::Bundle(BundleFault::BadName { line: 1 }),
+        Fault::Bundle(BundleFault::TooMany { line: 1 }),
+        Fault::Folder(AddFault::BadName),
+        Fault::Folder(AddFault::NoFolder),
+        Fault::Folder(AddFault::TooMany),
+        Fault::Code(CodeFault::Empty),
+        Fault::Code(CodeFault::BadChar { at: 0 }),
+        Fault::Code(CodeFault::CutRun { at: 0 }),
+        Fault::Code(CodeFault::TooFar { at: 0 }),
+        Fault::Report,
+        Fault::Claims,
+        Fault::Names,
+        Fault::TooLong,
+        Fault::Read,
+        Fault::FileForFolder,
+        Fault::Write,
+        Fault::Arguments,
+        Fault::Memory,
+    ];
+    for (count, fault) in FAULTS.iter().enumerate() {
+        for other in FAULTS.iter().take(count) {
+            assert!(rt; sentence(*fault) != sentence(*other));
+        }
+    }
     Ok(())
 }

@@ -2,7 +2,7 @@
 
 use census_bundle::{AddFault, BundleFault, Ticket, read_bundle};
 use census_errors::{
-    AdvanceError, CommandError, DrawError, RunError, RunStopped, kept_place, run_saying, say,
+    AdvanceError, CommandError, DrawError, RunError, RunStopped, kept_place, run_saying, say_if,
 };
 use census_faults::{BytesFault, RunFault};
 use std::alloc::{AllocError, Global};
@@ -88,7 +88,7 @@ fn a_pattern_for_which_memory_ran_out_is_named(rt: HostRuntime) -> Result<(), Fa
     let error = RunError::Memory { ticket };
     let place = kept_place(rt.alloc(), error);
     let mut errors = Output::new(Vec::new(rt.alloc()));
-    say(run_saying(error).at(&place), &mut errors);
+    say_if(true, run_saying(error).at(&place), &mut errors);
     assert!(rt; errors.into_inner().as_slice() == LINE);
     // That of a folder is named by its path.
     let bundle = read_bundle(rt.alloc(), TWO_PATTERNS)?;
