@@ -5,7 +5,10 @@
 What is expected is known from elsewhere: LifeWiki's pages of the patterns, docs/FAULTS.md, and a slow plane of a few lines in this file.
 """
 import ast
+import base64
 import doctest
+import hashlib
+import json
 import os
 import pickle
 import random
@@ -15,6 +18,7 @@ import subprocess
 import sys
 import tempfile
 import unittest
+import zipfile
 from concurrent.futures import ThreadPoolExecutor
 from dataclasses import replace
 from unittest import mock
@@ -22,10 +26,11 @@ from unittest import mock
 HERE = os.path.dirname(os.path.realpath(__file__))
 ROOT = os.path.realpath(os.path.join(HERE, "..", ".."))
 sys.path.insert(0, HERE)
+import build_wheel
 import census
 from census import (
-    Census, CensusError, ClaimFault, Code, CodeFault, Disagreement, Engine, FolderFault, OutOfMemory, Pattern, PatternFault, ProgramFailed,
-    ReadFailed, ReportFault, RuleFault, Same, TimedOut, TooLong, read_report,
+    Census, CensusError, ClaimFault, Code, CodeFault, Disagreement, Engine, FolderFault, NamesFault, OutOfMemory, Pattern, PatternFault,
+    ProgramFailed, ReadFailed, ReportFault, RuleFault, Same, TimedOut, TooLong, read_names, read_report,
 )
 
 PROGRAM = os.path.realpath(os.environ.get("CENSUS", f"{ROOT}/release/census"))
@@ -463,7 +468,8 @@ class Faults(Room):
     def test_errors_can_be_pickled(self):
         errors = [
             CensusError("words", 3, "place"), PatternFault("words", 5, 2, 9, 21, 7), PatternFault("words", 1, 1, 1), TooLong("folder"),
-            TooLong(None, 3), ReadFailed("folder"), FolderFault(1, "folder"), FolderFault(3), ReportFault("words", 4), OutOfMemory(),
+            TooLong(None, 3), ReadFailed("folder"), FolderFault(1, "folder"), FolderFault(3), ReportFault("words", 4), ReportFault("words", 4, 2),
+            ClaimFault("words", 2), NamesFault("words", 2), OutOfMemory(),
             TimedOut(0.5), ProgramFailed(-9, "words"),
         ]
         for error in errors:
@@ -624,6 +630,7 @@ class Tables(Room):
             self.assertEqual((row.dx, row.dy, row.code), (*row.displacement, row.apgcode))
         row, = self.census.table([f"{EXAMPLES}/guns"], bound=20)
         self.assertEqual((row.dx, row.dy, row.code), (None, None, None))
+        self.assertEqual([it.code for it in (*self.census.codes(Codes.REPORT), *self.census.same(Codes.REPORT))], ["xs4_33", "xp2_7", "xs4_33"])
 
     def test_objects(self):
         rows = self.census.table([f"{EXAMPLES}/methuselahs"], objects=True)
@@ -997,9 +1004,8 @@ end 2 4
             self.assertEqual(caught.exception.line, 3)
         # what comes again, and what grows
         both = f"open 1 2 a;line 1 1 grows B3/S23 36 1 b;{one}{glider}line 1 2 ok B3/S23 4 0 1 0 0 xs4_33 c;"
-        with self.assertRaises(ReportFault) as caught:
-            read_report(f"{both}code 1 B3/S23 xs4_33 1;close 1 2 2 0 0;end 1 2;".replace(";", "\n").encode())
-        self.assertEqual(caught.exception.line, 5)
+        rows = read_report(f"{both}code 1 B3/S23 xs4_33 1;close 1 2 2 0 0;end 1 2;".replace(";", "\n").encode())
+        self.assertEqual([row.status for row in rows], ["grows", "ok"])
 
     def test_what_comes_again(self):
         row, = read_report(b"open 1 1 a\nline 1 1 ok B3/S23 5 0 4 1 1 xq4_153 b c\ncode 1 B3/S23 xq4_153 1\nclose 1 1 1 0 0\nend 1 1\n")
@@ -1037,7 +1043,6 @@ end 2 4
             f"open 1 1 c;line 1 1 {block.replace('B3/S23', '')};{code};close 1 1 1 0 0;end 1 1",
             f"open 1 1 c;line 1 1 {block};{code};close 1 1 0 1 0;end 1 1",
             f"open 1 1 c;line 1 1 {block};code 1 B3/S23 xs4_33 0;close 1 1 1 0 0;end 1 1",
-            f"open 1 2 c;line 1 1 {block};line 1 2 ash B3/S23 0 0 0 b;{code};close 1 2 2 0 0;end 1 2",
             "end 0 1",
         ]
         # `code` lines that are missing, too many, of another rule, code or count, or in another order
@@ -1302,6 +1307,180 @@ class Compared(Room):
                 self.script(body).verify(self.CLAIMS, Codes.REPORT)
 
 
+class Merged(Room):
+    """`merge`, and `table` of reports."""
+
+    def test_lists_and_texts(self):
+        two = Codes.REPORT + Codes.REPORT
+        wanted = subprocess.run([PROGRAM, "merge"], input=two.encode(), stdout=subprocess.PIPE, check=True).stdout.decode()
+        for given in (two, two.encode(), [Codes.REPORT, Codes.REPORT.encode()], iter([Codes.REPORT] * 2), [two], ["end 0 0\n", bytearray(two.encode())]):
+            with self.subTest(given):
+                self.assertEqual(self.census.merge(given), wanted)
+        self.assertEqual((self.census.merge([]), self.census.merge("end 0 0\n")), ("end 0 0\n", "end 0 0\n"))
+        for given in (None, 3, [3], [None]):
+            with self.subTest(given), self.assertRaises(TypeError):
+                self.census.merge(given)
+
+    def test_names_that_are_not_utf_8(self):
+        merged = self.census.merge([Reports.INTERLEAVED, Reports.INTERLEAVED])
+        self.assertEqual(read_report(merged), read_report(Reports.INTERLEAVED * 2))
+        self.assertEqual(self.census.merge(merged), merged)
+
+    def test_reports_with_faults(self):
+        for given, index, line, place in (([Codes.REPORT, Codes.REPORT[:-8]], 1, 12, "reports[1], line 12"), ([b"x"], 0, 1, "reports[0], line 1"),
+                                          (Codes.REPORT + "x", None, 13, "line 13"), ("", None, 1, "line 1")):
+            with self.subTest(given), self.assertRaises(ReportFault) as caught:
+                self.census.merge(given)
+            self.assertEqual((caught.exception.index, caught.exception.line, caught.exception.place), (index, line, place))
+        with self.assertRaises(CensusError) as caught:
+            self.census.merge([Codes.REPORT, "\ud800"])
+        self.assertEqual(caught.exception.place, "reports[1], character 0")
+        many = "".join(f"open {c} 0 a\nclose {c} 0 0 0 0\n" for c in range(1, 40001)) + "end 40000 0\n"
+        for given in (many * 2, [many, many]):
+            with self.assertRaises(FolderFault) as caught:
+                self.census.merge(given)
+            self.assertEqual((caught.exception.number, caught.exception.place), (3, "reports[1]"))
+
+    def test_what_was_cut(self):
+        whole = Codes.REPORT[:Codes.REPORT.index("end")]
+        merged = self.census.merge([whole + "open 2 1 c\n", Codes.REPORT], cut=True)
+        self.assertEqual([(row.collection, row.name) for row in read_report(merged)],
+                         [(1, "p"), (1, "q r"), (2, "p"), (2, "q r"), (3, "s")])
+
+    def test_a_program_that_lies(self):
+        for body in ("echo no report", "exit 1", "printf 'end 1 1'", "echo 'census: report fault at line 1' >&2; exit 1", "echo; exit 0"):
+            for given in (Codes.REPORT, [Codes.REPORT]):
+                with self.subTest((body, given)), self.assertRaises(ProgramFailed):
+                    self.script(body).merge(given)
+
+    def test_tables_of_reports(self):
+        program, calls = self.counted()
+        for given in (Codes.REPORT, Reports.INTERLEAVED, bytearray(Reports.GROWING)):
+            self.assertEqual(program.table(given), read_report(given))
+        with self.assertRaises(ReportFault):
+            program.table(Codes.REPORT[:-8])
+        for options in ({"objects": True}, {"near": True}, {"bound": 5}, {"workers": 1}, {"cells": 5}, {"horizon": 5}):
+            with self.subTest(options), self.assertRaises(TypeError):
+                program.table(Codes.REPORT, **options)
+        for command in (program.run, program.objects):
+            with self.subTest(command), self.assertRaises(TypeError):
+                command(Codes.REPORT)
+        self.assertEqual(calls(), 0)
+
+
+class Pages(Room):
+    """`page`."""
+
+    def test_as_the_program_writes_it(self):
+        for options, words in (({}, []), ({"title": "A <b>", "note": "caf\u00e9", "sort": "code", "top": 1}, ["--title=A <b>", "--note=caf\u00e9", "--sort=code", "--top=1"]),
+                               ({"base": "https://example.org/", "links": True, "patterns": False}, ["--base=https://example.org/", "--links", "--no-patterns"])):
+            wanted = subprocess.run([PROGRAM, "page", *words], input=Codes.REPORT.encode(), stdout=subprocess.PIPE, check=True).stdout.decode()
+            for given in (Codes.REPORT, Codes.REPORT.encode()):
+                with self.subTest(options):
+                    self.assertEqual(self.census.page(given, **options), wanted)
+        self.assertIn("<title>A &lt;b&gt;</title>", self.census.page("end 0 0\n", title="A <b>"))
+        self.assertIn("</html>", self.census.page(Reports.INTERLEAVED))
+
+    def test_what_is_refused(self):
+        program, calls = self.counted()
+        for options in ({"sort": "size"}, {"top": 0}, {"top": 2 ** 32}, {"base": "ftp://example.org/"}):
+            with self.subTest(options), self.assertRaises(ValueError):
+                program.page(Codes.REPORT, **options)
+        for title in ("\ud800", "a\0b"):
+            with self.subTest(title), self.assertRaises(CensusError):
+                program.page(Codes.REPORT, title=title)
+        self.assertEqual(calls(), 0)
+        with self.assertRaises(ReportFault) as caught:
+            program.page(Codes.REPORT[:-8])
+        self.assertEqual(caught.exception.line, 12)
+
+    def test_orders(self):
+        """The program takes these orders and no other."""
+        for order in (*census._ORDERS, "size"):
+            ran = subprocess.run([PROGRAM, "page", f"--sort={order}"], input=b"end 0 0\n", stdout=subprocess.DEVNULL, stderr=subprocess.DEVNULL, check=False)
+            self.assertEqual(ran.returncode == 0, order != "size")
+
+    def test_a_program_that_lies(self):
+        for body in ("echo no page", "exit 1", "echo '<!DOCTYPE html>'"):
+            with self.subTest(body), self.assertRaises(ProgramFailed):
+                self.script(body).page(Codes.REPORT)
+
+
+class Names(Room):
+    """Names of codes."""
+
+    TEXT = "# a comment\n\nxs4_33\tblock\r\nxq4_153\tglider\nxp2_7\ta\tb\nx\t\u00e9"
+    NAMES = {"xs4_33": "block", "xq4_153": "glider", "xp2_7": "a\tb", "x": "\u00e9"}
+
+    def test_texts(self):
+        for given in (self.TEXT, self.TEXT.encode(), bytearray(self.TEXT.encode())):
+            self.assertEqual(read_names(given), self.NAMES)
+        self.assertEqual(read_names(""), {})
+        self.assertEqual(read_names(b"xs4_33\t\xff"), {"xs4_33": "\udcff"})
+        for text, line in (("xs4_33", 1), ("\tblock", 1), ("xs4_33\t\r", 1), ("# a\nx\ty\n\nx\ty\n", 4), (" # a", 1)):
+            with self.subTest(text), self.assertRaises(NamesFault) as caught:
+                read_names(text)
+            self.assertEqual((caught.exception.line, caught.exception.place), (line, f"line {line}"))
+
+    def test_everywhere(self):
+        for names in (self.TEXT, self.TEXT.encode(), self.NAMES):
+            self.assertEqual(self.census.identify(BLOCK, names=names).common_name, "block")
+            found = self.census.identify_many([GLIDER, FAULTY, R_PENTOMINO], bound=2000, names=names, return_exceptions=True)
+            self.assertEqual([getattr(it, "common_name", 0) for it in found], ["glider", 0, None])
+            folder = [f"{EXAMPLES}/spaceships"]
+            for rows in (self.census.table(folder, names=names), self.census.run(folder, names=names), self.census.run(texts=[GLIDER, "3o!"], names=names)):
+                self.assertEqual([row.common_name for row in rows], ["glider", None])
+            self.assertEqual(self.census.objects(texts=[GLIDER], names=names)[0].common_name, None)
+            self.assertEqual([row.common_name for row in read_report(Codes.REPORT, names=names)], ["block", "a\tb", "block"])
+            self.assertEqual([row.common_name for row in self.census.table(Codes.REPORT, names=names)], ["block", "a\tb", "block"])
+            self.assertEqual([code.common_name for code in self.census.codes(Codes.REPORT, names=names)], ["block", "a\tb"])
+        self.assertIsNone(self.census.identify(BLOCK).common_name)
+
+    def test_faults_come_first(self):
+        program, calls = self.counted()
+        for call in (lambda it: program.identify(FAULTY, names=it), lambda it: program.identify_many([FAULTY], names=it), lambda it: program.table(["none"], names=it),
+                     lambda it: program.run(texts=[BLOCK], names=it), lambda it: program.objects(["none"], names=it), lambda it: program.codes("x", names=it),
+                     lambda it: read_report("x", names=it)):
+            with self.assertRaises(NamesFault) as caught:
+                call("xs4_33\n")
+            self.assertEqual((caught.exception.line, caught.exception.sentence.split(":")[0]), (1, "a line is not one of a name"))
+        self.assertEqual(calls(), 0)
+
+    def test_as_the_program_reads_them(self):
+        """What `census --names` accepts, its line of a fault, and the names that it gives."""
+        chance = random.Random("names")
+        room = self.folder("names")
+
+        def differs(number):
+            parts = chance.choices(["xs4_33", "xp2_7", "a", "\t", "\t", "\t", "\n", "\n", "\r", "#", " ", "\u00e9"], k=chance.randrange(12))
+            text = "".join(parts).encode()
+            path = os.path.join(room, str(number))
+            with open(path, "wb") as it:
+                it.write(text)
+            ran = subprocess.run([PROGRAM, "identify", "--json", f"--names={path}"], input=BLOCK.encode(), stdout=subprocess.PIPE, stderr=subprocess.PIPE, check=False)
+            try:
+                wanted = json.loads(ran.stdout).get("name") if ran.returncode == 0 else ran.stderr
+                found = read_names(text).get("xs4_33")
+            except NamesFault as fault:
+                found = b"census: names fault at line %d\n" % fault.line
+            return None if wanted == found else (text, wanted, found)
+
+        self.assertEqual([it for it in map(differs, range(400)) if it], [])
+
+    def test_the_names_that_stand_in_examples(self):
+        """Each code is the one that the program gives for what it draws of it, each name stands once, and what a thousand soups leave is named."""
+        with open(f"{EXAMPLES}/names.tsv", "rb") as it:
+            names = read_names(it.read())
+        with open(f"{ROOT}/checks/soups.txt", encoding="ascii") as it:
+            self.assertEqual({line.split()[0] for line in it} - set(names), set())
+        self.assertEqual(len(set(names.values())), len(names))
+        for name in names.values():
+            self.assertRegex(name, r"\A[!-~]([ -~]*[!-~])?\Z")
+        with ThreadPoolExecutor(4) as pool:
+            drawn = list(pool.map(self.census.draw, names))
+        self.assertEqual([(row.apgcode, row.common_name) for row in self.census.run(texts=drawn, names=names)], list(names.items()))
+
+
 class LaterAndDrawn(Room):
     """`advance` and `draw`."""
 
@@ -1363,6 +1542,29 @@ class LaterAndDrawn(Room):
         os.symlink(PROGRAM, os.path.join(self.room, "census"))
         with mock.patch.dict(os.environ, {"PATH": self.room}):
             self.assertEqual(Census().identify(BLOCK).apgcode, "xs4_33")
+
+
+class Wheel(Room):
+    """What pip installs."""
+
+    def test_wheel(self):
+        name = build_wheel.build_wheel(self.room)
+        said = subprocess.run([PROGRAM, "--version"], stdout=subprocess.PIPE, check=True).stdout.decode().split()[1]
+        self.assertEqual(name, f"census_of_patterns-{said}-py3-none-any.whl")
+        head = f"census_of_patterns-{said}.dist-info"
+        with zipfile.ZipFile(os.path.join(self.room, name)) as wheel:
+            files = {it: wheel.read(it) for it in wheel.namelist()}
+        self.assertEqual(set(files), {"census/__init__.py", "census/py.typed", f"{head}/METADATA", f"{head}/WHEEL", f"{head}/RECORD"})
+        with open(census.__file__, "rb") as it:
+            self.assertEqual(files["census/__init__.py"], it.read())
+        record = files.pop(f"{head}/RECORD").decode().split("\n")
+        wanted = [
+            f"{it},sha256={base64.urlsafe_b64encode(hashlib.sha256(content).digest()).decode().rstrip('=')},{len(content)}" for it, content in files.items()
+        ]
+        self.assertEqual(record, [*wanted, f"{head}/RECORD,,", ""])
+        asked = "import sys; sys.path.insert(0, sys.argv[1]); import census; print(census.Census(sys.argv[2]).identify(sys.argv[3]).apgcode)"
+        words = [sys.executable, "-B", "-I", "-c", asked, os.path.join(self.room, name), PROGRAM, BLOCK]
+        self.assertEqual(subprocess.run(words, stdout=subprocess.PIPE, check=True).stdout, b"xs4_33\n")
 
 
 class Module(unittest.TestCase):

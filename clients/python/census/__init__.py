@@ -20,15 +20,20 @@ import signal
 import subprocess
 import tempfile
 from dataclasses import dataclass, field, replace
-from typing import Callable, Dict, Iterable, Iterator, List, Literal, Mapping, NoReturn, Optional, Set, Tuple, Union, overload
+from typing import Any, Callable, Dict, Iterable, Iterator, List, Literal, Mapping, NoReturn, Optional, Tuple, TypeVar, Union, overload
 
 __all__ = [
-    "Census", "Code", "Disagreement", "Engine", "Pattern", "Row", "Same", "read_report",
-    "CensusError", "PatternFault", "CodeFault", "RuleFault", "FolderFault", "TooLong", "ReadFailed", "ReportFault", "ClaimFault", "OutOfMemory", "TimedOut", "ProgramFailed",
+    "Census", "Code", "Disagreement", "Engine", "Pattern", "Row", "Same", "read_names", "read_report",
+    "CensusError", "PatternFault", "CodeFault", "RuleFault", "FolderFault", "TooLong", "ReadFailed", "ReportFault", "ClaimFault", "NamesFault",
+    "OutOfMemory", "TimedOut", "ProgramFailed",
 ]
 
-# an RLE text, a report or claims
+# an RLE text, a report, claims or names
 Text = Union[str, bytes, bytearray, memoryview]
+# names of codes: a text of them, as `read_names` reads it, or names by their codes
+Names = Union[Text, Mapping[str, str]]
+# the order of the codes of a page
+Order = Literal["report", "count", "code", "period", "name"]
 # RLE texts by their names, or a list of them
 Texts = Union[Mapping[str, Text], Iterable[Text]]
 # a program or a folder
@@ -122,7 +127,18 @@ class FolderFault(CensusError):
 
 
 class ReportFault(CensusError):
-    """A text is no report that the program reads, or not a whole one. `line` counts from 1."""
+    """A text is no report that the program reads, or not a whole one. `line` counts from 1. `index` is the place of the text in the list of
+    `merge`, from 0, or None."""
+
+    def __init__(self, sentence: str, line: int, index: Optional[int] = None) -> None:
+        super().__init__(sentence, None, _place_of_text(index, f"line {line}", "reports"))
+        self.args = (sentence, line, index)
+        self.line = line
+        self.index = index
+
+
+class ClaimFault(CensusError):
+    """A table is none of claims: the row that begins at `line`, which counts from 1, is wrong."""
 
     def __init__(self, sentence: str, line: int) -> None:
         super().__init__(sentence, None, f"line {line}")
@@ -130,8 +146,8 @@ class ReportFault(CensusError):
         self.line = line
 
 
-class ClaimFault(CensusError):
-    """A table is none of claims: the row that begins at `line`, which counts from 1, is wrong."""
+class NamesFault(CensusError):
+    """A text is none of names: the line `line`, which counts from 1, is wrong."""
 
     def __init__(self, sentence: str, line: int) -> None:
         super().__init__(sentence, None, f"line {line}")
@@ -170,11 +186,11 @@ class ProgramFailed(CensusError):
         self.stderr = stderr
 
 
-def _place_of_text(index: Optional[int], place: Optional[str]) -> Optional[str]:
+def _place_of_text(index: Optional[int], place: Optional[str], texts: str = "rles") -> Optional[str]:
     """Where it is, with the place of the text in its list before it."""
     if index is None:
         return place
-    return f"rles[{index}]" if place is None else f"rles[{index}], {place}"
+    return f"{texts}[{index}]" if place is None else f"{texts}[{index}], {place}"
 
 
 # Answers
@@ -211,6 +227,8 @@ class Pattern:
     engines: Optional[List[Engine]] = field(default=None, hash=False)
     # the first generation with too many cells
     large: Optional[int] = None
+    # the name of its apgcode, where names were given and there is one
+    common_name: Optional[str] = None
 
 
 @dataclass(frozen=True)
@@ -248,6 +266,8 @@ class Row:
     parts: Optional[Tuple[Tuple[str, int], ...]] = None
     # by which engines it grows for ever, in the order of the report
     engines: Optional[List[Engine]] = field(default=None, hash=False)
+    # the name of its apgcode, where names were given and there is one
+    common_name: Optional[str] = None
 
     @property
     def dx(self) -> Optional[int]:
@@ -284,8 +304,7 @@ class Code:
     """What reports say of one code under one rule. Names are decoded as UTF-8, with U+FFFD for what is none."""
 
     rule: str
-    # the apgcode
-    code: str
+    apgcode: str
     # how many objects have it: a pattern that recurs is one, and so is each part of one that has fallen apart; at most 2^64 - 1
     count: int
     # in how many patterns
@@ -293,6 +312,13 @@ class Code:
     # the collection and the name of the first of these
     first_collection_name: str
     first_name: str
+    # the name of the apgcode, where names were given and there is one
+    common_name: Optional[str] = None
+
+    @property
+    def code(self) -> str:
+        """Deprecated: `apgcode`."""
+        return self.apgcode
 
 
 @dataclass(frozen=True)
@@ -300,10 +326,14 @@ class Same:
     """Patterns of reports that are one object. Names are decoded as UTF-8, with U+FFFD for what is none."""
 
     rule: str
-    # the apgcode
-    code: str
+    apgcode: str
     # the collection and the name of each, at least two, in the order of the reports
     patterns: Tuple[Tuple[str, str], ...]
+
+    @property
+    def code(self) -> str:
+        """Deprecated: `apgcode`."""
+        return self.apgcode
 
 
 @dataclass(frozen=True)
@@ -338,33 +368,36 @@ class Census:
         return f"Census({self.program!r}, timeout={self.timeout!r})"
 
     def identify(self, rle: Text, *, bound: Optional[int] = None, near: bool = False, cells: Optional[int] = None,
-                 horizon: Optional[int] = None) -> Pattern:
+                 horizon: Optional[int] = None, names: Optional[Names] = None) -> Pattern:
         """What the pattern of one RLE text is and becomes within `bound` generations, 1 to 100,000 (None: 10,000).
 
         The independent parts of what has fallen apart are counted; with `near` what comes within two cells is one object. `cells` is how
-        many live cells a generation may have, 1 to 4,294,967,295 (None: 1,000,000). Growth is sought within `horizon` generations, 1 to
-        10,000 (None: 1,000).
+        many live cells a generation may have, 1 to 4,294,967,295 (None: 200,000). Growth is sought within `horizon` generations, 1 to
+        10,000 (None: 1,000). `names` are names of codes, for `common_name`.
 
-        Raises `PatternFault`, `TooLong`, `OutOfMemory`, `TimedOut`, `ProgramFailed`, or `CensusError` itself; `OSError` where the program
-        can't be started.
+        Raises `PatternFault`, `TooLong`, `NamesFault`, `OutOfMemory`, `TimedOut`, `ProgramFailed`, or `CensusError` itself; `OSError` where
+        the program can't be started.
         """
+        common_names = _names_of(names)
         ran = self._run(["identify", *_Question.of_objects(bound, near, cells, horizon).options()], _bytes_of(rle))
         answer = _answers(ran, ["-"], 10000 if bound is None else bound, horizon)["-"]
         if isinstance(answer, CensusError):
             raise answer
-        return answer
+        return _with_name(answer, common_names)
 
     @overload
     def identify_many(self, rles: Iterable[Text], *, bound: Optional[int] = None, near: bool = False, cells: Optional[int] = None,
-                      horizon: Optional[int] = None, workers: Optional[int] = None, return_exceptions: Literal[False] = False) -> List[Pattern]: ...
+                      horizon: Optional[int] = None, workers: Optional[int] = None, return_exceptions: Literal[False] = False,
+                      names: Optional[Names] = None) -> List[Pattern]: ...
 
     @overload
     def identify_many(self, rles: Iterable[Text], *, bound: Optional[int] = None, near: bool = False, cells: Optional[int] = None,
-                      horizon: Optional[int] = None, workers: Optional[int] = None, return_exceptions: Literal[True]) -> List[Union[Pattern, CensusError]]: ...
+                      horizon: Optional[int] = None, workers: Optional[int] = None, return_exceptions: Literal[True],
+                      names: Optional[Names] = None) -> List[Union[Pattern, CensusError]]: ...
 
     def identify_many(self, rles: Iterable[Text], *, bound: Optional[int] = None, near: bool = False, cells: Optional[int] = None,
-                      horizon: Optional[int] = None, workers: Optional[int] = None, return_exceptions: bool = False
-                      ) -> Union[List[Pattern], List[Union[Pattern, CensusError]]]:
+                      horizon: Optional[int] = None, workers: Optional[int] = None, return_exceptions: bool = False,
+                      names: Optional[Names] = None) -> Union[List[Pattern], List[Union[Pattern, CensusError]]]:
         """What `identify` reports of each RLE text, in order, by three calls of the program, of which two use `workers` threads, 1 to 16
         (None: one for each processor).
 
@@ -380,24 +413,28 @@ class Census:
         if isinstance(rles, (str, bytes, bytearray, memoryview)):
             raise TypeError("rles must be a list of texts; identify takes one text")
         question = _Question.of_objects(bound, near, cells, horizon, min(os.cpu_count() or 1, 16) if workers is None else workers)
+        common_names = _names_of(names)
         texts = [_text_or_error(rle, index) for index, rle in enumerate(rles)]
         files = {f"{index}.rle": text for index, text in enumerate(texts) if not isinstance(text, CensusError)}
         found: Dict[str, Union[Pattern, CensusError]] = {
             f"{index}.rle": text for index, text in enumerate(texts) if isinstance(text, CensusError)
         }
-        for names in _batches(list(files)):
+        for batch in _batches(list(files)):
             with tempfile.TemporaryDirectory(prefix="census-") as folder:
-                for name in names:
+                for name in batch:
                     with open(os.path.join(folder, name), "wb") as it:
                         it.write(files[name])
-                found.update(self._beginnings(folder, names, question))
+                found.update(self._beginnings(folder, batch, question))
                 if not return_exceptions:
-                    _raise_first([found[f"{index}.rle"] for index in range(_index_of(names[-1]) + 1)])
-                found.update(self._outcomes(folder, {name: found[name] for name in names}, question))
+                    _raise_first([found[f"{index}.rle"] for index in range(_index_in_folder(batch[-1]) + 1)])
+                found.update(self._outcomes(folder, {name: found[name] for name in batch}, question))
         answers = [found[f"{index}.rle"] for index in range(len(texts))]
         if not return_exceptions:
             _raise_first(answers)
-        return answers
+        named: List[Union[Pattern, CensusError]] = []
+        for answer in answers:
+            named.append(_with_name(answer, common_names) if isinstance(answer, Pattern) else answer)
+        return named
 
     def _beginnings(self, folder: str, names: List[str], question: _Question) -> Dict[str, Union[Pattern, CensusError]]:
         """What the files of these names in a folder are in generation 0, or what is wrong with them. Files with faults are removed."""
@@ -437,47 +474,59 @@ class Census:
             raise ProgramFailed(ran.returncode, "a report of other patterns than were asked of")
         return rows
 
-    def table(self, folders: Iterable[Path], *, objects: bool = False, near: bool = False, bound: Optional[int] = None,
-              workers: Optional[int] = None, cells: Optional[int] = None, horizon: Optional[int] = None) -> List[Row]:
-        """What each pattern of these folders becomes, in order: the report of `census run` or of `census objects`.
+    def table(self, folders: Union[Text, Iterable[Path]], *, objects: bool = False, near: bool = False, bound: Optional[int] = None,
+              workers: Optional[int] = None, cells: Optional[int] = None, horizon: Optional[int] = None, names: Optional[Names] = None
+              ) -> List[Row]:
+        """What each pattern of these folders becomes, in order: the report of `census run` or of `census objects`. In place of a list of
+        folders, a text is a report, or several one after another, whose rows these are, as `read_report` gives them.
 
         Each folder is a collection of its `*.rle` files, sorted bytewise. `bound` is 1 to 1,000,000 generations (None: 1,000), with
         `objects` to 100,000 (None: 10,000); `workers` 1 to 16 threads (None: 4); `cells` is how many live cells a generation may have, 1 to
-        4,294,967,295 (None: any number, with `objects` 1,000,000). With `objects` the independent parts of what is left are counted, and
+        4,294,967,295 (None: any number, with `objects` 200,000). With `objects` the independent parts of what is left are counted, and
         growth is reported; with `near`, what comes within two cells is one object; growth is sought within `horizon` generations, 1 to
-        10,000 (None: 1,000). `near` and `horizon` need `objects`. A text with a fault is a row; `identify` says more of it. Where the
-        folders are more than one call can hold, several calls are made in turn. Without a folder there is no call.
+        10,000 (None: 1,000). `near` and `horizon` need `objects`. `names` are names of codes, for `common_name`. A report takes `names`
+        alone. A text with a fault is a row; `identify` says more of it. Where the folders are more than one call can hold, several calls
+        are made in turn. Without a folder, and for a report, there is no call.
 
-        Raises `FolderFault`, `TooLong`, `ReadFailed`, `OutOfMemory`, `TimedOut`, `ProgramFailed`, or `CensusError` itself; `OSError` where
-        the program can't be started. Where there are several folders, further calls find which one is at fault.
+        Raises `FolderFault`, `TooLong`, `ReadFailed`, `ReportFault`, `NamesFault`, `OutOfMemory`, `TimedOut`, `ProgramFailed`, or
+        `CensusError` itself; `OSError` where the program can't be started. Where there are several folders, further calls find which one
+        is at fault.
         """
-        if isinstance(folders, (str, bytes, os.PathLike)):
+        if isinstance(folders, (str, bytes, bytearray, memoryview)):
+            if objects or near or any(it is not None for it in (bound, workers, cells, horizon)):
+                raise TypeError("what a report says is settled: only names go with it; folders must be a list")
+            if b"\n" not in _bytes_of(folders):
+                raise TypeError("folders must be a list of folders: a text with no line feed is no report")
+            return read_report(folders, names=names)
+        if isinstance(folders, os.PathLike):
             raise TypeError("folders must be a list of folders")
         if near and not objects:
             raise TypeError("near goes with objects alone")
         if horizon is not None and not objects:
             raise TypeError("horizon goes with objects alone")
         question = _Question.of_objects(bound, near, cells, horizon, workers) if objects else _Question.of_run(bound, cells, workers)
+        common_names = _names_of(names)
         rows: List[Row] = []
         before = 0
-        for names in _batches([_path_of(folder) for folder in folders]):
-            listed = [_names_in(name) for name in names]
-            ran = self._run([*question.words(), "--", *names])
+        for batch in _batches([_path_of(folder) for folder in folders]):
+            listed = [_names_in(folder) for folder in batch]
+            ran = self._run([*question.words(), "--", *batch])
             if ran.returncode != 0:
-                self._raise_of_folders(ran, names)
-            rows += [replace(row, collection=before + row.collection) for row in _rows_of(ran, _Asked(names, listed, question))]
-            before += len(names)
-        return rows
+                self._raise_of_folders(ran, batch)
+            rows += [replace(row, collection=before + row.collection) for row in _rows_of(ran, _Asked(batch, listed, question))]
+            before += len(batch)
+        return [_with_name(row, common_names) for row in rows]
 
     def run(self, folders: Iterable[Path] = (), *, texts: Optional[Texts] = None, bound: Optional[int] = None,
-            workers: Optional[int] = None, cells: Optional[int] = None) -> List[Row]:
+            workers: Optional[int] = None, cells: Optional[int] = None, names: Optional[Names] = None) -> List[Row]:
         """`table` of what comes again: the report of `census run`. Or that of `texts`, as in `objects`."""
         if texts is not None:
-            return self._rows_of_texts(folders, texts, _Question.of_run(bound, cells, workers))
-        return self.table(folders, bound=bound, workers=workers, cells=cells)
+            return self._rows_of_texts(folders, texts, _Question.of_run(bound, cells, workers), names)
+        return self.table(_list_of_folders(folders), bound=bound, workers=workers, cells=cells, names=names)
 
     def objects(self, folders: Iterable[Path] = (), *, texts: Optional[Texts] = None, near: bool = False, bound: Optional[int] = None,
-                workers: Optional[int] = None, cells: Optional[int] = None, horizon: Optional[int] = None) -> List[Row]:
+                workers: Optional[int] = None, cells: Optional[int] = None, horizon: Optional[int] = None, names: Optional[Names] = None
+                ) -> List[Row]:
         """`table` of objects that are left, and of growth: the report of `census objects`.
 
         In place of folders, `texts` are RLE texts by their names, or a list of them, whose names are 1, 2 and so on. They are the patterns
@@ -485,30 +534,78 @@ class Census:
         line that begins with `@`, which would end it, and for more than 65,535 texts.
         """
         if texts is not None:
-            return self._rows_of_texts(folders, texts, _Question.of_objects(bound, near, cells, horizon, workers))
-        return self.table(folders, objects=True, near=near, bound=bound, workers=workers, cells=cells, horizon=horizon)
+            return self._rows_of_texts(folders, texts, _Question.of_objects(bound, near, cells, horizon, workers), names)
+        return self.table(
+            _list_of_folders(folders), objects=True, near=near, bound=bound, workers=workers, cells=cells, horizon=horizon, names=names
+        )
 
-    def _rows_of_texts(self, folders: Iterable[Path], texts: Texts, question: _Question) -> List[Row]:
+    def _rows_of_texts(self, folders: Iterable[Path], texts: Texts, question: _Question, names: Optional[Names]) -> List[Row]:
         """What is reported of texts."""
         if list(folders):
             raise TypeError("give folders or texts, not both")
+        common_names = _names_of(names)
         named = _named_texts(texts)
         ran = self._run(question.words(), _bundle_of(named))
         if _first_line(ran) == "census: input too long":
             raise TooLong()
         if ran.returncode != 0:
             raise _failure(ran)
-        return _rows_of(ran, _Asked(["texts"], [[name for name, _ in named]], question, is_bundle=True))
+        rows = _rows_of(ran, _Asked(["texts"], [[name for name, _ in named]], question, is_bundle=True))
+        return [_with_name(row, common_names) for row in rows]
 
-    def codes(self, report: Text) -> List[Code]:
-        """The codes of a report, or of several one after another, by falling count, and then the shorter first: `census table --codes`.
+    def merge(self, reports: Union[Text, Iterable[Text]], *, cut: bool = False) -> str:
+        """One report of several, whose collections are numbered on: `census merge`. The reports are a list of texts, or one text in which
+        they stand one after another. With `cut`, a text may be a report that was cut: its whole collections are kept. Names that are not
+        UTF-8 stand in what it gives as `os.fsdecode` has them, so that this can be read again. Without a text there is no call.
 
-        Raises `ReportFault`, `TooLong`, `OutOfMemory`, `TimedOut`, `ProgramFailed`, or `CensusError` itself.
+        Raises `ReportFault`, `FolderFault` where there are too many collections, and what `codes` raises.
         """
+        words = ["merge", "--explain", *_flag("cut", cut), "--"]
+        if isinstance(reports, (str, bytes, bytearray, memoryview)):
+            return _report_of(self._run([*words, "-"], _bytes_of(reports)))
+        texts = [_bytes_of(report, index, "reports") for index, report in enumerate(reports)]
+        if not texts:
+            return "end 0 0\n"
+        with tempfile.TemporaryDirectory(prefix="census-") as folder:
+            for index, text in enumerate(texts):
+                with open(os.path.join(folder, str(index)), "wb") as it:
+                    it.write(text)
+            return _report_of(self._run([*words, *map(str, range(len(texts)))], folder=folder))
+
+    def page(self, report: Text, *, title: Optional[str] = None, note: Optional[str] = None, sort: Optional[Order] = None,
+             top: Optional[int] = None, base: Optional[str] = None, links: bool = False, patterns: bool = True) -> str:
+        """An HTML page of a report, or of several one after another, with a picture of each code: `census page`. It is to be kept in UTF-8.
+
+        `sort` is the order of the codes, that of the report where it is None, and `top` how many of each collection are shown, 1 to
+        4,294,967,295 (None: all). With `base`, which begins with `http://` or `https://`, names are links to `base`, the collection, `/` and
+        the name joined; with `links`, codes are links to Catagolue. Without `patterns` the patterns are left out.
+
+        Raises what `codes` raises.
+        """
+        if sort is not None and sort not in _ORDERS:
+            raise ValueError(f"sort must be {', '.join(_ORDERS[:-1])} or {_ORDERS[-1]}, not {sort}")
+        if base is not None and not base.startswith(("http://", "https://")):
+            raise ValueError(f"base must begin with http:// or https://, not {base}")
+        texts = (("title", title), ("note", note), ("sort", sort), ("base", base))
+        ran = self._run([
+            "page", "--explain", *(f"--{name}={_path_of(text)}" for name, text in texts if text is not None),
+            *_option("top", top, _MOST_CELLS), *_flag("links", links), *_flag("no-patterns", not patterns), "-",
+        ], _bytes_of(report))
+        if ran.returncode == 1:
+            raise _fault_of_report(ran)
+        return _page_of(ran)
+
+    def codes(self, report: Text, *, names: Optional[Names] = None) -> List[Code]:
+        """The codes of a report, or of several one after another, by falling count, and then the shorter first: `census table --codes`.
+        `names` are names of codes, for `common_name`.
+
+        Raises `ReportFault`, `NamesFault`, `TooLong`, `OutOfMemory`, `TimedOut`, `ProgramFailed`, or `CensusError` itself.
+        """
+        common_names = _names_of(names)
         ran = self._run(["table", "--codes", "--json", "--explain", "-"], _bytes_of(report))
         if ran.returncode == 1:
             raise _fault_of_report(ran)
-        return _codes_of(ran)
+        return [_with_name(code, common_names) for code in _codes_of(ran)]
 
     def same(self, report: Text) -> List[Same]:
         """The patterns of a report, or of several one after another, that are one object, in the order of codes: `census same`.
@@ -647,7 +744,7 @@ class _Question:
         """The question of `objects` and `identify`, with the program's defaults."""
         return _Question(
             True, _number("bound", 10000 if bound is None else bound, 1, _MOST_BOUND), near,
-            _number("cells", 1000000 if cells is None else cells, 1, _MOST_CELLS),
+            _number("cells", 200000 if cells is None else cells, 1, _MOST_CELLS),
             _number("horizon", 1000 if horizon is None else horizon, 1, _MOST_HORIZON), _workers(workers),
         )
 
@@ -677,6 +774,13 @@ def _workers(workers: Optional[int]) -> Optional[int]:
     return None if workers is None else _number("workers", workers, 1, _MOST_WORKERS)
 
 
+def _list_of_folders(folders: Iterable[Path]) -> Iterable[Path]:
+    """Folders, which are no text."""
+    if isinstance(folders, (str, bytes, bytearray, memoryview)):
+        raise TypeError("folders must be a list of folders")
+    return folders
+
+
 def _remove(folder: str, name: str) -> None:
     """Removes a file of a folder, where it is still there."""
     try:
@@ -685,17 +789,33 @@ def _remove(folder: str, name: str) -> None:
         pass
 
 
-def _bytes_of(rle: Text, index: Optional[int] = None) -> bytes:
-    """A text as the bytes that the program reads."""
-    if isinstance(rle, str):
+def _bytes_of(text: Text, index: Optional[int] = None, texts: str = "rles") -> bytes:
+    """A text, of a list where it has an index, as the bytes that the program reads."""
+    if isinstance(text, str):
         try:
-            return rle.encode("utf-8", "surrogateescape")
+            return text.encode("utf-8", "surrogateescape")
         except UnicodeEncodeError as error:
-            place = _place_of_text(index, f"character {error.start}")
+            place = _place_of_text(index, f"character {error.start}", texts)
             raise CensusError("the text has a lone surrogate, which is no character", None, place) from None
-    if isinstance(rle, (bytes, bytearray, memoryview)):
-        return bytes(rle)
-    raise TypeError(f"a text must be str or bytes, not {type(rle).__name__}")
+    if isinstance(text, (bytes, bytearray, memoryview)):
+        return bytes(text)
+    raise TypeError(f"a text must be str or bytes, not {type(text).__name__}")
+
+
+def _names_of(names: Optional[Names]) -> Mapping[str, str]:
+    """Names by their codes."""
+    if names is None:
+        return {}
+    return names if isinstance(names, Mapping) else read_names(names)
+
+
+_Coded = TypeVar("_Coded", Pattern, Row, Code)
+
+
+def _with_name(coded: _Coded, names: Mapping[str, str]) -> _Coded:
+    """What has an apgcode, with the name of it."""
+    name = None if coded.apgcode is None else names.get(coded.apgcode)
+    return coded if name is None else replace(coded, common_name=name)
 
 
 def _named_texts(texts: Texts) -> List[Tuple[bytes, bytes]]:
@@ -812,11 +932,11 @@ def _text_of(ran: subprocess.CompletedProcess[bytes]) -> str:
 
 
 def _told_lines(ran: subprocess.CompletedProcess[bytes]) -> List[str]:
-    """The two lines on standard error of a fault that is explained; `ProgramFailed` where there are others."""
+    """The last two lines on standard error, of a fault that is explained; `ProgramFailed` where there are others."""
     lines = ran.stderr.decode("utf-8", "replace").split("\n")
-    if ran.stdout or len(lines) != 3 or lines[2] or not lines[1].startswith("  "):
+    if ran.stdout or len(lines) < 3 or lines[-1] or not lines[-2].startswith("  "):
         raise _failure(ran)
-    return lines[:2]
+    return lines[-3:-1]
 
 
 def _fault_of_text(ran: subprocess.CompletedProcess[bytes]) -> CensusError:
@@ -850,12 +970,38 @@ def _fault_of_report(ran: subprocess.CompletedProcess[bytes]) -> CensusError:
     if _first_line(ran) == "census: input too long":
         return TooLong()
     line, told = _told_lines(ran)
-    fault = re.fullmatch(r"census: (report|claim) fault at line ([0-9]+)", line)
-    where = re.fullmatch(r"  [0-9]+: (.*)", told)
+    many = re.fullmatch(r"census: too many collections at report ([0-9]+)", line)
+    if many:
+        return FolderFault(3, f"reports[{int(many.group(1)) - 1}]")
+    # (a file may be named before)
+    fault = re.fullmatch(r"census: (?:[0-9]+: |claims: )?(report|claim) fault at line ([0-9]+)", line)
+    where = re.fullmatch(r"  (?:([0-9]+):|claims:)?[0-9]+: (.*)", told)
     if not fault or not where:
         return _failure(ran)
-    refused = ReportFault if fault.group(1) == "report" else ClaimFault
-    return refused(where.group(1), int(fault.group(2)))
+    if fault.group(1) == "claim":
+        return ClaimFault(where.group(2), int(fault.group(2)))
+    return ReportFault(where.group(2), int(fault.group(2)), None if where.group(1) is None else int(where.group(1)))
+
+
+def _report_of(ran: subprocess.CompletedProcess[bytes]) -> str:
+    """The report that a call has written."""
+    if ran.returncode == 1:
+        raise _fault_of_report(ran)
+    if ran.returncode != 0:
+        raise _failure(ran)
+    if not re.search(rb"(?:\A|\n)end [0-9]+ [0-9]+\n\Z", ran.stdout):
+        raise ProgramFailed(ran.returncode, "what it wrote is no report")
+    return ran.stdout.decode("utf-8", "surrogateescape")
+
+
+def _page_of(ran: subprocess.CompletedProcess[bytes]) -> str:
+    """The page that a call has written."""
+    if ran.returncode != 0:
+        raise _failure(ran)
+    page = ran.stdout.decode("utf-8", "replace")
+    if not page.startswith("<!DOCTYPE html>") or not page.rstrip().endswith("</html>"):
+        raise ProgramFailed(ran.returncode, "what it wrote is no page")
+    return page
 
 
 def _codes_of(ran: subprocess.CompletedProcess[bytes]) -> List[Code]:
@@ -864,11 +1010,11 @@ def _codes_of(ran: subprocess.CompletedProcess[bytes]) -> List[Code]:
         raise _failure(ran)
     try:
         rows = [json.loads(line) for line in ran.stdout.decode("utf-8").split("\n")[:-1]]
-        codes = [Code(**row) for row in rows]
-    except (TypeError, ValueError):
+        codes = [Code(apgcode=row.pop("code"), **row) for row in rows]
+    except (AttributeError, KeyError, TypeError, ValueError):
         raise ProgramFailed(ran.returncode, "what it wrote is no table of codes") from None
     for code in codes:
-        texts = (code.rule, code.code, code.first_collection_name, code.first_name)
+        texts = (code.rule, code.apgcode, code.first_collection_name, code.first_name)
         if not all(isinstance(text, str) for text in texts) or type(code.count) is not int or type(code.patterns) is not int:
             raise ProgramFailed(ran.returncode, "what it wrote is no table of codes")
     return codes
@@ -884,6 +1030,7 @@ def _disagreements_of(ran: subprocess.CompletedProcess[bytes]) -> List[Disagreem
     return [Disagreement(kind, text) for kind, text in lines]
 
 
+_ORDERS = ("report", "count", "code", "period", "name")
 _KINDS = ("wrong", "missing", "several", "unclaimed")
 _SAME = ("code", "collection_name", "collection_name_hex", "name", "name_hex", "rule")
 
@@ -925,7 +1072,11 @@ def _error_of(line: str) -> Optional[Tuple[str, CensusError]]:
 
 def _index_of(name: str) -> Optional[int]:
     """The place in its list of the text that a file of the temporary folder has, None of standard input."""
-    return None if name == "-" else int(name[:-len(".rle")])
+    return None if name == "-" else _index_in_folder(name)
+
+
+def _index_in_folder(name: str) -> int:
+    return int(name[:-len(".rle")])
 
 
 def _answers(ran: subprocess.CompletedProcess[bytes], names: List[str], bound: int, horizon: Optional[int]
@@ -994,7 +1145,8 @@ def _pattern_of(block: str, bound: int, longest: int) -> Tuple[str, Pattern]:
     """The file that a block of lines is of, and what it says; raises ValueError where it is no block for this bound, and where an engine
     takes longer to come again."""
     found = _BLOCK.fullmatch(block)
-    _demand(found is not None)
+    if found is None:
+        raise ValueError(block)
     name, pattern = found["file"] or "-", Pattern(found["rule"], int(found["population"]), (int(found["width"]), int(found["height"])))
     if found["bound"] is not None:
         _demand(int(found["bound"]) == bound)
@@ -1049,18 +1201,19 @@ class _Asked:
 
     def _fits_row(self, row: Row, parts: List[Tuple[str, int]], engines: List[Engine]) -> bool:
         objects, bound = self.question.objects, self.question.bound
+        onset, period = row.onset or 0, row.period or 0
         if row.status == "bad":
-            return 1 <= row.fault <= 10
-        if not re.fullmatch(_RULE, row.rule):
+            return row.fault in range(1, 11)
+        if not re.fullmatch(_RULE, row.rule or ""):
             return False
         if row.status == "ok":
-            return not objects and row.period > 0 and row.onset + row.period <= bound and bool(re.fullmatch(_CODE, row.apgcode))
+            return not objects and period > 0 and onset + period <= bound and bool(re.fullmatch(_CODE, row.apgcode or ""))
         if row.status == "ash":
-            return objects and row.onset <= bound and all(re.fullmatch(_CODE, code) for code, _ in parts)
+            return objects and onset <= bound and all(re.fullmatch(_CODE, code) for code, _ in parts)
         if row.status == "grows":
             return objects and _are_within(engines, self.question.period_limit())
         if row.status == "large":
-            return self.question.cells is not None and row.generation <= bound * (3 if objects else 1)
+            return self.question.cells is not None and (row.generation or 0) <= bound * (3 if objects else 1)
         return True
 
 
@@ -1070,7 +1223,7 @@ def _may_recur(row: Row) -> bool:
     What grows doesn't. What has too many cells doesn't within the bound: its generations would be as large before. Nor does what leaves both
     objects that move and objects that stay, since they go ever further apart.
     """
-    if row.status == "ash":
+    if row.parts is not None:
         return len({code.startswith("xq") for code, _ in row.parts}) < 2
     return row.status == "none"
 
@@ -1079,7 +1232,7 @@ def _with_outcome(pattern: Pattern, row: Row, bound: int) -> Pattern:
     """What is known of generation 0 of a pattern, with what a report says becomes of it within the bound."""
     return replace(
         pattern, onset=row.onset, period=row.period, displacement=row.displacement, apgcode=row.apgcode,
-        objects=dict(row.parts) if row.status == "ash" else None, unresolved=bound if row.status == "none" else None,
+        objects=None if row.parts is None else dict(row.parts), unresolved=bound if row.status == "none" else None,
         engines=row.engines, large=row.generation,
     )
 
@@ -1098,20 +1251,38 @@ def _rows_of(ran: subprocess.CompletedProcess[bytes], asked: _Asked) -> List[Row
 # Reports
 
 
-def read_report(report: Text) -> List[Row]:
+def read_report(report: Text, *, names: Optional[Names] = None) -> List[Row]:
     """The rows of a report of `census run` or `census objects`, by collection and then by pattern. Several reports one after another give the
-    rows of the report that `census merge` makes of them: their collections are numbered on.
+    rows of the report that `census merge` makes of them: their collections are numbered on. `names` are names of codes, for `common_name`.
 
     The lines of several collections may interleave. A text is a report where `census merge` reads it. Numbers have no leading zeros and fit
     64 bits. Rules are as they are printed. Codes begin as codes, that of an `ok` line as its period and displacement say. A name is the
-    rest of a line and is lawful. No report has both `ok` lines and `ash` or `grows` lines. Right after an `ash` line its `part` lines give
-    all its objects in the order of codes. The `code` lines of a collection are what its lines count, in the order of first appearance.
+    rest of a line and is lawful. Lines of every kind may stand in any collection. Right after an `ash` line its `part` lines give all its
+    objects in the order of codes. The `code` lines of a collection are what its lines count, in the order of first appearance.
     Right after a `grows` line its `engine` lines give all its engines, at least one, numbered from 1, in the order of period, displacement
     and what they emit, no two the same. Periods are 1 to 10,000, and an engine moves by at most one cell in a generation. Right after each
     `engine` line its `emits` lines give what it emits, at least one object, in the order of codes. Raises `ReportFault` at the line at
     which `census merge` finds the fault.
     """
-    return _read(_bytes_of(report)).rows()
+    common_names = _names_of(names)
+    return [_with_name(row, common_names) for row in _read(_bytes_of(report)).rows()]
+
+
+def read_names(names: Text) -> Dict[str, str]:
+    """The names of codes that a text has, by their codes, as `census --names` reads them: a line is a code, a tab and a name. Empty lines
+    and lines that begin with `#` are passed over. `examples/names.tsv` is such a text.
+
+    Raises `NamesFault` at the first line without a code or without a name, or whose code has a name before.
+    """
+    found: Dict[str, str] = {}
+    for at, line in enumerate(_bytes_of(names).split(b"\n"), 1):
+        line = line[:-1] if line.endswith(b"\r") else line
+        if line and not line.startswith(b"#"):
+            code, _, name = line.partition(b"\t")
+            if not code or not name or os.fsdecode(code) in found:
+                raise NamesFault("a line is not one of a name: it must be a code, a tab and a name, and no code may stand twice", at)
+            found[os.fsdecode(code)] = os.fsdecode(name)
+    return found
 
 
 def _read(report: bytes) -> _Reading:
@@ -1170,16 +1341,15 @@ def _code(word: bytes) -> str:
     return os.fsdecode(word)
 
 
-def _fits_code(found: Dict[str, Union[int, str]]) -> bool:
+def _fits_code(period: int, displacement: Tuple[int, int], code: str) -> bool:
     """Whether a code begins as period and displacement say."""
-    period = found["period"]
-    if found["dx"] or found["dy"]:
-        return period > 0 and found["code"].startswith(f"xq{period}_")
-    return period > 0 and found["code"].startswith("xs" if period == 1 else f"xp{period}_")
+    if displacement != (0, 0):
+        return period > 0 and code.startswith(f"xq{period}_")
+    return period > 0 and code.startswith("xs" if period == 1 else f"xp{period}_")
 
 
 # what stands between the status and the name of a line
-_FIELDS: Dict[bytes, Dict[str, Callable[[bytes], Union[int, str]]]] = {
+_FIELDS: Dict[bytes, Dict[str, Callable[[bytes], Any]]] = {
     b"ok": {"rule": _rule, "population": _count, "onset": _count, "period": _count, "dx": _offset, "dy": _offset, "code": _code},
     b"ash": {"rule": _rule, "population": _count, "onset": _count, "objects": _count},
     b"grows": {"rule": _rule, "population": _count, "engines": _count},
@@ -1192,8 +1362,6 @@ _FIELDS: Dict[bytes, Dict[str, Callable[[bytes], Union[int, str]]]] = {
 _MOST = 65535
 # the most generations after which an engine comes again
 _LONGEST_PERIOD = 10000
-# the statuses that only one command reports
-_COMMANDS = {b"ok": b"run", b"ash": b"objects", b"grows": b"objects"}
 
 
 class _Collection:
@@ -1289,8 +1457,6 @@ class _Told:
     """What the lines of a report say together. A line that does not fit raises ValueError."""
 
     def __init__(self) -> None:
-        # of which commands they are
-        self.commands: Set[bytes] = set()
         # the collection of the last line, how many of its objects no `part` line has given, and the last code of one
         self.collection = 0
         self.left = 0
@@ -1305,9 +1471,6 @@ class _Told:
 
     def take_line(self, collection: int, status: bytes, objects: int, engines: int) -> None:
         _demand(status != b"grows" or engines > 0)
-        if status in _COMMANDS:
-            self.commands.add(_COMMANDS[status])
-        _demand(len(self.commands) < 2)
         self.collection, self.left, self.last, self.engines = collection, objects, b"", _Engines(engines)
 
     def take_part(self, collection: int, code: bytes, count: int) -> None:
@@ -1376,15 +1539,15 @@ class _Reading:
         *words, name = rest.split(b" ", len(fields))
         _demand(len(words) == len(fields))
         found = {key: read(word) for (key, read), word in zip(fields.items(), words)}
-        _demand(status != b"ok" or _fits_code(found))
+        if status == b"ok":
+            found["displacement"] = found.pop("dx"), found.pop("dy")
+            found["apgcode"] = found.pop("code")
+            _demand(_fits_code(found["period"], found["displacement"], found["apgcode"]))
         self.told.take_line(collection.number, status, found.pop("objects", 0), found.pop("engines", 0))
         collection.parts.append([])
         collection.engines.append(self.told.engines.found)
         collection.status = status
         folder = os.fsdecode(collection.name)
-        if status == b"ok":
-            found["displacement"] = found.pop("dx"), found.pop("dy")
-            found["apgcode"] = found.pop("code")
         collection.lines.append(Row(collection.number, folder, _count(pattern), os.fsdecode(_name(name)), status.decode(), **found))
         if status == b"ok":
             collection.count(found["apgcode"], 1)
