@@ -5,6 +5,7 @@
    REFUSE_FROM=N   the Nth growth and each later one are
    THREAD=T        only the growths of thread T are counted and refused: 0 is the program's first thread, and the others are 1, 2 and
                    so on in the order of their first growths
+   BETWEEN=W       only the growths between the Wth write to standard output and the next one are counted and refused
    GROWTHS=FILE    FILE gets the number of growths that were counted, when the program ends
    FAIL_READ=N     the Nth read (of anything) and each later one fail
    FAIL_WRITE=N    the Nth write to standard output and each later one fail
@@ -32,9 +33,9 @@
 extern void *__libc_malloc(size_t);
 extern void *__libc_realloc(void *, size_t);
 
-static long refuse_at, refuse_from, thread, fail_read, fail_write, is_short, interrupts;
+static long refuse_at, refuse_from, thread, between, fail_read, fail_write, is_short, interrupts;
 static const char *growths_file, *vanish, *removed, *swap, *swapped_for;
-static atomic_long growths, threads, reads, writes, calls;
+static atomic_long growths, threads, reads, writes, written, calls;
 static _Thread_local long own_thread __attribute__((tls_model("initial-exec"))) = -1;
 
 static long number_or(const char *name, long other) {
@@ -61,6 +62,7 @@ __attribute__((constructor)) static void begin(void) {
     refuse_at = number("REFUSE_AT");
     refuse_from = number("REFUSE_FROM");
     thread = number_or("THREAD", -1);
+    between = number("BETWEEN");
     fail_read = number("FAIL_READ");
     fail_write = number("FAIL_WRITE");
     is_short = number("SHORT");
@@ -84,6 +86,8 @@ void _exit(int status) {
 }
 
 static int refused(void) {
+    if (between && atomic_load(&written) != between)
+        return 0;
     if (own_thread < 0)
         own_thread = atomic_fetch_add(&threads, 1);
     if (thread >= 0 && own_thread != thread)
@@ -127,7 +131,10 @@ ssize_t write(int file, const void *bytes, size_t count) {
         errno = ENOSPC;
         return -1;
     }
-    return put(file, bytes, is_short && count > 1 ? 1 : count);
+    ssize_t taken = put(file, bytes, is_short && count > 1 ? 1 : count);
+    if (file == 1)
+        atomic_fetch_add(&written, 1);
+    return taken;
 }
 
 ssize_t __write(int file, const void *bytes, size_t count) {
