@@ -2,7 +2,7 @@
 
     python3 test_census.py
 
-What is expected is known from elsewhere: LifeWiki's pages of the patterns, docs/FAULTS.md, and a slow plane of a few lines in this file.
+What is expected is known from elsewhere: LifeWiki's pages of the patterns, docs/FORMAT.md, and a slow plane of a few lines in this file.
 """
 import ast
 import base64
@@ -260,7 +260,7 @@ class Identify(Room):
 
 
 class Faults(Room):
-    # docs/FAULTS.md: number, text, line, column, how its sentence begins
+    # docs/FORMAT.md: number, text, line, column, how its sentence begins
     TABLE = [
         (1, "3o!", 1, 1, "there is no header line"),
         (2, "x = 3, y\n3o!", 1, 1, "the header line is malformed"),

@@ -66,7 +66,7 @@ class CensusError(Exception):
 
 
 class PatternFault(CensusError):
-    """An RLE text that means no pattern. docs/FAULTS.md has the sentences.
+    """An RLE text that means no pattern. docs/FORMAT.md has the sentences.
 
     `number` is 1 to 10. `line` and `column` count from 1, a column counts bytes. `at` is the byte of the text, from 0, or None (faults 1
     to 4, and 10). `index` is the place of the text in the list of `identify_many`, from 0, or None.
