@@ -260,7 +260,7 @@ class Identify(Room):
 
 
 class Faults(Room):
-    # docs/FORMAT.md: number, text, line, column, how its sentence begins
+    # number, text, line, column, how its sentence begins, as in docs/FORMAT.md
     TABLE = [
         (1, "3o!", 1, 1, "there is no header line"),
         (2, "x = 3, y\n3o!", 1, 1, "the header line is malformed"),
