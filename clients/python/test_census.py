@@ -963,8 +963,8 @@ end 2 4
         wanted = [GOSPERS, replace(GOSPERS, emits={"xq4_153": 2})]
         self.assertEqual(read_report(report(2, one + glider + two + gliders))[0].engines, wanted)
         most = 2 ** 64 - 1
-        great, = read_report(report(most, f"engine 1 1 1 10000 10000 -10000 {most};emits 1 1 1 xs1_ {most};"))
-        self.assertEqual(great.engines, [Engine(10000, (10000, -10000), most, {"xs1_": most})])
+        great, = read_report(report(most, f"engine 1 1 1 10000 10000 -10000 {most};emits 1 1 1 xs1_1 {most};"))
+        self.assertEqual(great.engines, [Engine(10000, (10000, -10000), most, {"xs1_1": most})])
         wrong = [
             # none, too few, too many, or some without a report
             (0, ""), (1, ""), (2, one + glider), (1, one + glider + two + gliders), (0, one + glider), (1, glider), (1, one),
@@ -1093,7 +1093,7 @@ end 2 4
 
     def test_numbers_as_large_as_they_may_be(self):
         ends = f"{2 ** 64 - 1} {2 ** 64 - 1} {2 ** 64 - 1} {2 ** 63 - 1} {-(2 ** 63)}"
-        code = f"xq{2 ** 64 - 1}_"
+        code = f"xq{2 ** 64 - 1}_1"
         row, = read_report(f"open 1 1 a\nline 1 1 ok B/S {ends} {code} {'b' * 255}\ncode 1 B/S {code} 1\nclose 1 1 1 0 0\nend 1 1\n".encode())
         self.assertEqual((row.population, row.displacement, row.apgcode, row.name), (2 ** 64 - 1, (2 ** 63 - 1, -(2 ** 63)), code, "b" * 255))
 

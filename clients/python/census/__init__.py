@@ -1307,8 +1307,7 @@ def _demand(is_so: bool) -> None:
 _IS_COUNT = re.compile(_COUNT.encode())
 _IS_OFFSET = re.compile(_OFFSET.encode())
 _IS_RULE = re.compile(_RULE.encode())
-# (only how it begins)
-_IS_CODE = re.compile(rb"x[spq][0-9]*_.*", re.DOTALL)
+_IS_CODE = re.compile(_CODE.encode())
 
 
 def _count(word: bytes) -> int:
@@ -1338,11 +1337,13 @@ def _rule(word: bytes) -> str:
 def _code(word: bytes) -> str:
     """A code."""
     _demand(_IS_CODE.fullmatch(word) is not None)
-    return os.fsdecode(word)
+    return word.decode()
 
 
 def _fits_code(period: int, displacement: Tuple[int, int], code: str) -> bool:
-    """Whether a code begins as period and displacement say."""
+    """Whether a code begins as period and displacement say, and it moves by at most a cell in each generation."""
+    if max(map(abs, displacement)) > period:
+        return False
     if displacement != (0, 0):
         return period > 0 and code.startswith(f"xq{period}_")
     return period > 0 and code.startswith("xs" if period == 1 else f"xp{period}_")

@@ -32,7 +32,8 @@ use Rattle.life_cells.specs.TextOrder.{shorter_cmp}
 use Rattle.life_text.specs.Picture.{Picture}
 use Rattle.life_text.specs.declared.rle.RleFault.{RleFault}
 use Rattle.census_merge.proofs.Tales.{told-holds}
-use Rattle.census_merge.proofs.Solid.{code-solid, each-append, each-filter, each-map, each-replicate}
+use Rattle.census_merge.proofs.CodeBodies.{code-solid}
+use Rattle.census_merge.proofs.Solid.{each-append, each-filter, each-map, each-replicate}
 use Rattle.census_merge.specs.Lawful.{IsCoded, IsCodedAnswer, IsSolid, IsSolidEngines, IsSolidPart}
 
 pub parts-solid : (outcome : Outcome) → IsCoded outcome → Each IsSolidPart (parts_found outcome)

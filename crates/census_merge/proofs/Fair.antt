@@ -1,9 +1,8 @@
--- What is found of patterns: codes begin as codes, and parts and engines are in their order.
-use Rattle.std.proofs.Common.{◌≡◌, ℕ, ◌*◌, ◌-◌, min, Bool, true, false, cond, Option, Some, None as Nothing, Result, Ok, Err, List, refl}
+-- What is found of patterns: codes and displacements fit periods, and parts and engines are in their order.
+use Rattle.std.proofs.Common.{◌≡◌, ℕ, ◌*◌, min, Bool, true, false, cond, Option, Some, None as Nothing, Result, Ok, Err, List, refl}
 use Rattle.std.specs.Prelude.{⊤}
 use Rattle.census_bundle.specs.declared.bundle.Entry.{Entry}
-use Rattle.census_format.specs.Found.{outcome_of}
-use Rattle.census_format.specs.Lines.{answer_to_entry, answers}
+use Rattle.census_format.specs.Lines.{answer_to_entry}
 use Rattle.census_format.specs.Objects.{objects}
 use Rattle.life_answer.specs.Answers.{outcome_at, outcome_from}
 use Rattle.life_answer.specs.Answers as answers
@@ -24,8 +23,7 @@ use Rattle.life_model.specs.Generation.{Generation}
 use Rattle.life_model.specs.Rule.{Rule}
 use Rattle.life_text.specs.Picture.{Picture}
 use Rattle.life_text.specs.declared.rle.RleFault.{RleFault}
-use Rattle.census_merge.proofs.CodeStarts.{IsToldRecurrence, outcome-told as recurrence-told}
-use Rattle.census_merge.proofs.Grown as grown
+use Rattle.census_merge.proofs.CodeTexts.{IsToldRecurrence, outcome-told as recurrence-told}
 use Rattle.census_merge.proofs.Grown.{growth-fair}
 use Rattle.census_merge.proofs.PartsFound.{parts-fair}
 use Rattle.census_merge.specs.Lawful.{IsFair, IsFairAnswer, IsFairGrowth}

@@ -27,7 +27,9 @@ pub mod OpenedPatterns
 pub mod Formed
 pub mod Ranged
 pub mod Ruled
-pub mod CodeStarts
+pub mod CodeBodies
+pub mod CodeTexts
+pub mod Displaced
 pub mod Taken
 pub mod Engined
 pub mod Growing

@@ -13,7 +13,7 @@ use Rattle.life_model.specs.Rule.{Rule}
 use Rattle.life_cells.specs.TextOrder.{shorter_cmp}
 use Rattle.life_cells.proofs.TextOrders.{shorter_total}
 use Rattle.census_merge.specs.Ranges.{IsCodedPart}
-use Rattle.census_merge.proofs.CodeStarts.{parts-told}
+use Rattle.census_merge.proofs.CodeTexts.{parts-told}
 use Rattle.census_merge.specs.Lawful.{AreFairParts, IsBehind, IsCounted, Rise}
 
 rise-beside : (last : Option (List ℕ)) (code : List ℕ) (p : part.Part) (parts rest : List part.Part) (o : Ordering) → shorter_cmp code p.code ≡ o

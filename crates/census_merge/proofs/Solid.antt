@@ -2,20 +2,13 @@
 use Rattle.std.proofs.Common.{◌≡◌, ℕ, zero, suc, ◌+◌, ◌/◌, ◌%◌, ◌<◌, Bool, true, false, ◌&&◌, cond, eqb, ltb, ◌==◌, List, [], ◌∷◌, ◌++◌, map, filter, flat_map, replicate, codes, decimal, ℤ, pos, refl, arith}
 use lib.IntN.{negsuc}
 use Rattle.std.specs.Fmt.{digit_glyph, digits, digits_onto, signed_decimal}
-use Rattle.std.specs.List.{AllByRecursion as Each, fold, join_with_byte, list_all, range_with_len}
+use Rattle.std.specs.List.{AllByRecursion as Each, list_all, range_with_len}
 use Rattle.std.specs.Int.{bit_at}
-use Rattle.std.specs.Ordering.{is_gt}
 use Rattle.std.proofs.lemmas.Bool.{ltb-true}
-use Rattle.life_answer.specs.Apgcode.{bodies, code_of, orientations, prefix, turned_bodies}
+use Rattle.life_answer.specs.Apgcode.{prefix}
 use Rattle.life_cells.specs.Rules.{rule_text, set_text}
 use Rattle.life_model.specs.Cell.{Cell, origin, same_cell}
-use Rattle.life_model.specs.Evolution.{generation}
-use Rattle.life_model.specs.Generation.{Generation, size}
 use Rattle.life_model.specs.Rule.{Rule}
-use Rattle.life_model.specs.Symmetry.{normal, image_under}
-use Rattle.life_model.specs.Box.{height, width}
-use Rattle.life_cells.specs.TextOrder.{least_text, lesser_text, shorter_cmp}
-use Rattle.life_cells.specs.Wechsler.{body, column_value, columns_text, digit, full_runs, short_zeros, strip_text, strips_text, zeros}
 use Rattle.census_merge.specs.Lawful.{IsSolid}
 
 pub each-append : {X : Type 0} (P : X → Type 0) (xs ys : List X) → Each P xs → Each P ys → Each P (xs ++ ys)
@@ -43,13 +36,13 @@ each-replicate P zero x h = tt
 each-replicate P (suc n) x h = (h, each-replicate P n x h)
 
 -- each byte is greater than the blank
-abbrev IsAbove : List ℕ → Type 0
+abbrev pub IsAbove : List ℕ → Type 0
 IsAbove bytes = Each (λ byte. 32 < byte) bytes
 
-above-append : (a b : List ℕ) → IsAbove a → IsAbove b → IsAbove (a ++ b)
+pub above-append : (a b : List ℕ) → IsAbove a → IsAbove b → IsAbove (a ++ b)
 above-append = each-append (λ byte. 32 < byte)
 
-above-checked : (bytes : List ℕ) → list_all (ltb 32) bytes ≡ true → IsAbove bytes
+pub above-checked : (bytes : List ℕ) → list_all (ltb 32) bytes ≡ true → IsAbove bytes
 above-checked [] e = tt
 above-checked (b ∷ bytes) e =
     (elim (ltb 32 b) as (λ v. ltb 32 b ≡ v → (v && list_all (ltb 32) bytes) ≡ true → IsAbove (b ∷ bytes)) [
@@ -90,56 +83,7 @@ rule-above r =
     (above-append start (codes "/S") (above-append (codes "B") birth (above-checked (codes "B") refl) (counts (counts_in r.birth))) (above-checked (codes "/S") refl))
     (counts (counts_in r.survival))
 
-digit-above : (n : ℕ) → 32 < digit n
-digit-above n = elim (ltb n 10) as (λ v. 32 < cond v (48 + n) (87 + n)) [ true ↦ omega arith | false ↦ omega arith ]
-
-short-above : (n : ℕ) → IsAbove (short_zeros n)
-short-above zero = tt
-short-above (suc zero) = above-checked (codes "0") refl
-short-above (suc (suc zero)) = above-checked (codes "w") refl
-short-above (suc (suc (suc zero))) = above-checked (codes "x") refl
-short-above (suc (suc (suc (suc n)))) = (omega arith, (digit-above n, tt))
-
-full-above : (n : ℕ) → IsAbove (full_runs n)
-full-above zero = tt
-full-above (suc n) = (omega arith, (omega arith, full-above n))
-
-columns-above : (skipped : ℕ) (values : List ℕ) → IsAbove (columns_text skipped values)
-columns-above skipped [] = tt
-columns-above skipped (zero ∷ values) = columns-above (skipped + 1) values
-columns-above skipped (suc v ∷ values) =
-    above-append (zeros skipped) (digit (suc v) ∷ columns_text 0 values)
-    (above-append (full_runs (skipped / 39)) (short_zeros (skipped % 39)) (full-above (skipped / 39)) (short-above (skipped % 39)))
-    (digit-above (suc v), columns-above 0 values)
-
-join-above : (texts : List (List ℕ)) → Each IsAbove texts → IsAbove (join_with_byte 122 texts)
-join-above [] h = tt
-join-above (x ∷ []) h = h.0
-join-above (x ∷ y ∷ xs) h = above-append x (122 ∷ join_with_byte 122 (y ∷ xs)) h.0 (omega arith, join-above (y ∷ xs) h.1)
-
-strips-above : (text : ℕ → List ℕ) → ((k : ℕ) → IsAbove (text k)) → (n : ℕ) → IsAbove (strips_text text n)
-strips-above text h zero = above-checked (codes "0") refl
-strips-above text h (suc n) = join-above (map text (range_with_len 0 (suc n))) (each-map IsAbove text h (range_with_len 0 (suc n)))
-
-body-above : (G : Generation) → IsAbove (body G)
-unfolding body
-body-above G = strips-above (strip_text (normal G) (width G)) (λ k. columns-above 0 (map (column_value (normal G) k) (range_with_len 0 (width G)))) ((height G + 4) / 5)
-
-lesser-above : (text : List ℕ) (others : List (List ℕ)) → IsAbove text → Each IsAbove others → IsAbove (fold lesser_text text others)
-lesser-above text [] h all = h
-lesser-above text (other ∷ others) h all =
-    let one : IsAbove (lesser_text text other) = elim (is_gt (shorter_cmp text other)) as (λ v. IsAbove (cond v other text)) [ true ↦ all.0 | false ↦ h ] in
-    lesser-above (lesser_text text other) others one all.1
-
-least-above : (texts : List (List ℕ)) → Each IsAbove texts → IsAbove (least_text texts)
-least-above [] h = tt
-least-above (text ∷ others) h = lesser-above text others h.0 h.1
-
-bodies-above : (R : Rule) (H : Generation) (period : ℕ) → Each IsAbove (bodies R H period)
-bodies-above R H period =
-    each-flat_map IsAbove (λ n. turned_bodies (generation R H n)) (λ n. each-map IsAbove (λ m. body (image_under (generation R H n) m)) (λ m. body-above (image_under (generation R H n) m)) orientations) (range_with_len 0 period)
-
-prefix-above : (population period : ℕ) (displacement : Cell) → IsAbove (prefix population period displacement)
+pub prefix-above : (population period : ℕ) (displacement : Cell) → IsAbove (prefix population period displacement)
 prefix-above population period displacement =
     let still = above-append (codes "xs") (decimal population) (above-checked (codes "xs") refl) (decimal-above population) in
     let turning = above-append (codes "xp") (decimal period) (above-checked (codes "xp") refl) (decimal-above period) in
@@ -151,17 +95,9 @@ prefix-above population period displacement =
       | false ↦ moving
     ]
 
-code-above : (R : Rule) (H : Generation) (period : ℕ) (displacement : Cell) → IsAbove (code_of R H period displacement)
-unfolding code_of
-code-above R H period displacement =
-    let start = prefix (size H) period displacement in
-    above-append (start ++ codes "_") (least_text (bodies R H period))
-    (above-append start (codes "_") (prefix-above (size H) period displacement) (above-checked (codes "_") refl))
-    (least-above (bodies R H period) (bodies-above R H period))
-
 -- ---- neither a blank nor LF
 
-above-solid : (bytes : List ℕ) → IsAbove bytes → IsSolid bytes
+pub above-solid : (bytes : List ℕ) → IsAbove bytes → IsSolid bytes
 above-solid [] h = tt
 above-solid (b ∷ bytes) h = (((λ e. omega (arith, h.0, e)), (λ e. omega (arith, h.0, e))), above-solid bytes h.1)
 
@@ -176,6 +112,3 @@ signed-solid z = above-solid (signed_decimal z) (signed-above z)
 
 pub rule-solid : (r : Rule) → IsSolid (rule_text r)
 rule-solid r = above-solid (rule_text r) (rule-above r)
-
-pub code-solid : (R : Rule) (H : Generation) (period : ℕ) (displacement : Cell) → IsSolid (code_of R H period displacement)
-code-solid R H period displacement = above-solid (code_of R H period displacement) (code-above R H period displacement)

@@ -1,5 +1,5 @@
 -- The rows of a report say together what the rows of a report say.
-use Rattle.std.proofs.Common.{◌≡◌, ℕ, zero, suc, ◌+◌, ◌-◌, ◌<◌, ◌≤◌, Bool, true, false, not, ◌&&◌, cond, eqb, leb, ltb, Some, None as Nothing, List, [], ◌∷◌, ◌++◌, map, length, count_by, replicate, slice_get, Less, ap, ◌∙◌, sym, subst, refl, arith}
+use Rattle.std.proofs.Common.{◌≡◌, ℕ, ℤ, zero, suc, ◌+◌, ◌-◌, ◌<◌, ◌≤◌, Bool, true, false, ◌&&◌, cond, eqb, leb, ltb, Some, None as Nothing, List, [], ◌∷◌, ◌++◌, map, length, count_by, replicate, slice_get, Less, ap, ◌∙◌, sym, subst, refl, arith}
 use Rattle.std.proofs.lemmas.List.Sums.{sum_by-cons}
 use Rattle.std.specs.List.{AllByRecursion as Each}
 use Rattle.std.proofs.lemmas.Bool.{eq-eqb, le-leb, lt-ltb}
@@ -12,10 +12,9 @@ use Rattle.census_format.specs.ObjectLaws.{same_itself}
 use Rattle.census_format.specs.Reports.{Owned, lines_of, section, section_if, section_of}
 use Rattle.census_readback.specs.Told.{Told, is_told, line_told, nothing_told, part_told, told_by, told_next, to_tell}
 use Rattle.census_readback.specs.Engines.{LastEngine, no_engine}
-use Rattle.census_readback.specs.Lawful.{is_lawful}
-use Rattle.census_readback.specs.Codes.{is_code, is_code_after}
+use Rattle.census_readback.specs.Lawful.{is_lawful, is_recurrence}
+use Rattle.census_readback.specs.Codes.{is_code}
 use Rattle.census_readback.specs.Rules.{is_rule}
-use Rattle.life_model.specs.Cell.{origin, same_cell}
 use Rattle.life_cells.specs.Rules.{rule_text}
 use Rattle.census_rows.specs.declared.row.Row.{Row}
 use Rattle.census_rows.specs.declared.row.Row.TheVariants.{Line, End}
@@ -35,7 +34,7 @@ use Rattle.census_merge.specs.Telling.{rows_in}
 use Rattle.census_merge.specs.Ranges.{FitsEngines, FitsOutcome, IsCodedPart, IsToldAnswer}
 use Rattle.census_merge.proofs.Coded.{counted-each, distinct-each}
 use Rattle.census_merge.proofs.Grouped.{each-then}
-use Rattle.census_merge.proofs.CodeStarts.{after-code}
+use Rattle.census_merge.proofs.CodeTexts.{recurrence-code}
 use Rattle.census_merge.proofs.Grown as grown
 use Rattle.census_merge.proofs.Grown.{engines-are, first-behind, lines-lawful, rows-are}
 use Rattle.census_merge.proofs.Growing.{AllBehind, engines-told}
@@ -175,10 +174,10 @@ growing-line rule name n ruled some named =
 named-line : (rule : Rule) (name : List ℕ) → IsLifeLike rule → is_name name ≡ true → (is_rule (rule_text rule) && is_name name) ≡ true
 named-line rule name ruled named = ap (λ b. b && is_name name) (rule-printed rule ruled) ∙ named
 
-coded-line : (rule : Rule) (name : List ℕ) (moved : Bool) (period : ℕ) (code : List ℕ) → IsLifeLike rule → is_code_after moved period code ≡ true → is_name name ≡ true
-    → (is_rule (rule_text rule) && (is_code_after moved period code && is_name name)) ≡ true
-coded-line rule name moved period code ruled told named =
-    ap (λ b. b && (is_code_after moved period code && is_name name)) (rule-printed rule ruled) ∙ ap (λ b. b && is_name name) told ∙ named
+coded-line : (rule : Rule) (name : List ℕ) (period : ℕ) (dx dy : ℤ) (code : List ℕ) → IsLifeLike rule → is_recurrence period dx dy code ≡ true → is_name name ≡ true
+    → (is_rule (rule_text rule) && (is_recurrence period dx dy code && is_name name)) ≡ true
+coded-line rule name period dx dy code ruled told named =
+    ap (λ b. b && (is_recurrence period dx dy code && is_name name)) (rule-printed rule ruled) ∙ ap (λ b. b && is_name name) told ∙ named
 
 parts-lawful : (parts : List part.Part) → Each IsCounted parts → Each IsCodePart parts → Each IsCodedPart parts → Each IsLawfulPart parts
 parts-lawful [] counted told some = tt
@@ -188,7 +187,7 @@ outcome-told : (c i : ℕ) (rule : Rule) (population : ℕ) (outcome : Outcome) 
     → FitsOutcome outcome → IsFair outcome
     → IsTold (Line c i (row_outcome rule population outcome) (lent name) ∷ outcome_rows c i outcome)
 outcome-told c i rule population (Recurs onset period dx dy code) name ruled named range fair =
-    line-told c i (row_outcome rule population (Recurs onset period dx dy code)) name [] (coded-line rule name (not (same_cell (dx, dy) origin)) period code ruled fair named) refl tt tt
+    line-told c i (row_outcome rule population (Recurs onset period dx dy code)) name [] (coded-line rule name period dx dy code ruled fair named) refl tt tt
 outcome-told c i rule population Unresolved name ruled named range fair =
     line-told c i (row_outcome rule population Unresolved) name [] (named-line rule name ruled named) refl tt tt
 outcome-told c i rule population (Large n) name ruled named range fair =
@@ -247,7 +246,7 @@ parts-coded rule (p ∷ parts) h =
     (each-replicate IsCodeObject p.count (object rule p.code) h.0) (parts-coded rule parts h.1)
 
 outcome-coded : (rule : Rule) (outcome : Outcome) → IsFair outcome → Each IsCodeObject (outcome_objects rule outcome)
-outcome-coded rule (Recurs onset period dx dy code) h = ((λ some. after-code (not (same_cell (dx, dy) origin)) period code h), tt)
+outcome-coded rule (Recurs onset period dx dy code) h = ((λ some. recurrence-code period dx dy code h), tt)
 outcome-coded rule (Ash onset parts) h = parts-coded rule parts h.2
 outcome-coded rule Unresolved h = tt
 outcome-coded rule (Large n) h = tt

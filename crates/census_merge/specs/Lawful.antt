@@ -1,5 +1,5 @@
 -- What a lawful report says of collections.
-use Rattle.std.specs.Prelude.{◌≡◌, ◌≢◌, ℕ, ◌<◌, ◌≤◌, ◌^◌, true, false, not, ◌==◌, Option, Some, None, List, [], ◌∷◌, length, ⊤}
+use Rattle.std.specs.Prelude.{◌≡◌, ◌≢◌, ℕ, ◌<◌, ◌≤◌, ◌^◌, true, false, ◌==◌, Option, Some, None, List, [], ◌∷◌, length, ⊤}
 use Rattle.std.specs.declared.cmp.Ordering.TheVariants.{Less}
 use Rattle.std.specs.Int.{bit_at}
 use Rattle.std.specs.List.{AllByRecursion as Each}
@@ -7,7 +7,8 @@ use Rattle.census_bundle.specs.Names.{is_name}
 use Rattle.census_format.specs.Lines.{Collection, Saying, found_of}
 use Rattle.census_format.specs.Objects.{Object, objects, same_object, tally}
 use Rattle.census_merge.specs.Ranges.{IsToldAnswer}
-use Rattle.census_readback.specs.Codes.{is_code, is_code_after}
+use Rattle.census_readback.specs.Codes.{is_code}
+use Rattle.census_readback.specs.Lawful.{is_recurrence}
 use Rattle.census_readback.specs.Limits.{count_limit}
 use Rattle.life_answer.specs.CountedTales.{engines_in, tale_cmp}
 use Rattle.life_answer.specs.declared.finding.Answer.{Answer}
@@ -17,7 +18,6 @@ use Rattle.life_answer.specs.declared.finding.Outcome.TheVariants.{Recurs, Ash, 
 use Rattle.life_answer.specs.declared.part.Part.{Part}
 use Rattle.life_answer.specs.declared.tale.Engines.{Engines}
 use Rattle.life_cells.specs.TextOrder.{shorter_cmp}
-use Rattle.life_model.specs.Cell.{origin, same_cell}
 use Rattle.life_model.specs.Rule.{Rule}
 
 -- ---- codes
@@ -97,9 +97,9 @@ pub record IsFairGrowth (told : List Engines) : Type 0 where
   pub rise : Ascend told
   pub emits : Each AreFairEngines told
 
--- its code begins as one, its parts are in the order of their codes, and its engines in their order
+-- its code and its displacement fit its period, its parts are in the order of their codes, and its engines in their order
 abbrev pub IsFair : Outcome → Type 0
-IsFair (Recurs onset period dx dy code) = is_code_after (not (same_cell (dx, dy) origin)) period code ≡ true
+IsFair (Recurs onset period dx dy code) = is_recurrence period dx dy code ≡ true
 IsFair (Ash onset parts) = AreFairParts parts
 IsFair (Grows engines) = IsFairGrowth engines
 IsFair _ = ⊤

@@ -1,6 +1,6 @@
 -- Rows that say the same may come in the same places.
-use Rattle.std.proofs.Common.{◌≡◌, ℕ, ℤ, Bool, true, false, not, ◌+◌, ◌-◌, ◌&&◌, ◌||◌, ◌==◌, nat_eq, nat_lt, nat_le, Option, Some, None as Nothing, List, [], ◌∷◌, ap, ◌∙◌, refl, subst}
-use Rattle.std.specs.Prelude.{if◌then◌else◌, is_some, ⊤}
+use Rattle.std.proofs.Common.{◌≡◌, ℕ, ℤ, Bool, true, false, ◌+◌, ◌-◌, ◌&&◌, ◌==◌, nat_eq, nat_lt, nat_le, Option, Some, None as Nothing, List, [], ◌∷◌, ap, ◌∙◌, refl, subst}
+use Rattle.std.specs.Prelude.{if◌then◌else◌, ⊤}
 use Rattle.std.specs.Option.{option_map_or, unwrap_or}
 use Rattle.census_bundle.specs.Names.{is_name}
 use Rattle.census_rows.specs.declared.kinds.Behind as rows
@@ -16,9 +16,8 @@ use Rattle.census_rows.specs.declared.kinds.Value.{Value}
 use Rattle.census_rows.specs.declared.kinds.Value.TheVariants.{Number, Signed, Text}
 use Rattle.census_rows.specs.Kinds.{Said, label_number, said, value_at}
 use Rattle.census_rows.specs.Lines.{SameFields, SameOutcome, SameRow, SameSaid, SameValue}
-use Rattle.census_readback.specs.Codes.{is_code, is_code_after}
-use Rattle.life_model.specs.Cell.{origin, same_cell}
-use Rattle.census_readback.specs.Lawful.{has_lawful_code, has_lawful_engines, has_lawful_rule, is_lawful, is_moved, is_way, number_in, signed_in, text_in}
+use Rattle.census_readback.specs.Codes.{is_code}
+use Rattle.census_readback.specs.Lawful.{has_lawful_code, has_lawful_engines, has_lawful_rule, is_lawful, is_recurrence, is_way, number_in, signed_in, text_in}
 use Rattle.census_readback.specs.Engines.{after_engine, no_engine}
 use Rattle.census_readback.specs.declared.engines.Way.{Way}
 use Rattle.census_readback.specs.Rules.{is_rule}
@@ -189,10 +188,12 @@ code-same fields others h =
     λ l. signed-same (value_at l fields) (value_at l others) (at-same l fields others h) in
     let period : ℕ = number_in (value_at label.Period fields) in
     let code : Option (List ℕ) = text_in (value_at label.Code fields) in
-    ap (λ z. option_map_or (is_code_after (not (same_cell (z, signed_in (value_at label.Dy fields)) origin)) period) code true) (sign label.Dx)
-    ∙ ap (λ z. option_map_or (is_code_after (not (same_cell (signed_in (value_at label.Dx others), z) origin)) period) code true) (sign label.Dy)
-    ∙ ap (λ n. option_map_or (is_code_after (is_moved others) n) code true) (numbers fields others h label.Period)
-    ∙ ap (λ text. option_map_or (is_code_after (is_moved others) (number_in (value_at label.Period others))) text true) (texts fields others h label.Code)
+    let dx : ℤ = signed_in (value_at label.Dx others) in
+    let dy : ℤ = signed_in (value_at label.Dy others) in
+    ap (λ z. option_map_or (is_recurrence period z (signed_in (value_at label.Dy fields))) code true) (sign label.Dx)
+    ∙ ap (λ z. option_map_or (is_recurrence period dx z) code true) (sign label.Dy)
+    ∙ ap (λ n. option_map_or (is_recurrence n dx dy) code true) (numbers fields others h label.Period)
+    ∙ ap (λ text. option_map_or (is_recurrence (number_in (value_at label.Period others)) dx dy) text true) (texts fields others h label.Code)
 
 lawful-same : (r q : Row) → SameRow r q → is_lawful r ≡ is_lawful q
 lawful-same (Open c n name) (Open c2 n2 name2) h = ap is_name h.2

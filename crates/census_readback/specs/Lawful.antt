@@ -32,14 +32,19 @@ signed_in _ = pos 0
 abbrev pub has_lawful_rule : List Field → Bool
 has_lawful_rule fields = option_map_or is_rule (text_in (value_at label.Rule fields)) true
 
--- it is said to have moved
-abbrev pub is_moved : List Field → Bool
-is_moved fields = not (same_cell (signed_in (value_at label.Dx fields), signed_in (value_at label.Dy fields)) origin)
+-- no further than a cell in each of so many generations
+abbrev pub moves_within : ℕ → ℤ → ℤ → Bool
+moves_within period dx dy = nat_le (unsigned_abs dx) period && nat_le (unsigned_abs dy) period
 
--- the code among the fields, if there is one, begins as that of what recurs so
+-- what recurs after `period` generations, moved so, can have this code
+abbrev pub is_recurrence : ℕ → ℤ → ℤ → List ℕ → Bool
+is_recurrence period dx dy code = is_code_after (not (same_cell (dx, dy) origin)) period code && moves_within period dx dy
+
+-- the code among the fields, if there is one, is one of what recurs and moves so
 abbrev pub has_lawful_code : List Field → Bool
 has_lawful_code fields =
-    option_map_or (is_code_after (is_moved fields) (number_in (value_at label.Period fields))) (text_in (value_at label.Code fields)) true
+    option_map_or (is_recurrence (number_in (value_at label.Period fields)) (signed_in (value_at label.Dx fields)) (signed_in (value_at label.Dy fields)))
+    (text_in (value_at label.Code fields)) true
 
 -- the number of engines among the fields, if there is one, is at least 1
 abbrev pub has_lawful_engines : List Field → Bool
@@ -48,10 +53,10 @@ has_lawful_engines fields = option_map_or (λ value. nat_lt 0 (number_in (Some v
 -- after how many generations an engine recurs, and how far it moves in them: at most a cell in each
 abbrev pub is_way : ℕ → ℤ → ℤ → Bool
 is_way period dx dy =
-    nat_lt 0 period && (nat_le period period_limit && (nat_le (unsigned_abs dx) period && nat_le (unsigned_abs dy) period))
+    nat_lt 0 period && (nat_le period period_limit && moves_within period dx dy)
 
--- Its name is lawful, its rule is one as it is printed, its code begins as one, and it counts something if it counts objects or
--- engines. An engine moves by at most a cell in a generation.
+-- Its name is lawful, its rule is one as it is printed, its code is one, and it counts something if it counts objects or engines.
+-- What recurs, and each engine, moves by at most a cell in a generation.
 abbrev pub is_lawful : Row → Bool
 is_lawful (Open collection patterns name) = is_name name.now
 is_lawful (Line collection pattern outcome name) =

@@ -2,7 +2,7 @@
 ghost use Rattle.std.specs.Prelude.{◌≡◌};
 ghost use Rattle.std.specs.Option.{option_copied};
 ghost use Rattle.census_rows.specs.Kinds.{said, value_at};
-ghost use Rattle.census_readback.specs.Lawful.{has_lawful_code, has_lawful_engines, has_lawful_rule, is_lawful, is_moved, is_way, number_in, signed_in, text_in};
+ghost use Rattle.census_readback.specs.Lawful.{has_lawful_code, has_lawful_engines, has_lawful_rule, is_lawful, is_recurrence, is_way, moves_within, number_in, signed_in, text_in};
 
 use crate::code::{is_code, is_code_after};
 use crate::limits::PERIOD_LIMIT;
@@ -50,19 +50,31 @@ fn signed_at(outcome: &Outcome, label: Label) -> i64
     }
 }
 
-// Whether it is said to have moved.
-fn is_moved(outcome: &Outcome) -> bool
-    ensures { result ≡ is_moved (said outcome.now).fields }
+// Whether something can move by `dx` and `dy` in `period` generations: each is at most a cell a generation.
+fn moves_within(period: u64, dx: i64, dy: i64) -> bool
+    ensures { result ≡ moves_within period dx dy }
 {
-    (signed_at(outcome, Label::Dx), signed_at(outcome, Label::Dy)) != (0, 0)
+    dx.unsigned_abs() <= period && dy.unsigned_abs() <= period
 }
 
-// Whether the code, if there is one, begins as that of what recurs with this period, moved or not.
+// Whether what recurs after `period` generations, moved by `dx` and `dy`, can have this code.
+fn is_recurrence(period: u64, dx: i64, dy: i64, code: &[u8]) -> bool
+    ensures { result ≡ is_recurrence period dx dy code.now }
+{
+    is_code_after((dx, dy) != (0, 0), period, code) && moves_within(period, dx, dy)
+}
+
+// Whether the code, if there is one, is one of what recurs with this period and moves so.
 fn has_lawful_code(outcome: &Outcome) -> bool
     ensures { result ≡ has_lawful_code (said outcome.now).fields }
 {
     match text_at(outcome, Label::Code) {
-        Some(code) => is_code_after(is_moved(outcome), number_at(outcome, Label::Period), code),
+        Some(code) => is_recurrence(
+            number_at(outcome, Label::Period),
+            signed_at(outcome, Label::Dx),
+            signed_at(outcome, Label::Dy),
+            code,
+        ),
         None => true,
     }
 }
@@ -82,14 +94,11 @@ fn has_lawful_engines(outcome: &Outcome) -> bool
 fn is_way(period: u64, dx: i64, dy: i64) -> bool
     ensures { result ≡ is_way period dx dy }
 {
-    0 < period
-        && period <= PERIOD_LIMIT
-        && dx.unsigned_abs() <= period
-        && dy.unsigned_abs() <= period
+    0 < period && period <= PERIOD_LIMIT && moves_within(period, dx, dy)
 }
 
-/// Whether a row's name is lawful, its rule is one as it is printed, its code begins as one, and it counts something if it
-/// counts objects or engines. An engine moves by at most a cell in a generation.
+/// Whether a row's name is lawful, its rule is one as it is printed, its code is one, and it counts something if it counts
+/// objects or engines. What recurs, and each engine, moves by at most a cell in a generation.
 pub fn is_lawful(row: &Row) -> bool
     ensures { result ≡ is_lawful row.now }
 {

@@ -4,9 +4,10 @@
 //! interleaved line by line in any way that keeps each section's order. Several reports may come one after another. A section
 //! is its `open` line, the lines of its patterns in order, its `code` lines, and its `close` line. An `ash` line is directly
 //! followed by its `part` lines, a `grows` line by its `engine` lines, and each `engine` line by its `emits` lines. Numbers of
-//! collections and patterns are at most 65,535. Names are lawful, rules are as they are printed, and codes begin as codes. The
-//! code of an `ok` line begins as its period and displacement say. The `part` lines have all objects of their line, in the
-//! order of codes. Lines of every kind may stand in any collection.
+//! collections and patterns are at most 65,535. Names are lawful, rules are as they are printed, and codes have a number
+//! before the first `_` and a body of `0-9a-z` after it. The code of an `ok` line begins as its period and displacement say,
+//! and its pattern moves by at most a cell in a generation. The `part` lines have all objects of their line, in the order of
+//! codes. Lines of every kind may be in any collection.
 //!
 //! The `engine` lines have all engines of their line, at least one, and count from 1. Their periods are 1 to 10,000, and they
 //! move by at most a cell in a generation. Each has `emits` lines, in the order of codes, with numbers from 1 on. The `engine`
@@ -15,7 +16,7 @@
 //!
 //! The `code` lines of a collection are what its lines count. For each rule and code that `ok` and `part` lines have, in the
 //! order of first appearance, there is one line. Its number is that of these `ok` lines plus the sum of the counts of these
-//! `part` lines. What follows the `_` of a code is not looked at.
+//! `part` lines. Whether a body can be drawn is not looked at.
 ghost use Rattle.std.specs.Prelude.{◌≡◌, ◌⊎◌, ◌++◌, ℕ, List, None, Some, IfOk, IsFalse, IsTrue, MatchOption, MatchResult};
 ghost use Rattle.census_readback.specs.Steps.{reading_of, step};
 ghost use Rattle.census_readback.specs.Told.{told_after, told_of};

@@ -9,7 +9,7 @@ use Rattle.census_readback.specs.Codes.{is_code}
 use Rattle.census_readback.specs.Lawful.{is_lawful}
 use Rattle.census_readback.specs.Texts.{AllLines}
 use Rattle.census_readback.specs.Told.{Told, is_told, told_after, told_by, told_next}
-use Rattle.census_rows.specs.Lines.{spelled, spelling}
+use Rattle.census_rows.specs.Lines.{spelling}
 use Rattle.census_rows.specs.declared.row.Row.{Row}
 use Rattle.census_rows.specs.declared.row.Row.TheVariants.{Open, Line, Part, Engine, Emits, Code, Close, End}
 use Rattle.life_answer.specs.Parts.{objects_in}

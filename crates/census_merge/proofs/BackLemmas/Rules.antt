@@ -1,5 +1,5 @@
 -- A printed rule is the text of a rule.
-use Rattle.std.proofs.Common.{◌≡◌, ◌≢◌, ℕ, zero, suc, ◌+◌, ◌-◌, ◌<◌, ◌≤◌, Bool, true, false, ◌&&◌, ◌||◌, ◌==◌, cond, eqb, leb, nat_eq, Option, Some, None as Nothing, List, [], ◌∷◌, ◌++◌, map, filter, length, codes, ap, ◌∙◌, sym, subst, refl, arith, append_assoc}
+use Rattle.std.proofs.Common.{◌≡◌, ◌≢◌, ℕ, zero, suc, ◌+◌, ◌<◌, ◌≤◌, Bool, true, false, ◌&&◌, ◌||◌, ◌==◌, cond, leb, nat_eq, Option, Some, None as Nothing, List, [], ◌∷◌, ◌++◌, map, filter, length, codes, ap, ◌∙◌, sym, subst, refl, arith, append_assoc}
 use Rattle.std.proofs.lemmas.Bool.{and_from, and_parts, eqb-true, le-leb, leb-true}
 use Rattle.std.proofs.lemmas.Bool.Decides.{nat_tests}
 use Rattle.std.specs.Int.{bit_at}

@@ -1,5 +1,5 @@
 -- What a `line` row and the rows behind it say of a pattern.
-use Rattle.std.proofs.Common.{◌≡◌, ℕ, ◌+◌, ◌<◌, ◌≤◌, ◌^◌, true, not, ◌&&◌, cond, eqb, ltb, leb, Some, None as Nothing, List, [], ◌∷◌, map, length, ap, sym, subst, refl, arith}
+use Rattle.std.proofs.Common.{◌≡◌, ℕ, ◌+◌, ◌<◌, ◌≤◌, ◌^◌, true, ◌&&◌, cond, eqb, ltb, leb, Some, None as Nothing, List, [], ◌∷◌, map, length, ap, sym, subst, refl, arith}
 use Rattle.std.specs.Borrow.{Bor}
 use Rattle.std.specs.List.{AllByRecursion as Each}
 use Rattle.std.specs.Option.{option_map}
@@ -10,10 +10,10 @@ use Rattle.census_bundle.specs.Names.{is_name}
 use Rattle.census_format.specs.Found.{lent}
 use Rattle.census_format.specs.Lines.{Group, Saying, pattern_row, rows_behind, saying_rows}
 use Rattle.census_readback.proofs.Telling.{told-first}
-use Rattle.census_readback.specs.Codes.{is_code, is_code_after}
+use Rattle.census_readback.specs.Codes.{is_code}
 use Rattle.census_readback.specs.Counts.{Counts, line_counted}
 use Rattle.census_readback.specs.Engines.{after_emits, no_engine}
-use Rattle.census_readback.specs.Lawful.{has_lawful_code, has_lawful_engines, is_lawful}
+use Rattle.census_readback.specs.Lawful.{has_lawful_code, has_lawful_engines, is_lawful, is_recurrence}
 use Rattle.census_readback.specs.Limits.{period_limit}
 use Rattle.census_readback.specs.Rules.{is_rule}
 use Rattle.census_readback.specs.Texts.{AllLines, IsLine}
@@ -35,7 +35,6 @@ use Rattle.life_answer.specs.declared.finding.Outcome as becomes
 use Rattle.life_answer.specs.declared.finding.Outcome.TheVariants.{Recurs, Unresolved, Large, Ash, Grows}
 use Rattle.life_answer.specs.declared.part.Part as part
 use Rattle.life_answer.specs.declared.tale.Engines.{Engines}
-use Rattle.life_model.specs.Cell.{origin, same_cell}
 use Rattle.life_model.specs.Rule.{Rule}
 use Rattle.life_cells.specs.Rules.{rule_text}
 use Rattle.life_cells.specs.TextOrder.{shorter_cmp}
@@ -194,7 +193,7 @@ module _ (c i : ℕ) (name : Bor (List ℕ)) (rows : List Row) (u : Told) (lines
     found-back (finding.Ok onset period dx dy code) line lawful tells own =
         let f = finding.Ok onset period dx dy code in
         let o = outcomes.Found rule population f in
-        let law = and_parts (is_code_after (not (same_cell (dx, dy) origin)) period code.now) (is_name name.now) lawful in
+        let law = and_parts (is_recurrence period dx dy code.now) (is_name name.now) lawful in
         let h = line.0.2 in
         let found = found_with back.rule population (Recurs onset period dx dy code.now) in
         made c i o name rows found

@@ -17,7 +17,7 @@ use Rattle.census_readback.specs.Texts.{AllLines}
 use Rattle.census_readback.specs.Told.{Told, is_told, told_after, told_by}
 use Rattle.census_readback.proofs.Kept.{patterns-append}
 use Rattle.census_rows.specs.Kinds.{is_refused, is_resolved, is_unresolved, said, same_class}
-use Rattle.census_rows.specs.Lines.{Spelling, spelled, spelling}
+use Rattle.census_rows.specs.Lines.{Spelling, spelling}
 use Rattle.census_rows.specs.declared.kinds.Behind.{Behind}
 use Rattle.census_rows.specs.declared.kinds.Behind.TheVariants as behind
 use Rattle.census_rows.specs.declared.kinds.Class.TheVariants.{Resolved, Unresolved, Refused}
