@@ -1316,6 +1316,13 @@ def _count(word: bytes) -> int:
     return int(word)
 
 
+def _fault(word: bytes) -> int:
+    """The number of a fault of a text; 0 is a text that could not be read."""
+    number = _count(word)
+    _demand(number <= 10)
+    return number
+
+
 def _offset(word: bytes) -> int:
     """A signed number of 64 bits."""
     _demand(_IS_OFFSET.fullmatch(word) is not None and -1 << 63 <= int(word) < 1 << 63)
@@ -1356,7 +1363,7 @@ _FIELDS: Dict[bytes, Dict[str, Callable[[bytes], Any]]] = {
     b"grows": {"rule": _rule, "population": _count, "engines": _count},
     b"none": {"rule": _rule, "population": _count},
     b"large": {"rule": _rule, "population": _count, "generation": _count},
-    b"bad": {"fault": _count},
+    b"bad": {"fault": _fault},
 }
 
 # the most collections of a report, and the most patterns of a collection

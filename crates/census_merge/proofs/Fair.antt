@@ -1,5 +1,5 @@
 -- What is found of patterns: codes and displacements fit periods, and parts and engines are in their order.
-use Rattle.std.proofs.Common.{◌≡◌, ℕ, ◌*◌, min, Bool, true, false, cond, Option, Some, None as Nothing, Result, Ok, Err, List, refl}
+use Rattle.std.proofs.Common.{◌≡◌, ℕ, ◌*◌, min, Bool, true, false, cond, Option, Some, None as Nothing, Result, Ok, Err, List, refl, arith}
 use Rattle.std.specs.Prelude.{⊤}
 use Rattle.census_bundle.specs.declared.bundle.Entry.{Entry}
 use Rattle.census_format.specs.Lines.{answer_to_entry}
@@ -21,9 +21,11 @@ use Rattle.life_objects.specs.Decided.Decided.{ash_of}
 use Rattle.life_model.specs.Evolution.{generation}
 use Rattle.life_model.specs.Generation.{Generation}
 use Rattle.life_model.specs.Rule.{Rule}
-use Rattle.life_text.specs.Picture.{Picture}
+use Rattle.life_text.specs.Picture.{Picture, picture_of}
+use Rattle.life_text.specs.Rle.{reading}
 use Rattle.life_text.specs.declared.rle.RleFault.{RleFault}
 use Rattle.census_merge.proofs.CodeTexts.{IsToldRecurrence, outcome-told as recurrence-told}
+use Rattle.census_merge.proofs.FaultNumbers.{IsNumbered, text-numbered}
 use Rattle.census_merge.proofs.Grown.{growth-fair}
 use Rattle.census_merge.proofs.PartsFound.{parts-fair}
 use Rattle.census_merge.specs.Lawful.{IsFair, IsFairAnswer, IsFairGrowth}
@@ -83,18 +85,18 @@ outcome-fair (Objects bound cells near horizon) R G =
     (growth-fair near R (min horizon c) (generation R G c))
     (unless-fair (census_of near R G bound) (first_past cells R G (3 * bound)) (census-fair near R G bound))
 
-answer-to-fair : (question : Question) (read : Result Picture RleFault) → IsFairAnswer (answer_to question read)
-answer-to-fair question (Ok pattern) = outcome-fair question pattern.rule pattern.cells
-answer-to-fair question (Err fault) = tt
+answer-to-fair : (question : Question) (read : Result Picture RleFault) → IsNumbered read → IsFairAnswer (answer_to question read)
+answer-to-fair question (Ok pattern) few = outcome-fair question pattern.rule pattern.cells
+answer-to-fair question (Err fault) few = few
 
 question-fair : (question : Question) (text : List ℕ) → IsFairAnswer (answer_to_question question text)
 unfolding answer_to_question
-question-fair question text = answer-to-fair question _
+question-fair question text = answer-to-fair question (picture_of (reading text)) (text-numbered text)
 
 pub entry-fair : (question : Question) (e : Entry) → IsFairAnswer (answer_to_entry question e)
 unfolding answer_to_entry
 entry-fair question e =
     elim e.is_lost as (λ v. IsFairAnswer (cond v (Refused 0) (answer_to_question question e.text))) [
-      | true ↦ tt
+      | true ↦ omega arith
       | false ↦ question-fair question e.text
     ]

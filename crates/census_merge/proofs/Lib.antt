@@ -30,6 +30,7 @@ pub mod Ruled
 pub mod CodeBodies
 pub mod CodeTexts
 pub mod Displaced
+pub mod FaultNumbers
 pub mod Taken
 pub mod Engined
 pub mod Growing

@@ -13,6 +13,7 @@ use Rattle.census_format.specs.Reports.{Owned, lines_of, section, section_if, se
 use Rattle.census_readback.specs.Told.{Told, is_told, line_told, nothing_told, part_told, told_by, told_next, to_tell}
 use Rattle.census_readback.specs.Engines.{LastEngine, no_engine}
 use Rattle.census_readback.specs.Lawful.{is_lawful, is_recurrence}
+use Rattle.census_readback.specs.Limits.{fault_limit}
 use Rattle.census_readback.specs.Codes.{is_code}
 use Rattle.census_readback.specs.Rules.{is_rule}
 use Rattle.life_cells.specs.Rules.{rule_text}
@@ -201,7 +202,8 @@ answer-told : (c i : ℕ) (found : Answer) (name : List ℕ) → is_name name �
     → IsTold (pattern_row c i found name ∷ rows_behind c i found)
 answer-told c i (Found rule finding) name named ruled range fair =
     outcome-told c i rule finding.population finding.outcome name ruled named range.1 fair
-answer-told c i (Refused number) name named ruled range fair = line-told c i (outcome_of (Refused number)) name [] named refl tt tt
+answer-told c i (Refused number) name named ruled range fair =
+    line-told c i (outcome_of (Refused number)) name [] (ap (λ b. b && is_name name) (le-leb number fault_limit fair) ∙ named) refl tt tt
 
 -- ---- sections
 

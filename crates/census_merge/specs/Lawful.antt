@@ -9,6 +9,7 @@ use Rattle.census_format.specs.Objects.{Object, objects, same_object, tally}
 use Rattle.census_merge.specs.Ranges.{IsToldAnswer}
 use Rattle.census_readback.specs.Codes.{is_code}
 use Rattle.census_readback.specs.Lawful.{is_recurrence}
+use Rattle.census_readback.specs.Limits.{fault_limit}
 use Rattle.census_readback.specs.Limits.{count_limit}
 use Rattle.life_answer.specs.CountedTales.{engines_in, tale_cmp}
 use Rattle.life_answer.specs.declared.finding.Answer.{Answer}
@@ -106,7 +107,7 @@ IsFair _ = ⊤
 
 abbrev pub IsFairAnswer : Answer → Type 0
 IsFairAnswer (Found rule finding) = IsFair finding.outcome
-IsFairAnswer (Refused number) = ⊤
+IsFairAnswer (Refused number) = number ≤ fault_limit
 
 -- ---- collections
 

@@ -17,7 +17,7 @@ use Rattle.census_rows.specs.declared.kinds.Value.TheVariants.{Number, Signed, T
 use Rattle.census_rows.specs.Kinds.{Said, label_number, said, value_at}
 use Rattle.census_rows.specs.Lines.{SameFields, SameOutcome, SameRow, SameSaid, SameValue}
 use Rattle.census_readback.specs.Codes.{is_code}
-use Rattle.census_readback.specs.Lawful.{has_lawful_code, has_lawful_engines, has_lawful_rule, is_lawful, is_recurrence, is_way, number_in, signed_in, text_in}
+use Rattle.census_readback.specs.Lawful.{has_lawful_code, has_lawful_engines, has_lawful_fault, has_lawful_rule, is_lawful, is_recurrence, is_way, number_in, signed_in, text_in}
 use Rattle.census_readback.specs.Engines.{after_engine, no_engine}
 use Rattle.census_readback.specs.declared.engines.Way.{Way}
 use Rattle.census_readback.specs.Rules.{is_rule}
@@ -29,7 +29,7 @@ use Rattle.census_readback.specs.Counts.{Counts, line_counted, object, with_more
 use Rattle.census_readback.specs.Sections.{counted, may_stand, with_line, with_part, with_told, tells_next, next_within, first_place, place_after}
 use Rattle.census_readback.specs.Steps.{Reading, collection_of, patterns_opened, place_at, gone_on, section_step, end_step, step, first_stray}
 use Rattle.census_readback.specs.Texts.{SameRows}
-use Rattle.census_readback.specs.Limits.{count_limit}
+use Rattle.census_readback.specs.Limits.{count_limit, fault_limit}
 
 -- # Fields
 
@@ -200,10 +200,11 @@ lawful-same (Open c n name) (Open c2 n2 name2) h = ap is_name h.2
 lawful-same (Line c i o name) (Line c2 i2 o2 name2) h =
     let fs = (said o).fields in
     let gs = (said o2).fields in
-    ap (λ rule. option_map_or is_rule rule true && (has_lawful_code fs && (has_lawful_engines fs && is_name name.now))) (texts fs gs h.2.3 label.Rule)
-    ∙ ap (λ b. has_lawful_rule gs && (b && (has_lawful_engines fs && is_name name.now))) (code-same fs gs h.2.3)
-    ∙ ap (λ b. has_lawful_rule gs && (has_lawful_code gs && (b && is_name name.now))) (some-same (value_at label.Engines fs) (value_at label.Engines gs) (at-same label.Engines fs gs h.2.3))
-    ∙ ap (λ w. has_lawful_rule gs && (has_lawful_code gs && (has_lawful_engines gs && is_name w))) h.3
+    ap (λ rule. option_map_or is_rule rule true && (has_lawful_code fs && (has_lawful_engines fs && (has_lawful_fault fs && is_name name.now)))) (texts fs gs h.2.3 label.Rule)
+    ∙ ap (λ b. has_lawful_rule gs && (b && (has_lawful_engines fs && (has_lawful_fault fs && is_name name.now)))) (code-same fs gs h.2.3)
+    ∙ ap (λ b. has_lawful_rule gs && (has_lawful_code gs && (b && (has_lawful_fault fs && is_name name.now)))) (some-same (value_at label.Engines fs) (value_at label.Engines gs) (at-same label.Engines fs gs h.2.3))
+    ∙ ap (λ n. has_lawful_rule gs && (has_lawful_code gs && (has_lawful_engines gs && (nat_le n fault_limit && is_name name.now)))) (numbers fs gs h.2.3 label.Fault)
+    ∙ ap (λ w. has_lawful_rule gs && (has_lawful_code gs && (has_lawful_engines gs && (has_lawful_fault gs && is_name w)))) h.3
 lawful-same (Part c i code k) (Part c2 i2 code2 k2) h = ap (λ w. is_code w && nat_lt 0 k) h.2 ∙ ap (λ m. is_code code2.now && nat_lt 0 m) h.3
 lawful-same (Engine c i e p x y k) (Engine c2 i2 e2 p2 x2 y2 k2) h =
     ap (λ m. is_way m x y && nat_lt 0 k) h.3 ∙ ap (λ z. is_way p2 z y && nat_lt 0 k) h.4 ∙ ap (λ z. is_way p2 x2 z && nat_lt 0 k) h.5

@@ -10,7 +10,7 @@ use Rattle.census_rows.specs.declared.kinds.Value.TheVariants.{Number, Signed, T
 use Rattle.census_rows.specs.declared.row.Row.{Row}
 use Rattle.census_rows.specs.declared.row.Row.TheVariants.{Open, Line, Part, Engine, Emits, Code}
 use Rattle.census_readback.specs.Codes.{is_code, is_code_after}
-use Rattle.census_readback.specs.Limits.{period_limit}
+use Rattle.census_readback.specs.Limits.{fault_limit, period_limit}
 use Rattle.census_readback.specs.Rules.{is_rule}
 use Rattle.life_model.specs.Cell.{origin, same_cell}
 
@@ -50,17 +50,22 @@ has_lawful_code fields =
 abbrev pub has_lawful_engines : List Field → Bool
 has_lawful_engines fields = option_map_or (λ value. nat_lt 0 (number_in (Some value))) (value_at label.Engines fields) true
 
+-- the fault among the fields, if there is one, is one that a text can have
+abbrev pub has_lawful_fault : List Field → Bool
+has_lawful_fault fields = nat_le (number_in (value_at label.Fault fields)) fault_limit
+
 -- after how many generations an engine recurs, and how far it moves in them: at most a cell in each
 abbrev pub is_way : ℕ → ℤ → ℤ → Bool
 is_way period dx dy =
     nat_lt 0 period && (nat_le period period_limit && moves_within period dx dy)
 
--- Its name is lawful, its rule is one as it is printed, its code is one, and it counts something if it counts objects or engines.
--- What recurs, and each engine, moves by at most a cell in a generation.
+-- Its name is lawful, its rule is one as it is printed, its code is one, its fault is one of a text, and it counts something if it
+-- counts objects or engines. What recurs, and each engine, moves by at most a cell in a generation.
 abbrev pub is_lawful : Row → Bool
 is_lawful (Open collection patterns name) = is_name name.now
 is_lawful (Line collection pattern outcome name) =
-    has_lawful_rule (said outcome).fields && (has_lawful_code (said outcome).fields && (has_lawful_engines (said outcome).fields && is_name name.now))
+    let fields = (said outcome).fields in
+    has_lawful_rule fields && (has_lawful_code fields && (has_lawful_engines fields && (has_lawful_fault fields && is_name name.now)))
 is_lawful (Part collection pattern code count) = is_code code.now && nat_lt 0 count
 is_lawful (Engine collection pattern number period dx dy count) = is_way period dx dy && nat_lt 0 count
 is_lawful (Emits collection pattern engine code count) = nat_lt 0 engine && (is_code code.now && nat_lt 0 count)

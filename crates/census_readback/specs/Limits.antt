@@ -5,6 +5,10 @@ use Rattle.std.specs.Prelude.{ℕ}
 abbrev pub count_limit : ℕ
 count_limit = 65535
 
+-- the greatest number of a fault of a text; 0 is a text that could not be read
+abbrev pub fault_limit : ℕ
+fault_limit = 10
+
 -- the most generations after which an engine recurs
 abbrev pub period_limit : ℕ
 period_limit = 10000

@@ -2,10 +2,10 @@
 ghost use Rattle.std.specs.Prelude.{◌≡◌};
 ghost use Rattle.std.specs.Option.{option_copied};
 ghost use Rattle.census_rows.specs.Kinds.{said, value_at};
-ghost use Rattle.census_readback.specs.Lawful.{has_lawful_code, has_lawful_engines, has_lawful_rule, is_lawful, is_recurrence, is_way, moves_within, number_in, signed_in, text_in};
+ghost use Rattle.census_readback.specs.Lawful.{has_lawful_code, has_lawful_engines, has_lawful_fault, has_lawful_rule, is_lawful, is_recurrence, is_way, moves_within, number_in, signed_in, text_in};
 
 use crate::code::{is_code, is_code_after};
-use crate::limits::PERIOD_LIMIT;
+use crate::limits::{FAULT_LIMIT, PERIOD_LIMIT};
 use crate::rules::is_rule;
 use census_bundle::is_lawful_name;
 use census_rows::{Label, Outcome, Row, Value};
@@ -90,6 +90,13 @@ fn has_lawful_engines(outcome: &Outcome) -> bool
     }
 }
 
+// Whether the fault, if there is one, is one that a text can have.
+fn has_lawful_fault(outcome: &Outcome) -> bool
+    ensures { result ≡ has_lawful_fault (said outcome.now).fields }
+{
+    number_at(outcome, Label::Fault) <= FAULT_LIMIT
+}
+
 // Whether an engine may recur after `period` generations, moved by `dx` and `dy`: each is at most a cell a generation.
 fn is_way(period: u64, dx: i64, dy: i64) -> bool
     ensures { result ≡ is_way period dx dy }
@@ -97,8 +104,8 @@ fn is_way(period: u64, dx: i64, dy: i64) -> bool
     0 < period && period <= PERIOD_LIMIT && moves_within(period, dx, dy)
 }
 
-/// Whether a row's name is lawful, its rule is one as it is printed, its code is one, and it counts something if it counts
-/// objects or engines. What recurs, and each engine, moves by at most a cell in a generation.
+/// Whether a row's name is lawful, its rule is one as it is printed, its code is one, its fault is one of a text, and it
+/// counts something if it counts objects or engines. What recurs, and each engine, moves by at most a cell in a generation.
 pub fn is_lawful(row: &Row) -> bool
     ensures { result ≡ is_lawful row.now }
 {
@@ -108,6 +115,7 @@ pub fn is_lawful(row: &Row) -> bool
             has_lawful_rule(outcome)
                 && has_lawful_code(outcome)
                 && has_lawful_engines(outcome)
+                && has_lawful_fault(outcome)
                 && is_lawful_name(*name)
         }
         Row::Part { code, count, .. } => is_code(*code) && 0 < *count,

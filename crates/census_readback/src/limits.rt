@@ -3,5 +3,8 @@
 /// The most collections of a report, and the most patterns of a collection.
 pub const COUNT_LIMIT: u64 = 65_535;
 
+/// The greatest number of a fault of a text; 0 is a text that could not be read.
+pub const FAULT_LIMIT: u64 = 10;
+
 /// The most generations after which an engine recurs.
 pub const PERIOD_LIMIT: u64 = 10_000;

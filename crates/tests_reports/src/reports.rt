@@ -78,7 +78,7 @@ close 1 3 1 0 2
 end 2 6
 open 1 2 third
 line 1 1 ok B3/S23 5 0 4 -1 1 xq4_153 glider
-line 1 2 bad 11 later
+line 1 2 bad 10 later
 code 1 B3/S23 xq4_153 1
 close 1 2 1 0 1
 end 1 2
@@ -93,7 +93,7 @@ const SAFE: &[u8] =
 2,second,2,'=1,none,B3/S23,5,,,,,,,,,,,,
 2,second,3,wide,large,B36/S23,5,,,,,,,,,,100,,
 3,third,1,glider,ok,B3/S23,5,0,4,-1,1,xq4_153,,,,,,,
-3,third,2,later,bad,,,,,,,,11,,,,,,fault 11
+3,third,2,later,bad,,,,,,,,10,,,,,,the text ends too early: its body must end with `!`
 ";
 
 const JSON: &[u8] =
@@ -104,7 +104,7 @@ const JSON: &[u8] =
 {\"code\":null,\"collection\":2,\"collection_name\":\"second\",\"collection_name_hex\":null,\"dx\":null,\"dy\":null,\"engines\":null,\"fault\":null,\"fault_text\":null,\"generation\":null,\"name\":\"=1\",\"name_hex\":null,\"objects\":null,\"onset\":null,\"parts\":null,\"pattern\":2,\"period\":null,\"population\":5,\"rule\":\"B3/S23\",\"status\":\"none\"}
 {\"code\":null,\"collection\":2,\"collection_name\":\"second\",\"collection_name_hex\":null,\"dx\":null,\"dy\":null,\"engines\":null,\"fault\":null,\"fault_text\":null,\"generation\":100,\"name\":\"wide\",\"name_hex\":null,\"objects\":null,\"onset\":null,\"parts\":null,\"pattern\":3,\"period\":null,\"population\":5,\"rule\":\"B36/S23\",\"status\":\"large\"}
 {\"code\":\"xq4_153\",\"collection\":3,\"collection_name\":\"third\",\"collection_name_hex\":null,\"dx\":-1,\"dy\":1,\"engines\":null,\"fault\":null,\"fault_text\":null,\"generation\":null,\"name\":\"glider\",\"name_hex\":null,\"objects\":null,\"onset\":0,\"parts\":null,\"pattern\":1,\"period\":4,\"population\":5,\"rule\":\"B3/S23\",\"status\":\"ok\"}
-{\"code\":null,\"collection\":3,\"collection_name\":\"third\",\"collection_name_hex\":null,\"dx\":null,\"dy\":null,\"engines\":null,\"fault\":11,\"fault_text\":\"fault 11\",\"generation\":null,\"name\":\"later\",\"name_hex\":null,\"objects\":null,\"onset\":null,\"parts\":null,\"pattern\":2,\"period\":null,\"population\":null,\"rule\":null,\"status\":\"bad\"}
+{\"code\":null,\"collection\":3,\"collection_name\":\"third\",\"collection_name_hex\":null,\"dx\":null,\"dy\":null,\"engines\":null,\"fault\":10,\"fault_text\":\"the text ends too early: its body must end with `!`\",\"generation\":null,\"name\":\"later\",\"name_hex\":null,\"objects\":null,\"onset\":null,\"parts\":null,\"pattern\":2,\"period\":null,\"population\":null,\"rule\":null,\"status\":\"bad\"}
 ";
 
 const PARTS: &[u8] = b"collection,collection_name,pattern,name,rule,code,count

@@ -13,7 +13,8 @@ use Rattle.census_readback.proofs.Telling.{told-first}
 use Rattle.census_readback.specs.Codes.{is_code}
 use Rattle.census_readback.specs.Counts.{Counts, line_counted}
 use Rattle.census_readback.specs.Engines.{after_emits, no_engine}
-use Rattle.census_readback.specs.Lawful.{has_lawful_code, has_lawful_engines, is_lawful, is_recurrence}
+use Rattle.census_readback.specs.Lawful.{has_lawful_code, has_lawful_engines, has_lawful_fault, is_lawful, is_recurrence}
+use Rattle.census_readback.specs.Limits.{fault_limit}
 use Rattle.census_readback.specs.Limits.{period_limit}
 use Rattle.census_readback.specs.Rules.{is_rule}
 use Rattle.census_readback.specs.Texts.{AllLines, IsLine}
@@ -187,7 +188,7 @@ module _ (c i : ℕ) (name : Bor (List ℕ)) (rows : List Row) (u : Told) (lines
 
   -- a finding of a rule
   module _ (rule : Bor (List ℕ)) (population : ℕ) (back : RuleBack rule.now) where
-    pub found-back : (f : Finding) → IsLine (Line c i (outcomes.Found rule population f) name) → (has_lawful_code (said (outcomes.Found rule population f)).fields && (has_lawful_engines (said (outcomes.Found rule population f)).fields && is_name name.now)) ≡ true
+    pub found-back : (f : Finding) → IsLine (Line c i (outcomes.Found rule population f) name) → (has_lawful_code (said (outcomes.Found rule population f)).fields && (has_lawful_engines (said (outcomes.Found rule population f)).fields && (has_lawful_fault (said (outcomes.Found rule population f)).fields && is_name name.now))) ≡ true
         → told_by (begun c (outcomes.Found rule population f)) rows ≡ Some u → AreBehind (said (outcomes.Found rule population f)).behind i rows
         → SayingBack c i (Line c i (outcomes.Found rule population f) name ∷ rows)
     found-back (finding.Ok onset period dx dy code) line lawful tells own =
@@ -247,8 +248,9 @@ module _ (c i : ℕ) (name : Bor (List ℕ)) (rows : List Row) (u : Told) (lines
       → SayingBack c i (Line c i o name ∷ rows)
   line-back (outcomes.Found rule population f) line lawful tells own =
       let fields = (said (outcomes.Found rule population f)).fields in
-      let law = and_parts (is_rule rule.now) (has_lawful_code fields && (has_lawful_engines fields && is_name name.now)) lawful in
+      let law = and_parts (is_rule rule.now) (has_lawful_code fields && (has_lawful_engines fields && (has_lawful_fault fields && is_name name.now))) lawful in
       found-back rule population (rule-back rule.now law.0) f line law.1 tells own
   line-back (outcomes.Bad fault) line lawful tells own =
+      let law = and_parts (leb fault fault_limit) (is_name name.now) lawful in
       made c i (outcomes.Bad fault) name rows (Refused fault) (one-line c i (outcomes.Bad fault) (outcomes.Bad fault) name refl (λ k. refl) refl)
-      (none-behind (Refused fault) own refl) lawful tt tt line.0.2.0 tt
+      (none-behind (Refused fault) own refl) law.1 tt tt line.0.2.0 (leb-true fault fault_limit law.0)
