@@ -1,3 +1,1 @@
 pub mod Floatless
-pub mod Escapes
-pub mod Pieces

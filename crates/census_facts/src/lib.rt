@@ -15,8 +15,6 @@ mod values;
 
 pub use fact::{Fact, Worth};
 pub use form::{Form, facts_text};
-pub use json::{
-    counted_value, push_engines_end, push_engines_head, push_item, push_members, push_value,
-};
+pub use json::json_of;
 pub use names::Names;
 pub use reading::read_names;

@@ -1,42 +1,42 @@
--- A table of patterns has as many rows as a report has `line` rows, and its patterns are those of the report.
-use Rattle.std.proofs.Common.{◌≡◌, ℕ, ◌+◌, Option, Some, None, List, [], ◌∷◌, ◌++◌, map, length, refl, ap, ap₂, ◌∙◌, sym}
+-- A table of patterns has as many rows as a report has `line` rows.
+use Rattle.std.proofs.Common.{◌≡◌, ℕ, ◌+◌, Option, Some, None, List, [], ◌∷◌, ◌++◌, length, refl, sym, ap, ap₂, ◌∙◌, suc}
 use Rattle.std.specs.List.{cons_option, filter_map}
-use Rattle.std.specs.Option.{option_map}
-use Rattle.std.proofs.lemmas.List.{length-map, map-append}
+use Rattle.std.specs.Option.{option_map, option_or}
+use Rattle.std.proofs.lemmas.List.{length-append}
 use Rattle.census_rows.specs.declared.row.Row.{Row}
 use Rattle.census_readback.specs.Shapes.{AreReports, any_outcome, lines_that}
 use Rattle.census_readback.specs.Grouped.{collections_of}
-use Rattle.census_table.specs.Entries.{all_entries, entries_of, entry_of_row, section_entries}
-use Rattle.census_table.specs.Patterns.{Pattern, all_patterns, pattern_before, patterns_of, patterns_under, section_patterns}
+use Rattle.census_table.specs.Entries.{all_entries, entry_of_row, section_entries}
+use Rattle.census_table.specs.Things.{all_things, section_things, things_of, things_under}
 use Rattle.census_table.specs.declared.entry.Entry.{Entry}
+use Rattle.census_table.specs.declared.thing.Item.TheVariants as item
+use Rattle.census_table.specs.declared.thing.Thing.{Thing}
+use Rattle.census_table.specs.declared.thing.Thing.TheVariants.{Pattern}
 use Rattle.census_table.proofs.Counts.{entries-size}
 
-abbrev pub entries_in : List Pattern → List Entry
-entries_in patterns = map (λ p. p.entry) patterns
+row-size : (own : Option Entry) (rows : List Row) (things : List Thing) (entries : List Entry) → length things ≡ length entries
+    → length (cons_option (option_map (λ entry. Pattern entry rows) own) things) ≡ length (cons_option own entries)
+row-size None rows things entries same = same
+row-size (Some entry) rows things entries same = ap suc same
 
-entry-in : (entry : Option Entry) (rows : List Row) (patterns : List Pattern) (entries : List Entry) → entries_in patterns ≡ entries
-    → entries_in (cons_option (option_map (λ e. pattern_before e rows) entry) patterns) ≡ cons_option entry entries
-entry-in None rows patterns entries same = same
-entry-in (Some entry) rows patterns entries same = ap (λ es. entry ∷ es) same
+under-size : (number : ℕ) (heading : Row) (last : Option Entry) (rows : List Row)
+    → length (things_under item.Pattern number heading last rows) ≡ length (filter_map (entry_of_row number heading) rows)
+under-size number heading last [] = refl
+under-size number heading last (row ∷ rows) =
+    let own = entry_of_row number heading row in
+    row-size own rows (things_under item.Pattern number heading (option_or own last) rows) (filter_map (entry_of_row number heading) rows)
+    (under-size number heading (option_or own last) rows)
 
-under-in : (number : ℕ) (heading : Row) (rows : List Row) → entries_in (patterns_under number heading rows) ≡ filter_map (entry_of_row number heading) rows
-under-in number heading [] = refl
-under-in number heading (row ∷ rows) =
-    entry-in (entry_of_row number heading row) rows (patterns_under number heading rows) (filter_map (entry_of_row number heading) rows) (under-in number heading rows)
+section-size : (number : ℕ) (rows : List Row) → length (section_things item.Pattern number rows) ≡ length (section_entries number rows)
+section-size number [] = refl
+section-size number (heading ∷ rows) = under-size number heading None rows
 
-section-in : (number : ℕ) (rows : List Row) → entries_in (section_patterns number rows) ≡ section_entries number rows
-section-in number [] = refl
-section-in number (heading ∷ rows) = under-in number heading rows
+all-size : (number : ℕ) (sections : List (List Row)) → length (all_things item.Pattern number sections) ≡ length (all_entries number sections)
+all-size number [] = refl
+all-size number (rows ∷ sections) =
+    length-append (section_things item.Pattern number rows) (all_things item.Pattern (number + 1) sections)
+    ∙ ap₂ (λ (m n : ℕ). m + n) (section-size number rows) (all-size (number + 1) sections)
+    ∙ sym (length-append (section_entries number rows) (all_entries (number + 1) sections))
 
-all-in : (number : ℕ) (sections : List (List Row)) → entries_in (all_patterns number sections) ≡ all_entries number sections
-all-in number [] = refl
-all-in number (rows ∷ sections) =
-    map-append (λ p. p.entry) (section_patterns number rows) (all_patterns (number + 1) sections)
-    ∙ ap₂ (λ (es fs : List Entry). es ++ fs) (section-in number rows) (all-in (number + 1) sections)
-
--- the patterns of a report are those of its table
-pub patterns-entries : (rows : List Row) → entries_in (patterns_of rows) ≡ entries_of rows
-patterns-entries rows = all-in 1 (collections_of [] rows)
-
-pub patterns-size : (rows : List Row) → AreReports rows → length (patterns_of rows) ≡ lines_that any_outcome rows
-patterns-size rows is = sym (length-map (patterns_of rows) (λ p. p.entry)) ∙ ap length (patterns-entries rows) ∙ entries-size rows is
+pub patterns-size : (rows : List Row) → AreReports rows → length (things_of item.Pattern rows) ≡ lines_that any_outcome rows
+patterns-size rows is = all-size 1 (collections_of [] rows) ∙ entries-size rows is

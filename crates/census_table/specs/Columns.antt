@@ -11,15 +11,22 @@ use Rattle.census_faults.specs.Rle.Reported.{fault_words}
 use Rattle.census_table.specs.declared.column.Column.{Column}
 use Rattle.census_table.specs.declared.column.Column.TheVariants as column
 use Rattle.census_table.specs.declared.entry.Entry.{Entry}
-use Rattle.census_table.specs.declared.table.Format.{Format}
-use Rattle.census_table.specs.declared.table.Format.TheVariants.{Csv, Json}
 use Rattle.census_table.specs.Called.{Names, called}
 use Rattle.census_table.specs.Contents.{Content, Member, nothing, count, shift, text, hex}
-use Rattle.census_table.specs.Patterns.{Pattern}
 
 -- all columns, in their order
 abbrev pub columns : List Column
 columns = column.Collection ∷ column.CollectionName ∷ column.Pattern ∷ column.Name ∷ column.Status ∷ column.Rule ∷ column.Population ∷ column.Onset ∷ column.Period ∷ column.Dx ∷ column.Dy ∷ column.Code ∷ column.CommonName ∷ column.Fault ∷ column.CollectionNameHex ∷ column.NameHex ∷ column.Objects ∷ column.Generation ∷ column.Engines ∷ column.FaultText ∷ []
+
+-- those whose names come before `engines`, between it and `parts`, and after `parts`, in the order of their names
+abbrev pub first_columns : List Column
+first_columns = column.Code ∷ column.Collection ∷ column.CollectionName ∷ column.CollectionNameHex ∷ column.CommonName ∷ column.Dx ∷ column.Dy ∷ []
+
+abbrev pub middle_columns : List Column
+middle_columns = column.Fault ∷ column.FaultText ∷ column.Generation ∷ column.Name ∷ column.NameHex ∷ column.Objects ∷ column.Onset ∷ []
+
+abbrev pub last_columns : List Column
+last_columns = column.Pattern ∷ column.Period ∷ column.Population ∷ column.Rule ∷ column.Status ∷ []
 
 abbrev pub value_content : Value → Content
 value_content (Number n) = count n
@@ -76,10 +83,3 @@ is_shown names column = true
 -- what the row of a pattern has in these columns
 abbrev pub entry_row : Names → List Column → Entry → List Member
 entry_row names columns entry = map (λ column. record { name = name_of column; content = content_in_column names column entry }) (filter (is_shown names) columns)
-
--- the row of a pattern; in JSON its engines and its parts are lists, and the list of engines takes the place of their number
-abbrev pub pattern_row : Names → Format → Pattern → List Member
-pattern_row names (Csv safe) pattern = entry_row names columns pattern.entry
-pattern_row names Json pattern =
-    entry_row names columns pattern.entry
-    ++ record { name = codes "engines"; content = pattern.engines } ∷ record { name = codes "parts"; content = pattern.parts } ∷ []

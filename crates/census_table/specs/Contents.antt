@@ -2,15 +2,10 @@
 use Rattle.std.specs.Prelude.{◌≡◌, ℕ, ℤ, Bool, true, false, ◌&&◌, ◌==◌, List, [], ◌∷◌, Option, Some, None, codes, unwrap_or, if◌then◌else◌, decimal, map}
 use Rattle.std.specs.Fmt.{signed_decimal}
 use Rattle.std.specs.List.{list_any}
-use Rattle.std.specs.Option.{option_map_or}
 use Rattle.std.specs.Str.{is_utf8}
 use Rattle.std.specs.Str.Lossy.{utf8_lossy}
 use Rattle.hex.specs.Hex.{encode_lower}
-use Rattle.serde_json.specs.Data.{Data, array, null, number, string, unsigned}
-use Rattle.serde_json.specs.Find.{of_integer}
-use Rattle.serde_json.specs.View.{items_of}
 use Rattle.census_faults.specs.Rle.Reported.{fault_words}
-use Rattle.census_facts.specs.Json.Values.{counted_data, engines_data}
 use Rattle.census_table.specs.Lists.{Engines}
 use Rattle.census_table.specs.declared.cell.Cell.{Cell}
 use Rattle.census_table.specs.declared.cell.Cell.TheVariants.{Empty, Count, Shift, Text, Hex, Fault}
@@ -70,21 +65,3 @@ content_bytes safe _ = []
 -- no text of a safe field begins as a formula does
 abbrev pub TextsAreSafe : Type 0
 TextsAreSafe = (bytes : List ℕ) → begins_formula (content_bytes true (text bytes)) ≡ false
-
--- a number of objects with a code
-abbrev pub portion_data : Portion → Data
-portion_data portion = counted_data portion.code.now portion.count None
-
--- equal engines
-abbrev pub kind_data : Engines → Data
-kind_data told = engines_data told.period told.dx told.dy told.count (map portion_data told.emits)
-
--- the value of an object's member
-abbrev pub content_data : Content → Data
-content_data nothing = null
-content_data (count n) = number (unsigned n)
-content_data (shift z) = number (of_integer z)
-content_data (text bytes) = string (utf8_lossy bytes)
-content_data (hex bytes) = option_map_or string (hex_of bytes) null
-content_data (engines list) = array (items_of (map kind_data list))
-content_data (parts list) = array (items_of (map portion_data list))

@@ -3,14 +3,13 @@ pub mod Columns
 pub mod Contents
 pub mod Entries
 pub mod Grouping
+pub mod Json
 pub mod Kinds
 pub mod KindLaws
 pub mod Lists
 pub mod ObjectColumns
 pub mod Objects
-pub mod Pieces
 pub mod Places
-pub mod Patterns
 pub mod Tables
-pub mod Told
+pub mod Things
 pub mod Written

@@ -1,104 +1,105 @@
--- The texts of tables.
-use Rattle.std.specs.Prelude.{◌≡◌, ℕ, ◌+◌, Bool, None, List, [], ◌∷◌, ◌++◌, filter, map}
+-- Tables: what they have rows for, what each row has in each column, and how it is written.
+use Rattle.std.specs.Prelude.{◌≡◌, ℕ, zero, suc, ◌+◌, List, [], ◌∷◌, ◌++◌, codes, drop, filter, length, map}
 use Rattle.std.specs.List.{flat_map}
 use Rattle.csv.specs.Writing.{default_writer, row_text}
-use Rattle.serde_json.specs.Data.{Members, no_members, object, put}
-use Rattle.census_facts.specs.Json.Lines.{data_line}
 use Rattle.census_rows.specs.Kinds.{said}
-use Rattle.census_rows.specs.declared.kinds.Behind.TheVariants as behind
 use Rattle.census_rows.specs.declared.row.Row.{Row}
-use Rattle.census_readback.specs.Sections.{same_behind}
 use Rattle.census_table.specs.Called.{Names}
-use Rattle.census_table.specs.Columns.{columns, is_shown, name_of, pattern_row}
-use Rattle.census_table.specs.Contents.{Member, content_bytes, content_data}
+use Rattle.census_table.specs.Columns.{columns, entry_row, first_columns, is_shown, last_columns, middle_columns, name_of}
+use Rattle.census_table.specs.Contents.{Member, content_bytes}
+use Rattle.census_table.specs.Json.{json_line}
 use Rattle.census_table.specs.Kinds.{AreKinds}
-use Rattle.census_table.specs.ObjectColumns.{code_columns, is_there, object_row, part_columns, title_of}
-use Rattle.census_table.specs.Objects.{all_objects, objects_of, section_objects}
-use Rattle.census_table.specs.Patterns.{Pattern, all_patterns, patterns_of, section_patterns}
+use Rattle.census_table.specs.ObjectColumns.{code_columns, code_columns_in_json, is_there, object_row, part_columns, part_columns_in_json, title_of}
+use Rattle.census_table.specs.Objects.{objects_of}
+use Rattle.census_table.specs.Things.{all_things, engines_behind, parts_behind, things_of}
 use Rattle.census_table.specs.declared.object.Object.{Object}
-use Rattle.census_table.specs.declared.object_column.ObjectColumn.{ObjectColumn}
 use Rattle.census_table.specs.declared.subject.Subject.{Subject}
 use Rattle.census_table.specs.declared.subject.Subject.TheVariants.{Patterns, Parts, Codes}
 use Rattle.census_table.specs.declared.subject.Table.{Table}
 use Rattle.census_table.specs.declared.subject.Table.TheVariants as table
 use Rattle.census_table.specs.declared.table.Format.{Format}
 use Rattle.census_table.specs.declared.table.Format.TheVariants.{Csv, Json}
-use Rattle.census_table.specs.declared.table.Item.{Item}
-use Rattle.census_table.specs.declared.table.Item.TheVariants as item
+use Rattle.census_table.specs.declared.thing.Item.TheVariants as item
+use Rattle.census_table.specs.declared.thing.Thing.{Thing}
+use Rattle.census_table.specs.declared.thing.Thing.TheVariants.{Pattern, Part, Kind}
 
--- # What is in a table
+-- # What a table has rows for
 
--- these patterns, or these columns of objects
-pub data Listing : Type 0 where
-  patterns : List Pattern → Listing
-  objects : List ObjectColumn → List Object → Listing
+-- a row for each of these things
+pub record Listing : Type 0 where
+  pub subject : Subject
+  pub things : List Thing
 
--- the object is one of several that a pattern has fallen apart into
-abbrev pub is_part : Object → Bool
-is_part o = same_behind (said o.first.outcome).behind behind.Parts
+-- each pattern of reports, each `part` row, or each rule and code, which is counted
+abbrev pub AreThingsOf : Subject → List Row → List Thing → Type 0
+AreThingsOf Patterns rows things = things ≡ things_of item.Pattern rows
+AreThingsOf Parts rows things = things ≡ things_of item.Part rows
+AreThingsOf Codes rows things = (kinds : List Object) × AreKinds (objects_of rows) kinds × (things ≡ map Kind kinds)
 
-abbrev pub listing_of : Table → Listing
-listing_of (table.Patterns sections) = patterns (all_patterns 1 sections)
-listing_of (table.Parts sections) = objects part_columns (filter is_part (all_objects 1 sections))
-listing_of (table.Codes kinds) = objects code_columns kinds
-
--- a row for each pattern, for each `part` row, or for each rule and code
 abbrev pub IsListingOf : Subject → List Row → Listing → Type 0
-IsListingOf Patterns rows listing = listing ≡ patterns (patterns_of rows)
-IsListingOf Parts rows listing = listing ≡ objects part_columns (filter is_part (objects_of rows))
-IsListingOf Codes rows listing = (kinds : List Object) × AreKinds (objects_of rows) kinds × (listing ≡ objects code_columns kinds)
+IsListingOf subject rows listing = (listing.subject ≡ subject) × AreThingsOf subject rows listing.things
+
+-- # What a row has in each column
+
+-- what the columns are called; without names there is no column for them
+abbrev pub titles_of : Names → Subject → List (List ℕ)
+titles_of names Patterns = map name_of (filter (is_shown names) columns)
+titles_of names Parts = map title_of (filter (is_there names) part_columns)
+titles_of names Codes = map title_of (filter (is_there names) code_columns)
+
+-- a row; in JSON its columns are in the order of their names, and a pattern has its engines and its parts as lists
+abbrev pub thing_row : Names → Format → Thing → List Member
+thing_row names (Csv safe) (Pattern entry rows) = entry_row names columns entry
+thing_row names (Csv safe) (Part object) = object_row names part_columns object
+thing_row names (Csv safe) (Kind object) = object_row names code_columns object
+thing_row names Json (Pattern entry rows) =
+    entry_row names first_columns entry
+    ++ record { name = codes "engines"; content = engines_behind (said entry.outcome).behind rows }
+    ∷ (entry_row names middle_columns entry
+    ++ record { name = codes "parts"; content = parts_behind (said entry.outcome).behind rows }
+    ∷ entry_row names last_columns entry)
+thing_row names Json (Part object) = object_row names part_columns_in_json object
+thing_row names Json (Kind object) = object_row names code_columns_in_json object
 
 -- # How it is written
 
--- the record of a row, as the crate `csv` writes it by default, where texts are to be safe or not
-abbrev pub csv_record : Bool → List Member → List ℕ
-csv_record safe row = row_text default_writer (map (λ member. content_bytes safe member.content) row)
+-- the record of a row, as the crate `csv` writes it by default, or its object in JSON
+abbrev pub row_line : Format → List Member → List ℕ
+row_line (Csv safe) row = row_text default_writer (map (λ member. content_bytes safe member.content) row)
+row_line Json row = json_line row
 
--- the members, and those of a row
-abbrev pub with_row : List Member → Members → Members
-with_row [] members = members
-with_row (member ∷ row) members = with_row row (put member.name (content_data member.content) members)
-
--- the object of a row
-abbrev pub json_line : List Member → List ℕ
-json_line row = data_line (object (with_row row no_members))
-
--- what a table has before its rows: as CSV a record of the columns' names
+-- what a table has before its rows: a record of the columns' names, but nothing in JSON
 abbrev pub head_text : Format → List (List ℕ) → List ℕ
-head_text (Csv safe) names = row_text default_writer names
-head_text Json names = []
+head_text (Csv safe) titles = row_text default_writer titles
+head_text Json titles = []
 
--- the text of its rows: a record or a line for each
-abbrev pub rows_text : Format → List (List Member) → List ℕ
-rows_text (Csv safe) rows = flat_map (csv_record safe) rows
-rows_text Json rows = flat_map json_line rows
+-- the rows of these things
+abbrev pub things_text : Names → Format → List Thing → List ℕ
+things_text names format things = flat_map (λ thing. row_line format (thing_row names format thing)) things
 
--- what its columns are called
-abbrev pub names_in : Names → Listing → List (List ℕ)
-names_in names (patterns list) = map name_of (filter (is_shown names) columns)
-names_in names (objects columns list) = map title_of (filter (is_there names) columns)
-
--- a row for each pattern or object
-abbrev pub members_in : Format → Names → Listing → List (List Member)
-members_in format names (patterns list) = map (pattern_row names format) list
-members_in format names (objects columns list) = map (object_row names columns) list
-
--- a row for each pattern, or for each part, of a collection that has this number
-abbrev pub section_members : Item → Format → Names → ℕ → List Row → List (List Member)
-section_members item.Pattern format names number rows = map (pattern_row names format) (section_patterns number rows)
-section_members item.Part format names number rows = map (object_row names part_columns) (filter is_part (section_objects number rows))
-
--- the rows of each collection, numbered from this number on
-abbrev pub all_members : Item → Format → Names → ℕ → List (List Row) → List (List Member)
-all_members item format names number [] = []
-all_members item format names number (rows ∷ sections) =
-    section_members item format names number rows ++ all_members item format names (number + 1) sections
-
--- the whole table; without names it has no column for them
+-- the whole table
 abbrev pub listing_text : Format → Names → Listing → List ℕ
-listing_text format names listing = head_text format (names_in names listing) ++ rows_text format (members_in format names listing)
+listing_text format names listing = head_text format (titles_of names listing.subject) ++ things_text names format listing.things
 
--- # Tables of patterns
+-- # On the way
 
-abbrev pub table_text : Format → List Pattern → List ℕ
-table_text format list = listing_text format None (patterns list)
+-- how many collections a table has, or 1 for all kinds
+abbrev pub table_size : Table → ℕ
+table_size (table.Patterns sections) = length sections
+table_size (table.Parts sections) = length sections
+table_size (table.Codes kinds) = 1
+
+-- what a table has from the collection at an index on
+abbrev pub table_from : Table → ℕ → List Thing
+table_from (table.Patterns sections) index = all_things item.Pattern (index + 1) (drop index sections)
+table_from (table.Parts sections) index = all_things item.Part (index + 1) (drop index sections)
+table_from (table.Codes kinds) zero = map Kind kinds
+table_from (table.Codes kinds) (suc index) = []
+
+abbrev pub subject_of : Table → Subject
+subject_of (table.Patterns sections) = Patterns
+subject_of (table.Parts sections) = Parts
+subject_of (table.Codes kinds) = Codes
+
+abbrev pub listing_of : Table → Listing
+listing_of table = record { subject = subject_of table; things = table_from table 0 }

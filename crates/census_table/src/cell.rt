@@ -1,13 +1,11 @@
 //! What a row of a table has in one column.
 ghost use Rattle.std.specs.Prelude.{◌≡◌, IfOk, option_map, string_bytes};
 ghost use Rattle.std.specs.Str.Lossy.{utf8_lossy};
-ghost use Rattle.serde_json.specs.View.{view};
 ghost use Rattle.census_faults.specs.Rle.Reported.{fault_words};
-ghost use Rattle.census_table.specs.Contents.{TextsAreSafe, begins_formula, content_bytes, content_data, content_of, hex_of, text_bytes};
+ghost use Rattle.census_table.specs.Contents.{TextsAreSafe, begins_formula, content_bytes, content_of, hex_of, text_bytes};
 
 use census_faults::fault_words;
 use itoa::Buffer;
-use serde_json::Value;
 use std::alloc::{AllocError, Global};
 
 /// The content of a row in one column.
@@ -36,7 +34,7 @@ pub struct Field<'a> {
 }
 
 // The bytes in hex, where they are not UTF-8.
-fn hex_of(alloc: Global, bytes: &[u8]) -> Result<Option<String>, AllocError>
+pub fn hex_of(alloc: Global, bytes: &[u8]) -> Result<Option<String>, AllocError>
     ensures { IfOk result (λ text. option_map string_bytes text ≡ hex_of bytes.now) }
 {
     match str::from_utf8(bytes) {
@@ -68,7 +66,7 @@ fn text_of(alloc: Global, safe: bool, text: String) -> Result<String, AllocError
 }
 
 // The meaning of the fault that a report gives by this number.
-fn fault_text(alloc: Global, number: u64) -> Result<String, AllocError>
+pub fn fault_text(alloc: Global, number: u64) -> Result<String, AllocError>
     ensures { IfOk result (λ text. string_bytes text ≡ utf8_lossy (fault_words number)) }
 {
     let words = fault_words(alloc, number)?;
@@ -95,23 +93,6 @@ impl Cell<'_> {
             Cell::Text(bytes) => text_of(alloc, safe, String::from_utf8_lossy(alloc, bytes)?),
             Cell::Hex(bytes) => Ok(hex_of(alloc, bytes)?.unwrap_or(String::new(alloc))),
             Cell::Fault(number) => text_of(alloc, safe, fault_text(alloc, *number)?),
-        }
-    }
-
-    /// The value of an object's member: `null` for nothing.
-    pub fn to_value(&self, alloc: Global) -> Result<Value, AllocError>
-        ensures { IfOk result (λ value. view value ≡ content_data (content_of self.now)) }
-    {
-        match self {
-            Cell::Empty => Ok(Value::Null),
-            Cell::Count(number) => Ok(Value::from(*number)),
-            Cell::Shift(number) => Ok(Value::from(*number)),
-            Cell::Text(bytes) => Ok(Value::String(String::from_utf8_lossy(alloc, bytes)?)),
-            Cell::Hex(bytes) => Ok(match hex_of(alloc, bytes)? {
-                Some(text) => Value::String(text),
-                None => Value::Null,
-            }),
-            Cell::Fault(number) => Ok(Value::String(fault_text(alloc, *number)?)),
         }
     }
 }

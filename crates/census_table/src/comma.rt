@@ -1,30 +1,27 @@
-//! Tables as comma-separated values.
+//! Tables as comma-separated values. The only error is out of memory.
 ghost use Rattle.std.specs.Prelude.{◌≡◌, ◌++◌, map, IfOk, OnOk};
-ghost use Rattle.std.specs.List.{flat_map};
 ghost use Rattle.csv.specs.Records.{fields_of};
 ghost use Rattle.csv.specs.Writing.{default_writer, row_text};
 ghost use Rattle.census_table.specs.Contents.{content_bytes, row_of};
-ghost use Rattle.census_table.specs.Tables.{csv_record};
-ghost use Rattle.census_table.specs.Told.{rows_in};
-ghost use Rattle.census_table.specs.Written.{IsBetweenRecords, text_written};
+ghost use Rattle.census_table.specs.Written.{IsBetweenRecords, records_text, text_written};
 
 use crate::cell::Field;
 use csv::{ByteRecord, Writer};
 use std::alloc::{AllocError, Global};
 
-// The names of columns.
-fn names(alloc: Global, columns: &[&str]) -> Result<ByteRecord, AllocError>
-    ensures { IfOk result (λ names. fields_of names ≡ map (λ s. s.now) columns.now) }
+/// The record of the columns' names.
+pub fn titles_record(alloc: Global, titles: &[&str]) -> Result<ByteRecord, AllocError>
+    ensures { IfOk result (λ fields. fields_of fields ≡ map (λ s. s.now) titles.now) }
 {
-    let mut names = ByteRecord::new(alloc);
-    for column in columns {
-        names.push_field(column.as_bytes())?;
+    let mut fields = ByteRecord::new(alloc);
+    for title in titles {
+        fields.push_field(title.as_bytes())?;
     }
-    Ok(names)
+    Ok(fields)
 }
 
-// The fields of a row. `safe` says whether texts are made safe.
-fn fields(alloc: Global, safe: bool, row: &[Field]) -> Result<ByteRecord, AllocError>
+/// The record of a row. `safe` says whether texts are made safe.
+pub fn row_record(alloc: Global, safe: bool, row: &[Field]) -> Result<ByteRecord, AllocError>
     ensures { IfOk result (λ fields. fields_of fields
         ≡ map (λ member. content_bytes safe member.content) (row_of row.now)) }
 {
@@ -49,36 +46,14 @@ fn write(writer: &mut Writer<Vec<u8>>, fields: &ByteRecord) -> Result<(), AllocE
     }
 }
 
-// Writes the record of a row.
-fn push_row(
-    alloc: Global,
-    safe: bool,
-    writer: &mut Writer<Vec<u8>>,
-    row: &[Field],
-) -> Result<(), AllocError>
-    requires { IsBetweenRecords writer.old }
-    ensures between { OnOk result (IsBetweenRecords writer.new) }
-    ensures text { OnOk result (text_written writer.new
-        ≡ text_written writer.old ++ csv_record safe (row_of row.now)) }
-{
-    let fields = fields(alloc, safe, row)?;
-    write(writer, &fields)
-}
-
-// Writes a record for each row.
-fn push_rows(
-    alloc: Global,
-    safe: bool,
-    writer: &mut Writer<Vec<u8>>,
-    rows: &[Vec<Field>],
-) -> Result<(), AllocError>
+// Writes these records.
+fn write_all(writer: &mut Writer<Vec<u8>>, records: &[ByteRecord]) -> Result<(), AllocError>
     requires { IsBetweenRecords writer.old }
     ensures { OnOk result
-        (text_written writer.new
-        ≡ text_written writer.old ++ flat_map (csv_record safe) (rows_in rows.now)) }
+        (text_written writer.new ≡ text_written writer.old ++ records_text records.now) }
 {
-    for row in rows {
-        push_row(alloc, safe, writer, row.as_slice())?;
+    for fields in records {
+        write(writer, fields)?;
     }
     Ok(())
 }
@@ -93,22 +68,14 @@ fn finish(writer: Writer<Vec<u8>>) -> Result<Vec<u8>, AllocError>
     }
 }
 
-// The record of the columns' names.
-pub fn header(alloc: Global, columns: &[&str]) -> Result<Vec<u8>, AllocError>
-    ensures { IfOk result
-        (λ text. text.items ≡ row_text default_writer (map (λ s. s.now) columns.now)) }
+/// The text of these records, as the crate `csv` writes it by default.
+///
+/// It is a function of its own in the program too, since a writer takes some 3 KB of the stack each time that it is moved.
+#[inline(never)]
+pub fn text_of(alloc: Global, records: &[ByteRecord]) -> Result<Vec<u8>, AllocError>
+    ensures { IfOk result (λ text. text.items ≡ records_text records.now) }
 {
     let mut writer = Writer::from_writer(Vec::new(alloc));
-    let names = names(alloc, columns)?;
-    write(&mut writer, &names)?;
-    finish(writer)
-}
-
-// A record for each row. `safe` says whether texts are made safe.
-pub fn records(alloc: Global, safe: bool, rows: &[Vec<Field>]) -> Result<Vec<u8>, AllocError>
-    ensures { IfOk result (λ text. text.items ≡ flat_map (csv_record safe) (rows_in rows.now)) }
-{
-    let mut writer = Writer::from_writer(Vec::new(alloc));
-    push_rows(alloc, safe, &mut writer, rows)?;
+    write_all(&mut writer, records)?;
     finish(writer)
 }

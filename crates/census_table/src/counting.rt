@@ -1,5 +1,5 @@
 //! The kinds of objects: each code under a rule is one.
-ghost use Rattle.std.specs.Prelude.{◌≡◌, ◌+◌, ◌<◌, ◌≤◌, drop, length, map, reverse, slice_index_or, take, IfOk, OnOk};
+ghost use Rattle.std.specs.Prelude.{◌≡◌, ◌<◌, length, map, reverse, slice_index_or, IfOk, OnOk};
 ghost use Rattle.std.specs.List.Sorted.{IsPermutation, IsSorted};
 ghost use Rattle.census_table.specs.Kinds.{AreKinds, count_cmp, same_kind, same_pattern};
 ghost use Rattle.census_table.specs.Grouping.{alone, before, grouped, joined, step_of, with_told};
@@ -192,29 +192,12 @@ impl<'b, 'a> Kinds<'b, 'a> {
         self.kinds.len()
     }
 
-    // The first object of the kind at this index, with the kind's counts.
-    fn kind(&self, index: usize) -> Object<'a>
+    /// The first object of the kind at this index, with the kind's counts.
+    pub fn kind(&self, index: usize) -> Object<'a>
         requires { index < length self.now }
         ensures { result ≡ slice_index_or self.now index result }
     {
         kind_at(&self.nothing, &self.objects, self.kinds[index])
-    }
-
-    /// The `count` kinds from index `start` on. The only error is out of memory.
-    pub fn some(
-        &self,
-        alloc: Global,
-        start: usize,
-        count: usize,
-    ) -> Result<Vec<Object<'a>>, AllocError>
-        requires { start + count ≤ length self.now }
-        ensures { IfOk result (λ some. some.items ≡ take count (drop start self.now)) }
-    {
-        let mut some = Vec::with_capacity(alloc, count)?;
-        for offset in 0..count.min(self.len() - start) {
-            some.push(self.kind(start + offset))?;
-        }
-        Ok(some)
     }
 }
 

@@ -1,15 +1,16 @@
-//! What the rows after a `line` row say, as lists in JSON. One item is held at a time.
-ghost use Rattle.std.specs.Prelude.{◌≡◌, false, Some, IfOk, MatchResult};
+//! What the rows after a `line` row say, as lists in JSON. One item is held at a time. The only error is out of memory; then a
+//! prefix of the list has been written.
+ghost use Rattle.std.specs.Prelude.{◌≡◌, ◌++◌, codes, false, IfOk, OnOk, Some};
 ghost use Rattle.std.specs.List.{filter_map, take_while};
-ghost use Rattle.watched.specs.Telling.{TellsAfter, TellsFront, sheet};
-ghost use Rattle.census_facts.specs.Json.Pieces.{engines_end};
+ghost use Rattle.watched.specs.Telling.{sheet};
+ghost use Rattle.serde_json.specs.Written.{comma_if};
 ghost use Rattle.census_readback.specs.Following.{is_emits};
-ghost use Rattle.census_table.specs.Contents.{kind_data, portion_data};
+ghost use Rattle.census_table.specs.Json.{content_json, displacement_json, engine_end, engine_head, engine_json, is_later, item_text, items_text, kind_text, pair_json, portion_json};
 ghost use Rattle.census_table.specs.Lists.{all_engines, engines_of, portion_of};
-ghost use Rattle.census_table.specs.Patterns.{engines_behind, parts_behind};
-ghost use Rattle.census_table.specs.Pieces.{content_text, is_later, item_text, items_text, kind_head, kind_text};
+ghost use Rattle.census_table.specs.Things.{engines_behind, parts_behind};
+ghost use Rattle.census_table.specs.Written.{Puts};
 
-use census_facts::{counted_value, push_engines_end, push_engines_head, push_item};
+use crate::json::{push_number, push_text};
 use census_readback::{emits_first, rows_behind};
 use census_rows::{Behind, Row, Section};
 use std::alloc::{AllocError, Global};
@@ -40,13 +41,27 @@ fn portion_of<'a>(row: &Row<'a>) -> Option<Portion<'a>>
     }
 }
 
+// Adds a comma, if there is an item before what follows.
+fn push_comma(text: &mut Vec<u8>, later: bool) -> Result<(), AllocError>
+    ensures { OnOk result (text.new.items ≡ text.old.items ++ comma_if later) }
+{
+    if later {
+        text.push(b',')?;
+    }
+    Ok(())
+}
+
 // The item for a number of objects with one code.
 fn portion_text(alloc: Global, later: bool, portion: &Portion) -> Result<Vec<u8>, AllocError>
-    ensures { IfOk result (λ text. text.items ≡ item_text portion_data later (Some portion.now)) }
+    ensures { IfOk result (λ text. text.items ≡ item_text portion_json later (Some portion.now)) }
 {
     let mut text = Vec::new(alloc);
-    let value = counted_value(alloc, portion.code, portion.count, None)?;
-    push_item(alloc, &mut text, later, &value)?;
+    push_comma(&mut text, later)?;
+    text.extend_from_slice(b"{\"code\":")?;
+    push_text(alloc, &mut text, portion.code)?;
+    text.extend_from_slice(b",\"count\":")?;
+    push_number(&mut text, portion.count)?;
+    text.push(b'}')?;
     Ok(text)
 }
 
@@ -59,9 +74,8 @@ fn put_portion<W: Write>(
     block: &mut Block,
     writer: &mut Output<W>,
 ) -> Result<bool, AllocError>
-    ensures told { MatchResult result
-        (λ _. TellsAfter (item_text portion_data later (portion_of row.now)) (sheet block.old writer.old) (sheet block.new writer.new))
-        (λ _. TellsFront (item_text portion_data later (portion_of row.now)) (sheet block.old writer.old) (sheet block.new writer.new)) }
+    ensures told { Puts (item_text portion_json later (portion_of row.now)) result
+        (sheet block.old writer.old) (sheet block.new writer.new) }
     ensures later { IfOk result (λ next. next ≡ is_later later (portion_of row.now)) }
 {
     match portion_of(row) {
@@ -81,15 +95,61 @@ fn put_portions<W: Write>(
     block: &mut Block,
     writer: &mut Output<W>,
 ) -> Result<(), AllocError>
-    ensures { MatchResult result
-        (λ _. TellsAfter (items_text portion_data false (filter_map portion_of rows.now)) (sheet block.old writer.old) (sheet block.new writer.new))
-        (λ _. TellsFront (items_text portion_data false (filter_map portion_of rows.now)) (sheet block.old writer.old) (sheet block.new writer.new)) }
+    ensures { Puts (items_text portion_json false (filter_map portion_of rows.now)) result
+        (sheet block.old writer.old) (sheet block.new writer.new) }
 {
     let mut later = false;
     for index in 0..rows.len() {
         later = put_portion(alloc, &rows.row(index), later, block, writer)?;
     }
     Ok(())
+}
+
+// Writes such items between two texts.
+fn put_between<W: Write>(
+    alloc: Global,
+    head: &[u8],
+    rows: &Section,
+    end: &[u8],
+    block: &mut Block,
+    writer: &mut Output<W>,
+) -> Result<(), AllocError>
+    ensures { Puts (head.now ++ (items_text portion_json false (filter_map portion_of rows.now) ++ end.now)) result
+        (sheet block.old writer.old) (sheet block.new writer.new) }
+{
+    put(head, block, writer);
+    put_portions(alloc, rows, block, writer)?;
+    put(end, block, writer);
+    Ok(())
+}
+
+// Adds two numbers, with a comma between them.
+fn push_pair(text: &mut Vec<u8>, pair: (i64, i64)) -> Result<(), AllocError>
+    ensures { OnOk result (text.new.items ≡ text.old.items ++ pair_json pair.0 pair.1) }
+{
+    push_number(text, pair.0)?;
+    text.push(b',')?;
+    push_number(text, pair.1)
+}
+
+// Adds the name of the list of what engines emit, and before it how far each has moved.
+fn push_displacement(text: &mut Vec<u8>, displacement: (i64, i64)) -> Result<(), AllocError>
+    ensures { OnOk result (text.new.items
+        ≡ text.old.items ++ displacement_json displacement.0 displacement.1) }
+{
+    text.extend_from_slice(b",\"displacement\":[")?;
+    push_pair(text, displacement)?;
+    text.extend_from_slice(b"],\"emits\":[")
+}
+
+// Adds the object of engines as far as what they emit.
+fn push_head(text: &mut Vec<u8>, displacement: (i64, i64), count: u64) -> Result<(), AllocError>
+    ensures { OnOk result (text.new.items
+        ≡ text.old.items ++ engine_head displacement.0 displacement.1 count) }
+{
+    text.extend_from_slice(b"{\"count\":")?;
+    push_number(text, count)?;
+    push_displacement(text, displacement)
 }
 
 // The part of an item before what the engines emit.
@@ -99,22 +159,22 @@ fn head_text(
     displacement: (i64, i64),
     count: u64,
 ) -> Result<Vec<u8>, AllocError>
-    ensures { IfOk result (λ text. text.items ≡ kind_head later displacement.0 displacement.1 count) }
+    ensures { IfOk result (λ text. text.items ≡ comma_if later ++ engine_head displacement.0 displacement.1 count) }
 {
     let mut text = Vec::new(alloc);
-    if later {
-        text.push(b',')?;
-    }
-    push_engines_head(alloc, &mut text, displacement, count)?;
+    push_comma(&mut text, later)?;
+    push_head(&mut text, displacement, count)?;
     Ok(text)
 }
 
 // The part of an item after what the engines emit.
 fn end_text(alloc: Global, period: u64) -> Result<Vec<u8>, AllocError>
-    ensures { IfOk result (λ text. text.items ≡ engines_end period) }
+    ensures { IfOk result (λ text. text.items ≡ engine_end period) }
 {
     let mut text = Vec::new(alloc);
-    push_engines_end(alloc, &mut text, period)?;
+    text.extend_from_slice(b"],\"period\":")?;
+    push_number(&mut text, period)?;
+    text.push(b'}')?;
     Ok(text)
 }
 
@@ -129,16 +189,12 @@ fn put_kind<W: Write>(
     block: &mut Block,
     writer: &mut Output<W>,
 ) -> Result<(), AllocError>
-    ensures { MatchResult result
-        (λ _. TellsAfter (kind_text period displacement.0 displacement.1 count emits.now later) (sheet block.old writer.old) (sheet block.new writer.new))
-        (λ _. TellsFront (kind_text period displacement.0 displacement.1 count emits.now later) (sheet block.old writer.old) (sheet block.new writer.new)) }
+    ensures { Puts (kind_text period displacement.0 displacement.1 count emits.now later) result
+        (sheet block.old writer.old) (sheet block.new writer.new) }
 {
     let head = head_text(alloc, later, displacement, count)?;
     let end = end_text(alloc, period)?;
-    put(head.as_slice(), block, writer);
-    put_portions(alloc, emits, block, writer)?;
-    put(end.as_slice(), block, writer);
-    Ok(())
+    put_between(alloc, head.as_slice(), emits, end.as_slice(), block, writer)
 }
 
 // Writes the item of a row's engines, where the first of the rows after it say what each emits. Returns whether there is an
@@ -151,10 +207,10 @@ fn put_engine<W: Write>(
     block: &mut Block,
     writer: &mut Output<W>,
 ) -> Result<bool, AllocError>
-    ensures told { MatchResult result
-        (λ _. TellsAfter (item_text kind_data later (engines_of row.now (take_while is_emits behind.now))) (sheet block.old writer.old) (sheet block.new writer.new))
-        (λ _. TellsFront (item_text kind_data later (engines_of row.now (take_while is_emits behind.now))) (sheet block.old writer.old) (sheet block.new writer.new)) }
-    ensures later { IfOk result (λ next. next ≡ is_later later (engines_of row.now (take_while is_emits behind.now))) }
+    ensures told { Puts (item_text engine_json later (engines_of row.now (take_while is_emits behind.now))) result
+        (sheet block.old writer.old) (sheet block.new writer.new) }
+    ensures later { IfOk result
+        (λ next. next ≡ is_later later (engines_of row.now (take_while is_emits behind.now))) }
 {
     match row {
         Row::Engine {
@@ -189,9 +245,8 @@ fn put_engines<W: Write>(
     block: &mut Block,
     writer: &mut Output<W>,
 ) -> Result<(), AllocError>
-    ensures { MatchResult result
-        (λ _. TellsAfter (items_text kind_data false (all_engines rows.now)) (sheet block.old writer.old) (sheet block.new writer.new))
-        (λ _. TellsFront (items_text kind_data false (all_engines rows.now)) (sheet block.old writer.old) (sheet block.new writer.new)) }
+    ensures { Puts (items_text engine_json false (all_engines rows.now)) result
+        (sheet block.old writer.old) (sheet block.new writer.new) }
 {
     let mut later = false;
     for index in 0..rows.len() {
@@ -202,7 +257,6 @@ fn put_engines<W: Write>(
 }
 
 /// Writes the engines that the first of these rows report, as a list, if such rows come after a line, and otherwise `null`.
-/// The only error is out of memory; then a prefix of it has been written.
 pub fn put_engine_list<W: Write>(
     alloc: Global,
     kind: Behind,
@@ -210,9 +264,8 @@ pub fn put_engine_list<W: Write>(
     block: &mut Block,
     writer: &mut Output<W>,
 ) -> Result<(), AllocError>
-    ensures { MatchResult result
-        (λ _. TellsAfter (content_text (engines_behind kind rows.now)) (sheet block.old writer.old) (sheet block.new writer.new))
-        (λ _. TellsFront (content_text (engines_behind kind rows.now)) (sheet block.old writer.old) (sheet block.new writer.new)) }
+    ensures { Puts (content_json (engines_behind kind rows.now)) result
+        (sheet block.old writer.old) (sheet block.new writer.new) }
 {
     match kind {
         Behind::Engines => {
@@ -225,8 +278,7 @@ pub fn put_engine_list<W: Write>(
     Ok(())
 }
 
-/// Writes the parts that the first of these rows report, as a list, if such rows come after a line, and otherwise `null`. The
-/// only error is out of memory; then a prefix of it has been written.
+/// Writes the parts that the first of these rows report, as a list, if such rows come after a line, and otherwise `null`.
 pub fn put_part_list<W: Write>(
     alloc: Global,
     kind: Behind,
@@ -234,17 +286,17 @@ pub fn put_part_list<W: Write>(
     block: &mut Block,
     writer: &mut Output<W>,
 ) -> Result<(), AllocError>
-    ensures { MatchResult result
-        (λ _. TellsAfter (content_text (parts_behind kind rows.now)) (sheet block.old writer.old) (sheet block.new writer.new))
-        (λ _. TellsFront (content_text (parts_behind kind rows.now)) (sheet block.old writer.old) (sheet block.new writer.new)) }
+    ensures { Puts (content_json (parts_behind kind rows.now)) result
+        (sheet block.old writer.old) (sheet block.new writer.new) }
 {
     match kind {
         Behind::Parts => {
-            put(b"[", block, writer);
-            put_portions(alloc, &rows_behind(Behind::Parts, rows), block, writer)?;
-            put(b"]", block, writer);
+            let parts = rows_behind(Behind::Parts, rows);
+            put_between(alloc, b"[", &parts, b"]", block, writer)
         }
-        _ => put(b"null", block, writer),
+        _ => {
+            put(b"null", block, writer);
+            Ok(())
+        }
     }
-    Ok(())
 }

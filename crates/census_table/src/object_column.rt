@@ -61,6 +61,29 @@ impl ObjectColumn {
         ObjectColumn::FirstName,
     ];
 
+    /// The columns of a table of parts in the order of their names, which they have in JSON.
+    pub const OF_PARTS_IN_JSON: [ObjectColumn; 8] = [
+        ObjectColumn::Code,
+        ObjectColumn::Collection,
+        ObjectColumn::CollectionName,
+        ObjectColumn::CommonName,
+        ObjectColumn::Count,
+        ObjectColumn::Name,
+        ObjectColumn::Pattern,
+        ObjectColumn::Rule,
+    ];
+
+    /// The columns of a table of codes in the order of their names.
+    pub const OF_CODES_IN_JSON: [ObjectColumn; 7] = [
+        ObjectColumn::Code,
+        ObjectColumn::CommonName,
+        ObjectColumn::Count,
+        ObjectColumn::FirstCollectionName,
+        ObjectColumn::FirstName,
+        ObjectColumn::Patterns,
+        ObjectColumn::Rule,
+    ];
+
     /// What the column is called: lowercase letters and `_`.
     pub fn name(self) -> &'static str
         ensures { result.now ≡ title_of self }

@@ -4,7 +4,7 @@ ghost use Rattle.std.specs.Option.{option_copied};
 ghost use Rattle.census_readback.specs.Shapes.{AreReports};
 ghost use Rattle.census_table.specs.Columns.{is_shown, name_of};
 ghost use Rattle.census_table.specs.ObjectColumns.{is_there, title_of};
-ghost use Rattle.census_table.specs.Tables.{IsListingOf, listing_of, names_in};
+ghost use Rattle.census_table.specs.Tables.{IsListingOf, listing_of, titles_of};
 
 use crate::column::Column;
 use crate::counting::{Kinds, kinds_of};
@@ -99,7 +99,7 @@ impl Table<'_, '_> {
         names: Option<&Names>,
     ) -> Result<Vec<&'static str>, AllocError>
         ensures { IfOk result (λ titles. map (λ s. s.now) titles.items
-            ≡ names_in (option_copied names.entry) (listing_of self.now)) }
+            ≡ titles_of (option_copied names.entry) (listing_of self.now).subject) }
     {
         match self {
             Table::Patterns(_) => pattern_names(alloc, names, &Column::ALL),

@@ -1,31 +1,33 @@
-//! Tables, written some rows at a time.
-ghost use Rattle.std.specs.Prelude.{◌≡◌, ◌≤◌, List, None, filter, length, map, IfOk, MatchResult};
+//! Tables, written row by row.
+ghost use Rattle.std.specs.Prelude.{◌≡◌, ◌++◌, [], Bool, List, None, length, IfOk, MatchResult, OnOk};
+ghost use Rattle.std.specs.List.{cons_option};
 ghost use Rattle.std.specs.Option.{option_copied};
+ghost use Rattle.csv.specs.Records.{fields_of};
+ghost use Rattle.csv.specs.Writing.{default_writer, row_text};
 ghost use Rattle.watched.specs.Telling.{TellsAfter, TellsFront, sheet};
 ghost use Rattle.census_rows.specs.declared.row.Row.{Row};
 ghost use Rattle.census_readback.specs.Shapes.{AreReports, any_outcome, lines_that};
-ghost use Rattle.census_table.specs.Columns.{columns, entry_row, pattern_row};
-ghost use Rattle.census_table.specs.ObjectColumns.{code_columns, object_row, part_columns};
-ghost use Rattle.census_table.specs.Objects.{objects_under};
-ghost use Rattle.census_table.specs.Patterns.{first_patterns, patterns_of, patterns_under};
-ghost use Rattle.census_table.specs.Tables.{all_members, head_text, is_part, listing_of, listing_text, members_in, rows_text, section_members, table_text};
-ghost use Rattle.census_table.specs.Told.{rows_in};
-ghost use Rattle.census_table.specs.declared.table.Format.TheVariants.{Csv};
+ghost use Rattle.census_table.specs.Contents.{row_of};
+ghost use Rattle.census_table.specs.Json.{json_line};
+ghost use Rattle.census_table.specs.ObjectColumns.{object_row};
+ghost use Rattle.census_table.specs.Tables.{head_text, listing_of, listing_text, row_line, thing_row, things_text, titles_of};
+ghost use Rattle.census_table.specs.Things.{things_from, things_of};
+ghost use Rattle.census_table.specs.Written.{Puts, TellsBut, records_text};
+ghost use Rattle.census_table.specs.declared.table.Format.TheVariants.{Csv, Json};
+ghost use Rattle.census_table.specs.declared.thing.Item.TheVariants as item;
 
 use crate::cell::Field;
 use crate::column::{Column, entry_row};
-use crate::comma::{header, records};
-use crate::counting::Kinds;
-use crate::entry::{Entry, entries_under};
-use crate::json_lines::lines;
+use crate::comma::{row_record, text_of, titles_record};
+use crate::json::push_object;
+use crate::lines::Lines;
 use crate::object::Object;
 use crate::object_column::{ObjectColumn, object_row};
-use crate::part::parts_under;
-use crate::pattern::put_first_lines;
-use crate::subject::{Subject, Table, table_of};
+use crate::pattern::put_pattern;
+use crate::subject::Table;
+use crate::thing::Thing;
 use census_facts::Names;
-use census_readback::Sections;
-use census_rows::{Row, Rows, Section};
+use csv::ByteRecord;
 use std::alloc::{AllocError, Global};
 use std::io::Write;
 use watched::{Block, Output, put};
@@ -44,392 +46,268 @@ pub enum Format {
     Json,
 }
 
-/// The items of a collection that have a row in a table.
-#[derive(Clone, Copy, Debug, PartialEq, Eq)]
-pub enum Item {
-    Pattern,
-    Part,
+// How many records are held before they are written together.
+const MOST: usize = 256;
+
+// Writes the records that are held. No text is made for a writer that has failed.
+fn flush<W: Write>(
+    alloc: Global,
+    held: &mut Vec<ByteRecord>,
+    block: &mut Block,
+    writer: &mut Output<W>,
+) -> Result<(), AllocError>
+    ensures tells { Puts (records_text held.old.items) result
+        (sheet block.old writer.old) (sheet block.new writer.new) }
+    ensures empty { OnOk result (held.new.items ≡ []) }
+{
+    if held.is_empty() {
+        return Ok(());
+    }
+    if writer.failed() {
+        held.clear();
+        return Ok(());
+    }
+    let text = text_of(alloc, held.as_slice())?;
+    put(text.as_slice(), block, writer);
+    held.clear();
+    Ok(())
 }
 
-// How many rows are written at a time.
-const SOME: usize = 256;
-
-// The text of these rows.
-fn text_of(alloc: Global, format: Format, rows: &[Vec<Field>]) -> Result<Vec<u8>, AllocError>
-    ensures { IfOk result (λ text. text.items ≡ rows_text format (rows_in rows.now)) }
+// Holds one more record. If there are many, all are written.
+fn put_record<W: Write>(
+    alloc: Global,
+    fields: ByteRecord,
+    held: &mut Vec<ByteRecord>,
+    block: &mut Block,
+    writer: &mut Output<W>,
+) -> Result<(), AllocError>
+    ensures { MatchResult result
+        (λ _. TellsBut (records_text held.old.items ++ row_text default_writer (fields_of fields)) (records_text held.new.items)
+        (sheet block.old writer.old) (sheet block.new writer.new))
+        (λ _. TellsFront (records_text held.old.items ++ row_text default_writer (fields_of fields))
+        (sheet block.old writer.old) (sheet block.new writer.new)) }
 {
-    match format {
-        Format::Csv { safe } => records(alloc, safe, rows),
-        Format::Json => lines(alloc, rows),
+    held.push(fields)?;
+    if held.len() < MOST {
+        return Ok(());
+    }
+    flush(alloc, held, block, writer)
+}
+
+// The row of what a table has a row for, in the columns of comma-separated values.
+fn record_row<'a>(
+    alloc: Global,
+    names: Option<&'a Names>,
+    thing: &Thing<'_, 'a>,
+) -> Result<Vec<Field<'a>>, AllocError>
+    ensures { IfOk result (λ row. (safe : Bool) → row_of row.items ≡ thing_row (option_copied names.entry) (Csv safe) thing.now) }
+{
+    match thing {
+        Thing::Pattern(entry, _) => entry_row(alloc, names, &Column::ALL, entry),
+        Thing::Part(object) => object_row(alloc, names, &ObjectColumn::OF_PARTS, object),
+        Thing::Kind(object) => object_row(alloc, names, &ObjectColumn::OF_CODES, object),
     }
 }
 
-// The rows of these patterns, in all columns.
-fn entry_rows<'a>(
+// The line of an object in JSON, in these columns.
+fn object_line(
     alloc: Global,
-    names: Option<&'a Names>,
-    entries: &[Entry<'a>],
-) -> Result<Vec<Vec<Field<'a>>>, AllocError>
-    ensures { IfOk result (λ rows. rows_in rows.items ≡ map (entry_row (option_copied names.entry) columns) entries.now) }
-{
-    let mut rows = Vec::new(alloc);
-    for entry in entries {
-        rows.push(entry_row(alloc, names, &Column::ALL, entry)?)?;
-    }
-    Ok(rows)
-}
-
-// A record for each pattern of the first `count` rows, in the collection that a row opens and that has this number.
-fn first_records<'a>(
-    alloc: Global,
-    safe: bool,
-    names: Option<&'a Names>,
-    number: u64,
-    heading: &Row<'a>,
-    rows: &Section<'_, 'a>,
-    count: usize,
-) -> Result<Vec<u8>, AllocError>
-    requires { count ≤ length rows.now }
-    ensures { IfOk result (λ text. text.items ≡ rows_text (Csv safe)
-        (map (pattern_row (option_copied names.entry) (Csv safe)) (first_patterns count number heading.now rows.now))) }
-{
-    let entries = entries_under(alloc, number, heading, &rows.before(count))?;
-    let rows = entry_rows(alloc, names, entries.as_slice())?;
-    records(alloc, safe, rows.as_slice())
-}
-
-// The rows of these objects, in these columns.
-fn object_rows<'a>(
-    alloc: Global,
-    names: Option<&'a Names>,
+    names: Option<&Names>,
     columns: &[ObjectColumn],
-    objects: &[Object<'a>],
-) -> Result<Vec<Vec<Field<'a>>>, AllocError>
-    ensures { IfOk result (λ rows. rows_in rows.items ≡ map (object_row (option_copied names.entry) columns.now) objects.now) }
+    object: &Object,
+) -> Result<Vec<u8>, AllocError>
+    ensures { IfOk result (λ text. text.items ≡ json_line (object_row (option_copied names.entry) columns.now object.now)) }
 {
-    let mut rows = Vec::new(alloc);
-    for object in objects {
-        rows.push(object_row(alloc, names, columns, object)?)?;
-    }
-    Ok(rows)
+    let row = object_row(alloc, names, columns, object)?;
+    let mut text = Vec::new(alloc);
+    push_object(alloc, &mut text, row.as_slice())?;
+    Ok(text)
 }
 
-// Writes what a table has before its rows.
-fn put_head<W: Write>(
+// Writes the line of an object in JSON, in these columns.
+fn put_object<W: Write>(
     alloc: Global,
-    format: Format,
-    names: &[&str],
+    names: Option<&Names>,
+    columns: &[ObjectColumn],
+    object: &Object,
     block: &mut Block,
     writer: &mut Output<W>,
 ) -> Result<(), AllocError>
-    ensures { MatchResult result
-        (λ _. TellsAfter (head_text format (map (λ s. s.now) names.now))
-        (sheet block.old writer.old) (sheet block.new writer.new))
-        (λ _. TellsFront (head_text format (map (λ s. s.now) names.now))
-        (sheet block.old writer.old) (sheet block.new writer.new)) }
+    ensures { Puts (json_line (object_row (option_copied names.entry) columns.now object.now)) result
+        (sheet block.old writer.old) (sheet block.new writer.new) }
 {
-    match format {
-        Format::Csv { .. } => put(header(alloc, names)?.as_slice(), block, writer),
-        Format::Json => {}
-    }
-    Ok(())
-}
-
-// Writes these rows.
-fn put_rows<W: Write>(
-    alloc: Global,
-    format: Format,
-    rows: &[Vec<Field>],
-    block: &mut Block,
-    writer: &mut Output<W>,
-) -> Result<(), AllocError>
-    ensures { MatchResult result
-        (λ _. TellsAfter (rows_text format (rows_in rows.now))
-        (sheet block.old writer.old) (sheet block.new writer.new))
-        (λ _. TellsFront (rows_text format (rows_in rows.now))
-        (sheet block.old writer.old) (sheet block.new writer.new)) }
-{
-    let text = text_of(alloc, format, rows)?;
+    let text = object_line(alloc, names, columns, object)?;
     put(text.as_slice(), block, writer);
     Ok(())
 }
 
-// Writes a record for each pattern of the first `count` rows.
-fn put_first_records<'a, W: Write>(
+// Writes the line of what a table has a row for, in JSON.
+fn put_line<W: Write>(
+    alloc: Global,
+    names: Option<&Names>,
+    thing: &Thing,
+    block: &mut Block,
+    writer: &mut Output<W>,
+) -> Result<(), AllocError>
+    ensures { Puts (json_line (thing_row (option_copied names.entry) Json thing.now)) result
+        (sheet block.old writer.old) (sheet block.new writer.new) }
+{
+    match thing {
+        Thing::Pattern(entry, rows) => put_pattern(alloc, names, entry, rows, block, writer),
+        Thing::Part(object) => {
+            put_object(
+                alloc,
+                names,
+                &ObjectColumn::OF_PARTS_IN_JSON,
+                object,
+                block,
+                writer,
+            )
+        }
+        Thing::Kind(object) => {
+            put_object(
+                alloc,
+                names,
+                &ObjectColumn::OF_CODES_IN_JSON,
+                object,
+                block,
+                writer,
+            )
+        }
+    }
+}
+
+// Writes the record of what a table has a row for, or holds it.
+fn put_csv<W: Write>(
     alloc: Global,
     safe: bool,
-    names: Option<&'a Names>,
-    number: u64,
-    heading: &Row<'a>,
-    rows: &Section<'_, 'a>,
-    count: usize,
+    names: Option<&Names>,
+    thing: &Thing,
+    held: &mut Vec<ByteRecord>,
     block: &mut Block,
     writer: &mut Output<W>,
 ) -> Result<(), AllocError>
-    requires { count ≤ length rows.now }
     ensures { MatchResult result
-        (λ _. TellsAfter (rows_text (Csv safe) (map (pattern_row (option_copied names.entry) (Csv safe)) (first_patterns count number heading.now rows.now)))
+        (λ _. TellsBut (records_text held.old.items ++ row_line (Csv safe) (thing_row (option_copied names.entry) (Csv safe) thing.now)) (records_text held.new.items)
         (sheet block.old writer.old) (sheet block.new writer.new))
-        (λ _. TellsFront (rows_text (Csv safe) (map (pattern_row (option_copied names.entry) (Csv safe)) (first_patterns count number heading.now rows.now)))
+        (λ _. TellsFront (records_text held.old.items ++ row_line (Csv safe) (thing_row (option_copied names.entry) (Csv safe) thing.now))
         (sheet block.old writer.old) (sheet block.new writer.new)) }
 {
-    let text = first_records(alloc, safe, names, number, heading, rows, count)?;
-    put(text.as_slice(), block, writer);
-    Ok(())
+    let row = record_row(alloc, names, thing)?;
+    let fields = row_record(alloc, safe, row.as_slice())?;
+    put_record(alloc, fields, held, block, writer)
 }
 
-// Writes the rows of the patterns of the first `count` rows. No text is made for a writer that has failed.
-fn put_patterns<'a, W: Write>(
+// Writes the records that are held, and the line of what a table has a row for in JSON.
+fn put_json<W: Write>(
     alloc: Global,
-    format: Format,
-    names: Option<&'a Names>,
-    number: u64,
-    heading: &Row<'a>,
-    rows: &Section<'_, 'a>,
-    count: usize,
+    names: Option<&Names>,
+    thing: &Thing,
+    held: &mut Vec<ByteRecord>,
     block: &mut Block,
     writer: &mut Output<W>,
 ) -> Result<(), AllocError>
-    requires { count ≤ length rows.now }
     ensures { MatchResult result
-        (λ _. TellsAfter (rows_text format (map (pattern_row (option_copied names.entry) format) (first_patterns count number heading.now rows.now)))
+        (λ _. TellsBut (records_text held.old.items ++ row_line Json (thing_row (option_copied names.entry) Json thing.now)) (records_text held.new.items)
         (sheet block.old writer.old) (sheet block.new writer.new))
-        (λ _. TellsFront (rows_text format (map (pattern_row (option_copied names.entry) format) (first_patterns count number heading.now rows.now)))
+        (λ _. TellsFront (records_text held.old.items ++ row_line Json (thing_row (option_copied names.entry) Json thing.now))
+        (sheet block.old writer.old) (sheet block.new writer.new)) }
+{
+    flush(alloc, held, block, writer)?;
+    put_line(alloc, names, thing, block, writer)
+}
+
+// Writes the row of what a table has a row for. No text is made for a writer that has failed.
+fn put_thing<W: Write>(
+    alloc: Global,
+    format: Format,
+    names: Option<&Names>,
+    thing: &Thing,
+    held: &mut Vec<ByteRecord>,
+    block: &mut Block,
+    writer: &mut Output<W>,
+) -> Result<(), AllocError>
+    ensures { MatchResult result
+        (λ _. TellsBut (records_text held.old.items ++ row_line format (thing_row (option_copied names.entry) format thing.now)) (records_text held.new.items)
+        (sheet block.old writer.old) (sheet block.new writer.new))
+        (λ _. TellsFront (records_text held.old.items ++ row_line format (thing_row (option_copied names.entry) format thing.now))
         (sheet block.old writer.old) (sheet block.new writer.new)) }
 {
     if writer.failed() {
+        held.clear();
         return Ok(());
     }
     match format {
-        Format::Csv { safe } => put_first_records(
-            alloc, safe, names, number, heading, rows, count, block, writer,
-        ),
-        Format::Json => put_first_lines(alloc, names, number, heading, rows, count, block, writer),
+        Format::Csv { safe } => put_csv(alloc, safe, names, thing, held, block, writer),
+        Format::Json => put_json(alloc, names, thing, held, block, writer),
     }
 }
 
-// Writes the rows of some of these objects. No text is made for a writer that has failed.
+// Writes the row of what a table has a row for, if there is anything.
 fn put_some<W: Write>(
     alloc: Global,
     format: Format,
     names: Option<&Names>,
-    columns: &[ObjectColumn],
-    objects: &[Object],
+    some: &Option<Thing>,
+    held: &mut Vec<ByteRecord>,
     block: &mut Block,
     writer: &mut Output<W>,
 ) -> Result<(), AllocError>
     ensures { MatchResult result
-        (λ _. TellsAfter (rows_text format (map (object_row (option_copied names.entry) columns.now) objects.now))
+        (λ _. TellsBut (records_text held.old.items ++ things_text (option_copied names.entry) format (cons_option some.now [])) (records_text held.new.items)
         (sheet block.old writer.old) (sheet block.new writer.new))
-        (λ _. TellsFront (rows_text format (map (object_row (option_copied names.entry) columns.now) objects.now))
+        (λ _. TellsFront (records_text held.old.items ++ things_text (option_copied names.entry) format (cons_option some.now []))
         (sheet block.old writer.old) (sheet block.new writer.new)) }
 {
-    if writer.failed() {
-        return Ok(());
-    }
-    let rows = object_rows(alloc, names, columns, objects)?;
-    put_rows(alloc, format, rows.as_slice(), block, writer)
-}
-
-// Writes the rows of kinds of objects, some at a time.
-fn put_kinds<W: Write>(
-    alloc: Global,
-    format: Format,
-    names: Option<&Names>,
-    kinds: &Kinds,
-    block: &mut Block,
-    writer: &mut Output<W>,
-) -> Result<(), AllocError>
-    ensures { MatchResult result
-        (λ _. TellsAfter (rows_text format (map (object_row (option_copied names.entry) code_columns) kinds.now))
-        (sheet block.old writer.old) (sheet block.new writer.new))
-        (λ _. TellsFront (rows_text format (map (object_row (option_copied names.entry) code_columns) kinds.now))
-        (sheet block.old writer.old) (sheet block.new writer.new)) }
-{
-    let columns = &ObjectColumn::OF_CODES;
-    let mut start = 0;
-    while start < kinds.len() {
-        let count = (kinds.len() - start).min(SOME);
-        let some = kinds.some(alloc, start, count)?;
-        put_some(
-            alloc,
-            format,
-            names,
-            columns,
-            some.as_slice(),
-            block,
-            writer,
-        )?;
-        start += count;
-    }
-    Ok(())
-}
-
-// Writes the rows of the collection that a row opens and that has this number.
-fn put_lines<'a, W: Write>(
-    alloc: Global,
-    format: Format,
-    names: Option<&'a Names>,
-    number: u64,
-    heading: &Row<'a>,
-    rows: &Section<'_, 'a>,
-    block: &mut Block,
-    writer: &mut Output<W>,
-) -> Result<(), AllocError>
-    ensures { MatchResult result
-        (λ _. TellsAfter (rows_text format (map (pattern_row (option_copied names.entry) format) (patterns_under number heading.now rows.now)))
-        (sheet block.old writer.old) (sheet block.new writer.new))
-        (λ _. TellsFront (rows_text format (map (pattern_row (option_copied names.entry) format) (patterns_under number heading.now rows.now)))
-        (sheet block.old writer.old) (sheet block.new writer.new)) }
-{
-    let mut start = 0;
-    while start < rows.len() {
-        let count = (rows.len() - start).min(SOME);
-        let from = rows.from(start);
-        put_patterns(
-            alloc, format, names, number, heading, &from, count, block, writer,
-        )?;
-        start += count;
-    }
-    Ok(())
-}
-
-// Writes the parts of the collection that a row opens and that has this number.
-fn put_parts<'a, W: Write>(
-    alloc: Global,
-    format: Format,
-    names: Option<&'a Names>,
-    number: u64,
-    heading: &Row<'a>,
-    rows: &Section<'_, 'a>,
-    block: &mut Block,
-    writer: &mut Output<W>,
-) -> Result<(), AllocError>
-    ensures { MatchResult result
-        (λ _. TellsAfter (rows_text format (map (object_row (option_copied names.entry) part_columns) (filter is_part (objects_under number heading.now None rows.now))))
-        (sheet block.old writer.old) (sheet block.new writer.new))
-        (λ _. TellsFront (rows_text format (map (object_row (option_copied names.entry) part_columns) (filter is_part (objects_under number heading.now None rows.now))))
-        (sheet block.old writer.old) (sheet block.new writer.new)) }
-{
-    let columns = &ObjectColumn::OF_PARTS;
-    let mut last = None;
-    let mut start = 0;
-    while start < rows.len() {
-        let count = (rows.len() - start).min(SOME);
-        let some = rows.from(start).before(count);
-        let parts = parts_under(alloc, number, heading, &mut last, &some)?;
-        put_some(
-            alloc,
-            format,
-            names,
-            columns,
-            parts.as_slice(),
-            block,
-            writer,
-        )?;
-        start += count;
-    }
-    Ok(())
-}
-
-// Writes the rows of the collection that has this number.
-fn put_section<'a, W: Write>(
-    alloc: Global,
-    format: Format,
-    names: Option<&'a Names>,
-    item: Item,
-    number: u64,
-    rows: &Section<'_, 'a>,
-    block: &mut Block,
-    writer: &mut Output<W>,
-) -> Result<(), AllocError>
-    ensures { MatchResult result
-        (λ _. TellsAfter (rows_text format (section_members item format (option_copied names.entry) number rows.now))
-        (sheet block.old writer.old) (sheet block.new writer.new))
-        (λ _. TellsFront (rows_text format (section_members item format (option_copied names.entry) number rows.now))
-        (sheet block.old writer.old) (sheet block.new writer.new)) }
-{
-    match rows.split_first() {
-        Some((heading, lines)) => match item {
-            Item::Pattern => put_lines(
-                alloc, format, names, number, &heading, &lines, block, writer,
-            ),
-            Item::Part => put_parts(
-                alloc, format, names, number, &heading, &lines, block, writer,
-            ),
-        },
+    match some {
+        Some(thing) => put_thing(alloc, format, names, thing, held, block, writer),
         None => Ok(()),
     }
 }
 
-// Writes the rows of collections that are numbered from 1.
-fn put_sections<W: Write>(
+// Writes the rows that these rows of reports, or kinds, add to a table.
+fn put_lines<W: Write>(
     alloc: Global,
     format: Format,
     names: Option<&Names>,
-    item: Item,
-    sections: &Sections,
+    lines: &Lines,
+    held: &mut Vec<ByteRecord>,
     block: &mut Block,
     writer: &mut Output<W>,
 ) -> Result<(), AllocError>
     ensures { MatchResult result
-        (λ _. TellsAfter (rows_text format (all_members item format (option_copied names.entry) 1 sections.now))
+        (λ _. TellsBut (records_text held.old.items ++ things_text (option_copied names.entry) format (things_from lines.now None 0)) (records_text held.new.items)
         (sheet block.old writer.old) (sheet block.new writer.new))
-        (λ _. TellsFront (rows_text format (all_members item format (option_copied names.entry) 1 sections.now))
+        (λ _. TellsFront (records_text held.old.items ++ things_text (option_copied names.entry) format (things_from lines.now None 0))
         (sheet block.old writer.old) (sheet block.new writer.new)) }
 {
-    for index in 0..sections.len() {
-        let number = (index + 1) as u64;
-        put_section(
-            alloc,
-            format,
-            names,
-            item,
-            number,
-            &sections.section(index),
-            block,
-            writer,
-        )?;
+    let mut last = None;
+    for index in 0..lines.len() {
+        let some = lines.thing(index, &mut last);
+        put_some(alloc, format, names, &some, held, block, writer)?;
     }
     Ok(())
 }
 
-// Writes the rows of a table.
-fn put_body<W: Write>(
+// The record of the columns' names, if the table has one.
+fn heading(
     alloc: Global,
     format: Format,
     names: Option<&Names>,
     table: &Table,
-    block: &mut Block,
-    writer: &mut Output<W>,
-) -> Result<(), AllocError>
-    ensures { MatchResult result
-        (λ _. TellsAfter (rows_text format (members_in format (option_copied names.entry) (listing_of table.now)))
-        (sheet block.old writer.old) (sheet block.new writer.new))
-        (λ _. TellsFront (rows_text format (members_in format (option_copied names.entry) (listing_of table.now)))
-        (sheet block.old writer.old) (sheet block.new writer.new)) }
+) -> Result<Vec<ByteRecord>, AllocError>
+    ensures { IfOk result (λ held. records_text held.items
+        ≡ head_text format (titles_of (option_copied names.entry) (listing_of table.now).subject)) }
 {
-    match table {
-        Table::Patterns(sections) => put_sections(
-            alloc,
-            format,
-            names,
-            Item::Pattern,
-            sections,
-            block,
-            writer,
-        ),
-        Table::Parts(sections) => put_sections(
-            alloc,
-            format,
-            names,
-            Item::Part,
-            sections,
-            block,
-            writer,
-        ),
-        Table::Codes(kinds) => put_kinds(alloc, format, names, kinds, block, writer),
+    let mut held = Vec::new(alloc);
+    match format {
+        Format::Csv { .. } => {
+            let titles = table.names(alloc, names)?;
+            held.push(titles_record(alloc, titles.as_slice())?)?;
+        }
+        Format::Json => {}
     }
+    Ok(held)
 }
 
 /// Writes a table, which is UTF-8. Patterns are in the order of their numbers, collection by collection, from collection 1 of
@@ -454,33 +332,23 @@ pub fn put_listing<W: Write>(
         (λ _. TellsFront (listing_text format (option_copied names.entry) (listing_of table.now))
         (sheet block.old writer.old) (sheet block.new writer.new)) }
 {
-    let titles = table.names(alloc, names)?;
-    put_head(alloc, format, titles.as_slice(), block, writer)?;
-    put_body(alloc, format, names, table, block, writer)
-}
-
-/// Writes the patterns of a report, or of several in sequence, as a table: the one that `table_of` makes and `put_listing`
-/// writes without names.
-pub fn put_table<W: Write>(
-    alloc: Global,
-    format: Format,
-    rows: &Rows,
-    block: &mut Block,
-    writer: &mut Output<W>,
-) -> Result<(), AllocError>
-    requires { AreReports rows.now }
-    ensures { MatchResult result
-        (λ _. TellsAfter (table_text format (patterns_of rows.now))
-        (sheet block.old writer.old) (sheet block.new writer.new))
-        (λ _. TellsFront (table_text format (patterns_of rows.now))
-        (sheet block.old writer.old) (sheet block.new writer.new)) }
-{
-    let table = table_of(alloc, Subject::Patterns, rows)?;
-    put_listing(alloc, format, None, &table, block, writer)
+    let mut held = heading(alloc, format, names, table)?;
+    for index in 0..table.len() {
+        put_lines(
+            alloc,
+            format,
+            names,
+            &table.lines(index),
+            &mut held,
+            block,
+            writer,
+        )?;
+    }
+    flush(alloc, &mut held, block, writer)
 }
 
 /// A table of patterns has as many rows as its reports have `line` rows.
 pub fn each_line_has_a_row()
     ensures { (rows : List Row) → AreReports rows
-        → length (patterns_of rows) ≡ lines_that any_outcome rows }
+        → length (things_of item.Pattern rows) ≡ lines_that any_outcome rows }
 {}

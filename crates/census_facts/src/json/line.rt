@@ -17,8 +17,9 @@ fn with_line_ends_escaped(alloc: Global, json: &[u8]) -> Result<Vec<u8>, AllocEr
     json.as_slice().replace(alloc, b"\xe2\x80\xa9", b"\\u2029")
 }
 
-// The JSON of a value, on one line.
-pub(crate) fn json_of(alloc: Global, value: &Value) -> Result<Vec<u8>, AllocError>
+/// The JSON of a value, on one line and without blanks, as `serde_json` writes it, with U+0085, U+2028 and U+2029 as escapes. The
+/// only error is out of memory.
+pub fn json_of(alloc: Global, value: &Value) -> Result<Vec<u8>, AllocError>
     requires { has_float (view value.now) ≡ false }
     ensures { IfOk result
         (λ json. json.items ≡ with_line_ends_escaped (compact_text (view value.now))) }
@@ -27,8 +28,7 @@ pub(crate) fn json_of(alloc: Global, value: &Value) -> Result<Vec<u8>, AllocErro
     with_line_ends_escaped(alloc, json.as_slice())
 }
 
-/// Adds a value as JSON on a line of its own, which ends with LF: without blanks, and with U+0085, U+2028 and U+2029 as
-/// escapes. The only error is out of memory.
+// Adds the JSON of a value on a line of its own, which ends with LF.
 pub fn push_value(alloc: Global, text: &mut Vec<u8>, value: &Value) -> Result<(), AllocError>
     requires { has_float (view value.now) ≡ false }
     ensures { OnOk result (text.new.items ≡ text.old.items ++ data_line (view value.now)) }
