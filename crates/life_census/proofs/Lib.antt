@@ -12,3 +12,4 @@ pub mod Taken
 pub mod Emissions
 pub mod OneByOne
 pub mod Refused
+pub mod OneIsland

@@ -10,12 +10,12 @@ ghost use Rattle.life_growth.specs.Growth.{IsGrowth};
 ghost use Rattle.life_census.specs.Grown.{IsGrownWithin, IsSeenWithin, NeverGrows, NeverGrowsThen};
 
 use crate::allowed::allowed_bound;
+use crate::island::never_grows;
 use crate::trend::{LEAST_TREND, rises_steadily};
 use life_cells::{CellList, Rule};
 use life_growing::{Growth, growth_of};
 use life_orbit::BOUND_LIMIT;
 use life_plane::Plane;
-use life_strays::never_grow;
 use life_things::WAY_LIMIT;
 use std::alloc::{AllocError, Global};
 
@@ -182,7 +182,7 @@ pub fn growth_within<P: Plane>(
     }
     let plane: P = plane_at(alloc, rule, cells, allowed)?;
     let least = horizon.min(allowed);
-    if never_grow(alloc, &plane, rule, least)? {
+    if never_grows(alloc, &plane, rule, least)? {
         return Ok(None);
     }
     growth_up_to(alloc, &plane, rule, least)

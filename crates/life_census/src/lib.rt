@@ -11,6 +11,7 @@ mod counted;
 mod emitted;
 mod field;
 mod growing;
+mod island;
 mod known_set;
 mod known_sets;
 mod parts;

@@ -11,6 +11,7 @@ ghost use Rattle.life_census.specs.Grown.{NeverGrows};
 ghost use Rattle.life_census.specs.OnTheWay.{IsOnTheWay, IsSeen};
 
 use crate::growing::growth_on_the_way;
+use crate::island::never_grows;
 use crate::seen::Seen;
 use life_apart::Trail;
 use life_ash::{Ash, Fate, Found, Known, fate_past, walk_on};
@@ -171,7 +172,7 @@ fn seen_at_bound<P: Plane>(
 {
     match fate {
         Fate::Unresolved { ends: false } => {
-            if refused || never_grow(alloc, &plane, rule, horizon.min(plane.age()))? {
+            if refused || never_grows(alloc, &plane, rule, horizon.min(plane.age()))? {
                 return Ok(Seen::Unresolved);
             }
             let ends = ends_late(alloc, plane, rule, horizon)?;

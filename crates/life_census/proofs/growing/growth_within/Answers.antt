@@ -21,8 +21,8 @@ plane_at-requires-clause-age g c =
     let bound = c.requires.bound.1 in
     omega arith
 
-pub never_grow-requires : goal.never_grow-requires
-never_grow-requires g c =
+pub never_grows-requires : goal.never_grows-requires
+never_grows-requires g c =
     let within = allowed_within c.args.limit c.args.rule.now c.args.cells.now c.args.bound in
     let found = c.in_ok-allowed.ensures in
     let bound = c.requires.bound.1 in
