@@ -1291,12 +1291,15 @@ class Compared(Room):
         wanted = [Disagreement("wrong", "q r period 3 2"), Disagreement("missing", "t"), Disagreement("unclaimed", "b/s")]
         self.assertEqual(self.census.verify(self.CLAIMS, Codes.REPORT), wanted)
         self.assertEqual(self.census.verify(self.CLAIMS.encode(), Codes.REPORT.encode()), wanted)
-        self.assertEqual(self.census.verify("name\n", "end 0 0\n"), [])
+        self.assertEqual(self.census.verify("name,apgcode\n", "end 0 0\n"), [])
 
     def test_claims_and_reports_with_faults(self):
         with self.assertRaises(ClaimFault) as raised:
             self.census.verify("name,period\na,x\n", Codes.REPORT)
         self.assertEqual((raised.exception.line, raised.exception.place), (2, "line 2"))
+        with self.assertRaises(ClaimFault) as raised:
+            self.census.verify("name,lifespan\np,1\n", Codes.REPORT)
+        self.assertEqual(raised.exception.line, 1)
         with self.assertRaises(ReportFault) as raised:
             self.census.verify(self.CLAIMS, Codes.REPORT[:-8])
         self.assertEqual(raised.exception.line, 12)

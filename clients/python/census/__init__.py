@@ -179,8 +179,9 @@ class ProgramFailed(CensusError):
     """
 
     def __init__(self, status: int, stderr: str) -> None:
-        first = stderr.strip().split("\n")[0]
-        super().__init__(f"the program ended with status {status} and said: {first or 'nothing'}")
+        # (`same` and `verify` report what they compare before they fail)
+        lines = [it for it in stderr.strip().split("\n") if not re.match(r"census: (compared: |[0-9]+ of [0-9]+ patterns compared)", it)]
+        super().__init__(f"the program ended with status {status} and said: {''.join(lines[:1]) or 'nothing'}")
         self.args = (status, stderr)
         self.status = status
         self.stderr = stderr

@@ -20,7 +20,7 @@ use Rattle.census_table.specs.declared.subject.Subject.TheVariants as subject
 use Rattle.census_table.specs.declared.table.Format.{Format}
 use Rattle.census_table.specs.declared.table.Format.TheVariants as format
 use Rattle.census_command.specs.declared.forms.Beside.{Beside}
-use Rattle.census_command.specs.declared.forms.Beside.TheVariants.{Names, Claims}
+use Rattle.census_command.specs.declared.forms.Beside.TheVariants.{Names, NamesOnPage, Claims}
 
 -- how a table is written, and what each of its rows is about
 abbrev pub format_of : TableFormat → Format
@@ -36,6 +36,7 @@ subject_of Codes = subject.Codes
 abbrev pub sort_of : PageSort → Sort
 sort_of asked.Report = sort.Report
 sort_of asked.Count = sort.Count
+sort_of asked.Rare = sort.Rare
 sort_of asked.Code = sort.Code
 sort_of asked.Period = sort.Period
 sort_of asked.Name = sort.Name
@@ -59,4 +60,5 @@ reading_of reports = record { cut = reports.cut; limit = reports.input }
 -- what is made of reports with a text that is read before them
 abbrev pub form_beside : Beside → Bor (List ℕ) → Form
 form_beside (Names subject format) text = form.Table subject format (Some text)
+form_beside (NamesOnPage options) text = form.Page options (Some text)
 form_beside Claims text = form.Verdict text

@@ -35,7 +35,7 @@ use Rattle.census_command.specs.Remakes.{Remakes, RemakesWith}
 use Rattle.census_command.specs.Requests.{Does, Fails}
 use Rattle.census_command.specs.Streams.{HasSoundStreams, IsUntouched, TellsBeside, WriteFails, untold}
 use Rattle.census_command.specs.declared.forms.Beside.{Beside}
-use Rattle.census_command.specs.declared.forms.Beside.TheVariants.{Names, Claims}
+use Rattle.census_command.specs.declared.forms.Beside.TheVariants.{Names, NamesOnPage, Claims}
 
 -- # What ends at the first thing that goes wrong
 
@@ -101,8 +101,12 @@ Ends shelf (Table subject format None reports) explain status before after =
     EndsForm shelf (form.Table (subject_of subject) (format_of format) None) reports explain status before after
 Ends shelf (Table subject format (Some names) reports) explain status before after =
     EndsBeside shelf (Names (subject_of subject) (format_of format)) names.now reports explain status before after
-Ends shelf (Page page reports) explain status before after =
-    (options : PageOptions) × (options_of options ≡ options_asked page) × EndsForm shelf (form.Page options) reports explain status before after
+Ends shelf (Page page None reports) explain status before after =
+    (options : PageOptions) × (options_of options ≡ options_asked page)
+    × EndsForm shelf (form.Page options None) reports explain status before after
+Ends shelf (Page page (Some names) reports) explain status before after =
+    (options : PageOptions) × (options_of options ≡ options_asked page)
+    × EndsBeside shelf (NamesOnPage options) names.now reports explain status before after
 Ends shelf (Same json reports) explain status before after = EndsForm shelf (form.Same json) reports explain status before after
 Ends shelf (Verify claims reports) explain status before after = EndsBeside shelf Claims claims.now reports explain status before after
 

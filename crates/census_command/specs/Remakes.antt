@@ -1,11 +1,11 @@
 -- What is made of reports that are read back, and what the exit status says of it.
-use Rattle.std.specs.Prelude.{◌≡◌, ◌⊎◌, ℕ, Bool, false, if◌then◌else◌, List, [], ◌∷◌}
+use Rattle.std.specs.Prelude.{◌≡◌, ◌⊎◌, ℕ, Bool, false, if◌then◌else◌, List, [], ◌∷◌, ◌++◌}
 use Rattle.std.specs.Borrow.{Bor}
 use Rattle.watched.specs.Streams.{PutsMoreBytes, Sink, Streams}
 use Rattle.census_folders.specs.Told.{Told}
 use Rattle.census_folders.specs.Hearing.{Hears}
 use Rattle.census_folders.specs.declared.heard.Heard.TheVariants as heard
-use Rattle.census_reports.specs.Outcomes.{ReportsFail, WritesReports}
+use Rattle.census_reports.specs.Outcomes.{ReportsFail, SaysOfReports, WritesReports}
 use Rattle.census_reports.specs.Texts.{RefusesWord}
 use Rattle.census_reports.specs.declared.error.ReportsError.{ReportsError}
 use Rattle.census_reports.specs.declared.form.Form.{Form}
@@ -16,7 +16,9 @@ use Rattle.census_reports.specs.declared.reading.Written.{Written}
 use Rattle.census_merge.specs.declared.mending.Cut.{Cut}
 use Rattle.census_errors.specs.Cuts.{cut_line}
 use Rattle.census_errors.specs.Explained.{TellsOf}
-use Rattle.census_errors.specs.Messages.{status_of}
+use Rattle.census_errors.specs.Messages.{error_line, status_of}
+use Rattle.census_errors.specs.declared.error.CommandError.{CommandError}
+use Rattle.census_faults.specs.Explanations.{IsExplanation}
 use Rattle.census_command.specs.Forms.{form_beside}
 use Rattle.census_command.specs.Streams.{untold}
 use Rattle.census_command.specs.declared.forms.Beside.{Beside}
@@ -25,7 +27,7 @@ use Rattle.census_errors.specs.declared.error.CommandError.TheVariants as comman
 -- One report of lawful reports of bundles, none of which was cut, is a lawful report of the bundles, one after another.
 abbrev pub KeepsLaw : Form → Reading → (List ℕ → Told) → List (List ℕ) → Streams → Streams → Type 0
 KeepsLaw form.Merged reading held files before after =
-    reading.cut ≡ false → MergesLawfully reading.limit held files before after
+    reading.cut ≡ false → MergesLawfully reading.limit held files before.input after.input before.output after.output
 KeepsLaw _ reading held files before after = Unit {0}
 
 -- a line was reported for each text that was cut, in their order; once standard error has failed the lines are lost
@@ -37,22 +39,32 @@ TellsCuts (cut ∷ cuts) old new = (next : Sink) × PutsMoreBytes (cut_line cut)
 abbrev pub found_status : Bool → ℕ
 found_status found = if found then 5 else 0
 
--- What is made of the reports of these files was written, and nothing was reported but where texts were cut.
+-- What is made of the reports of these files was written. Before, it was said what is compared, and after, where texts were cut;
+-- nothing else was reported.
 pub record RemakesWhole (held : List ℕ → Told) (form : Form) (reading : Reading) (files : List (List ℕ)) (status : ℕ)
     (before after : Streams) : Type 0 where
   pub written : Written
   pub status_is : status ≡ found_status written.found
   pub done : WritesReports form reading written held files before (untold before after)
   pub lawful : KeepsLaw form reading held files before (untold before after)
-  pub told : TellsCuts written.cuts.items before.errors after.errors
+  -- standard error, once that was said
+  pub said : Sink
+  pub says : SaysOfReports form reading held files before (untold before after) before.errors said
+  pub told : TellsCuts written.cuts.items said after.errors
 
--- An error ended it, and was reported.
+-- the line of an error was reported, and then what explains it; once standard error has failed they are lost
+abbrev pub TellsMoreOf : CommandError → Bool → Sink → Sink → Type 0
+TellsMoreOf error explain old new = (lines : List ℕ) × IsExplanation explain lines × PutsMoreBytes (error_line error ++ lines) old new
+
+-- An error ended it, and was reported. Before, it may have been said what is compared.
 pub record RemakesNot (held : List ℕ → Told) (form : Form) (reading : Reading) (files : List (List ℕ)) (explain : Bool) (status : ℕ)
     (before after : Streams) : Type 0 where
   pub error : ReportsError
   pub status_is : status ≡ status_of (command.Reports error)
   pub fails : ReportsFail error form reading held files before (untold before after)
-  pub told : TellsOf (command.Reports error) explain before.errors after.errors
+  pub said : Sink
+  pub says : (said ≡ before.errors) ⊎ SaysOfReports form reading held files before (untold before after) before.errors said
+  pub told : TellsMoreOf (command.Reports error) explain said after.errors
 
 abbrev pub Remakes : (List ℕ → Told) → Form → Reading → List (List ℕ) → Bool → ℕ → Streams → Streams → Type 0
 Remakes held form reading files explain status before after =

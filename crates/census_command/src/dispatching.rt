@@ -262,11 +262,26 @@ fn carry_out<S: Shelf, I: Read, O: Write, E: Write, G: Gate, R: Threads + Wait +
             let beside = names_beside(*subject, *format);
             remake_with(shelf, alloc, beside, *names, reports, explain, streams)
         }
-        Request::Page { page, reports } => {
+        Request::Page {
+            page,
+            names: None,
+            reports,
+        } => {
             let form = Form::Page {
                 options: options_asked(page),
+                names: None,
             };
             remake(shelf, alloc, form, reports, explain, streams)
+        }
+        Request::Page {
+            page,
+            names: Some(names),
+            reports,
+        } => {
+            let beside = Beside::NamesOnPage {
+                options: options_asked(page),
+            };
+            remake_with(shelf, alloc, beside, *names, reports, explain, streams)
         }
         Request::Same { json, reports } => {
             let form = Form::Same { json: *json };

@@ -38,6 +38,7 @@ fn sort_of(sort: PageSort) -> Sort
     match sort {
         PageSort::Report => Sort::Report,
         PageSort::Count => Sort::Count,
+        PageSort::Rare => Sort::Rare,
         PageSort::Code => Sort::Code,
         PageSort::Period => Sort::Period,
         PageSort::Name => Sort::Name,
@@ -102,7 +103,7 @@ pub fn table_form<'a>(subject: TableSubject, format: TableFormat) -> Form<'a>
 }
 
 /// A table of this subject in this format, with names of codes.
-pub fn names_beside(subject: TableSubject, format: TableFormat) -> Beside
+pub fn names_beside<'a>(subject: TableSubject, format: TableFormat) -> Beside<'a>
     ensures { result ≡ beside.Names (subject_of subject) (format_of format) }
 {
     Beside::Names {
@@ -123,21 +124,27 @@ pub fn reading_of(reports: &Reports<'_>) -> Reading
 
 /// What is made of reports with a text that is read before them.
 #[derive(Clone, Copy, Debug, PartialEq, Eq)]
-pub enum Beside {
+pub enum Beside<'a> {
     /// A table with the names of codes that the text has.
     Names { subject: Subject, format: Format },
+    /// A page with the names of codes that the text has.
+    NamesOnPage { options: PageOptions<'a> },
     /// What does not agree with the claims that the text has.
     Claims,
 }
 
 /// What `beside` makes of reports, with this text.
-pub fn form_beside(beside: Beside, text: &[u8]) -> Form<'_>
-    ensures { result ≡ form_beside beside text.entry }
+pub fn form_beside<'a>(beside: Beside<'a>, text: &'a [u8]) -> Form<'a>
+    ensures { result ≡ form_beside beside.entry text.entry }
 {
     match beside {
         Beside::Names { subject, format } => Form::Table {
             subject,
             format,
+            names: Some(text),
+        },
+        Beside::NamesOnPage { options } => Form::Page {
+            options,
             names: Some(text),
         },
         Beside::Claims => Form::Verdict { claims: text },

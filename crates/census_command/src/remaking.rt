@@ -1,17 +1,17 @@
 //! `census merge`, `table`, `page`, `same` and `verify`: one report, a table, a page, patterns that are one object, or
 //! what does not agree with claims, made of reports.
-ghost use Rattle.std.specs.Prelude.{◌≡◌, [], false, map, IfErr, IfOk, OnOk};
+ghost use Rattle.std.specs.Prelude.{◌≡◌, ◌⊎◌, [], false, map, IfErr, IfOk, MatchResult, OnOk};
 ghost use Rattle.census_errors.specs.Explained.{TellsOf};
 ghost use Rattle.census_errors.specs.Messages.{status_of};
 ghost use Rattle.census_errors.specs.declared.error.CommandError.TheVariants as command;
-ghost use Rattle.census_reports.specs.Outcomes.{ReportsFail, WritesReports};
+ghost use Rattle.census_reports.specs.Outcomes.{ReportsFail, SaysOfReports, WritesReports};
 ghost use Rattle.census_command.specs.Forms.{reading_of};
-ghost use Rattle.census_command.specs.Remakes.{KeepsLaw, Remakes, RemakesWith, TellsCuts, found_status};
+ghost use Rattle.census_command.specs.Remakes.{KeepsLaw, Remakes, RemakesWith, TellsCuts, TellsMoreOf, found_status};
 ghost use Rattle.census_command.specs.Streams.{HasSoundStreams};
 
 use crate::forms::{Beside, form_beside, reading_of};
 use census_cli::Reports;
-use census_errors::{CommandError, cut_line, reports_place_if, reports_saying, stop_saying};
+use census_errors::{CommandError, cut_line, reports_place_if, reports_saying, say_if};
 use census_folders::Shelf;
 use census_merge::Cut;
 use census_reports::{
@@ -42,7 +42,11 @@ fn write<S: Shelf, I: Read, O: Write, E: Write>(
     ensures lawful { OnOk result
         (KeepsLaw form.entry reading ((S.tellings shelf.now).held []) (map (λ s. s.now) files.now) streams.old
         streams.new) }
-    ensures quiet { streams.new.errors ≡ streams.old.errors }
+    ensures says { MatchResult result
+        (λ _. SaysOfReports form.entry reading ((S.tellings shelf.now).held []) (map (λ s. s.now) files.now)
+        streams.old streams.new streams.old.errors streams.new.errors)
+        (λ _. (streams.new.errors ≡ streams.old.errors) ⊎ SaysOfReports form.entry reading ((S.tellings shelf.now).held [])
+        (map (λ s. s.now) files.now) streams.old streams.new streams.old.errors streams.new.errors) }
 {
     match form {
         Form::Merged => merge_reports(shelf, alloc, reading, files, streams),
@@ -52,7 +56,28 @@ fn write<S: Shelf, I: Read, O: Write, E: Write>(
     }
 }
 
-// Reports an error of what is made of the reports of these files, and returns its exit status.
+// Reports an error of what is made of the reports of these files, after what was said before, and returns its exit status. A line
+// that can't be written changes nothing.
+fn stop_after<S: Shelf, E: Write>(
+    shelf: &S,
+    alloc: Global,
+    files: &[&str],
+    error: ReportsError,
+    explain: bool,
+    errors: &mut Output<E>,
+) -> u8
+    ensures status { result ≡ status_of (command.Reports error) }
+    ensures told { TellsMoreOf (command.Reports error) explain errors.old.stream errors.new.stream }
+{
+    let place = reports_place_if(explain, shelf, alloc, files, error);
+    let saying = reports_saying(files, error).at(&place);
+    let error = CommandError::Reports(error);
+    errors.tell(error.line().as_str().as_bytes());
+    say_if(explain, saying, errors);
+    error.status()
+}
+
+// Reports an error of what is made of the reports of these files, where nothing was said before, and returns its exit status.
 pub(crate) fn stop_of<S: Shelf, E: Write>(
     shelf: &S,
     alloc: Global,
@@ -65,9 +90,7 @@ pub(crate) fn stop_of<S: Shelf, E: Write>(
     ensures status { result ≡ status_of (command.Reports error) }
     ensures told { TellsOf (command.Reports error) explain errors.old.stream errors.new.stream }
 {
-    let place = reports_place_if(explain, shelf, alloc, files, error);
-    let saying = reports_saying(files, error).at(&place);
-    stop_saying(CommandError::Reports(error), saying, explain, errors)
+    stop_after(shelf, alloc, files, error, explain, errors)
 }
 
 /// The exit status where all was written: 5 where what was looked for was found.
@@ -97,8 +120,9 @@ fn tell_cuts<E: Write>(cuts: &[Cut], errors: &mut Output<E>)
 /// - 4: a file can't be read or standard input has failed, and nothing was written; or standard output has failed, and a prefix
 ///   was.
 ///
-/// With status 0 or 5 a line was reported for each text that was cut, and nothing else. With any other status the error's line
-/// was reported, and one more where faults are explained.
+/// With `same` and `verify` a line says what is compared, before it is. After it, with status 0 or 5 a line was reported for each
+/// text that was cut, and nothing else. With any other status the error's line was reported, and one more where faults are
+/// explained.
 pub fn remake<S: Shelf, I: Read, O: Write, E: Write>(
     shelf: &S,
     alloc: Global,
@@ -118,7 +142,7 @@ pub fn remake<S: Shelf, I: Read, O: Write, E: Write>(
             tell_cuts(written.cuts.as_slice(), &mut streams.errors);
             found_status(written.found)
         }
-        Err(error) => stop_of(shelf, alloc, files, error, explain, &mut streams.errors),
+        Err(error) => stop_after(shelf, alloc, files, error, explain, &mut streams.errors),
     }
 }
 
@@ -128,7 +152,7 @@ pub fn remake<S: Shelf, I: Read, O: Write, E: Write>(
 pub fn remake_with<S: Shelf, I: Read, O: Write, E: Write>(
     shelf: &S,
     alloc: Global,
-    beside: Beside,
+    beside: Beside<'_>,
     word: &str,
     reports: &Reports<'_>,
     explain: bool,
@@ -136,7 +160,7 @@ pub fn remake_with<S: Shelf, I: Read, O: Write, E: Write>(
 ) -> u8
     requires sound { HasSoundStreams streams.old }
     requires errors { streams.old.errors.failed ≡ false }
-    ensures { RemakesWith ((S.tellings shelf.now).held []) beside word.now (reading_of reports.now)
+    ensures { RemakesWith ((S.tellings shelf.now).held []) beside.entry word.now (reading_of reports.now)
         (map (λ s. s.now) reports.now.words.items) explain result streams.old streams.new }
 {
     match read_text(shelf, alloc, word, &mut streams.input) {

@@ -1,94 +1,80 @@
--- Where nothing is reported.
-use Rattle.std.proofs.Common.{◌≡◌, ℕ, Bool, true, false, List, [], ◌∷◌, ◌++◌, refl, ap, ◌∙◌, arith, if◌then◌else◌}
-use Rattle.std.specs.Prelude.{nat_eq}
-use Rattle.std.specs.Cmp.Lexicographic.{bytes_decides, pointwise}
-use Rattle.std.specs.List.{All, flat_map}
+-- Where claims and patterns agree, as it is tested.
+use Rattle.std.proofs.Common.{◌≡◌, ℕ, Bool, true, false, ◌&&◌, List, [], ◌∷◌, refl, sym, ap, ap₂, ◌∙◌, arith, true≢false}
+use Rattle.std.specs.Prelude.{◌↔◌, not}
+use Rattle.std.specs.Cmp.Lexicographic.{bytes_decides}
+use Rattle.std.specs.List.{All, list_all}
+use Rattle.std.proofs.lemmas.Bool.{and_parts}
 use Rattle.std.proofs.lemmas.List.Elements.{All-cons, All-nil, All-tail}
 use Rattle.census_table.specs.declared.entry.Entry.{Entry}
-use Rattle.census_compare.proofs.Nothing.{first-none, second-none}
-use Rattle.census_compare.specs.Agreement.{IsTrueOf, NothingIsToldWhereAllAgree}
+use Rattle.census_compare.specs.Agreement.{Agree, IsTrueOf, IsVerdict, told}
 use Rattle.census_compare.specs.Claims.{Cell, Claim}
+use Rattle.census_compare.specs.Columns.{is_empty}
 use Rattle.census_compare.specs.Patterns.{is_claimed, matched, patterns_of}
-use Rattle.census_compare.specs.Verdict.{cell_text, claim_text, match_text, told, unclaimed_line, unclaimed_text, wrong_text}
+use Rattle.census_compare.specs.Tests.{all_agree, cell_agrees, claim_agrees, match_agrees}
 
--- # Parts of what is reported
+both : (a b : Bool) → a ≡ true → b ≡ true → (a && b) ≡ true
+both a b e f = ap₂ (λ x y. x && y) e f
 
-both-none : (xs ys : List ℕ) → xs ≡ [] → ys ≡ [] → xs ++ ys ≡ []
-both-none xs ys e f = ap (λ t. t ++ ys) e ∙ f
+-- a test that all elements pass
+all-pass : {X : Type 0} (p : X → Bool) (P : X → Type 0) (xs : List X) → ((x : X) → p x ≡ true → P x) → list_all p xs ≡ true → All P xs
+all-pass p P [] one e = All-nil P
+all-pass p P (x ∷ xs) one e = let h = and_parts (p x) (list_all p xs) e in All-cons P x xs (one x h.0) (all-pass p P xs one h.1)
 
--- a condition holds if the line that is written unless it holds is missing
-silent-if : (b : Bool) (byte : ℕ) (line : List ℕ) → (if b then [] else byte ∷ line) ≡ [] → b ≡ true
-silent-if true byte line e = refl
-silent-if false byte line e = absurd (cc)
+pass-all : {X : Type 0} (p : X → Bool) (P : X → Type 0) (xs : List X) → ((x : X) → P x → p x ≡ true) → All P xs → list_all p xs ≡ true
+pass-all p P [] one all = refl
+pass-all p P (x ∷ xs) one all = both (p x) (list_all p xs) (one x (all 0 x (omega arith))) (pass-all p P xs one (All-tail P x xs all))
 
-if-silent : (b : Bool) (line : List ℕ) → b ≡ true → (if b then [] else line) ≡ []
-if-silent true line e = refl
-if-silent false line e = absurd (cc)
+cell-is : (pattern : Entry) (cell : Cell) → cell_agrees pattern cell ≡ true → cell.value ≡ told cell.column pattern
+cell-is pattern cell e = (bytes_decides cell.value (told cell.column pattern)).0 e
 
--- # Cells
+is-cell : (pattern : Entry) (cell : Cell) → cell.value ≡ told cell.column pattern → cell_agrees pattern cell ≡ true
+is-cell pattern cell e = (bytes_decides cell.value (told cell.column pattern)).1 e
 
-cells-agree : (name : List ℕ) (pattern : Entry) (cells : List Cell) → flat_map (cell_text name pattern) cells ≡ [] → All (λ cell. cell.value ≡ told cell.column pattern) cells
-cells-agree name pattern [] e = All-nil (λ cell. cell.value ≡ told cell.column pattern)
-cells-agree name pattern (cell ∷ cells) e =
-    All-cons (λ cell. cell.value ≡ told cell.column pattern) cell cells
-    ((bytes_decides cell.value (told cell.column pattern)).0
-    (silent-if (pointwise nat_eq cell.value (told cell.column pattern)) _ _ (first-none (cell_text name pattern cell) (flat_map (cell_text name pattern) cells) e)))
-    (cells-agree name pattern cells (second-none (cell_text name pattern cell) (flat_map (cell_text name pattern) cells) e))
+true-by : (patterns : List Entry) (claim : Claim) (here : List Entry) → patterns_of claim patterns ≡ here → match_agrees claim (matched here) ≡ true → IsTrueOf patterns claim
+true-by patterns claim [] is e = absurd (true≢false (sym e))
+true-by patterns claim (pattern ∷ []) is e =
+    record { pattern = pattern; only = is; cells = all-pass (cell_agrees pattern) (λ cell. cell.value ≡ told cell.column pattern) claim.cells (cell-is pattern) e }
+true-by patterns claim (pattern ∷ (other ∷ others)) is e = absurd (true≢false (sym e))
 
-agree-cells : (name : List ℕ) (pattern : Entry) (cells : List Cell) → All (λ cell. cell.value ≡ told cell.column pattern) cells → flat_map (cell_text name pattern) cells ≡ []
-agree-cells name pattern [] all = refl
-agree-cells name pattern (cell ∷ cells) all =
-    both-none (cell_text name pattern cell) (flat_map (cell_text name pattern) cells)
-    (if-silent (pointwise nat_eq cell.value (told cell.column pattern)) (wrong_text name cell (told cell.column pattern))
-    ((bytes_decides cell.value (told cell.column pattern)).1 (all 0 cell (omega arith))))
-    (agree-cells name pattern cells (All-tail (λ cell. cell.value ≡ told cell.column pattern) cell cells all))
+by-true : (patterns : List Entry) (claim : Claim) → IsTrueOf patterns claim → claim_agrees patterns claim ≡ true
+by-true patterns claim is =
+    ap (λ here. match_agrees claim (matched here)) is.only
+    ∙ pass-all (cell_agrees is.pattern) (λ cell. cell.value ≡ told cell.column is.pattern) claim.cells (is-cell is.pattern) is.cells
 
--- # Claims
+tested : (claims : List Claim) (patterns : List Entry) → all_agree claims patterns ≡ true → Agree claims patterns
+tested claims patterns e =
+    let h = and_parts (list_all (claim_agrees patterns) claims) (list_all (is_claimed claims) patterns) e in
+    record {
+      true_claims = all-pass (claim_agrees patterns) (IsTrueOf patterns) claims (λ claim t. true-by patterns claim (patterns_of claim patterns) refl t) h.0;
+      all_claimed = all-pass (is_claimed claims) (λ pattern. is_claimed claims pattern ≡ true) patterns (λ pattern t. t) h.1;
+    }
 
-true-by : (claim : Claim) (patterns here : List Entry) → patterns_of claim patterns ≡ here → match_text claim (matched here) ≡ [] → IsTrueOf patterns claim
-true-by claim patterns [] is e = absurd (cc)
-true-by claim patterns (pattern ∷ []) is e = record { pattern = pattern; only = is; cells = cells-agree claim.name pattern claim.cells e }
-true-by claim patterns (pattern ∷ (other ∷ others)) is e = absurd (cc)
+agreed : (claims : List Claim) (patterns : List Entry) → Agree claims patterns → all_agree claims patterns ≡ true
+agreed claims patterns agree =
+    both (list_all (claim_agrees patterns) claims) (list_all (is_claimed claims) patterns)
+    (pass-all (claim_agrees patterns) (IsTrueOf patterns) claims (by-true patterns) agree.true_claims)
+    (pass-all (is_claimed claims) (λ pattern. is_claimed claims pattern ≡ true) patterns (λ pattern t. t) agree.all_claimed)
 
-by-true : (patterns : List Entry) (claim : Claim) → IsTrueOf patterns claim → claim_text patterns claim ≡ []
-by-true patterns claim is = ap (λ here. match_text claim (matched here)) is.only ∙ agree-cells claim.name is.pattern claim.cells is.cells
+not-false : (b : Bool) → not b ≡ false → b ≡ true
+not-false true e = refl
+not-false false e = absurd (true≢false e)
 
-claims-true : (patterns : List Entry) (claims : List Claim) → flat_map (claim_text patterns) claims ≡ [] → All (IsTrueOf patterns) claims
-claims-true patterns [] e = All-nil (IsTrueOf patterns)
-claims-true patterns (claim ∷ claims) e =
-    All-cons (IsTrueOf patterns) claim claims
-    (true-by claim patterns (patterns_of claim patterns) refl (first-none (claim_text patterns claim) (flat_map (claim_text patterns) claims) e))
-    (claims-true patterns claims (second-none (claim_text patterns claim) (flat_map (claim_text patterns) claims) e))
+not-true : (b : Bool) → not b ≡ true → b ≡ false
+not-true true e = absurd (true≢false (sym e))
+not-true false e = refl
 
-true-claims : (patterns : List Entry) (claims : List Claim) → All (IsTrueOf patterns) claims → flat_map (claim_text patterns) claims ≡ []
-true-claims patterns [] all = refl
-true-claims patterns (claim ∷ claims) all =
-    both-none (claim_text patterns claim) (flat_map (claim_text patterns) claims) (by-true patterns claim (all 0 claim (omega arith)))
-    (true-claims patterns claims (All-tail (IsTrueOf patterns) claim claims all))
+empty-is : (text : List ℕ) → is_empty text ≡ true → text ≡ []
+empty-is [] e = refl
+empty-is (byte ∷ bytes) e = absurd (true≢false (sym e))
 
--- # Patterns
+-- what was found, by what was tested and by what was written
+pub verdict : (claims : List Claim) (patterns : List Entry) (text : List ℕ) (agree : Bool) → agree ≡ is_empty text → agree ≡ all_agree claims patterns
+    → IsVerdict claims patterns (not agree) text
+verdict claims patterns text agree silent all = record {
+  agree = (λ e. tested claims patterns (sym all ∙ not-false agree e), λ a. ap not (all ∙ agreed claims patterns a));
+  silent = (λ e. ap not (silent ∙ ap is_empty e), λ e. empty-is text (sym silent ∙ not-false agree e));
+}
 
-all-claimed : (claims : List Claim) (patterns : List Entry) → flat_map (unclaimed_text claims) patterns ≡ [] → All (λ pattern. is_claimed claims pattern ≡ true) patterns
-all-claimed claims [] e = All-nil (λ pattern. is_claimed claims pattern ≡ true)
-all-claimed claims (pattern ∷ patterns) e =
-    All-cons (λ pattern. is_claimed claims pattern ≡ true) pattern patterns
-    (silent-if (is_claimed claims pattern) _ _ (first-none (unclaimed_text claims pattern) (flat_map (unclaimed_text claims) patterns) e))
-    (all-claimed claims patterns (second-none (unclaimed_text claims pattern) (flat_map (unclaimed_text claims) patterns) e))
-
-claimed-all : (claims : List Claim) (patterns : List Entry) → All (λ pattern. is_claimed claims pattern ≡ true) patterns → flat_map (unclaimed_text claims) patterns ≡ []
-claimed-all claims [] all = refl
-claimed-all claims (pattern ∷ patterns) all =
-    both-none (unclaimed_text claims pattern) (flat_map (unclaimed_text claims) patterns)
-    (if-silent (is_claimed claims pattern) (unclaimed_line pattern) (all 0 pattern (omega arith)))
-    (claimed-all claims patterns (All-tail (λ pattern. is_claimed claims pattern ≡ true) pattern patterns all))
-
-pub nothing-told : NothingIsToldWhereAllAgree
-nothing-told claims patterns = (
-  λ e. record {
-    true_claims = claims-true patterns claims (first-none (flat_map (claim_text patterns) claims) (flat_map (unclaimed_text claims) patterns) e);
-    all_claimed = all-claimed claims patterns (second-none (flat_map (claim_text patterns) claims) (flat_map (unclaimed_text claims) patterns) e);
-  },
-  λ agree.
-      both-none (flat_map (claim_text patterns) claims) (flat_map (unclaimed_text claims) patterns) (true-claims patterns claims agree.true_claims)
-      (claimed-all claims patterns agree.all_claimed),
-)
+-- something was found where something was written
+pub silent_is : (any : Bool) (text : List ℕ) → not any ≡ is_empty text → (text ≡ []) ↔ (any ≡ false)
+silent_is any text e = (λ n. not-true any (e ∙ ap is_empty n), λ f. empty-is text (sym e ∙ ap not f))

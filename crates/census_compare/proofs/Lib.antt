@@ -1,11 +1,10 @@
 pub mod Agreeing
 pub mod Claiming
 pub mod Keys
-pub mod Nothing
+pub mod Noted
 pub mod Numbers
 pub mod Silent
-pub mod Groups
 pub mod SameKeys
+pub mod Groups
 pub mod Placed
-pub mod Several
 pub mod Sorting

@@ -1,52 +1,74 @@
--- Texts whose parts are written one after another.
-use Rattle.std.proofs.Common.{◌≡◌, ℕ, ◌+◌, ◌<◌, Bool, true, false, ◌&&◌, List, [], ◌∷◌, ◌++◌, length, drop, get_or, refl, sym, ap, append_assoc, ◌∙◌}
-use Rattle.std.specs.List.{flat_map}
-use Rattle.std.proofs.lemmas.List.{at_drop_more}
-use Rattle.census_rows.specs.declared.row.Row.{Row}
-use Rattle.census_table.specs.Entries.{all_entries, section_entries}
-use Rattle.census_table.specs.declared.entry.Entry.{Entry}
-use Rattle.census_compare.specs.Claims.{Claim, claim_read, claims_read}
+-- Texts that are written one after another.
+use Rattle.std.proofs.Common.{◌≡◌, ℕ, ◌+◌, ◌<◌, Bool, true, false, ◌&&◌, List, [], ◌∷◌, ◌++◌, length, take, get_or, refl, sym, ap, ap₂, ◌∙◌, arith}
+use Rattle.std.specs.List.{list_all}
+use Rattle.std.proofs.lemmas.List.{take_more}
+use Rattle.watched.specs.Telling.{Sheet, TellsAfter}
+use Rattle.watched.proofs.Telling.{tells_more, tells_none}
 use Rattle.census_compare.specs.Columns.{is_empty}
-use Rattle.census_compare.specs.Verdict.{claim_text, unclaimed_text}
-use Rattle.census_compare.specs.declared.claim.Claim.{Claim as ClaimRead}
+use Rattle.census_compare.specs.Reporting.{Reports}
+use Rattle.census_compare.specs.Same.{has_any}
+use Rattle.census_compare.specs.declared.told.Told.{Told}
 
 pub empty-append : (xs ys : List ℕ) → is_empty (xs ++ ys) ≡ (is_empty xs && is_empty ys)
 empty-append [] ys = refl
 empty-append (x ∷ xs) ys = refl
 
-and-and : (a b c : Bool) → (a && (b && c)) ≡ ((a && b) && c)
+pub empty-end : (xs : List ℕ) (y : ℕ) → is_empty (xs ++ y ∷ []) ≡ false
+empty-end [] y = refl
+empty-end (x ∷ xs) y = refl
+
+pub and-and : (a b c : Bool) → (a && (b && c)) ≡ ((a && b) && c)
 and-and true b c = refl
 and-and false b c = refl
 
--- whether nothing has been written so far, with one more part
-pub silent-more : (whole left text others : List ℕ) (silent : Bool) → is_empty whole ≡ (silent && is_empty left) → left ≡ text ++ others
-    → is_empty whole ≡ ((silent && is_empty text) && is_empty others)
-silent-more whole left text others silent before cut =
-    before
-    ∙ ap (λ t. silent && is_empty t) cut
-    ∙ ap (λ b. silent && b) (empty-append text others)
-    ∙ and-and silent (is_empty text) (is_empty others)
+-- nothing was put
+pub reports_none : (a : Sheet) → Reports true a a
+reports_none a = record { text = []; is = refl; tells = tells_none a }
 
-pub claims-cut : (patterns : List Entry) (claims : List ClaimRead) (i : ℕ) (d : ClaimRead) → i < length claims
-    → flat_map (claim_text patterns) (claims_read (drop i claims)) ≡ claim_text patterns (claim_read (get_or claims i d)) ++ flat_map (claim_text patterns) (claims_read (drop (i + 1) claims))
-claims-cut patterns claims i d less = at_drop_more (λ cs. flat_map (claim_text patterns) (claims_read cs)) claims i d less
+pub reports_more : (one other : Bool) (text : List ℕ) (a b c : Sheet) → Reports one a b → other ≡ is_empty text → TellsAfter text b c → Reports (one && other) a c
+reports_more one other text a b c p is q = record {
+  text = p.text ++ text;
+  is = ap₂ (λ x y. x && y) p.is is ∙ sym (empty-append p.text text);
+  tells = tells_more p.text text a b c p.tells q;
+}
 
-pub unclaimed-cut : (claims : List Claim) (patterns : List Entry) (i : ℕ) (d : Entry) → i < length patterns
-    → flat_map (unclaimed_text claims) (drop i patterns) ≡ unclaimed_text claims (get_or patterns i d) ++ flat_map (unclaimed_text claims) (drop (i + 1) patterns)
-unclaimed-cut claims patterns i d less = at_drop_more (flat_map (unclaimed_text claims)) patterns i d less
+pub reports_both : (one other : Bool) (a b c : Sheet) → Reports one a b → Reports other b c → Reports (one && other) a c
+reports_both one other a b c p q = reports_more one other q.text a b c p q.is q.tells
 
-unclaimed-append : (claims : List Claim) (patterns others : List Entry)
-    → flat_map (unclaimed_text claims) (patterns ++ others) ≡ flat_map (unclaimed_text claims) patterns ++ flat_map (unclaimed_text claims) others
-unclaimed-append claims [] others = refl
-unclaimed-append claims (pattern ∷ patterns) others =
-    let text = unclaimed_text claims pattern in
-    ap (λ t. text ++ t) (unclaimed-append claims patterns others) ∙ sym (append_assoc text (flat_map (unclaimed_text claims) patterns) (flat_map (unclaimed_text claims) others))
+pub all-append : {X : Type 0} (p : X → Bool) (xs ys : List X) → list_all p (xs ++ ys) ≡ (list_all p xs && list_all p ys)
+all-append p [] ys = refl
+all-append p (x ∷ xs) ys = ap (λ b. p x && b) (all-append p xs ys) ∙ and-and (p x) (list_all p xs) (list_all p ys)
 
--- the patterns of a collection, and those of the collections after it
-pub sections-cut : (claims : List Claim) (sections : List (List Row)) (i : ℕ) (rows : List Row) → i < length sections → rows ≡ get_or sections i rows
-    → flat_map (unclaimed_text claims) (all_entries (i + 1) (drop i sections))
-    ≡ flat_map (unclaimed_text claims) (section_entries (i + 1) rows) ++ flat_map (unclaimed_text claims) (all_entries (i + 1 + 1) (drop (i + 1) sections))
-sections-cut claims sections i rows less is =
-    at_drop_more (λ rest. flat_map (unclaimed_text claims) (all_entries (i + 1) rest)) sections i rows less
-    ∙ unclaimed-append claims (section_entries (i + 1) (get_or sections i rows)) (all_entries (i + 1 + 1) (drop (i + 1) sections))
-    ∙ ap (λ here. flat_map (unclaimed_text claims) (section_entries (i + 1) here) ++ flat_map (unclaimed_text claims) (all_entries (i + 1 + 1) (drop (i + 1) sections))) (sym is)
+pub and-true : (a : Bool) → (a && true) ≡ a
+and-true true = refl
+and-true false = refl
+
+-- whether the first elements pass a test, with one more
+pub passed-more : {X : Type 0} (p : X → Bool) (xs : List X) (i : ℕ) (d : X) (one other : Bool) → i < length xs → one ≡ list_all p (take i xs) → other ≡ p (get_or xs i d)
+    → (one && other) ≡ list_all p (take (i + 1) xs)
+passed-more p xs i d one other less e f =
+    ap₂ (λ x y. x && y) e (f ∙ sym (and-true (p (get_or xs i d))))
+    ∙ sym (all-append p (take i xs) (get_or xs i d ∷ []))
+    ∙ ap (list_all p) (sym (take_more xs i d less))
+
+-- the same with several more
+pub passed-all : {X : Type 0} (p : X → Bool) (xs ys : List X) (one other : Bool) → one ≡ list_all p xs → other ≡ list_all p ys → (one && other) ≡ list_all p (xs ++ ys)
+passed-all p xs ys one other e f = ap₂ (λ x y. x && y) e f ∙ sym (all-append p xs ys)
+
+pub and-false : (a : Bool) → (a && false) ≡ false
+and-false true = refl
+and-false false = refl
+
+some-any : (ts us : List Told) → 0 < length us → has_any (ts ++ us) ≡ true
+some-any [] [] some = absurd (omega arith)
+some-any [] (u ∷ us) some = refl
+some-any (t ∷ ts) us some = refl
+
+pub any-more : (ts : List Told) (i : ℕ) → i < length ts → true ≡ has_any (take (i + 1) ts)
+any-more [] i less = absurd (omega arith)
+any-more (t ∷ ts) i less = sym (ap has_any (take_more (t ∷ ts) i t less) ∙ some-any (take i (t ∷ ts)) (get_or (t ∷ ts) i t ∷ []) (omega arith))
+
+-- a text that ends in a line has a byte
+pub empty-line : (xs ys : List ℕ) (y : ℕ) → is_empty (xs ++ (ys ++ y ∷ [])) ≡ false
+empty-line [] ys y = empty-end ys y
+empty-line (x ∷ xs) ys y = refl

@@ -1,10 +1,16 @@
 -- Where claims and patterns agree.
-use Rattle.std.specs.Prelude.{◌≡◌, ◌↔◌, true, List, [], ◌∷◌}
+use Rattle.std.specs.Prelude.{◌≡◌, ◌↔◌, ℕ, Bool, true, false, None, List, [], ◌∷◌}
 use Rattle.std.specs.List.{All}
+use Rattle.census_table.specs.Columns.{content_in_column}
+use Rattle.census_table.specs.Contents.{content_bytes}
+use Rattle.census_table.specs.declared.column.Column.{Column}
 use Rattle.census_table.specs.declared.entry.Entry.{Entry}
 use Rattle.census_compare.specs.Claims.{Claim}
 use Rattle.census_compare.specs.Patterns.{is_claimed, patterns_of}
-use Rattle.census_compare.specs.Verdict.{told, verdict_text}
+
+-- what a table of patterns has for a pattern in a column
+abbrev pub told : Column → Entry → List ℕ
+told column pattern = content_bytes false (content_in_column None column pattern)
 
 -- the claim is about exactly one pattern, and a table has for it what each cell claims
 pub record IsTrueOf (patterns : List Entry) (claim : Claim) : Type 0 where
@@ -17,6 +23,7 @@ pub record Agree (claims : List Claim) (patterns : List Entry) : Type 0 where
   pub true_claims : All (IsTrueOf patterns) claims
   pub all_claimed : All (λ pattern. is_claimed claims pattern ≡ true) patterns
 
--- nothing is reported exactly where they agree
-abbrev pub NothingIsToldWhereAllAgree : Type 0
-NothingIsToldWhereAllAgree = (claims : List Claim) (patterns : List Entry) → (verdict_text claims patterns ≡ []) ↔ Agree claims patterns
+-- nothing is reported, and nothing was found, exactly where they agree
+pub record IsVerdict (claims : List Claim) (patterns : List Entry) (found : Bool) (text : List ℕ) : Type 0 where
+  pub agree : (found ≡ false) ↔ Agree claims patterns
+  pub silent : (text ≡ []) ↔ (found ≡ false)

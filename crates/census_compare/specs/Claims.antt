@@ -1,13 +1,15 @@
 -- What the rows of a text claim.
-use Rattle.std.specs.Prelude.{ℕ, if◌then◌else◌, Option, Some, None, Result, Ok, Err, List, [], ◌∷◌, ◌++◌, map}
+use Rattle.std.specs.Prelude.{ℕ, Bool, ◌&&◌, if◌then◌else◌, Option, Some, None, Result, Ok, Err, List, [], ◌∷◌, ◌++◌, map}
 use Rattle.std.specs.List.{list_any}
 use Rattle.std.specs.Option.{option_map}
 use Rattle.census_table.specs.declared.column.Column.{Column}
 use Rattle.census_table.specs.declared.column.Column.TheVariants as column
-use Rattle.census_compare.specs.Columns.{column_of, fits, is_name}
+use Rattle.census_compare.specs.Columns.{Title, fits, is_compared, is_name, title_of}
 use Rattle.census_compare.specs.Rows.{Row, whole, broken, rows_of}
 use Rattle.census_compare.specs.declared.claim.Claim.{Claim as ClaimRead}
 use Rattle.census_compare.specs.declared.claim.Cell.{Cell as CellRead}
+use Rattle.census_compare.specs.declared.columns.Title.{Title as TitleRead}
+use Rattle.census_compare.specs.declared.reading.Claims.{Claims as ClaimsRead}
 
 -- what a claim says that a pattern has in a column
 pub record Cell : Type 0 where
@@ -44,39 +46,50 @@ with_cell (Some column.Name) cell claim = record claim { name = cell }
 with_cell (Some column.CollectionName) cell claim = record claim { collection = cell }
 with_cell (Some column) cell claim = with_value column cell claim
 
--- what a row with these cells claims, one for each column: None where there are more or fewer, or a cell in a column of
+-- what a row with these cells claims, one for each title: None where there are more or fewer, or a cell in a column of
 -- numbers is no number
-abbrev pub claim_from : Claim → List (Option Column) → List (List ℕ) → Option Claim
+abbrev pub claim_from : Claim → List Title → List (List ℕ) → Option Claim
 claim_from claim [] [] = Some claim
-claim_from claim (column ∷ columns) (cell ∷ cells) = if fits column cell then claim_from (with_cell column cell claim) columns cells else None
+claim_from claim (title ∷ titles) (cell ∷ cells) =
+    if fits title.column cell then claim_from (with_cell title.column cell claim) titles cells else None
 claim_from claim _ _ = None
 
--- the columns of a text, after its header was read, and what its rows claim
+-- the titles of a text, after its header was read, and what its rows claim
 pub record Taken : Type 0 where
-  pub columns : List (Option Column)
+  pub titles : List Title
   pub claims : List Claim
 
 abbrev pub nothing_taken : Taken
-nothing_taken = record { columns = []; claims = [] }
+nothing_taken = record { titles = []; claims = [] }
 
--- with one more row: the first one is the header, which has a column of names
-abbrev pub with_row : List (Option Column) → List (List ℕ) → Taken → Option Taken
-with_row [] cells taken = if list_any is_name (map column_of cells) then Some (record taken { columns = map column_of cells }) else None
-with_row (column ∷ columns) cells taken =
-    option_map (λ claim. record taken { claims = taken.claims ++ claim ∷ [] }) (claim_from no_claim (column ∷ columns) cells)
+abbrev pub title_read : TitleRead → Title
+title_read title = record { text = title.text.items; column = title.column }
+
+abbrev pub all_read : ClaimsRead → Taken
+all_read claims = record { titles = map title_read claims.titles.items; claims = claims_read claims.items.items }
+
+-- these titles have a column of names, and one that is compared
+abbrev pub are_titles : List Title → Bool
+are_titles titles = list_any (λ title. is_name title.column) titles && list_any (λ title. is_compared title.column) titles
+
+-- with one more row: the first one is the header
+abbrev pub with_row : List Title → List (List ℕ) → Taken → Option Taken
+with_row [] cells taken = if are_titles (map title_of cells) then Some (record taken { titles = map title_of cells }) else None
+with_row (title ∷ titles) cells taken =
+    option_map (λ claim. record taken { claims = taken.claims ++ claim ∷ [] }) (claim_from no_claim (title ∷ titles) cells)
 
 -- a text without a header has a fault on its first line
-abbrev pub all_taken : List (Option Column) → List Claim → Result (List Claim) ℕ
+abbrev pub all_taken : List Title → List Claim → Result Taken ℕ
 all_taken [] claims = Err 1
-all_taken (column ∷ columns) claims = Ok claims
+all_taken (title ∷ titles) claims = Ok (record { titles = title ∷ titles; claims = claims })
 
 -- the claims with those of these rows, or the line on which the first faulty row begins
-abbrev pub claims_from : Taken → List Row → Result (List Claim) ℕ
-claims_from taken [] = all_taken taken.columns taken.claims
+abbrev pub claims_from : Taken → List Row → Result Taken ℕ
+claims_from taken [] = all_taken taken.titles taken.claims
 claims_from taken (whole line cells ∷ rows) =
-    elim (with_row taken.columns cells taken) [ None ↦ Err line | Some more ↦ claims_from more rows ]
+    elim (with_row taken.titles cells taken) [ None ↦ Err line | Some more ↦ claims_from more rows ]
 claims_from taken (broken line ∷ rows) = Err line
 
--- The claims of a text, or the line from 1 on which its first fault is.
-abbrev pub claims_in : List ℕ → Result (List Claim) ℕ
+-- The titles and the claims of a text, or the line from 1 on which its first fault is.
+abbrev pub claims_in : List ℕ → Result Taken ℕ
 claims_in text = claims_from nothing_taken (rows_of text)

@@ -1,8 +1,8 @@
 -- The columns of claims.
-use Rattle.std.specs.Prelude.{ℕ, Bool, true, false, ◌&&◌, ◌||◌, ◌==◌, if◌then◌else◌, not, Option, Some, List, [], ◌∷◌, find, nat_eq}
-use Rattle.std.specs.Char.{is_ascii_digit}
+use Rattle.std.specs.Prelude.{ℕ, ◌-◌, Bool, true, false, ◌&&◌, ◌||◌, ◌==◌, if◌then◌else◌, not, Option, Some, None, List, [], ◌∷◌, codes, drop, find, length, nat_eq, take}
+use Rattle.std.specs.Char.{is_ascii_digit, is_ascii_whitespace}
 use Rattle.std.specs.Cmp.Lexicographic.{pointwise}
-use Rattle.std.specs.List.{list_all}
+use Rattle.std.specs.List.{list_all, prefix_len, suffix_len}
 use Rattle.census_table.specs.Columns.{name_of}
 use Rattle.census_table.specs.declared.column.Column.{Column}
 use Rattle.census_table.specs.declared.column.Column.TheVariants as column
@@ -11,13 +11,40 @@ use Rattle.census_table.specs.declared.column.Column.TheVariants as column
 abbrev pub claimable : List Column
 claimable = column.Name ∷ column.CollectionName ∷ column.Status ∷ column.Rule ∷ column.Population ∷ column.Onset ∷ column.Period ∷ column.Dx ∷ column.Dy ∷ column.Code ∷ column.Objects ∷ column.Engines ∷ []
 
--- the column that has this name, if there is one
+-- the column that has this name, if there is one; codes have another name too
 abbrev pub column_of : List ℕ → Option Column
-column_of title = find (λ column. pointwise nat_eq title (name_of column)) claimable
+column_of title = if pointwise nat_eq title (codes "apgcode") then Some column.Code else find (λ column. pointwise nat_eq title (name_of column)) claimable
+
+-- a text without the white space at its ends
+abbrev pub trimmed : List ℕ → List ℕ
+trimmed text =
+    let rest = drop (prefix_len is_ascii_whitespace text) text in
+    take (length rest - suffix_len is_ascii_whitespace rest) rest
+
+-- a title of a header, and its column
+pub record Title : Type 0 where
+  pub text : List ℕ
+  pub column : Option Column
+
+abbrev pub title_of : List ℕ → Title
+title_of cell = record { text = trimmed cell; column = column_of (trimmed cell) }
 
 abbrev pub is_name : Option Column → Bool
 is_name (Some column.Name) = true
 is_name _ = false
+
+-- what is claimed in it is compared, and does not only say which pattern is meant
+abbrev pub is_compared : Option Column → Bool
+is_compared None = false
+is_compared (Some column.Name) = false
+is_compared (Some column.CollectionName) = false
+is_compared _ = true
+
+-- it is compared, or it is no column of claims
+abbrev pub is_listed : Bool → Option Column → Bool
+is_listed true column = is_compared column
+is_listed false None = true
+is_listed false _ = false
 
 abbrev pub is_empty : List ℕ → Bool
 is_empty [] = true

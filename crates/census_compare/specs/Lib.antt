@@ -6,7 +6,9 @@ pub mod Numbers
 pub mod Patterns
 pub mod Read
 pub mod Rows
-pub mod Verdict
+pub mod Tests
+pub mod Notes
+pub mod Reporting
 pub mod Order
 pub mod SamePatterns
 pub mod Places

@@ -1,5 +1,5 @@
 -- The patterns of reports that are objects.
-use Rattle.std.specs.Prelude.{ℕ, Option, Some, None as Nothing, List, [], ◌∷◌, ◌++◌}
+use Rattle.std.specs.Prelude.{ℕ, Option, Some, None as Nothing, List, [], ◌∷◌}
 use Rattle.std.specs.Borrow.{Bor}
 use Rattle.std.specs.List.{cons_option, flat_map}
 use Rattle.census_rows.specs.declared.kinds.Label.TheVariants as label

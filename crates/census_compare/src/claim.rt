@@ -1,8 +1,8 @@
 //! What a row claims.
 ghost use Rattle.std.specs.Prelude.{◌≡◌, IfOk, OnOk, map, option_map};
-ghost use Rattle.census_compare.specs.Claims.{claim_from, claim_read, no_claim, with_cell, with_value};
+ghost use Rattle.census_compare.specs.Claims.{claim_from, claim_read, no_claim, title_read, with_cell, with_value};
 
-use crate::columns::fits;
+use crate::columns::{Title, fits};
 use census_table::Column;
 use std::alloc::{AllocError, Global};
 
@@ -66,17 +66,17 @@ fn add_cell(
     Ok(())
 }
 
-/// What a row with these cells claims. `None`: it has more or fewer cells than there are columns, or a cell in a column of
+/// What a row with these cells claims. `None`: it has more or fewer cells than there are titles, or a cell in a column of
 /// numbers is no number. The only error is out of memory.
 pub fn claim_of(
     alloc: Global,
-    columns: &[Option<Column>],
+    titles: &[Title],
     cells: &[Vec<u8>],
 ) -> Result<Option<Claim>, AllocError>
     ensures { IfOk result (λ claim. option_map claim_read claim
-        ≡ claim_from no_claim columns.now (map (λ cell. cell.items) cells.now)) }
+        ≡ claim_from no_claim (map title_read titles.now) (map (λ cell. cell.items) cells.now)) }
 {
-    if columns.len() != cells.len() {
+    if titles.len() != cells.len() {
         return Ok(None);
     }
     let mut claim = Claim {
@@ -84,12 +84,13 @@ pub fn claim_of(
         collection: Vec::new(alloc),
         cells: Vec::new(alloc),
     };
-    for index in 0..columns.len() {
+    for index in 0..titles.len() {
+        let column = titles[index].column;
         let cell = cells[index].as_slice();
-        if !fits(&columns[index], cell) {
+        if !fits(&column, cell) {
             return Ok(None);
         }
-        add_cell(alloc, &mut claim, &columns[index], cell)?;
+        add_cell(alloc, &mut claim, &column, cell)?;
     }
     Ok(Some(claim))
 }

@@ -1,13 +1,25 @@
 //! The columns of claims.
-ghost use Rattle.std.specs.Prelude.{◌≡◌, find, nat_eq};
+ghost use Rattle.std.specs.Prelude.{◌≡◌, IfOk, find, nat_eq};
 ghost use Rattle.std.specs.Char.{is_ascii_digit};
 ghost use Rattle.std.specs.Cmp.Lexicographic.{pointwise};
 ghost use Rattle.std.specs.List.{list_all};
 ghost use Rattle.census_table.specs.Columns.{name_of};
-ghost use Rattle.census_compare.specs.Columns.{claimable, column_of, fits, has_form, is_name, is_number, is_signed};
+ghost use Rattle.census_compare.specs.Claims.{title_read};
+ghost use Rattle.census_compare.specs.Columns.{claimable, column_of, fits, has_form, is_compared, is_listed, is_name, is_number, is_signed, title_of, trimmed};
 ghost use Rattle.census_compare.specs.Numbers.{NumbersMayBeClaimed};
 
 use census_table::Column;
+use std::alloc::{AllocError, Global};
+
+/// A title of a header, without white space at its ends, and the column that it names, if a claim may have it.
+#[derive(Drop)]
+pub struct Title {
+    pub text: Vec<u8>,
+    pub column: Option<Column>,
+}
+
+// Another name of the column of codes, as it is usual elsewhere.
+const OTHER_NAME: &[u8] = b"apgcode";
 
 // The columns that a claim may have.
 const CLAIMABLE: [Column; 12] = [
@@ -37,11 +49,52 @@ fn column_in(columns: &[Column], title: &[u8]) -> Option<Column>
     None
 }
 
-/// The column that has this name, if a claim may have it.
-pub fn column_of(title: &[u8]) -> Option<Column>
+// The column that has this name, if a claim may have it.
+fn column_of(title: &[u8]) -> Option<Column>
     ensures { result ≡ column_of title.now }
 {
+    if title == OTHER_NAME {
+        return Some(Column::Code);
+    }
     column_in(&CLAIMABLE, title)
+}
+
+// A text without the white space at its ends.
+fn trimmed(text: &[u8]) -> &[u8]
+    ensures { result.now ≡ trimmed text.now }
+{
+    text.trim_ascii()
+}
+
+/// The title in a cell of a header. The only error is out of memory.
+pub fn title_of(alloc: Global, cell: &[u8]) -> Result<Title, AllocError>
+    ensures { IfOk result (λ title. title_read title ≡ title_of cell.now) }
+{
+    let name = trimmed(cell);
+    let text = Vec::from_slice(alloc, name)?;
+    let column = column_of(name);
+    Ok(Title { text, column })
+}
+
+/// Whether what is claimed in a column is compared. A name says which pattern is meant.
+pub fn is_compared(column: &Option<Column>) -> bool
+    ensures { result ≡ is_compared column.now }
+{
+    match column {
+        None | Some(Column::Name | Column::CollectionName) => false,
+        Some(_) => true,
+    }
+}
+
+/// Whether a column is compared, or if `compared` is not set, whether its cells are passed over.
+pub fn is_listed(compared: bool, column: &Option<Column>) -> bool
+    ensures { result ≡ is_listed compared column.now }
+{
+    if compared {
+        is_compared(column)
+    } else {
+        column.is_none()
+    }
 }
 
 /// Whether the column has the names of patterns.

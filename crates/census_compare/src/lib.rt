@@ -4,9 +4,9 @@
 mod claim;
 mod columns;
 mod found;
-mod group;
 mod lines;
 mod matching;
+mod notes;
 mod place;
 mod reading;
 mod same;
@@ -16,7 +16,8 @@ mod tolds;
 mod verdict;
 
 pub use claim::{Cell, Claim};
-pub use columns::numbers_may_be_claimed;
+pub use columns::{Title, numbers_may_be_claimed};
+pub use notes::{compared_line, counted_note};
 pub use reading::{Claims, read_claims};
-pub use same::{codes_of_several_are_told, put_same};
-pub use verdict::{nothing_is_told_where_all_agree, put_verdict};
+pub use same::put_same;
+pub use verdict::put_verdict;

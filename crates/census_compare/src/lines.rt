@@ -1,9 +1,10 @@
-//! Lines about claims.
-ghost use Rattle.std.specs.Prelude.{◌≡◌, ◌++◌, IfOk, OnOk, codes, map, string_bytes};
-ghost use Rattle.std.specs.List.{flat_map};
-ghost use Rattle.census_faults.specs.Printed.{printable_text};
+//! Lines about claims. The only error is out of memory.
+ghost use Rattle.std.specs.Prelude.{◌≡◌, ◌&&◌, false, IfOk, OnOk, map, string_bytes};
+ghost use Rattle.std.specs.List.{list_all};
+ghost use Rattle.census_compare.specs.Agreement.{told};
 ghost use Rattle.census_compare.specs.Claims.{cell_read, claim_read};
-ghost use Rattle.census_compare.specs.Verdict.{cell_text, found_text, match_text, told, unclaimed_line, wrong_text};
+ghost use Rattle.census_compare.specs.Columns.{is_empty};
+ghost use Rattle.census_compare.specs.Tests.{cell_agrees, match_agrees};
 
 use crate::claim::{Cell, Claim};
 use crate::matching::Match;
@@ -18,18 +19,14 @@ fn told(alloc: Global, column: Column, pattern: &Entry) -> Result<String, AllocE
     column.cell(None, pattern).to_text(alloc, false)
 }
 
-// Adds bytes as they are shown.
-fn push_shown(text: &mut Vec<u8>, bytes: &[u8]) -> Result<(), AllocError>
-    ensures { OnOk result (text.new.items ≡ text.old.items ++ printable_text bytes.now) }
-{
+/// Adds bytes as they are shown.
+pub fn push_shown(text: &mut Vec<u8>, bytes: &[u8]) -> Result<(), AllocError> {
     let shown = printable_text(*text.allocator(), bytes)?;
     text.extend_from_slice(shown.as_slice())
 }
 
 // Adds what was found, or `-` for nothing.
-fn push_found(text: &mut Vec<u8>, found: &[u8]) -> Result<(), AllocError>
-    ensures { OnOk result (text.new.items ≡ text.old.items ++ found_text found.now) }
-{
+fn push_found(text: &mut Vec<u8>, found: &[u8]) -> Result<(), AllocError> {
     if found.is_empty() {
         text.extend_from_slice(b"-")
     } else {
@@ -37,10 +34,16 @@ fn push_found(text: &mut Vec<u8>, found: &[u8]) -> Result<(), AllocError>
     }
 }
 
+// Ends a line.
+fn push_end(text: &mut Vec<u8>) -> Result<(), AllocError>
+    ensures { OnOk result (is_empty text.new.items ≡ false) }
+{
+    text.extend_from_slice(b"\n")
+}
+
 // Adds the line of a cell whose claim differs from the table.
 fn push_wrong(text: &mut Vec<u8>, name: &[u8], cell: &Cell, found: &[u8]) -> Result<(), AllocError>
-    ensures { OnOk result (text.new.items
-        ≡ text.old.items ++ wrong_text name.now (cell_read cell.now) found.now) }
+    ensures { OnOk result (is_empty text.new.items ≡ false) }
 {
     text.extend_from_slice(b"wrong ")?;
     push_shown(text, name)?;
@@ -50,7 +53,7 @@ fn push_wrong(text: &mut Vec<u8>, name: &[u8], cell: &Cell, found: &[u8]) -> Res
     push_shown(text, cell.value.as_slice())?;
     text.extend_from_slice(b" ")?;
     push_found(text, found)?;
-    text.extend_from_slice(b"\n")
+    push_end(text)
 }
 
 // Adds the line of a cell, if its claim differs from the table.
@@ -60,8 +63,8 @@ fn push_cell(
     pattern: &Entry,
     cell: &Cell,
 ) -> Result<(), AllocError>
-    ensures { OnOk result (text.new.items
-        ≡ text.old.items ++ cell_text name.now pattern.now (cell_read cell.now)) }
+    ensures { OnOk result (is_empty text.new.items
+        ≡ (is_empty text.old.items && cell_agrees pattern.now (cell_read cell.now))) }
 {
     let found = told(*text.allocator(), cell.column, pattern)?;
     if cell.value.as_slice() == found.as_bytes() {
@@ -77,8 +80,8 @@ fn push_cells(
     pattern: &Entry,
     cells: &[Cell],
 ) -> Result<(), AllocError>
-    ensures { OnOk result (text.new.items
-        ≡ text.old.items ++ flat_map (cell_text name.now pattern.now) (map cell_read cells.now)) }
+    ensures { OnOk result (is_empty text.new.items
+        ≡ (is_empty text.old.items && list_all (cell_agrees pattern.now) (map cell_read cells.now))) }
 {
     for cell in cells {
         push_cell(text, name, pattern, cell)?;
@@ -88,17 +91,16 @@ fn push_cells(
 
 // Adds a line with a word and a name.
 fn push_named(text: &mut Vec<u8>, word: &[u8], name: &[u8]) -> Result<(), AllocError>
-    ensures { OnOk result (text.new.items
-        ≡ text.old.items ++ (word.now ++ printable_text name.now ++ codes "\n")) }
+    ensures { OnOk result (is_empty text.new.items ≡ false) }
 {
     text.extend_from_slice(word)?;
     push_shown(text, name)?;
-    text.extend_from_slice(b"\n")
+    push_end(text)
 }
 
-/// The lines about a claim, by how many patterns it is about. The only error is out of memory.
+/// The lines about a claim, by how many patterns it is about: none where it is about one, with which it agrees.
 pub fn claim_lines(alloc: Global, claim: &Claim, found: &Match) -> Result<Vec<u8>, AllocError>
-    ensures { IfOk result (λ text. text.items ≡ match_text (claim_read claim.now) found.now) }
+    ensures { IfOk result (λ text. is_empty text.items ≡ match_agrees (claim_read claim.now) found.now) }
 {
     let mut text = Vec::new(alloc);
     let name = claim.name.as_slice();
@@ -110,15 +112,15 @@ pub fn claim_lines(alloc: Global, claim: &Claim, found: &Match) -> Result<Vec<u8
     Ok(text)
 }
 
-/// The line of a pattern that no claim is about. The only error is out of memory.
+/// The line of a pattern that no claim is about.
 pub fn unclaimed_line(alloc: Global, pattern: &Entry) -> Result<Vec<u8>, AllocError>
-    ensures { IfOk result (λ text. text.items ≡ unclaimed_line pattern.now) }
+    ensures { IfOk result (λ text. is_empty text.items ≡ false) }
 {
     let mut text = Vec::new(alloc);
     text.extend_from_slice(b"unclaimed ")?;
     push_shown(&mut text, pattern.collection_name)?;
     text.extend_from_slice(b"/")?;
     push_shown(&mut text, pattern.name)?;
-    text.extend_from_slice(b"\n")?;
+    push_end(&mut text)?;
     Ok(text)
 }

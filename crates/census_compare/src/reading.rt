@@ -1,19 +1,21 @@
 //! Claims, read from comma-separated values.
-ghost use Rattle.std.specs.Prelude.{◌≡◌, ◌+◌, ◌<◌, ◌≤◌, ◌^◌, [], ◌∷◌, Err, ℕ, IfOk, List, OnOk, if◌then◌else◌};
+ghost use Rattle.std.specs.Prelude.{◌≡◌, ◌+◌, ◌<◌, ◌≤◌, ◌^◌, [], ◌∷◌, Err, ℕ, IfOk, List, OnOk, if◌then◌else◌, map};
 ghost use Rattle.std.specs.Result.{result_map_both};
-ghost use Rattle.census_compare.specs.Claims.{all_taken, claims_from, claims_in, claims_read, nothing_taken};
+ghost use Rattle.census_compare.specs.Claims.{all_read, all_taken, claims_from, claims_in, claims_read, nothing_taken, title_read};
 ghost use Rattle.census_compare.specs.Read.{begun_read, taken_read};
 ghost use Rattle.census_compare.specs.Rows.{begun_on, cell_ended, rows_from, with_byte, without_mark};
 
 use crate::claim::Claim;
+use crate::columns::Title;
 use crate::place::{Move, Place, move_of};
 use crate::taken::Taken;
 use std::alloc::{AllocError, Global};
 use std::mem;
 
-/// The claims about patterns, in the order of the rows.
+/// The claims about patterns, in the order of the rows, and the titles of their columns.
 #[derive(Drop)]
 pub struct Claims {
+    pub titles: Vec<Title>,
     pub items: Vec<Claim>,
 }
 
@@ -121,7 +123,7 @@ fn take_byte(
 fn finish(alloc: Global, row: &mut Begun, taken: &mut Taken) -> Result<bool, AllocError>
     ensures { IfOk result (λ ends.
         claims_from (taken_read taken.old) (rows_from (begun_read row.old) [])
-        ≡ (if ends then all_taken taken.new.columns.items (claims_read taken.new.claims.items)
+        ≡ (if ends then all_taken (map title_read taken.new.titles.items) (claims_read taken.new.claims.items)
         else Err row.new.begun)) }
 {
     match row.place {
@@ -137,7 +139,7 @@ fn finish(alloc: Global, row: &mut Begun, taken: &mut Taken) -> Result<bool, All
 // What a text without a byte order mark claims.
 fn read_rows(alloc: Global, text: &[u8]) -> Result<Result<Claims, usize>, AllocError>
     ensures { IfOk result
-        (λ read. result_map_both (λ claims. claims_read claims.items.items) (λ line. line) read
+        (λ read. result_map_both all_read (λ line. line) read
         ≡ claims_from nothing_taken (rows_from (begun_on 1) text.now)) }
 {
     let mut row = Begun::on(alloc, 1);
@@ -150,10 +152,11 @@ fn read_rows(alloc: Global, text: &[u8]) -> Result<Result<Claims, usize>, AllocE
     if !finish(alloc, &mut row, &mut taken)? {
         return Ok(Err(row.begun));
     }
-    if taken.columns.is_empty() {
+    if taken.titles.is_empty() {
         return Ok(Err(1));
     }
     Ok(Ok(Claims {
+        titles: taken.titles,
         items: taken.claims,
     }))
 }
@@ -162,17 +165,17 @@ fn read_rows(alloc: Global, text: &[u8]) -> Result<Result<Claims, usize>, AllocE
 /// may be in quotes. Rows end with LF or CR LF, and the last one may end with the text.
 ///
 /// The first row is the header. It has a column `name`, and the others may have the names that tables of patterns have:
-/// `collection_name`, `status`, `rule`, `population`, `onset`, `period`, `dx`, `dy`, `code`, `objects` and `engines`. The
-/// cells of other columns are ignored, and an empty cell claims nothing. If several columns are called `name` or
-/// `collection_name`, the last one counts. Numbers are written as tables have them.
+/// `collection_name`, `status`, `rule`, `population`, `onset`, `period`, `dx`, `dy`, `code` (or `apgcode`), `objects` and
+/// `engines`, without the white space at their ends. The cells of other columns are passed over, and an empty cell claims
+/// nothing. If several columns are called `name` or `collection_name`, the last one counts. Numbers are written as tables have
+/// them.
 ///
 /// `Err` has the number, from 1, of the line on which the first faulty row begins. A row is faulty if it is no row of such a
 /// text, has more or fewer cells than the header, or has text other than a number in a column of numbers. The header is faulty
-/// if it has no column `name`. The number is 1 if there is no header. The only error is out of memory.
+/// if it has no column `name`, or none of the others but `collection_name`. The number is 1 if there is no header. The only error is out of memory.
 pub fn read_claims(alloc: Global, text: &[u8]) -> Result<Result<Claims, usize>, AllocError>
     ensures { IfOk result
-        (λ read. result_map_both (λ claims. claims_read claims.items.items) (λ line. line) read
-        ≡ claims_in text.now) }
+        (λ read. result_map_both all_read (λ line. line) read ≡ claims_in text.now) }
 {
     read_rows(alloc, without_mark(text))
 }

@@ -1,39 +1,43 @@
 //! The rows of claims, as they are read.
-ghost use Rattle.std.specs.Prelude.{◌≡◌, IfOk, OnOk, None, Some, map, if◌then◌else◌};
-ghost use Rattle.std.specs.List.{list_any};
-ghost use Rattle.census_compare.specs.Columns.{column_of, is_name};
-ghost use Rattle.census_compare.specs.Claims.{nothing_taken, with_row};
+ghost use Rattle.std.specs.Prelude.{◌≡◌, IfOk, None, Some, map, if◌then◌else◌};
+ghost use Rattle.census_compare.specs.Columns.{title_of};
+ghost use Rattle.census_compare.specs.Claims.{are_titles, nothing_taken, title_read, with_row};
 ghost use Rattle.census_compare.specs.Read.{taken_read};
 
 use crate::claim::{Claim, claim_of};
-use crate::columns::{column_of, is_name};
-use census_table::Column;
+use crate::columns::{Title, is_compared, is_name, title_of};
 use std::alloc::{AllocError, Global};
 
-/// The columns, after the header was read, and what the rows claim.
+/// The titles, after the header was read, and what the rows claim.
 #[derive(Drop)]
 pub struct Taken {
-    pub columns: Vec<Option<Column>>,
+    pub titles: Vec<Title>,
     pub claims: Vec<Claim>,
 }
 
-// The columns that have these names.
-fn columns_of(alloc: Global, titles: &[Vec<u8>]) -> Result<Vec<Option<Column>>, AllocError>
-    ensures { IfOk result (λ columns. columns.items
-        ≡ map column_of (map (λ title. title.items) titles.now)) }
+// The titles in the cells of a header.
+fn titles_of(alloc: Global, cells: &[Vec<u8>]) -> Result<Vec<Title>, AllocError>
+    ensures { IfOk result (λ titles. map title_read titles.items
+        ≡ map title_of (map (λ cell. cell.items) cells.now)) }
 {
-    let mut columns = Vec::new(alloc);
-    for title in titles {
-        columns.push(column_of(title.as_slice()))?;
+    let mut titles = Vec::new(alloc);
+    for cell in cells {
+        titles.push(title_of(alloc, cell.as_slice())?)?;
     }
-    Ok(columns)
+    Ok(titles)
 }
 
-// Whether one of the columns has the names of patterns.
-fn have_names(columns: &[Option<Column>]) -> bool
-    ensures { result ≡ list_any is_name columns.now }
+// Whether there is a column of names, and one that is compared.
+fn are_titles(titles: &[Title]) -> bool
+    ensures { result ≡ are_titles (map title_read titles.now) }
 {
-    columns.iter().any(|column| is_name(column))
+    let mut named = false;
+    let mut compared = false;
+    for title in titles {
+        named |= is_name(&title.column);
+        compared |= is_compared(&title.column);
+    }
+    named && compared
 }
 
 impl Taken {
@@ -42,7 +46,7 @@ impl Taken {
         ensures { taken_read result ≡ nothing_taken }
     {
         Taken {
-            columns: Vec::new(alloc),
+            titles: Vec::new(alloc),
             claims: Vec::new(alloc),
         }
     }
@@ -50,17 +54,17 @@ impl Taken {
     /// Takes a row; the first one is the header. Returns whether it is a row of claims. If not, nothing is taken.
     pub fn take_row(&mut self, alloc: Global, cells: &[Vec<u8>]) -> Result<bool, AllocError>
         ensures { IfOk result (λ takes.
-            with_row self.old.columns.items (map (λ cell. cell.items) cells.now) (taken_read self.old)
+            with_row (map title_read self.old.titles.items) (map (λ cell. cell.items) cells.now) (taken_read self.old)
             ≡ (if takes then Some (taken_read self.new) else None)) }
     {
-        if self.columns.is_empty() {
-            let columns = columns_of(alloc, cells)?;
-            if !have_names(columns.as_slice()) {
+        if self.titles.is_empty() {
+            let titles = titles_of(alloc, cells)?;
+            if !are_titles(titles.as_slice()) {
                 return Ok(false);
             }
-            self.columns = columns;
+            self.titles = titles;
         } else {
-            let Some(claim) = claim_of(alloc, self.columns.as_slice(), cells)? else {
+            let Some(claim) = claim_of(alloc, self.titles.as_slice(), cells)? else {
                 return Ok(false);
             };
             self.claims.push(claim)?;

@@ -1,10 +1,13 @@
 //! The patterns that are objects, held by their places.
-ghost use Rattle.std.specs.Prelude.{◌≡◌, ◌<◌, ◌+◌, ◌++◌, [], List, None, filter, length, map, slice_index_or, IfOk, OnOk};
-ghost use Rattle.std.specs.List.{flat_map};
+ghost use Rattle.std.specs.Prelude.{◌≡◌, ◌<◌, ◌≤◌, ◌+◌, ◌++◌, [], List, None, filter, length, map, slice_index_or, IfOk, OnOk};
+ghost use Rattle.std.specs.List.{flat_map, prefix_len};
 ghost use Rattle.census_rows.specs.declared.row.Row.{Row};
 ghost use Rattle.census_table.specs.Kinds.{capped};
 ghost use Rattle.census_table.specs.Places.{row_in, AreBefore, AreRising};
 ghost use Rattle.census_compare.specs.Order.{AreInOrder, Key, has_key, key_cmp, key_of};
+ghost use Rattle.census_compare.specs.Same.{AreSame, several};
+ghost use Rattle.census_table.specs.declared.place.Place.{Place as ModelPlace};
+ghost use Rattle.census_compare.specs.declared.told.Told.{Told as ModelTold};
 ghost use Rattle.census_compare.specs.SamePatterns.{collection_after, told_from};
 ghost use Rattle.census_compare.specs.Places.{opened_by, row_at, told_at, told_under};
 
@@ -16,7 +19,7 @@ use std::alloc::{AllocError, Global};
 use std::cmp::Ordering;
 use std::marker::Model;
 
-/// The patterns of collections that are objects, in an order of their own. For each its place is held, in 12 bytes.
+/// Patterns of collections that are objects, in an order of their own. For each its place is held, in 12 bytes.
 #[derive(Drop)]
 pub struct Tolds<'b, 'a> {
     sections: Sections<'b, 'a>,
@@ -246,22 +249,84 @@ fn places_in(alloc: Global, nothing: &Told, sections: &Sections) -> Result<Vec<P
     Ok(places)
 }
 
-/// The patterns of collections that are objects, in the order of their codes, and of their rules under one code. Those with
-/// the same code and rule are ordered collection by collection, in the order of the rows. The only error is out of memory.
-pub fn tolds_in_order<'b, 'a>(
+// Whether the pattern at a place has the code of this one under its rule.
+fn is_same<'a>(
+    nothing: &Told<'a>,
+    sections: &Sections<'_, 'a>,
+    told: &Told<'a>,
+    place: &Place,
+) -> bool
+    ensures { result ≡ has_key (key_of told.now) (told_at nothing.now sections.now place.now) }
+{
+    let other = keyed_at(nothing, sections, *place);
+    told.code == other.code && told.rule == other.rule
+}
+
+// How many places at the start have patterns with the code and the rule of this one.
+fn run_len<'a>(
+    nothing: &Told<'a>,
+    sections: &Sections<'_, 'a>,
+    places: &[Place],
+    told: &Told<'a>,
+) -> usize
+    ensures count { result ≡ prefix_len (has_key (key_of told.now)) (map (told_at nothing.now sections.now) places.now) }
+    ensures within { result ≤ length places.now }
+{
+    for index in 0..places.len() {
+        if !is_same(nothing, sections, told, &places[index]) {
+            return index;
+        }
+    }
+    places.len()
+}
+
+// These places, if they are several.
+fn several_of(places: &[Place]) -> &[Place]
+    ensures { (told : ModelPlace → ModelTold) → map told result.now ≡ several (map told places.now) }
+{
+    if places.len() > 1 { places } else { &[] }
+}
+
+// Of places in order those whose patterns are one object with others.
+fn shared_places<'a>(
+    alloc: Global,
+    nothing: &Told<'a>,
+    sections: &Sections<'_, 'a>,
+    places: &[Place],
+) -> Result<Vec<Place>, AllocError>
+    requires { AreInOrder (map (told_at nothing.now sections.now) places.now) }
+    ensures { IfOk result (λ shared. AreSame (map (told_at nothing.now sections.now) places.now)
+        (map (told_at nothing.now sections.now) shared.items)) }
+{
+    // There is room for all, so that none is moved: memory that is not touched costs nothing.
+    let mut shared = Vec::with_capacity(alloc, places.len())?;
+    let mut at = 0;
+    while at < places.len() {
+        let left = &places[at..];
+        let told = keyed_at(nothing, sections, left[0]);
+        let count = run_len(nothing, sections, left, &told);
+        shared.extend_from_slice(several_of(&left[..count]))?;
+        at += count;
+    }
+    Ok(shared)
+}
+
+/// The patterns of collections that are one object with others, in the order of their codes, and of their rules under one code.
+/// Those with the same code and rule are ordered collection by collection, in the order of the rows. The only error is out of
+/// memory.
+pub fn shared_tolds<'b, 'a>(
     alloc: Global,
     sections: Sections<'b, 'a>,
 ) -> Result<Tolds<'b, 'a>, AllocError>
-    ensures same { IfOk result (λ tolds. (key : Key) →
-        filter (has_key key) tolds ≡ filter (has_key key) (flat_map (told_from None) sections.entry)) }
-    ensures ordered { IfOk result (λ tolds. AreInOrder tolds) }
+    ensures { IfOk result (λ tolds. AreSame (flat_map (told_from None) sections.entry) tolds) }
 {
     let nothing = no_told();
     let mut places = places_in(alloc, &nothing, &sections)?;
     sort_places(&nothing, &sections, places.as_mut_slice());
+    let shared = shared_places(alloc, &nothing, &sections, places.as_slice())?;
     Ok(Tolds {
         sections,
-        places,
+        places: shared,
         nothing,
     })
 }

@@ -36,16 +36,16 @@ of-rows : (error : ReportsError) (form : Form) (rows : List Row) (texts : List (
 of-rows (Claims line) (Verdict claims) rows texts are why = why
 of-rows (Claims line) Merged rows texts are why = absurd why
 of-rows (Claims line) (Table subject format given) rows texts are why = absurd why
-of-rows (Claims line) (Page options) rows texts are why = absurd why
+of-rows (Claims line) (Page options given) rows texts are why = absurd why
 of-rows (Claims line) (Same json) rows texts are why = absurd why
 of-rows (Names line) (Table subject format given) rows texts are why = why
 of-rows (Names line) Merged rows texts are why = absurd why
-of-rows (Names line) (Page options) rows texts are why = absurd why
+of-rows (Names line) (Page options given) rows texts are why = why
 of-rows (Names line) (Same json) rows texts are why = absurd why
 of-rows (Names line) (Verdict claims) rows texts are why = absurd why
 of-rows (TooMany report) Merged rows texts are why = (rows, are, why)
 of-rows (TooMany report) (Table subject format given) rows texts are why = absurd why
-of-rows (TooMany report) (Page options) rows texts are why = absurd why
+of-rows (TooMany report) (Page options given) rows texts are why = absurd why
 of-rows (TooMany report) (Same json) rows texts are why = absurd why
 of-rows (TooMany report) (Verdict claims) rows texts are why = absurd why
 of-rows (Fault number line) form rows texts are why = absurd why
@@ -73,15 +73,14 @@ failing (TooMany report) form rows texts a b are why = (of-rows (TooMany report)
 failing TooLong form rows texts a b are why = absurd why.0
 failing Memory form rows texts a b are (inl same) = inl same
 failing Memory form rows texts a b are (inr halts) =
-    inr (record { pieces = halts.pieces; made = halts.made; is = record { rows = rows; reports = are; is = halts.is }; front = halts.front })
+    inr (rows, are, halts)
 failing Read form rows texts a b are why = absurd why.0
-failing Write form rows texts a b are part =
-    record { made = part.made; is = record { rows = rows; reports = are; is = part.is }; front = part.front }
+failing Write form rows texts a b are part = (rows, are, part)
 
 -- what is made of the rows of texts is made of the texts
 pub of_texts : (r : Result Bool ReportsError) (form : Form) (rows : List Row) (texts : List (List ℕ)) (a b : Sink) → AreRowsOf rows texts
     → MatchResult r (λ found. WritesRows form found rows a b) (λ error. FailsRows error form rows a b) → MatchResult r (λ found. WritesTexts form found texts a b) (λ error. FailsTexts error form texts a b)
-of_texts (Ok found) form rows texts a b are h = record { made = h.made; is = record { rows = rows; reports = are; is = h.is }; found_is = h.found_is; written = h.written }
+of_texts (Ok found) form rows texts a b are h = (rows, are, h)
 of_texts (Err error) form rows texts a b are h = failing error form rows texts a b are h
 
 -- ---- from texts that are looked at to those that were read
@@ -144,35 +143,17 @@ module _ (form : Form) (reading : Reading) (held : List ℕ → Told) (words : L
   stopping Read stops same = (stops, same)
   stopping Write stops same = absurd stops.why
 
-  pub refusing : (error : ReportsError) (texts : List (List ℕ)) → ReadsTexts reading.limit held words texts a b → FailsRead error reading.cut form texts a.output b.output
+  pub refusing : (error : ReportsError) (texts : List (List ℕ)) → ReadsTexts reading.limit held words texts a.input b.input → FailsRead error reading.cut form texts a.output b.output
       → ReportsFail error form reading held words a b
-  refusing (Claims line) texts read why = (record { texts = texts; read = read; why = why.0 }, why.1)
-  refusing (Names line) texts read why = (record { texts = texts; read = read; why = why.0 }, why.1)
-  refusing (Fault number line) texts read why = (record { texts = texts; read = read; why = why.0 }, why.1)
-  refusing (TooMany report) texts read why = (record { texts = texts; read = read; why = why.0 }, why.1)
+  refusing (Claims line) texts read why = (texts, read, why)
+  refusing (Names line) texts read why = (texts, read, why)
+  refusing (Fault number line) texts read why = (texts, read, why)
+  refusing (TooMany report) texts read why = (texts, read, why)
   refusing TooLong texts read why = absurd why.0.3
-  refusing Memory texts read (inl same) = (read.sound, inl same)
-  refusing Memory texts read (inr why) =
-      let halts = why.3 in (
-        read.sound,
-        inr (record {
-          pieces = halts.pieces;
-          made = halts.made;
-          cuts = why.1;
-          makes = record { texts = texts; read = read; looked = why.0; looked_at = why.2; is = halts.is };
-          front = halts.front;
-        }),
-      )
+  refusing Memory texts read why = (read.sound, inr (texts, read, why))
   refusing Read texts read why = absurd why.0.3
-  refusing Write texts read why =
-      let part = why.3 in
-      record { made = part.made; cuts = why.1; makes = record { texts = texts; read = read; looked = why.0; looked_at = why.2; is = part.is }; front = part.front }
+  refusing Write texts read why = (texts, read, why)
 
-  pub writing : (result : Written) (texts : List (List ℕ)) → ReadsTexts reading.limit held words texts a b → WritesRead form reading.cut result texts a.output b.output
+  pub writing : (result : Written) (texts : List (List ℕ)) → ReadsTexts reading.limit held words texts a.input b.input → WritesRead form reading.cut result texts a.output b.output
       → WritesReports form reading result held words a b
-  writing result texts read h = record {
-    made = h.made;
-    makes = record { texts = texts; read = read; looked = h.looked; looked_at = h.looked_at; is = h.is };
-    found_is = h.found_is;
-    written = h.written;
-  }
+  writing result texts read h = (texts, read, h)

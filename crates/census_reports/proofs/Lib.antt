@@ -3,6 +3,7 @@ pub mod Read
 pub mod Mended
 pub mod Looks
 pub mod Told
+pub mod Said
 pub mod Failing
 pub mod Halted
 pub mod Merging

@@ -9,11 +9,4 @@ use Rattle.census_reports.specs.declared.reading.Written.{Written}
 
 pub looked-writes : (form : Form) (cut : Bool) (result : Written) (texts looked : List (List ℕ)) (a b : Sink) → AreLookedAt cut texts looked result.cuts.items
     → WritesTexts form result.found looked a b → WritesRead form cut result texts a b
-looked-writes form cut result texts looked a b are h = record {
-  made = h.made;
-  looked = looked;
-  looked_at = are;
-  is = h.is;
-  found_is = h.found_is;
-  written = h.written;
-}
+looked-writes form cut result texts looked a b are h = record { looked = looked; looked_at = are; writes = h }

@@ -117,7 +117,7 @@ census: -:1:1: the header line is malformed: it must have the form `x = 3, y = 3
         REPORT,
         5,
         b"wrong q period 3 2\n",
-        b"",
+        b"census: compared: period\n",
     ),
     (
         &["verify", "-", "tests_tree/claims", "--explain"],

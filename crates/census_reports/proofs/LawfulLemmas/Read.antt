@@ -46,19 +46,20 @@ rows_read rows read is some =
     }
 
 pub merges_lawfully : (held : List ℕ → Told) (words : List (List ℕ)) (before after : Streams) (reading : Reading) (result : Written) → reading.cut ≡ false
-    → WritesReports Merged reading result held words before after → MergesLawfully reading.limit held words before after
+    → WritesReports Merged reading result held words before after → MergesLawfully reading.limit held words before.input after.input before.output after.output
 merges_lawfully held words before after reading result plain w =
-    let read = w.makes.texts in
-    let is = w.makes.is in
-    let looked = subst (λ cut. AreLookedAt cut read w.makes.looked result.cuts.items) plain w.makes.looked_at in
-    let rows : AreRowsOf is.rows read = subst (AreRowsOf is.rows) looked.0 is.reports in
+    let read = w.0 in
+    let all = w.2.writes.0 in
+    let is = w.2.writes.2 in
+    let looked = subst (λ cut. AreLookedAt cut read w.2.looked result.cuts.items) plain w.2.looked_at in
+    let rows : AreRowsOf all read = subst (AreRowsOf all) looked.0 w.2.writes.1 in
     record {
       read = read;
-      reads = w.makes.read;
-      made = w.made;
-      written = w.written;
+      reads = w.1;
+      made = is.made;
+      written = is.written;
       lawful = λ asked reports bundled lawful same.
-          let back = rows_read is.rows read rows (some_text held words read before.input after.input w.makes.read.read) in
-          subst (λ text. IsReportOf (joined (all_said asked)) text) (sym is.is.1)
-          (merged-report (all_said asked) reports is.rows (all-sayable asked bundled) lawful (subst (ReadsAsReports is.rows) (sym same) back));
+          let back = rows_read all read rows (some_text held words read before.input after.input w.1.read) in
+          subst (λ text. IsReportOf (joined (all_said asked)) text) (sym is.is.2)
+          (merged-report (all_said asked) reports all (all-sayable asked bundled) lawful (subst (ReadsAsReports all) (sym same) back));
     }

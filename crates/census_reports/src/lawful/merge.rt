@@ -1,6 +1,6 @@
 //! Reports that files or standard input have, written as one.
-ghost use Rattle.std.specs.Prelude.{◌≡◌, [], false, map, IfErr, IfOk, OnOk};
-ghost use Rattle.census_reports.specs.Outcomes.{ReportsFail, WritesReports};
+ghost use Rattle.std.specs.Prelude.{◌≡◌, ◌⊎◌, [], false, map, IfErr, IfOk, MatchResult, OnOk};
+ghost use Rattle.census_reports.specs.Outcomes.{ReportsFail, SaysOfReports, WritesReports};
 ghost use Rattle.census_reports.specs.Lawful.Lawful.{MergesLawfully};
 
 use crate::{Form, Reading, ReportsError, Written, write_reports};
@@ -29,7 +29,12 @@ pub fn merge_reports<S: Shelf, I: Read, O: Write, E: Write>(
         streams.old streams.new) }
     ensures lawful { reading.cut ≡ false → OnOk result
         (MergesLawfully reading.limit ((S.tellings shelf.now).held []) (map (λ s. s.now) words.now)
-        streams.old streams.new) }
+        streams.old.input streams.new.input streams.old.output streams.new.output) }
+    ensures says { MatchResult result
+        (λ _. SaysOfReports Form.Merged reading ((S.tellings shelf.now).held []) (map (λ s. s.now) words.now)
+        streams.old streams.new streams.old.errors streams.new.errors)
+        (λ _. (streams.new.errors ≡ streams.old.errors) ⊎ SaysOfReports Form.Merged reading ((S.tellings shelf.now).held [])
+        (map (λ s. s.now) words.now) streams.old streams.new streams.old.errors streams.new.errors) }
     ensures quiet { streams.new.errors ≡ streams.old.errors }
 {
     write_reports(shelf, alloc, Form::Merged, reading, words, streams)

@@ -1,10 +1,11 @@
-use Rattle.std.proofs.Common.{◌≡◌, ◌++◌, drop, map}
-use Rattle.census_compare.specs.Verdict.{cell_text}
-use Rattle.std.specs.List.{flat_map}
+use Rattle.std.proofs.Common.{◌≡◌, ◌&&◌, drop, map}
+use Rattle.std.specs.List.{list_all}
 use Rattle.census_compare.specs.Claims.{cell_read}
+use Rattle.census_compare.specs.Columns.{is_empty}
+use Rattle.census_compare.specs.Tests.{cell_agrees}
 use Rattle.census_compare.proofs.lines.push_cells.Given as goal
 
 abbrev pub invariant-loop-cell : goal.invariant-loop-cell
 invariant-loop-cell l =
-    l.text.items ++ flat_map (cell_text l.name l.pattern) (map cell_read (drop l.cell-index l.cells))
-    ≡ l.fn.text.items ++ flat_map (cell_text l.name l.pattern) (map cell_read l.cells)
+    (is_empty l.text.items && list_all (cell_agrees l.pattern) (map cell_read (drop l.cell-index l.cells)))
+    ≡ (is_empty l.fn.text.items && list_all (cell_agrees l.pattern) (map cell_read l.cells))

@@ -1,20 +1,17 @@
-use Rattle.std.proofs.Common.{◌≡◌, ◌+◌, ◌++◌, ◌&&◌, ap, drop, get_or, refl, sym, ◌∙◌}
-use Rattle.std.specs.List.{flat_map}
+use Rattle.std.proofs.Common.{◌≡◌, [], ◌∷◌, ap, get_or, refl, subst, sym, take, ◌∙◌}
+use Rattle.std.specs.List.{list_all}
 use Rattle.watched.specs.Telling.{sheet}
-use Rattle.watched.proofs.Prefixes.{up_to_more, up_to_start}
 use Rattle.census_compare.specs.Claims.{claim_read, claims_read}
 use Rattle.census_compare.specs.Columns.{is_empty}
 use Rattle.census_compare.specs.Found.{patterns_in}
-use Rattle.census_compare.specs.Verdict.{claim_text, match_text}
-use Rattle.census_compare.proofs.Keys.{has-own}
-use Rattle.census_compare.proofs.Silent.{claims-cut, silent-more}
+use Rattle.census_compare.specs.Reporting.{Reports}
+use Rattle.census_compare.specs.Tests.{claim_agrees, match_agrees}
+use Rattle.census_compare.proofs.Keys.{claims-take, has-own}
+use Rattle.census_compare.proofs.Silent.{and-true, passed-all, reports_more, reports_none}
 use Rattle.census_compare.proofs.verdict.put_claims.Goals as goal
 
 pub loop-index-init : goal.loop-index-init
-loop-index-init g c = record {
-  told = up_to_start (flat_map (claim_text (patterns_in c.args.found.now)) (claims_read c.args.found.now.claims.now)) (sheet c.args.block.now c.args.writer.now);
-  silent = refl;
-}
+loop-index-init g c = record { told = reports_none (sheet c.args.block.now c.args.writer.now); agree = refl }
 
 pub match_of-requires-clause-is_one : goal.match_of-requires-clause-is_one
 match_of-requires-clause-is_one g c = has-own c.args.found.now.claims.now c.loop-index.index c.index-found-index.result c.loop-index-test.true
@@ -23,17 +20,17 @@ pub loop-index-preserved : goal.loop-index-preserved
 loop-index-preserved g c =
     let found = c.args.found.now in
     let l = c.loop-index in
-    let patterns = patterns_in found in
     let d = c.index-found-index.result in
-    let whole = flat_map (claim_text patterns) (claims_read found.claims.now) in
-    let others = flat_map (claim_text patterns) (claims_read (drop (l.index + 1) found.claims.now)) in
+    let test = claim_agrees (patterns_in found) in
     let claim = claim_read (get_or found.claims.now l.index d) in
-    let text : c.as_slice-bytes.result.now ≡ claim_text patterns claim = c.as_slice-bytes.ensures.value ∙ c.in_ok-text.ensures ∙ ap (match_text claim) c.match_of.ensures in
-    let cut : flat_map (claim_text patterns) (claims_read (drop l.index found.claims.now)) ≡ c.as_slice-bytes.result.now ++ others =
-    claims-cut patterns found.claims.now l.index d c.loop-index-test.true ∙ ap (λ t. t ++ others) (sym text) in
+    let text = c.as_slice-bytes.result.now in
+    let is : is_empty text ≡ test claim = ap is_empty c.as_slice-bytes.ensures.value ∙ c.in_ok-text.ensures ∙ ap (match_agrees claim) c.match_of.ensures in
+    let a = sheet c.args.block.now c.args.writer.now in
+    let b = sheet c.put.new.block c.put.new.writer in
     record {
-      told = up_to_more whole _ c.as_slice-bytes.result.now others (sheet c.args.block.now c.args.writer.now) (sheet l.block l.writer)
-          (sheet c.put.new.block c.put.new.writer) l.invariant.told cut c.put.ensures;
-      silent = silent-more whole _ c.as_slice-bytes.result.now others l.silent l.invariant.silent cut
-          ∙ ap (λ b. b && is_empty others) (sym c.is_silent-silent.ensures);
+      told = subst (λ s. Reports s a b) (sym c.agree_after-agree.ensures)
+          (reports_more l.agree (is_empty text) text a (sheet l.block l.writer) b l.invariant.told refl c.put.ensures);
+      agree = c.agree_after-agree.ensures
+          ∙ passed-all test (claims_read (take l.index found.claims.now)) (claim ∷ []) l.agree (is_empty text) l.invariant.agree (is ∙ sym (and-true (test claim)))
+          ∙ ap (list_all test) (sym (claims-take found.claims.now l.index d c.loop-index-test.true));
     }

@@ -16,20 +16,12 @@ returns-in-Ok g c =
     let read = c.in_ok-look_at.ensures in
     let few = few_of read.0 c.args.texts.now read.1 in
     let fits = c.in_default.ensures read.0 read.1 in
-    record {
-      made = text_of (merged_rows read.0);
-      is = record { rows = read.0; reports = read.1; is = (fits, refl) };
-      found_is = refl;
-      written = c.in-Ok.ensures read.0 read.1 few fits;
-    }
+    (read.0, read.1, record { made = text_of (merged_rows read.0); is = (refl, fits, refl); written = c.in-Ok.ensures read.0 read.1 few fits })
 
 pub returns-in-Err-write_report : goal.returns-in-Err-write_report
 returns-in-Err-write_report g c =
     let read = c.in_ok-look_at.ensures in
     let few = few_of read.0 c.args.texts.now read.1 in
     let fits = c.in_default.ensures read.0 read.1 in
-    record {
-      made = text_of (merged_rows read.0);
-      is = record { rows = read.0; reports = read.1; is = (fits, refl) };
-      front = c.in-Err-write_report.ensures read.0 read.1 few fits;
-    }
+    let front = c.in-Err-write_report.ensures read.0 read.1 few fits in
+    (read.0, read.1, record { front = (text_of (merged_rows read.0), (refl, fits, refl), front.written); failed = front.failed })
