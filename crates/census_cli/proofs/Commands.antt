@@ -313,7 +313,10 @@ page_rules = (
             record { own = λ v e. (λ _. flag_text v e, absent, absent); usual = inr (refl, inr true_given); plain = λ t. refl },
             (
               record { own = λ v e. (λ _. flag_text v e, absent, absent); usual = inr (refl, inr true_given); plain = λ t. refl },
-              reading_holds,
+              (
+                record { own = λ v e. (absent, absent, absent); usual = inr (refl, inl refl); plain = λ t. refl },
+                reading_holds,
+              ),
             ),
           ),
         ),
@@ -533,8 +536,8 @@ page_has words e = record {
   top = limit_in ReportsText 4294967295 (codes "top") _ (read_if_used ReportsText built_page page_rules words e (codes "top")) (λ v q. q.2 refl);
   links = flag_by_default built_page page_rules words e (codes "links") refl (inr (inr (inr (inr (inr (inl (refl, false_by_default)))))));
   no_patterns = flag_by_default built_page page_rules words e (codes "no-patterns") refl (inr (inr (inr (inr (inr (inr (inl (refl, false_by_default))))))));
-  reports = reads_reports built_page page_rules words e (inr (inr (inr (inr (inr (inr (inr (inl (refl, false_by_default))))))))) (inr (inr (inr (inr (inr (inr (inr (inr (inr (inl (refl, false_by_default)))))))))))
-      (refl, (refl, (refl, (refl, (refl, (refl, (refl, (refl, (refl, (refl, (refl, (refl, tt))))))))))));
+  reports = reads_reports built_page page_rules words e (inr (inr (inr (inr (inr (inr (inr (inr (inl (refl, false_by_default)))))))))) (inr (inr (inr (inr (inr (inr (inr (inr (inr (inr (inl (refl, false_by_default))))))))))))
+      (refl, (refl, (refl, (refl, (refl, (refl, (refl, (refl, (refl, (refl, (refl, (refl, (refl, tt)))))))))))));
 }
 
 same_has : (words : List Text) → Passes built_same words → HasSame (rows_after built_same.rules [] words)
@@ -829,10 +832,10 @@ lawful name rows (Merge reports) h gives =
 lawful name rows (Table subject format names reports) h gives =
     let has = table_command rows (subst (λ (n : Text). IsCommand (Some (n, rows))) gives.0 h) in
     limit_within 9223372036854775807 (codes "input") rows reports.input has.reports.input gives.4.1
-lawful name rows (Page page reports) h gives =
+lawful name rows (Page page names reports) h gives =
     let has = page_command rows (subst (λ (n : Text). IsCommand (Some (n, rows))) gives.0 h) in (
       limit_within 4294967295 (codes "top") rows page.top has.top gives.1.3,
-      limit_within 9223372036854775807 (codes "input") rows reports.input has.reports.input gives.2.1,
+      limit_within 9223372036854775807 (codes "input") rows reports.input has.reports.input gives.3.1,
     )
 lawful name rows (Same json reports) h gives =
     let has = same_command rows (subst (λ (n : Text). IsCommand (Some (n, rows))) gives.0 h) in

@@ -10,7 +10,7 @@ use Rattle.life_answer.specs.declared.question.Question.TheVariants.{Objects, Se
 use Rattle.census_cli.specs.CommandLine.{census_app}
 use Rattle.census_cli.specs.Asking.{Asks, AsksToExplain}
 use Rattle.census_cli.specs.Refusing.{AreRefusedWords}
-use Rattle.census_cli.specs.declared.request.PageSort.TheVariants.{Report, Count}
+use Rattle.census_cli.specs.declared.request.PageSort.TheVariants.{Report, Rare}
 use Rattle.census_cli.specs.declared.request.Reports.{Reports}
 use Rattle.census_cli.specs.declared.request.Request.{Request}
 use Rattle.census_cli.specs.declared.request.Request.TheVariants as request
@@ -105,17 +105,17 @@ table_safe : (texts : Texts) → Are texts (codes "a" ∷ []) → Asks (codes "t
 unfolding clap_on_literals
 table_safe texts are = (refl, (refl, refl, refl, refl, (refl, refl, are)))
 
-page_among : (texts : Texts) → Are texts (codes "a" ∷ codes "-" ∷ []) → Asks (codes "page" ∷ codes "a" ∷ codes "-" ∷ []) (request.Page (record { title = None; note = None; sort = Report; top = None; base = None; links = false; patterns = true }) (reading false None texts))
+page_among : (texts : Texts) → Are texts (codes "a" ∷ codes "-" ∷ []) → Asks (codes "page" ∷ codes "a" ∷ codes "-" ∷ []) (request.Page (record { title = None; note = None; sort = Report; top = None; base = None; links = false; patterns = true }) None (reading false None texts))
 unfolding clap_on_literals
-page_among texts are = (refl, (refl, (refl, refl, refl, refl, refl, λ e. cc, refl, refl), (refl, refl, are)))
+page_among texts are = (refl, (refl, (refl, refl, refl, refl, refl, λ e. cc, refl, refl), refl, (refl, refl, are)))
 
-page_sorted : (texts : Texts) → Are texts [] → Asks (codes "page" ∷ codes "--sort" ∷ codes "count" ∷ codes "--top=7" ∷ codes "--links" ∷ codes "--no-patterns" ∷ codes "--cut" ∷ []) (request.Page (record { title = None; note = None; sort = Count; top = Some 7; base = None; links = true; patterns = false }) (reading true None texts))
+page_sorted : (texts : Texts) → Are texts [] → Asks (codes "page" ∷ codes "--sort" ∷ codes "rare" ∷ codes "--top=7" ∷ codes "--links" ∷ codes "--no-patterns" ∷ codes "--names" ∷ codes "n" ∷ codes "--cut" ∷ []) (request.Page (record { title = None; note = None; sort = Rare; top = Some 7; base = None; links = true; patterns = false }) (Some (text (codes "n"))) (reading true None texts))
 unfolding clap_on_literals
-page_sorted texts are = (refl, (refl, (refl, refl, refl, refl, refl, λ e. cc, refl, refl), (refl, refl, are)))
+page_sorted texts are = (refl, (refl, (refl, refl, refl, refl, refl, λ e. cc, refl, refl), refl, (refl, refl, are)))
 
-page_at : (texts : Texts) → Are texts (codes "a" ∷ []) → Asks (codes "page" ∷ codes "--base" ∷ codes "https://a.b" ∷ codes "a" ∷ []) (request.Page (record { title = None; note = None; sort = Report; top = None; base = Some (text (codes "https://a.b")); links = false; patterns = true }) (reading false None texts))
+page_at : (texts : Texts) → Are texts (codes "a" ∷ []) → Asks (codes "page" ∷ codes "--base" ∷ codes "https://a.b" ∷ codes "a" ∷ []) (request.Page (record { title = None; note = None; sort = Report; top = None; base = Some (text (codes "https://a.b")); links = false; patterns = true }) None (reading false None texts))
 unfolding clap_on_literals
-page_at texts are = (refl, (refl, (refl, refl, refl, refl, refl, λ e. cc, refl, refl), (refl, refl, are)))
+page_at texts are = (refl, (refl, (refl, refl, refl, refl, refl, λ e. cc, refl, refl), refl, (refl, refl, are)))
 
 same_among : (texts : Texts) → Are texts (codes "a" ∷ codes "-" ∷ []) → Asks (codes "same" ∷ codes "--json" ∷ codes "a" ∷ codes "-" ∷ []) (request.Same true (reading false None texts))
 unfolding clap_on_literals

@@ -15,7 +15,7 @@ use Rattle.census_cli.specs.declared.request.Asked.{Asked}
 use Rattle.census_cli.specs.declared.request.Collections.{Collections}
 use Rattle.census_cli.specs.declared.request.PageAsked.{PageAsked}
 use Rattle.census_cli.specs.declared.request.PageSort.{PageSort}
-use Rattle.census_cli.specs.declared.request.PageSort.TheVariants.{Report, Count, Code, Period, Name}
+use Rattle.census_cli.specs.declared.request.PageSort.TheVariants.{Report, Count, Rare, Code, Period, Name}
 use Rattle.census_cli.specs.declared.request.Reports.{Reports}
 use Rattle.census_cli.specs.declared.request.Request.{Request}
 use Rattle.census_cli.specs.declared.request.Request.TheVariants.{Census, Identify, Advance, Draw, Merge, Table, Page, Same, Verify}
@@ -54,8 +54,8 @@ subject_asked rows =
 abbrev pub order_of : List ℕ → Option PageSort
 order_of word =
     option_map (λ (order : List ℕ × PageSort). order.1) (find (λ order. bytes_eq word order.0)
-    ((codes "report", Report) ∷ (codes "count", Count) ∷ (codes "code", Code) ∷ (codes "period", Period)
-    ∷ (codes "name", Name) ∷ []))
+    ((codes "report", Report) ∷ (codes "count", Count) ∷ (codes "rare", Rare) ∷ (codes "code", Code)
+    ∷ (codes "period", Period) ∷ (codes "name", Name) ∷ []))
 
 -- whether a text begins as the address of a page does
 abbrev pub is_address : List ℕ → Bool
@@ -118,7 +118,9 @@ Gives name rows (Merge reports) = (name ≡ codes "merge") × GivesReports rows 
 Gives name rows (Table subject format names reports) =
     (name ≡ codes "table") × (subject_asked rows ≡ Some subject) × (format_asked rows ≡ Some format)
     × (first_of (codes "names") rows ≡ option_map (λ s. s.now) names) × GivesReports rows reports
-Gives name rows (Page page reports) = (name ≡ codes "page") × GivesPage rows page × GivesReports rows reports
+Gives name rows (Page page names reports) =
+    (name ≡ codes "page") × GivesPage rows page × (first_of (codes "names") rows ≡ option_map (λ s. s.now) names)
+    × GivesReports rows reports
 Gives name rows (Same json reports) =
     (name ≡ codes "same") × (is_used (codes "json") rows ≡ json) × GivesReports rows reports
 Gives name rows (Verify claims reports) =

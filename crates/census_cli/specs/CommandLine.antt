@@ -73,7 +73,8 @@ commands =
     ∷ command "table" (flag "csv" ∷ flag "json" ∷ flag "safe" ∷ flag "parts" ∷ flag "codes" ∷ option "names"
     ∷ reading_rules)
     ∷ command "page" (option "title" ∷ option "note" ∷ record (option "sort") { defaults = codes "report" ∷ [] }
-    ∷ number "top" 4294967295 ∷ option "base" ∷ flag "links" ∷ flag "no-patterns" ∷ reading_rules)
+    ∷ number "top" 4294967295 ∷ option "base" ∷ flag "links" ∷ flag "no-patterns" ∷ option "names"
+    ∷ reading_rules)
     ∷ command "same" (flag "json" ∷ reading_rules)
     ∷ command "verify" (record (word "claims") { required = true } ∷ reading_rules)
     ∷ []

@@ -182,7 +182,7 @@ IsLawful (Advance generations file) = generations ≤ generation_limit
 IsLawful (Draw code rule) = Unit {0}
 IsLawful (Merge reports) = IsLimit 9223372036854775807 reports.input
 IsLawful (Table subject format names reports) = IsLimit 9223372036854775807 reports.input
-IsLawful (Page page reports) = IsLimit 4294967295 page.top × IsLimit 9223372036854775807 reports.input
+IsLawful (Page page names reports) = IsLimit 4294967295 page.top × IsLimit 9223372036854775807 reports.input
 IsLawful (Same json reports) = IsLimit 9223372036854775807 reports.input
 IsLawful (Verify claims reports) = IsLimit 9223372036854775807 reports.input
 

@@ -297,7 +297,7 @@ fn sort<'a>(alloc: Global) -> Arg<'a>
         .long("sort")
         .value_name("ORDER")
         .default_value("report")
-        .help("The order of the codes: report, count, code, period or name")
+        .help("Order of codes: report, count, rare, code, period or name")
 }
 
 fn top<'a>(alloc: Global) -> Arg<'a>
@@ -325,7 +325,7 @@ fn links<'a>(alloc: Global) -> Arg<'a>
     Arg::new(alloc, "links")
         .long("links")
         .action(ArgAction::SetTrue)
-        .help("Make each code a link to its page at Catagolue")
+        .help("Make each code of up to 100 letters a link to its page at Catagolue")
 }
 
 fn no_patterns<'a>(alloc: Global) -> Arg<'a>
@@ -334,7 +334,7 @@ fn no_patterns<'a>(alloc: Global) -> Arg<'a>
     Arg::new(alloc, "no-patterns")
         .long("no-patterns")
         .action(ArgAction::SetTrue)
-        .help("Leave out the table of patterns")
+        .help("Leave out patterns, but for the first of each code and those unresolved")
 }
 
 fn cut<'a>(alloc: Global) -> Arg<'a>
@@ -493,7 +493,8 @@ fn page<'a>(alloc: Global) -> Result<Command<'a>, AllocError>
         .arg(top(alloc))?
         .arg(base(alloc))?
         .arg(links(alloc))?
-        .arg(no_patterns(alloc))?;
+        .arg(no_patterns(alloc))?
+        .arg(names(alloc))?;
     with_reading(alloc, page)
 }
 
@@ -544,7 +545,7 @@ fn no_value(alloc: Global, value: &str, option: &str, why: &str) -> Result<Strin
 
 /// Clap's words for an order of a page that does not exist.
 pub(crate) fn no_order(alloc: Global, word: &str) -> Result<String, AllocError> {
-    let orders = "\n  [possible values: report, count, code, period, name]";
+    let orders = "\n  [possible values: report, count, rare, code, period, name]";
     no_value(alloc, word, "--sort <ORDER>", orders)
 }
 

@@ -160,18 +160,21 @@ table [--csv | --json] [--safe] [--parts | --codes] [--names FILE] [REPORT]...
       --codes      a row for each code and rule, by falling count
       --names FILE a column of the names of codes, as of identify
 page [--title TEXT] [--note TEXT] [--sort ORDER] [--top N] [--base URL]
-     [--links] [--no-patterns] [REPORT]...
+     [--links] [--no-patterns] [--names FILE] [REPORT]...
                    one HTML page, with pictures ('census help page')
       --title TEXT the title of the page [default: Census]
       --note TEXT  a text under the title
-      --sort ORDER the order of the codes: report, count, code, period or name
-                   [default: report]
+      --sort ORDER the order of the codes: report, count, rare, code, period or
+                   name [default: report]
       --top N      codes of each collection, 1 to 4294967295 [default: all]
       --base URL   make each name a link to URL, COLLECTION_NAME, / and NAME
                    joined; URL begins with http:// or https://
-      --links      make each code a link to its page at Catagolue
+      --links      make each code of up to 100 letters a link to its page at
+                   Catagolue
       --no-patterns
-                   leave out the table of patterns
+                   leave out patterns, but for the first of each code and those
+                   that are unresolved
+      --names FILE the names of codes, in bold, as of identify
 same [--json] [REPORT]...
                    patterns of reports that are one object ('census help same')
       --json       JSON, one object a line
@@ -336,14 +339,21 @@ pub const PAGE: &str = with_statuses!(
     "\
 Of each collection the page has the counts, the codes with a picture of each, how
 often each occurs and which patterns have it, and the patterns that are unresolved
-or refused. It stands alone: it has no script, and asks for nothing.
+or refused. It stands alone: it has no script, and asks for nothing. Where 100 or
+more patterns recur or fall apart, it also has how long they live: how many have
+which onset, the median, and the ten patterns that live longest.
 
-The order of the codes is that of the report, or by falling count, by code, by
-falling period, or by the name of the first pattern that has it.
+The order of the codes is that of the report, or by falling count, by rising count
+with rare, by code, by falling period, or by the name of the first pattern that has
+it. With --top the page says how many codes are left out.
+
+With --names the row of a code has its name in bold. FILE has lines of a code, a tab
+and a name; a line that begins with # is passed over, and no code stands twice.
 
 Example: census page census.txt >census.html
          census page --title Soups --note 'Bound 10000' census.txt
          census page --sort count --top 100 census.txt
+         census page --names names.tsv --sort rare --no-patterns census.txt
          census page --base https://example.org/patterns/ --links census.txt
          census page --no-patterns --cut --input 1000000000 stopped.txt
          census page --explain census.txt

@@ -41,6 +41,8 @@ pub enum PageSort {
     Report,
     /// By how often they occur.
     Count,
+    /// By how often they occur, the rarest first.
+    Rare,
     /// By themselves.
     Code,
     /// By their periods.
@@ -64,7 +66,7 @@ pub struct PageAsked<'a> {
     pub base: Option<&'a str>,
     /// Whether its codes are links.
     pub links: bool,
-    /// Whether it has the table of patterns.
+    /// Whether it has all patterns.
     pub patterns: bool,
 }
 
@@ -152,6 +154,8 @@ pub enum Request<'a> {
     /// One HTML page of reports.
     Page {
         page: PageAsked<'a>,
+        /// The file of the names of codes, where there is one. `-` is standard input.
+        names: Option<&'a str>,
         reports: Reports<'a>,
     },
     /// The patterns of reports that are one object.
@@ -371,6 +375,8 @@ fn order(word: &str) -> Option<PageSort>
         Some(PageSort::Report)
     } else if word == "count" {
         Some(PageSort::Count)
+    } else if word == "rare" {
+        Some(PageSort::Rare)
     } else if word == "code" {
         Some(PageSort::Code)
     } else if word == "period" {
@@ -427,6 +433,7 @@ fn page_of<'a>(alloc: Global, page: &ArgMatches<'a>) -> Result<Request<'a>, Word
     };
     Ok(Request::Page {
         page: asked,
+        names: text_if_used(page, "names"),
         reports: reports_of(alloc, page)?,
     })
 }

@@ -1,2 +1,3 @@
 mod Escaping
 mod Steps
+mod Tables

@@ -7,8 +7,8 @@ use Rattle.census_page.specs.declared.options.Sort.{Sort}
 use Rattle.census_page.specs.declared.options.Sort.TheVariants.{Report}
 
 -- its title, and a note below it if there is one; the order of the rows of codes, and their greatest number; the beginning of
--- the addresses of names, if these are links, and whether codes are links; and whether patterns that do not recur have a
--- table
+-- the addresses of names, if these are links, and whether codes are links; and whether all patterns are
+-- shown
 pub record Options : Type 0 where
   pub title : List ℕ
   pub note : List ℕ

@@ -1,15 +1,21 @@
--- The text of a page, by its pieces: texts of the program's template, and bytes that are escaped.
-use Rattle.std.specs.Prelude.{◌≡◌, ℕ, ◌+◌, min, Bool, true, false, ◌&&◌, ◌||◌, ◌==◌, if◌then◌else◌, Option, Some, None, List, [], ◌∷◌, codes, map, slice_index_or, Result, MatchResult}
+-- The text of a page, by its pieces: texts of the program's template, bytes that are escaped, and the beginnings of rows.
+use Rattle.std.specs.Prelude.{◌≡◌, ℕ, Bool, true, false, ◌&&◌, ◌||◌, ◌==◌, if◌then◌else◌, Option, Some, None, List, [], ◌∷◌, ◌++◌, ⊤, codes, map, take, slice_index_or, Result, MatchResult}
 use Rattle.std.specs.List.{flat_map}
+use Rattle.std.specs.List.Sorted.{IsNonDecreasingBy, IsPermutation}
+use Rattle.std.specs.Option.{option_map_or}
+use Rattle.std.specs.Str.Lossy.{utf8_lossy}
 use Rattle.watched.specs.Telling.{Sheet, TellsAfter, TellsFront}
-use Rattle.census_rows.specs.declared.row.Finding.TheVariants.{Ok}
+use Rattle.census_facts.specs.Names.{Entry, name_in}
+use Rattle.census_rows.specs.declared.row.Finding.TheVariants.{Large, Ok, Unresolved}
 use Rattle.census_rows.specs.declared.row.Outcome.{Outcome}
 use Rattle.census_rows.specs.declared.row.Outcome.TheVariants.{Found}
 use Rattle.census_rows.specs.declared.row.Row.{Row}
-use Rattle.census_rows.specs.declared.row.Row.TheVariants.{Line, Code}
+use Rattle.census_rows.specs.declared.row.Row.TheVariants.{Code, End, Line}
 use Rattle.census_readback.specs.Grouped.{collections_of}
 use Rattle.census_page.specs.declared.options.PageOptions.{PageOptions}
-use Rattle.census_page.specs.declared.own.TheConstants.{OWN, ROW}
+use Rattle.census_page.specs.declared.options.Sort.{Sort}
+use Rattle.census_page.specs.declared.options.Sort.TheVariants.{Rare}
+use Rattle.census_page.specs.declared.own.TheConstants.{BOLD, BOLD_END, OWN, ROW}
 
 -- # Pieces
 
@@ -17,6 +23,10 @@ use Rattle.census_page.specs.declared.own.TheConstants.{OWN, ROW}
 abbrev pub escaped_byte : ℕ → List ℕ
 escaped_byte c =
     if c == 38 then codes "&amp;" else (if c == 60 then codes "&lt;" else (if c == 62 then codes "&gt;" else (if c == 34 then codes "&quot;" else (if c == 39 then codes "&#39;" else c ∷ []))))
+
+-- a text, with U+FFFD for what is not UTF-8, escaped
+abbrev pub escaped : List ℕ → List ℕ
+escaped text = flat_map escaped_byte (utf8_lossy text)
 
 -- the text of the template with this number, or nothing if there is none
 unfoldable pub own_text : ℕ → List ℕ
@@ -26,78 +36,191 @@ own_text number = slice_index_or (map (λ text. text.now) OWN.now) number []
 unfoldable pub row_text : List ℕ
 row_text = ROW.now
 
--- a text of the template, the beginning of a row, or bytes from elsewhere: of titles, names, rules, codes and numbers
+-- what is around the name of a code
+unfoldable pub bold_text : List ℕ
+bold_text = BOLD.now
+
+unfoldable pub bold_end_text : List ℕ
+bold_end_text = BOLD_END.now
+
+-- a text of the template, or bytes from elsewhere: of titles, rules, codes, numbers and names of patterns
+pub data Bit : Type 0 where
+  Own : ℕ → Bit
+  Value : List ℕ → Bit
+
+abbrev pub written : Bit → List ℕ
+written (Own number) = own_text number
+written (Value bytes) = flat_map escaped_byte bytes
+
+-- the names of codes that a page is given, or that it is given none
+abbrev pub Names : Type 0
+Names = Option (List Entry)
+
+-- a name in bold
+abbrev pub bold : List ℕ → List ℕ
+bold name = bold_text ++ (escaped name ++ bold_end_text)
+
+-- the name that the given list has for a code, or nothing if it has none
+abbrev pub called : Names → List ℕ → List ℕ
+called None code = []
+called (Some entries) code = option_map_or bold (name_in entries code) []
+
+-- the name of the code that a report's row reports
+abbrev pub called_in : Names → Row → List ℕ
+called_in names (Code collection rule code count) = called names code.now
+called_in names _ = []
+
+-- a bit outside the beginnings of rows, or the beginning of a row about a report's row, with the bits up to the name of its code, and
+-- this name
 pub data Piece : Type 0 where
-  Own : ℕ → Piece
-  Begin : Piece
-  Value : List ℕ → Piece
+  Plain : Bit → Piece
+  Begin : Row → List Bit → Piece
 
-abbrev pub spelled : Piece → List ℕ
-spelled (Own number) = own_text number
-spelled Begin = row_text
-spelled (Value bytes) = flat_map escaped_byte bytes
+abbrev pub spelled : Names → Piece → List ℕ
+spelled names (Plain bit) = written bit
+spelled names (Begin row bits) = row_text ++ (flat_map written bits ++ called_in names row)
 
-abbrev pub begun : Piece → ℕ
-begun Begin = 1
-begun _ = 0
+-- which row begins
+abbrev pub begun : Piece → List Row
+begun (Plain bit) = []
+begun (Begin row bits) = row ∷ []
 
--- how many there are in all of these, by how many there are in each
-abbrev pub in_all : {X : Type 0} → (X → ℕ) → List X → ℕ
-in_all count [] = 0
-in_all count (x ∷ xs) = count x + in_all count xs
+-- bits spell the text
+pub record IsHtml (text : List ℕ) : Type 0 where
+  pub bits : List Bit
+  pub whole : text ≡ flat_map written bits
 
--- pieces spell the text, and this number of them begins a row
-pub record IsPage (rows : ℕ) (text : List ℕ) : Type 0 where
+-- pieces spell the text, and the rows that begin in it are about these, one after another
+pub record IsPage (names : Names) (rows : List Row) (text : List ℕ) : Type 0 where
   pub pieces : List Piece
-  pub whole : text ≡ flat_map spelled pieces
-  pub begins : rows ≡ in_all begun pieces
+  pub whole : text ≡ flat_map (spelled names) pieces
+  pub begins : rows ≡ flat_map begun pieces
 
 -- # Rows
 
-abbrev pub recurs : Outcome → Bool
-recurs (Found rule population (Ok onset period dx dy code)) = true
-recurs _ = false
+-- the row at an index; after the last one there are `end` rows
+abbrev pub row_at : List Row → ℕ → Row
+row_at rows index = slice_index_or rows index (End 0 0)
 
--- whether a row reports a code
-abbrev pub code_in : Row → ℕ
-code_in (Code collection rule code count) = 1
-code_in _ = 0
+-- the row, if it reports a code
+abbrev pub code_in : Row → List Row
+code_in (Code collection rule code count) = Code collection rule code count ∷ []
+code_in _ = []
 
--- whether a row reports a pattern that does not recur
-abbrev pub stray_in : Row → ℕ
-stray_in (Line collection pattern outcome name) = if recurs outcome then 0 else 1
-stray_in _ = 0
+-- how often its code occurs
+abbrev pub count_in : Row → ℕ
+count_in (Code collection rule code count) = count
+count_in _ = 0
 
-abbrev pub at_most : Option ℕ → ℕ → ℕ
-at_most None count = count
-at_most (Some top) count = min top count
+-- Whether a pattern has a row of its own: of those that do not recur each has one where these are asked for, and otherwise those
+-- that are unresolved.
+abbrev pub has_row : Bool → Outcome → Bool
+has_row patterns (Found rule population (Ok onset period dx dy code)) = false
+has_row patterns (Found rule population Unresolved) = true
+has_row patterns (Found rule population (Large generation)) = true
+has_row patterns _ = patterns
 
--- how many rows the tables of a collection have: one for each code, up to the greatest number that is asked for, and one for each
--- pattern that does not recur, if these are asked for
-abbrev pub rows_in : PageOptions → List Row → ℕ
-rows_in options rows = at_most options.top (in_all code_in rows) + (if options.patterns then in_all stray_in rows else 0)
+-- the row, if it reports a pattern that has one of its own
+abbrev pub stray_in : Bool → Row → List Row
+stray_in patterns (Line collection pattern outcome name) = if has_row patterns outcome then Line collection pattern outcome name ∷ [] else []
+stray_in patterns _ = []
 
--- how many rows the page of these reports has
-abbrev pub rows_shown : PageOptions → List Row → ℕ
-rows_shown options rows = in_all (rows_in options) (collections_of [] rows)
+-- the first of these, where no more than some are asked for
+abbrev pub first_of : {X : Type 0} → Option ℕ → List X → List X
+first_of None xs = xs
+first_of (Some top) xs = take top xs
+
+-- with `rare`, no code occurs more often than one after it
+abbrev pub IsInOrder : Sort → List Row → Type 0
+IsInOrder Rare rows = IsNonDecreasingBy count_in rows
+IsInOrder _ rows = ⊤
+
+-- the rows of a collection's table of codes: the first of all that report codes, in the order that is asked for
+pub record AreCodes (options : PageOptions) (rows shown : List Row) : Type 0 where
+  pub arranged : List Row
+  pub same : IsPermutation (flat_map code_in rows) arranged
+  pub ordered : IsInOrder options.sort arranged
+  pub first : shown ≡ first_of options.top arranged
+
+-- those of its tables, the second of which has patterns
+pub record AreOf (options : PageOptions) (rows shown : List Row) : Type 0 where
+  pub codes : List Row
+  pub are : AreCodes options rows codes
+  pub both : shown ≡ codes ++ flat_map (stray_in options.patterns) rows
+
+-- those of a collection, and of others after it
+pub record AreFirst (options : PageOptions) (rows : List Row) (AreOthers : List Row → Type 0) (shown : List Row) : Type 0 where
+  pub here : List Row
+  pub others : List Row
+  pub are : AreOf options rows here
+  pub follow : AreOthers others
+  pub both : shown ≡ here ++ others
+
+-- those of collections, one after another
+abbrev pub AreOfAll : PageOptions → List (List Row) → List Row → Type 0
+AreOfAll options [] shown = shown ≡ []
+AreOfAll options (rows ∷ others) shown = AreFirst options rows (AreOfAll options others) shown
+
+-- those of the page of these reports
+abbrev pub AreShown : PageOptions → List Row → List Row → Type 0
+AreShown options rows shown = AreOfAll options (collections_of [] rows) shown
+
+-- a text is the page of these reports: each of its rows is about one of theirs, and has in bold the name of this row's code in the
+-- given list, escaped, and no other name
+pub record IsPageOf (options : PageOptions) (names : Names) (rows : List Row) (text : List ℕ) : Type 0 where
+  pub shown : List Row
+  pub are : AreShown options rows shown
+  pub is : IsPage names shown text
 
 -- # Writing
 
--- a text of pieces with this number of rows is put
-pub record PutsPage (rows : ℕ) (before after : Sheet) : Type 0 where
+-- a text without rows is put
+pub record PutsHtml (before after : Sheet) : Type 0 where
   pub text : List ℕ
-  pub is : IsPage rows text
+  pub is : IsHtml text
   pub tells : TellsAfter text before after
 
 -- a prefix of such a text is put
-pub record PutsFront (rows : ℕ) (before after : Sheet) : Type 0 where
+pub record PutsHtmlFront (before after : Sheet) : Type 0 where
   pub text : List ℕ
-  pub is : IsPage rows text
+  pub is : IsHtml text
   pub tells : TellsFront text before after
 
 -- the whole is put, or out of memory a prefix
-abbrev pub Puts : {A B : Type 0} → Result A B → ℕ → Sheet → Sheet → Type 0
-Puts result rows before after = MatchResult result (λ _. PutsPage rows before after) (λ _. PutsFront rows before after)
+abbrev pub PutsBits : {A B : Type 0} → Result A B → Sheet → Sheet → Type 0
+PutsBits result before after = MatchResult result (λ _. PutsHtml before after) (λ _. PutsHtmlFront before after)
+
+-- a text of pieces with these rows is put
+pub record PutsPage (names : Names) (rows : List Row) (before after : Sheet) : Type 0 where
+  pub text : List ℕ
+  pub is : IsPage names rows text
+  pub tells : TellsAfter text before after
+
+-- a prefix of such a text is put
+pub record PutsFront (names : Names) (rows : List Row) (before after : Sheet) : Type 0 where
+  pub text : List ℕ
+  pub is : IsPage names rows text
+  pub tells : TellsFront text before after
+
+-- the whole is put, or out of memory a prefix
+abbrev pub Puts : {A B : Type 0} → Names → Result A B → List Row → Sheet → Sheet → Type 0
+Puts names result rows before after = MatchResult result (λ _. PutsPage names rows before after) (λ _. PutsFront names rows before after)
+
+-- as `PutsPage`, with rows of which this holds
+pub record PutsSome (names : Names) (Are : List Row → Type 0) (before after : Sheet) : Type 0 where
+  pub rows : List Row
+  pub are : Are rows
+  pub puts : PutsPage names rows before after
+
+-- as `PutsFront`, with rows of which this holds
+pub record PutsSomeFront (names : Names) (Are : List Row → Type 0) (before after : Sheet) : Type 0 where
+  pub rows : List Row
+  pub are : Are rows
+  pub puts : PutsFront names rows before after
+
+-- the whole is put, or out of memory a prefix
+abbrev pub PutsRows : {A B : Type 0} → Names → Result A B → (List Row → Type 0) → Sheet → Sheet → Type 0
+PutsRows names result Are before after = MatchResult result (λ _. PutsSome names Are before after) (λ _. PutsSomeFront names Are before after)
 
 -- # What is not markup
 

@@ -1,17 +1,18 @@
 //! The codes of a collection that its table has.
-ghost use Rattle.std.specs.Prelude.{◌≡◌, if◌then◌else◌, length, IfOk};
-ghost use Rattle.census_page.specs.Pages.{at_most, code_in, in_all};
+ghost use Rattle.std.specs.Prelude.{◌≡◌, [], ◌∷◌, ◌++◌, if◌then◌else◌, map, IfOk, OnOk};
+ghost use Rattle.std.specs.List.{flat_map};
+ghost use Rattle.census_page.specs.Pages.{AreCodes, code_in, first_of, row_at};
 
-use crate::holders::Holders;
+use crate::holders::{Holders, row_or_end};
 use crate::options::PageOptions;
 use crate::sorting::sort_rows;
 use crate::tally::{Which, count_among};
 use census_rows::{Row, Section};
 use std::alloc::{AllocError, Global};
 
-// Whether a row reports a code.
-fn is_code(row: &Row) -> bool
-    ensures { code_in row.now ≡ (if result then 1 else 0) }
+/// Whether a row reports a code.
+pub fn is_code(row: &Row) -> bool
+    ensures { code_in row.now ≡ (if result then row.now ∷ [] else []) }
 {
     match row {
         Row::Code { .. } => true,
@@ -19,22 +20,32 @@ fn is_code(row: &Row) -> bool
     }
 }
 
+// Adds the number of a row, if that reports a code.
+fn note_code(rows: &Section, index: usize, numbers: &mut Vec<usize>) -> Result<(), AllocError>
+    ensures { OnOk result (map (row_at rows.now) numbers.new.items
+        ≡ map (row_at rows.now) numbers.old.items ++ code_in (row_at rows.now index)) }
+{
+    if !is_code(&row_or_end(rows, index)) {
+        return Ok(());
+    }
+    numbers.push(index)?;
+    Ok(())
+}
+
 // The numbers of the rows that report codes.
 fn told_codes(alloc: Global, rows: &Section) -> Result<Vec<usize>, AllocError>
-    ensures { IfOk result (λ numbers. length numbers.items ≡ in_all code_in rows.now) }
+    ensures { IfOk result (λ numbers. map (row_at rows.now) numbers.items ≡ flat_map code_in rows.now) }
 {
     let mut numbers = Vec::with_capacity(alloc, count_among(Which::Codes, rows))?;
     for index in 0..rows.len() {
-        if is_code(&rows.row(index)) {
-            numbers.push(index)?;
-        }
+        note_code(rows, index, &mut numbers)?;
     }
     Ok(numbers)
 }
 
 // Keeps the first `top` numbers, or all if there is no limit.
 fn cut(top: Option<u64>, numbers: &mut Vec<usize>)
-    ensures { length numbers.new.items ≡ at_most top (length numbers.old.items) }
+    ensures { numbers.new.items ≡ first_of top numbers.old.items }
 {
     match top {
         Some(count) => numbers.truncate(count as usize),
@@ -49,8 +60,8 @@ pub fn chosen(
     options: &PageOptions,
     holders: &Holders,
 ) -> Result<Vec<usize>, AllocError>
-    ensures { IfOk result (λ numbers. length numbers.items
-        ≡ at_most options.now.top (in_all code_in holders.now.rows.now)) }
+    ensures { IfOk result (λ numbers. AreCodes options.now holders.now.rows.now
+        (map (row_at holders.now.rows.now) numbers.items)) }
 {
     let mut numbers = told_codes(alloc, holders.rows)?;
     sort_rows(options.sort, holders, &mut numbers)?;

@@ -1,17 +1,20 @@
 //! What becomes of patterns that do not recur.
-ghost use Rattle.std.specs.Prelude.{◌≡◌, if◌then◌else◌};
+ghost use Rattle.std.specs.Prelude.{◌≡◌, [], ◌∷◌};
+ghost use Rattle.std.specs.List.{flat_map};
+ghost use Rattle.std.specs.Option.{option_copied};
 ghost use Rattle.watched.specs.Telling.{sheet};
-ghost use Rattle.census_page.specs.Pages.{Puts, in_all, recurs, stray_in};
+ghost use Rattle.census_page.specs.Pages.{Puts, has_row, stray_in};
 
 use crate::growth::put_growth;
 use crate::html::Html;
-use crate::links::{Links, push_name};
+use crate::links::push_name;
 use crate::own::{
     AT_GENERATION, CELL_NEXT, FROM_GENERATION, NAME_END, OBJECTS, ON, ROW_END, RULE_END,
     SMALL_NEXT, STRAY_ROW, TOO_MANY_CELLS, WITHIN_BOUND,
 };
 use crate::parts::push_parts;
 use crate::putting::{put_html, put_row};
+use crate::view::View;
 use census_faults::fault_words;
 use census_readback::rows_behind;
 use census_rows::{Behind, Finding, Outcome, Row, Section};
@@ -76,15 +79,36 @@ fn push_fate(alloc: Global, html: &mut Html, outcome: &Outcome) -> Result<(), Al
 }
 
 /// Whether a pattern recurs, so that the row of its code describes it.
-pub fn recurs(outcome: &Outcome) -> bool
-    ensures { result ≡ recurs outcome.now }
-{
+pub fn recurs(outcome: &Outcome) -> bool {
     match outcome {
         Outcome::Found {
             finding: Finding::Ok { .. },
             ..
         } => true,
         _ => false,
+    }
+}
+
+/// Whether a pattern has a row of its own: where such patterns are asked for each that does not recur, and otherwise one that is
+/// unresolved.
+pub fn has_row(patterns: bool, outcome: &Outcome) -> bool
+    ensures { result ≡ has_row patterns outcome.now }
+{
+    match outcome {
+        Outcome::Found { finding, .. } => match finding {
+            Finding::Ok { .. } => false,
+            Finding::Unresolved | Finding::Large { .. } => true,
+            Finding::Ash { .. } | Finding::Grows { .. } => patterns,
+        },
+        Outcome::Bad { .. } => patterns,
+    }
+}
+
+// The name of the pattern of a row.
+fn name_in<'a>(row: &Row<'a>) -> &'a [u8] {
+    match row {
+        Row::Line { name, .. } => *name,
+        _ => b"",
     }
 }
 
@@ -99,13 +123,13 @@ fn rule_found<'a>(outcome: &Outcome<'a>) -> &'a [u8] {
 // What comes before the objects of a pattern: its name, its rule and its cells, and what becomes of it.
 fn fate_head(
     alloc: Global,
-    links: &Links,
+    view: &View,
     name: &[u8],
     outcome: &Outcome,
 ) -> Result<Html, AllocError> {
     let mut html = Html::new(alloc);
     html.own(STRAY_ROW)?;
-    push_name(alloc, &mut html, links, name)?;
+    push_name(alloc, &mut html, view, name)?;
     push_fate(alloc, &mut html, outcome)?;
     Ok(html)
 }
@@ -118,69 +142,69 @@ fn fate_end(alloc: Global, linked: bool, rule: &[u8], parts: &Section) -> Result
     Ok(html)
 }
 
-// Writes a row of a table with the name of a pattern and what becomes of it, or nothing if it recurs. The rows after its row say
-// how it grows, or which parts it has.
+// Writes a row of a table with the name of a pattern and what becomes of it. The rows after its row say how it grows, or which
+// parts it has.
 fn put_fate<W: Write>(
     alloc: Global,
-    links: &Links,
-    name: &[u8],
+    view: &View,
+    row: &Row,
     outcome: &Outcome,
     behind: &Section,
     block: &mut Block,
     writer: &mut Output<W>,
 ) -> Result<(), AllocError>
-    ensures { Puts result (if recurs outcome.now then 0 else 1)
+    ensures { Puts (option_copied view.now.names) result (row.now ∷ [])
         (sheet block.old writer.old) (sheet block.new writer.new) }
 {
-    if recurs(outcome) {
-        return Ok(());
-    }
-    let linked = links.catalogue;
+    let linked = view.catalogue;
     let rule = rule_found(outcome);
-    let head = fate_head(alloc, links, name, outcome)?;
+    let head = fate_head(alloc, view, name_in(row), outcome)?;
     let end = fate_end(alloc, linked, rule, &rows_behind(Behind::Parts, behind))?;
     let growth = rows_behind(Behind::Engines, behind);
-    put_row(block, writer);
-    put_html(&head, block, writer);
+    put_row(alloc, view.names, row, &head, block, writer)?;
     put_growth(alloc, linked, rule, &growth, block, writer)?;
     put_html(&end, block, writer);
     Ok(())
 }
 
-// Writes the table's row for a report's row that comes before these, if that reports a pattern that does not recur.
+// Writes the table's row for a report's row that comes before these, if that reports a pattern that has one.
 fn put_stray<W: Write>(
     alloc: Global,
-    links: &Links,
+    view: &View,
     row: &Row,
     behind: &Section,
     block: &mut Block,
     writer: &mut Output<W>,
 ) -> Result<(), AllocError>
-    ensures { Puts result (stray_in row.now) (sheet block.old writer.old) (sheet block.new writer.new) }
+    ensures { Puts (option_copied view.now.names) result (stray_in view.now.patterns row.now)
+        (sheet block.old writer.old) (sheet block.new writer.new) }
 {
     match row {
-        Row::Line { outcome, name, .. } => {
-            put_fate(alloc, links, *name, outcome, behind, block, writer)
+        Row::Line { outcome, .. } => {
+            if !has_row(view.patterns, outcome) {
+                return Ok(());
+            }
+            put_fate(alloc, view, row, outcome, behind, block, writer)
         }
         _ => Ok(()),
     }
 }
 
-/// Writes a row of a table for each pattern that does not recur. If memory runs out, a prefix has been written.
+/// Writes a row of a table for each pattern that has one of its own. If memory runs out, a prefix has been written.
 pub fn put_strays<W: Write>(
     alloc: Global,
-    links: &Links,
+    view: &View,
     rows: &Section,
     block: &mut Block,
     writer: &mut Output<W>,
 ) -> Result<(), AllocError>
-    ensures { Puts result (in_all stray_in rows.now)
+    ensures { Puts (option_copied view.now.names) result (flat_map (stray_in view.now.patterns) rows.now)
         (sheet block.old writer.old) (sheet block.new writer.new) }
 {
     for index in 0..rows.len() {
         let row = rows.row(index);
         let behind = rows.from(index + 1);
-        put_stray(alloc, links, &row, &behind, block, writer)?;
+        put_stray(alloc, view, &row, &behind, block, writer)?;
     }
     Ok(())
 }

@@ -1,12 +1,14 @@
 //! The parts of the page before and after the table of all collections.
 use crate::html::Html;
 use crate::kind::Kind;
+use crate::kinds::count_kinds;
 use crate::options::PageOptions;
 use crate::own::{
-    CHOICES, CHOICES_END, COLLECTIONS, NOTE, NOTE_END, OSCILLATORS, OTHERS, PAGE, PATTERNS,
-    REFUSED, RESOLVED, SPACESHIPS, STILL_LIFES, STYLE, TITLE_END, TOTALS_END, UNRESOLVED,
+    ALL_OBJECTS, CHOICES, CHOICES_END, COLLECTIONS, KINDS, NOTE, NOTE_END, OSCILLATORS, OTHERS,
+    PAGE, PATTERNS, REFUSED, RESOLVED, SPACESHIPS, STILL_LIFES, STYLE, TITLE_END, TOTALS_END,
+    UNRESOLVED,
 };
-use crate::tally::{Which, count_of};
+use crate::tally::{Which, count_of, objects_of};
 use census_rows::{Class, Rows};
 use std::alloc::{AllocError, Global};
 
@@ -16,14 +18,24 @@ fn push_count(html: &mut Html, word: usize, which: Which, rows: &Rows) -> Result
     html.grouped(count_of(which, rows))
 }
 
-// Adds how many collections and patterns there are, and what became of these.
-fn push_totals(html: &mut Html, collections: u64, rows: &Rows) -> Result<(), AllocError> {
+// Adds how many collections, patterns, kinds of objects and objects there are, and what became of the patterns.
+fn push_totals(
+    alloc: Global,
+    html: &mut Html,
+    collections: u64,
+    rows: &Rows,
+) -> Result<(), AllocError> {
+    let kinds = count_kinds(alloc, rows)?;
     html.own(COLLECTIONS)?;
     html.grouped(collections)?;
     push_count(html, PATTERNS, Which::Patterns, rows)?;
     push_count(html, RESOLVED, Which::Are(Class::Resolved), rows)?;
     push_count(html, UNRESOLVED, Which::Are(Class::Unresolved), rows)?;
     push_count(html, REFUSED, Which::Are(Class::Refused), rows)?;
+    html.own(KINDS)?;
+    html.grouped(kinds)?;
+    html.own(ALL_OBJECTS)?;
+    html.grouped(objects_of(rows))?;
     html.own(TOTALS_END)
 }
 
@@ -37,8 +49,8 @@ fn push_note(alloc: Global, html: &mut Html, note: &[u8]) -> Result<(), AllocErr
     html.own(NOTE_END)
 }
 
-/// The page before the table of all collections: its title, its note, how many collections and
-/// patterns there are, and what became of these. The only error is out of memory.
+/// The page before the table of all collections: its title, its note, how many collections, patterns, kinds of objects and
+/// objects there are, and what became of the patterns. The only error is out of memory.
 pub fn front(
     alloc: Global,
     options: &PageOptions,
@@ -52,7 +64,7 @@ pub fn front(
     html.text(alloc, options.title)?;
     html.own(TITLE_END)?;
     push_note(alloc, &mut html, options.note)?;
-    push_totals(&mut html, collections, rows)?;
+    push_totals(alloc, &mut html, collections, rows)?;
     Ok(html)
 }
 

@@ -1,6 +1,6 @@
 //! How patterns grow, in words, and what they emit.
 ghost use Rattle.watched.specs.Telling.{sheet};
-ghost use Rattle.census_page.specs.Pages.{Puts};
+ghost use Rattle.census_page.specs.Pages.{PutsBits};
 
 use crate::html::Html;
 use crate::kind::{Kind, kind_of};
@@ -163,7 +163,7 @@ fn put_emitted<W: Write>(
     block: &mut Block,
     writer: &mut Output<W>,
 ) -> Result<(), AllocError>
-    ensures { Puts result 0 (sheet block.old writer.old) (sheet block.new writer.new) }
+    ensures { PutsBits result (sheet block.old writer.old) (sheet block.new writer.new) }
 {
     for index in 0..emits.len() {
         let html = emitted(alloc, linked, rule, &emits.row(index))?;
@@ -190,7 +190,7 @@ fn put_engine<W: Write>(
     block: &mut Block,
     writer: &mut Output<W>,
 ) -> Result<(), AllocError>
-    ensures { Puts result 0 (sheet block.old writer.old) (sheet block.new writer.new) }
+    ensures { PutsBits result (sheet block.old writer.old) (sheet block.new writer.new) }
 {
     if !is_engine(row) {
         return Ok(());
@@ -214,7 +214,7 @@ pub fn put_growth<W: Write>(
     block: &mut Block,
     writer: &mut Output<W>,
 ) -> Result<(), AllocError>
-    ensures { Puts result 0 (sheet block.old writer.old) (sheet block.new writer.new) }
+    ensures { PutsBits result (sheet block.old writer.old) (sheet block.new writer.new) }
 {
     for index in 0..rows.len() {
         let row = rows.row(index);

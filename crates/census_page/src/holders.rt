@@ -1,4 +1,7 @@
 //! The patterns that have a code.
+ghost use Rattle.std.specs.Prelude.{◌≡◌};
+ghost use Rattle.census_page.specs.Pages.{row_at};
+
 use crate::speed::Way;
 use census_rows::{Behind, Finding, Outcome, Row, Section};
 use std::alloc::{AllocError, Global};
@@ -45,7 +48,9 @@ pub struct Holders<'s, 'b, 'a> {
 }
 
 /// The row with this number, or the end of a report if there is none.
-pub fn row_or_end<'a>(rows: &Section<'_, 'a>, number: usize) -> Row<'a> {
+pub fn row_or_end<'a>(rows: &Section<'_, 'a>, number: usize) -> Row<'a>
+    ensures { result ≡ row_at rows.now number }
+{
     if number < rows.len() {
         rows.row(number)
     } else {

@@ -1,7 +1,7 @@
 //! HTML in which nothing but the texts of the template is markup.
 ghost use Rattle.std.specs.Prelude.{◌≡◌, ◌++◌, List, ℕ, MatchResult, true};
 ghost use Rattle.std.specs.List.{flat_map};
-ghost use Rattle.census_page.specs.Pages.{IsPage, escaped_byte, is_harmless};
+ghost use Rattle.census_page.specs.Pages.{IsHtml, escaped_byte, is_harmless};
 
 use crate::own::{COMMA, NAME, PLURAL, TOLD_END, text_of};
 use itoa::Buffer;
@@ -19,15 +19,15 @@ impl Model for Html {
 
     ghost Value = { List ℕ };
 
-    ghost use Rattle.census_page.specs.Pages.{IsPage};
+    ghost use Rattle.census_page.specs.Pages.{IsHtml};
 
     ghost view = { λ html. html.bytes.items };
 
-    ghost invariant = { λ html. IsPage 0 html.bytes.items };
+    ghost invariant = { λ html. IsHtml html.bytes.items };
 }
 
-// Adds a byte, or an entity in place of `&`, `<`, `>`, `"` and `'`.
-fn push_escaped(bytes: &mut Vec<u8>, byte: u8) -> Result<(), AllocError>
+/// Adds a byte, or an entity in place of `&`, `<`, `>`, `"` and `'`.
+pub fn push_escaped(bytes: &mut Vec<u8>, byte: u8) -> Result<(), AllocError>
     ensures { MatchResult result (λ _. bytes.new.items ≡ bytes.old.items ++ escaped_byte byte)
         (λ _. bytes.new.items ≡ bytes.old.items) }
 {
@@ -54,7 +54,7 @@ impl Html {
 
     /// The bytes of the text.
     pub fn as_slice(&self) -> &[u8]
-        ensures { IsPage 0 result.now }
+        ensures { IsHtml result.now }
     {
         self.bytes.as_slice()
     }

@@ -1,16 +1,17 @@
 //! The table of all collections, and what the page says about each as a whole.
 ghost use Rattle.watched.specs.Telling.{sheet};
-ghost use Rattle.census_page.specs.Pages.{Puts};
+ghost use Rattle.census_page.specs.Pages.{PutsBits};
 
 use crate::holders::row_or_end;
 use crate::html::Html;
 use crate::kind::Kind;
 use crate::own::{
-    CELL, CELL_END, COUNT_REFUSED, COUNT_RESOLVED, COUNT_UNRESOLVED, COUNTS, COUNTS_END, HEADING,
-    INDEX_LINK_END, INDEX_ROW, INDEX_ROW_END, LINK_TEXT, SECTION,
+    CELL, CELL_END, COUNT_KINDS, COUNT_OBJECTS, COUNT_REFUSED, COUNT_RESOLVED, COUNT_UNRESOLVED,
+    COUNTS, COUNTS_END, HEADING, INDEX_LINK_END, INDEX_ROW, INDEX_ROW_END, KIND, LINK_TEXT,
+    OBJECTS, PATH, PATH_COUNTS, SECTION,
 };
 use crate::putting::put_html;
-use crate::tally::{Which, count_among};
+use crate::tally::{Which, count_among, objects_among};
 use census_readback::Sections;
 use census_rows::{Row, Section};
 use std::alloc::{AllocError, Global};
@@ -84,7 +85,7 @@ pub fn put_index<W: Write>(
     block: &mut Block,
     writer: &mut Output<W>,
 ) -> Result<(), AllocError>
-    ensures { Puts result 0 (sheet block.old writer.old) (sheet block.new writer.new) }
+    ensures { PutsBits result (sheet block.old writer.old) (sheet block.new writer.new) }
 {
     for index in 0..sections.len() {
         let html = index_row(alloc, index as u64 + 1, &sections.section(index))?;
@@ -93,15 +94,65 @@ pub fn put_index<W: Write>(
     Ok(())
 }
 
+// The part of a path after its last slash, where slashes at its end do not count, or all of a path that has only slashes.
+fn last_part(path: &[u8]) -> &[u8] {
+    let mut first = 0;
+    let mut end = 0;
+    let mut within = false;
+    for (index, byte) in path.iter().enumerate() {
+        if *byte == b'/' {
+            within = false;
+        } else {
+            if !within {
+                first = index;
+            }
+            within = true;
+            end = index + 1;
+        }
+    }
+    match path.get(first..end) {
+        Some(part) if !part.is_empty() => part,
+        _ => path,
+    }
+}
+
+// Adds the last part of a path as a heading, and the whole path beneath it, if it has more.
+fn push_path(alloc: Global, html: &mut Html, path: &[u8]) -> Result<(), AllocError> {
+    let last = last_part(path);
+    html.own(HEADING)?;
+    html.name(alloc, last)?;
+    if last.len() == path.len() {
+        return html.own(COUNTS);
+    }
+    html.own(PATH)?;
+    html.name(alloc, path)?;
+    html.own(PATH_COUNTS)
+}
+
+// Adds how many kinds of objects and how many objects there are among rows, if there are any.
+fn push_kinds(html: &mut Html, rows: &Section) -> Result<(), AllocError> {
+    let kinds = count_among(Which::Codes, rows) as u64;
+    if kinds == 0 {
+        return Ok(());
+    }
+    let objects = objects_among(rows);
+    html.own(COUNT_KINDS)?;
+    html.grouped(kinds)?;
+    html.own(KIND)?;
+    html.plural(kinds)?;
+    html.own(COUNT_OBJECTS)?;
+    html.grouped(objects)?;
+    html.own(OBJECTS)?;
+    html.plural(objects)
+}
+
 /// The beginning of a collection with this number: its name and its counts. The only error is out of memory.
 pub fn heading(alloc: Global, number: u64, rows: &Section) -> Result<Html, AllocError> {
     let [patterns, resolved, unresolved, refused] = counts_in(rows);
     let mut html = Html::new(alloc);
     html.own(SECTION)?;
     html.number(number)?;
-    html.own(HEADING)?;
-    html.name(alloc, name_in(rows))?;
-    html.own(COUNTS)?;
+    push_path(alloc, &mut html, name_in(rows))?;
     html.grouped(patterns)?;
     html.own(COUNT_RESOLVED)?;
     html.grouped(resolved)?;
@@ -109,6 +160,7 @@ pub fn heading(alloc: Global, number: u64, rows: &Section) -> Result<Html, Alloc
     html.grouped(unresolved)?;
     html.own(COUNT_REFUSED)?;
     html.grouped(refused)?;
+    push_kinds(&mut html, rows)?;
     html.own(COUNTS_END)?;
     Ok(html)
 }

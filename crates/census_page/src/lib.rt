@@ -3,6 +3,7 @@
 //! `own` has each text that pages have from the program; all else is escaped by `html`. Tested in `tests_reports`.
 #![tactic(auto)]
 
+mod called;
 mod chosen;
 mod code_row;
 mod fate;
@@ -12,8 +13,10 @@ mod holders;
 mod html;
 mod index;
 mod kind;
+mod kinds;
 mod links;
 mod list;
+mod lives;
 mod options;
 mod own;
 mod parts;
@@ -24,6 +27,8 @@ mod sorting;
 mod speed;
 mod stroke;
 mod tally;
+mod view;
+mod walking;
 mod whole_page;
 
 pub use html::an_escaped_text_has_no_markup;

@@ -4,25 +4,18 @@ use crate::own::{
     CATALOGUE, CODE, DETAILS_END, ITEM_END, LINK, LINK_END, LINK_TEXT, LONG_CODE, LONG_CODE_CUT,
     SLASH, TIMES, WHOLE_CODE_END,
 };
+use crate::view::View;
 use percent_encoding::percent_encode_byte;
 use std::alloc::{AllocError, Global};
 
 // A code of up to `SHOWN` bytes is shown whole.
 const SHOWN: usize = 60;
 
+// A code of up to `LINKED` bytes is a link, if codes are links.
+const LINKED: usize = 100;
+
 // Of a longer code, the first `BEGINNING` bytes are shown at first.
 const BEGINNING: usize = 24;
-
-/// Which links a collection has.
-#[derive(Clone, Copy)]
-pub struct Links<'a> {
-    /// The beginning of the addresses of patterns, if names are links.
-    pub base: Option<&'a [u8]>,
-    /// The name of the collection.
-    pub collection: &'a [u8],
-    /// Whether codes are links to their pages at Catagolue.
-    pub catalogue: bool,
-}
 
 // Whether a byte stands for itself in an address.
 fn is_plain(byte: u8) -> bool {
@@ -74,15 +67,15 @@ fn push_rule(html: &mut Html, rule: &[u8]) -> Result<(), AllocError> {
 pub fn push_name(
     alloc: Global,
     html: &mut Html,
-    links: &Links,
+    view: &View,
     name: &[u8],
 ) -> Result<(), AllocError> {
-    let Some(base) = links.base else {
+    let Some(base) = view.base else {
         return html.name(alloc, name);
     };
     html.own(LINK)?;
     html.text(alloc, base)?;
-    push_path(html, links.collection)?;
+    push_path(html, view.collection)?;
     html.own(SLASH)?;
     push_step(html, name)?;
     html.own(LINK_TEXT)?;
@@ -90,7 +83,7 @@ pub fn push_name(
     html.own(LINK_END)
 }
 
-// Adds a code, as a link to its page under a rule if codes are links.
+// Adds a code, as a link to its page under a rule if codes are links and it is not too long.
 fn push_code_text(
     alloc: Global,
     html: &mut Html,
@@ -98,7 +91,7 @@ fn push_code_text(
     rule: &[u8],
     code: &[u8],
 ) -> Result<(), AllocError> {
-    if !linked {
+    if !linked || code.len() > LINKED {
         return html.text(alloc, code);
     }
     html.own(CATALOGUE)?;
@@ -124,7 +117,7 @@ fn push_whole(
 }
 
 /// Appends a code. One with more than 60 bytes is cut to its first 24, and shown whole on request. If codes are links,
-/// it leads to its page under this rule. The only error is out of memory.
+/// one with at most 100 bytes leads to its page under this rule. The only error is out of memory.
 pub fn push_code(
     alloc: Global,
     html: &mut Html,

@@ -9,6 +9,8 @@ pub enum Sort {
     Report,
     /// By falling count.
     Count,
+    /// By rising count: the rarest first.
+    Rare,
     /// By the length of codes, then by their bytes, and then by those of rules: as codes that occur equally often are in a
     /// table of codes.
     Code,
@@ -33,9 +35,10 @@ pub struct PageOptions<'a> {
     /// slash, and the name. This is written as it is, and it is up to the caller that it begins with `http://` or
     /// `https://`. With none, names are no links.
     pub base: Option<&'a [u8]>,
-    /// Whether codes are links to their pages at Catagolue.
+    /// Whether codes of at most 100 letters are links to their pages at Catagolue.
     pub links: bool,
-    /// Whether each collection has a table of its patterns that do not recur.
+    /// Whether all patterns are shown: each that has a code, behind this, and each that does not recur, in a table of its own.
+    /// Otherwise only the first that has a code is, and those that are unresolved.
     pub patterns: bool,
 }
 

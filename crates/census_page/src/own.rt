@@ -5,7 +5,12 @@ ghost use Rattle.census_page.specs.Pages.{own_text};
 /// What each row of a table of codes or patterns begins with.
 pub const ROW: &[u8] = b"<tr class=\"";
 
-/// The texts. All that a page has besides these and what its rows begin with is escaped.
+/// What the name of a code begins and ends with.
+pub const BOLD: &[u8] = b"<b>";
+
+pub const BOLD_END: &[u8] = b"</b>, ";
+
+/// The texts. All that a page has besides these, what its rows begin with and what is around the names of codes is escaped.
 const OWN: &[&[u8]] = &[
     // The frame.
     b"<!DOCTYPE html>
@@ -40,7 +45,8 @@ thead th{position:sticky;top:0;z-index:1;background:var(--head);color:var(--dim)
 tr{scroll-margin-top:2.5rem}
 tr:target{background:var(--head)}
 bdi{overflow-wrap:anywhere}
-code,small{unicode-bidi:isolate}
+b,code,small{unicode-bidi:isolate}
+b{font-weight:600;overflow-wrap:anywhere}
 .index :is(th,td){padding:.375rem .25rem}
 .index :is(th,td):nth-child(n+2){width:10%;text-align:right}
 .objects :is(th,td):nth-child(1){width:11.5%}
@@ -50,6 +56,8 @@ code,small{unicode-bidi:isolate}
 .patterns :is(th,td):nth-child(3){padding-left:1.5rem}
 svg{display:block;max-width:100%;height:auto;stroke:var(--cell)}
 .g{stroke-width:.9;stroke-dasharray:.9 .1}
+.h{margin:.75rem 0;stroke:none;fill:var(--cell);font:.75rem system-ui,sans-serif;font-variant-numeric:tabular-nums}
+.h text{fill:var(--fg)}
 th>p{text-wrap:pretty}
 th>div{display:flex;flex-wrap:wrap;align-items:baseline;gap:0 .75rem}
 code,pre{font:.8125rem/1.4 ui-monospace,monospace;overflow-wrap:anywhere}
@@ -139,6 +147,7 @@ h2,section>p{break-after:avoid}
     b"</main>
 <footer>
 <p>Cells: of the phase that is drawn, which is the one that the code describes. Population: of the first generation. Onset: the generation from which a pattern recurs. Guns, rakes and puffers: how far they move, to the right and down, and what they emit is told of one period. Unresolved: nothing was found within the bound. Refused: the text means no pattern.</p>
+<p>census 0.2.0</p>
 </footer>
 </body>
 </html>
@@ -261,6 +270,35 @@ h2,section>p{break-after:avoid}
     b" emit",
     b" leave",
     b"</div><ul>",
+    // Kinds of objects, and life spans.
+    b"</dd></div><div><dt>Kinds of objects</dt><dd>",
+    b"</dd></div><div><dt>Objects</dt><dd>",
+    b"</h2>\n<p>",
+    b"</p>\n<p>Patterns: ",
+    b". ",
+    b" kind",
+    b" of objects, ",
+    b"<p>Left out: ",
+    b" more kind",
+    b" of objects.</p>\n",
+    b"<svg class=\"h\" role=\"img\" width=\"320\" height=\"",
+    b"\" viewBox=\"0 0 320 ",
+    b"\"><title>How many patterns live how long</title>",
+    b"<text x=\"100\" y=\"",
+    b"\" text-anchor=\"end\">",
+    b"&ndash;",
+    b"</text><rect x=\"108\" y=\"",
+    b"\" height=\"12\" width=\"",
+    b"\"/><text x=\"",
+    b"\" y=\"",
+    b"\">",
+    b"</text>",
+    b"</svg>\n<p>Life spans of ",
+    b" patterns, as their onsets. Median: ",
+    b".5",
+    b". The longest:</p>\n<ul>",
+    b"</ul>\n",
+    b" <small>onset ",
 ];
 
 // The text with this number among these, or nothing if there is none.
@@ -532,3 +570,59 @@ pub const EMITS: usize = 123;
 pub const LEAVES: usize = 124;
 
 pub const ENGINE_LIST: usize = 125;
+
+pub const KINDS: usize = 126;
+
+pub const ALL_OBJECTS: usize = 127;
+
+pub const PATH: usize = 128;
+
+pub const PATH_COUNTS: usize = 129;
+
+pub const COUNT_KINDS: usize = 130;
+
+pub const KIND: usize = 131;
+
+pub const COUNT_OBJECTS: usize = 132;
+
+pub const LEFT_OUT: usize = 133;
+
+pub const MORE_KINDS: usize = 134;
+
+pub const LEFT_OUT_END: usize = 135;
+
+pub const LIVES: usize = 136;
+
+pub const LIVES_SIZE: usize = 137;
+
+pub const LIVES_TITLE: usize = 138;
+
+pub const BAR: usize = 139;
+
+pub const BAR_FROM: usize = 140;
+
+pub const BAR_TO: usize = 141;
+
+pub const BAR_RECT: usize = 142;
+
+pub const BAR_WIDTH: usize = 143;
+
+pub const BAR_COUNT: usize = 144;
+
+pub const BAR_COUNT_Y: usize = 145;
+
+pub const BAR_TEXT: usize = 146;
+
+pub const BAR_END: usize = 147;
+
+pub const LIVES_OF: usize = 148;
+
+pub const LIVES_MEDIAN: usize = 149;
+
+pub const HALF: usize = 150;
+
+pub const LIVES_LIST: usize = 151;
+
+pub const LIVES_END: usize = 152;
+
+pub const ONSET_ALONE: usize = 153;

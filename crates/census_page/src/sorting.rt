@@ -1,15 +1,19 @@
 //! The order of the rows of a table of codes.
-ghost use Rattle.std.specs.Prelude.{◌≡◌, length};
+ghost use Rattle.std.specs.Prelude.{◌≡◌, map, OnOk};
+ghost use Rattle.std.specs.List.Sorted.{IsNonDecreasingBy, IsPermutation};
+ghost use Rattle.census_page.specs.Pages.{IsInOrder, count_in, row_at};
 
 use crate::holders::{Holders, row_or_end};
 use crate::kind::period_told;
 use crate::options::Sort;
-use census_rows::Row;
+use census_rows::{Row, Section};
 use std::alloc::AllocError;
 use std::cmp::Ordering;
 
 /// How often the code of a row occurs.
-pub fn count_in(row: &Row) -> u64 {
+pub fn count_in(row: &Row) -> u64
+    ensures { result ≡ count_in row.now }
+{
     match row {
         Row::Code { count, .. } => *count,
         _ => 0,
@@ -48,7 +52,7 @@ fn shorter(one: &[u8], other: &[u8]) -> Ordering {
 // Which of two rows comes first.
 fn compared(sort: Sort, holders: &Holders, one: &Row, other: &Row) -> Ordering {
     match sort {
-        Sort::Report => Ordering::Equal,
+        Sort::Report | Sort::Rare => Ordering::Equal,
         Sort::Count => count_in(other).cmp(&count_in(one)),
         Sort::Code => shorter(code_in(one), code_in(other)).then(rule_in(one).cmp(rule_in(other))),
         Sort::Period => shorter(period_told(code_in(other)), period_told(code_in(one))),
@@ -56,21 +60,53 @@ fn compared(sort: Sort, holders: &Holders, one: &Row, other: &Row) -> Ordering {
     }
 }
 
+// How often the code of the row with this number occurs.
+fn count_at(rows: &Section, number: usize) -> u64
+    ensures { result ≡ count_in (row_at rows.now number) }
+{
+    count_in(&row_or_end(rows, number))
+}
+
+// Puts the numbers of rows in the order of how often their codes occur, the rarest first. Rows that are level in it keep their
+// order.
+fn sort_rare(rows: &Section, numbers: &mut Vec<usize>) -> Result<(), AllocError>
+    ensures permutation { IsPermutation numbers.old.items numbers.new.items }
+    ensures ordered { OnOk result (IsNonDecreasingBy count_in (map (row_at rows.now) numbers.new.items)) }
+{
+    numbers.sort_by_key(|number| count_at(rows, *number))?;
+    Ok(())
+}
+
+// Puts the numbers of rows in another order.
+fn sort_otherwise(sort: Sort, holders: &Holders, numbers: &mut Vec<usize>) -> Result<(), AllocError>
+    ensures { IsPermutation numbers.old.items numbers.new.items }
+{
+    let rows = holders.rows;
+    numbers.sort_by(|one, other| {
+        compared(
+            sort,
+            holders,
+            &row_or_end(rows, *one),
+            &row_or_end(rows, *other),
+        )
+    })
+}
+
 /// Puts the numbers of rows in an order of the rows, where these patterns have their codes. Rows that are level in it keep
 /// their order. The only error is out of memory.
 pub fn sort_rows(sort: Sort, holders: &Holders, numbers: &mut Vec<usize>) -> Result<(), AllocError>
-    ensures { length numbers.new.items ≡ length numbers.old.items }
+    ensures permutation { IsPermutation numbers.old.items numbers.new.items }
+    ensures ordered { OnOk result (IsInOrder sort (map (row_at holders.now.rows.now) numbers.new.items)) }
 {
-    let rows = holders.rows;
     match sort {
         Sort::Report => Ok(()),
-        _ => numbers.sort_by(|one, other| {
-            compared(
-                sort,
-                holders,
-                &row_or_end(rows, *one),
-                &row_or_end(rows, *other),
-            )
-        }),
+        Sort::Rare => {
+            sort_rare(holders.rows, numbers)?;
+            Ok(())
+        }
+        _ => {
+            sort_otherwise(sort, holders, numbers)?;
+            Ok(())
+        }
     }
 }

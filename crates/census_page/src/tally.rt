@@ -1,6 +1,7 @@
 //! How many rows there are of each kind.
-use crate::fate::recurs;
+use crate::fate::{has_row, recurs};
 use crate::kind::{Kind, kind_of};
+use crate::sorting::count_in;
 use census_rows::{Class, Row, Rows, Section};
 
 /// Which rows are counted.
@@ -12,8 +13,8 @@ pub enum Which {
     ShownAs(Kind),
     /// The rows that report codes.
     Codes,
-    /// The rows that report patterns that do not recur.
-    Strays,
+    /// The rows that report patterns that have a row of their own, where these are asked for or not.
+    Strays(bool),
     /// The rows that report patterns.
     Patterns,
     /// The rows that report patterns of this class.
@@ -39,7 +40,8 @@ fn counts(which: Which, row: &Row) -> bool {
             _ => false,
         },
         Row::Line { outcome, .. } => match which {
-            Which::Shown | Which::Strays => !recurs(outcome),
+            Which::Shown => !recurs(outcome),
+            Which::Strays(patterns) => has_row(patterns, outcome),
             Which::ShownAs(kind) => kind == Kind::Other && !recurs(outcome),
             Which::Codes => false,
             Which::Patterns => true,
@@ -69,4 +71,22 @@ pub fn count_among(which: Which, rows: &Section) -> usize {
         }
     }
     count
+}
+
+/// How many objects all rows report.
+pub fn objects_of(rows: &Rows) -> u64 {
+    let mut objects: u64 = 0;
+    for index in 0..rows.len() {
+        objects = objects.saturating_add(count_in(&rows.row(index)));
+    }
+    objects
+}
+
+/// How many objects borrowed rows report.
+pub fn objects_among(rows: &Section) -> u64 {
+    let mut objects: u64 = 0;
+    for index in 0..rows.len() {
+        objects = objects.saturating_add(count_in(&rows.row(index)));
+    }
+    objects
 }

@@ -1,7 +1,8 @@
 //! The page.
 ghost use Rattle.watched.specs.Telling.{sheet};
 ghost use Rattle.census_readback.specs.Shapes.{AreReports};
-ghost use Rattle.census_page.specs.Pages.{Puts, in_all, rows_in, rows_shown};
+ghost use Rattle.std.specs.Option.{option_copied};
+ghost use Rattle.census_page.specs.Pages.{AreOfAll, AreShown, PutsRows};
 
 use crate::front::{choices, front};
 use crate::index::put_index;
@@ -9,6 +10,7 @@ use crate::options::PageOptions;
 use crate::own::{INDEX, INDEX_END, PAGE_END};
 use crate::putting::{put_html, put_own};
 use crate::section::put_section;
+use census_facts::Names;
 use census_readback::{Sections, collections};
 use census_rows::Rows;
 use std::alloc::{AllocError, Global};
@@ -19,16 +21,25 @@ use watched::{Block, Output};
 fn put_sections<W: Write>(
     alloc: Global,
     options: &PageOptions,
+    names: Option<&Names>,
     sections: &Sections,
     block: &mut Block,
     writer: &mut Output<W>,
 ) -> Result<(), AllocError>
-    ensures { Puts result (in_all (rows_in options.now) sections.now)
+    ensures { PutsRows (option_copied names.entry) result (AreOfAll options.now sections.now)
         (sheet block.old writer.old) (sheet block.new writer.new) }
 {
     for index in 0..sections.len() {
         let rows = sections.section(index);
-        put_section(alloc, options, index as u64 + 1, &rows, block, writer)?;
+        put_section(
+            alloc,
+            options,
+            names,
+            index as u64 + 1,
+            &rows,
+            block,
+            writer,
+        )?;
     }
     Ok(())
 }
@@ -37,12 +48,13 @@ fn put_sections<W: Write>(
 fn put_body<W: Write>(
     alloc: Global,
     options: &PageOptions,
+    names: Option<&Names>,
     rows: &Rows,
     sections: &Sections,
     block: &mut Block,
     writer: &mut Output<W>,
 ) -> Result<(), AllocError>
-    ensures { Puts result (in_all (rows_in options.now) sections.now)
+    ensures { PutsRows (option_copied names.entry) result (AreOfAll options.now sections.now)
         (sheet block.old writer.old) (sheet block.new writer.new) }
 {
     put_own(INDEX, block, writer);
@@ -50,16 +62,18 @@ fn put_body<W: Write>(
     put_own(INDEX_END, block, writer);
     let choices = choices(alloc, rows)?;
     put_html(&choices, block, writer);
-    put_sections(alloc, options, sections, block, writer)?;
+    put_sections(alloc, options, names, sections, block, writer)?;
     put_own(PAGE_END, block, writer);
     Ok(())
 }
 
 /// Writes a report, or several in sequence, as one HTML page in UTF-8 that stands alone: it has no script, and requests
-/// nothing. First come its title and note, the counts of all patterns, a table of the collections with links to them, and a
-/// choice of what is shown. For each collection it has the name, the counts, a table with a row for each `code` row, or for
-/// the number of rows asked for, and a table of the patterns that do not recur, if that is asked for. The counts are those of
-/// all rows. No name, rule, code or option brings markup. If links are asked for, names and codes link to other places, and
+/// nothing. First come its title and note, the counts of all patterns and kinds of objects, a table of the collections with links
+/// to them, and a choice of what is shown. For each collection it has the name, the counts, how long its patterns live, if a
+/// hundred or more have become something, a table with a row for each `code` row, or for the number of rows asked for, in the
+/// order asked for, and a table of the patterns that do not recur, or if these are not asked for, of those that are unresolved.
+/// A code that has a name among the given ones has this in its row. The counts are those of all rows. No name, rule, code or
+/// option brings markup. If links are asked for, names and codes link to other places, and
 /// nothing is requested from these before a link is followed.
 ///
 /// The text of one row is in memory at a time. If memory runs out, a prefix of the page has been written. To a writer that
@@ -67,16 +81,17 @@ fn put_body<W: Write>(
 pub fn put_page<W: Write>(
     alloc: Global,
     options: &PageOptions,
+    names: Option<&Names>,
     rows: &Rows,
     block: &mut Block,
     writer: &mut Output<W>,
 ) -> Result<(), AllocError>
     requires { AreReports rows.now }
-    ensures { Puts result (rows_shown options.now rows.now)
+    ensures { PutsRows (option_copied names.entry) result (AreShown options.now rows.now)
         (sheet block.old writer.old) (sheet block.new writer.new) }
 {
     let sections = collections(alloc, rows)?;
     let front = front(alloc, options, sections.len() as u64, rows)?;
     put_html(&front, block, writer);
-    put_body(alloc, options, rows, &sections, block, writer)
+    put_body(alloc, options, names, rows, &sections, block, writer)
 }

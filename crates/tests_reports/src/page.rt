@@ -66,6 +66,12 @@ const GROWTH_TABLE: &str = "<tbody>
 </section>
 ";
 
+// Names of codes: one that a pattern has, one that brings markup, and one that no code of the reports has.
+const NAMES: &[u8] = b"xs4_33\tblock
+xq4_153\t</b><script>\"'&
+xp2_111\tblinker
+";
+
 const BLOCK: &str = "<code>xs4_33</code>";
 
 const BLINKER: &str = "<code>xp2_7</code>";
@@ -96,9 +102,11 @@ macro_rules! sorted {
     };
 }
 
-/// Options, parts that their page has one after another, and parts that it has nowhere.
+/// Options, a text of names if there is one, a report, parts that their page has one after another, and parts that it has
+/// nowhere.
 type Case = (
     PageOptions<'static>,
+    Option<&'static [u8]>,
     &'static [u8],
     &'static [&'static str],
     &'static [&'static str],
@@ -107,30 +115,74 @@ type Case = (
 const CASES: &[Case] = &[
     (
         sorted!(Report),
+        None,
         REPORT,
-        &["Others <small>2</small>", BLOCK, BLINKER, FIFTEEN, GLIDER],
-        &["<table class=\"patterns\">", "catagolue", "example"],
+        &[
+            "<dt>Kinds of objects</dt><dd>4</dd>",
+            "<dt>Objects</dt><dd>5</dd>",
+            "Others <small>2</small>",
+            "<h2><bdi>c d</bdi></h2>\n<p><bdi>a&amp;b/c d</bdi></p>\n<p>Patterns: 6.",
+            "refused: 0. 4 kinds of objects, 5 objects.</p>",
+            BLOCK,
+            BLINKER,
+            "<bdi>Blinker</bdi> <small>population 3, onset 0</small></li></ul><small>and 1 other</small>",
+            FIFTEEN,
+            GLIDER,
+            "<bdi>n</bdi> <small>B3/S23</small></th><td>5</td><td>unresolved within the bound</td>",
+        ],
+        &[
+            "<bdi>g</bdi>",
+            "<bdi>z</bdi>",
+            "catagolue",
+            "example",
+            "Left out",
+            "Life spans",
+            "<b>",
+        ],
     ),
     (
         sorted!(Count),
+        None,
         REPORT,
         &[BLINKER, BLOCK, FIFTEEN, GLIDER],
         &[],
     ),
     (
+        sorted!(Rare),
+        None,
+        REPORT,
+        &[BLOCK, FIFTEEN, GLIDER, BLINKER],
+        &[],
+    ),
+    (
+        PLAIN,
+        Some(NAMES),
+        REPORT,
+        &[
+            "<p><b>block</b>, still life of 4 cells</p>",
+            "<p>oscillator of period 2</p>",
+            "<p>oscillator of period 15</p>",
+            "<p><b>&lt;/b&gt;&lt;script&gt;&quot;&#39;&amp;</b>, spaceship c/4 diagonal, period 4</p>",
+        ],
+        &["<script", "blinker"],
+    ),
+    (
         sorted!(Code),
+        None,
         REPORT,
         &[BLINKER, BLOCK, GLIDER, FIFTEEN],
         &[],
     ),
     (
         sorted!(Period),
+        None,
         REPORT,
         &[FIFTEEN, GLIDER, BLINKER, BLOCK],
         &[],
     ),
     (
         sorted!(Name),
+        None,
         REPORT,
         &[BLINKER, FIFTEEN, BLOCK, GLIDER],
         &[],
@@ -141,11 +193,13 @@ const CASES: &[Case] = &[
             top: Some(2),
             ..PLAIN
         },
+        None,
         REPORT,
         &[
             "Still lifes <small>1</small>",
             "<p>oscillator of period 15</p>",
             "<p>spaceship c/4 diagonal, period 4</p>",
+            "</table>\n<p>Left out: 2 more kinds of objects.</p>\n",
         ],
         &[
             "<p>oscillator of period 2</p>",
@@ -158,6 +212,7 @@ const CASES: &[Case] = &[
             links: true,
             ..PLAIN
         },
+        None,
         REPORT,
         &[
             "<a href=\"https://example.org/?a=1&amp;b=&quot;&lt;&#39;&gt;\u{fffd}/a%26b/c%20d/block\"><bdi>block</bdi></a> <small>population 4",
@@ -173,6 +228,7 @@ const CASES: &[Case] = &[
             note: b"</p>&lt;'\x1b[31m\xc3",
             ..PLAIN
         },
+        None,
         b"end 0 0\n",
         &[
             "<h1>&lt;/title&gt;&lt;script&gt;alert(&quot;1&quot;)&lt;/script&gt;\0\u{fffd}</h1>",
@@ -182,6 +238,7 @@ const CASES: &[Case] = &[
     ),
     (
         PLAIN,
+        None,
         GROWTH,
         &["Others <small>6</small>", GROWTH_TABLE],
         &[],
@@ -203,8 +260,11 @@ fn stand_in_order(text: &str, parts: &[&str]) -> bool {
 #[test]
 fn a_page_has_what_is_asked_for(rt: HostRuntime) -> Result<(), Fail> {
     assert!(rt; default_options() == PLAIN);
-    for (options, report, parts, absent) in CASES {
-        let form = Form::Page { options: *options };
+    for (options, names, report, parts, absent) in CASES {
+        let form = Form::Page {
+            options: *options,
+            names: *names,
+        };
         let mut streams = Streams::new(*report, Vec::new(rt.alloc()), Vec::new(rt.alloc()));
         let reading = Reading {
             cut: false,
@@ -218,5 +278,46 @@ fn a_page_has_what_is_asked_for(rt: HostRuntime) -> Result<(), Fail> {
             assert!(rt; !text.contains(*part), "{part}");
         }
     }
+    Ok(())
+}
+
+#[test]
+fn a_page_of_many_patterns_says_how_long_they_live(rt: HostRuntime) -> Result<(), Fail> {
+    let mut report = format!(in rt.alloc(); "open 1 100 s\n")?;
+    for index in 0u64..100 {
+        let onset = index * index;
+        let line = format!(in rt.alloc();
+            "line 1 {} ok B3/S23 4 {onset} 1 0 0 xs4_33 p{index}\n",
+            index + 1
+        )?;
+        report.push_str(line.as_str())?;
+    }
+    report.push_str("code 1 B3/S23 xs4_33 100\nclose 1 100 100 0 0\nend 1 100\n")?;
+    let form = Form::Page {
+        options: PLAIN,
+        names: None,
+    };
+    let mut streams = Streams::new(
+        report.as_bytes(),
+        Vec::new(rt.alloc()),
+        Vec::new(rt.alloc()),
+    );
+    let reading = Reading {
+        cut: false,
+        limit: None,
+    };
+    write_reports(&rt, rt.alloc(), form, reading, &[], &mut streams)?;
+    let (_, output, _) = streams.into_inner();
+    let text = str::from_utf8(&output)?;
+    let parts = [
+        "text-anchor=\"end\">0&ndash;999</text>",
+        "width=\"140\"/><text x=\"254\" y=\"12\">32</text>",
+        "text-anchor=\"end\">9,000&ndash;9,999</text>",
+        ">5</text></svg>\n<p>Life spans of 100 patterns, as their onsets. Median: 2,450.5. The longest:</p>\n",
+        "<ul><li><bdi>p99</bdi> <small>onset 9,801</small></li><li><bdi>p98</bdi>",
+        "<bdi>p90</bdi> <small>onset 8,100</small></li></ul>\n<table",
+        "<li><bdi>p2</bdi> <small>population 4, onset 4</small></li></ul><details><summary>97 more</summary>",
+    ];
+    assert!(rt; stand_in_order(text, &parts));
     Ok(())
 }

@@ -5,7 +5,7 @@ use census_merge::Cut;
 use census_readback::read_report;
 use census_reports::{Form, Reading, ReportsError, merge_reports, write_reports};
 use census_rows::Rows;
-use census_table::{Format, Subject, put_table};
+use census_table::{Format, Subject, put_listing, table_of};
 use std::fs;
 use std::test::Fail;
 use watched::{Block, Output, Streams, send};
@@ -289,7 +289,8 @@ fn rows_are_written_as_a_table(rt: HostRuntime) -> Result<(), Fail> {
     }
     let mut block = Block::new(alloc);
     let mut writer = Output::new(Vec::new(alloc));
-    put_table(alloc, Format::Json, &rows, &mut block, &mut writer)?;
+    let table = table_of(alloc, Subject::Patterns, &rows)?;
+    put_listing(alloc, Format::Json, None, &table, &mut block, &mut writer)?;
     assert!(rt; send(&mut block, &mut writer).is_ok());
     assert!(rt; writer.into_inner().as_slice() == JSON);
     Ok(())

@@ -15,5 +15,6 @@ returns c =
     let with_top = adds_rule _ _ _ _ _ c.in_ok-arg-4.ensures c.top.ensures with_sort in
     let with_base = adds_rule _ _ _ _ _ c.in_ok-arg-5.ensures c.base.ensures with_top in
     let with_links = adds_rule _ _ _ _ _ c.in_ok-arg-6.ensures c.links.ensures with_base in
-    let with_no_patterns = adds_rule _ _ _ _ _ c.in_ok-page.ensures c.no_patterns.ensures with_links in
-    IfOk-weaker c.with_reading.result _ _ (λ command whole. (ap (λ (a : App). a.top) (whole.0 ∙ ap with_reading with_no_patterns.0), whole.1)) c.with_reading.ensures
+    let with_no_patterns = adds_rule _ _ _ _ _ c.in_ok-arg-7.ensures c.no_patterns.ensures with_links in
+    let with_names = adds_rule _ _ _ _ _ c.in_ok-page.ensures c.names.ensures with_no_patterns in
+    IfOk-weaker c.with_reading.result _ _ (λ command whole. (ap (λ (a : App). a.top) (whole.0 ∙ ap with_reading with_names.0), whole.1)) c.with_reading.ensures
