@@ -1382,6 +1382,8 @@ class Pages(Room):
                 with self.subTest(options):
                     self.assertEqual(self.census.page(given, **options), wanted)
         self.assertIn("<title>A &lt;b&gt;</title>", self.census.page("end 0 0\n", title="A <b>"))
+        for names in ({"xs4_33": "a <block>"}, "xs4_33\ta <block>\n"):
+            self.assertIn("<b>a &lt;block&gt;</b>", self.census.page(Codes.REPORT, names=names, sort="rare"))
         self.assertIn("</html>", self.census.page(Reports.INTERLEAVED))
 
     def test_what_is_refused(self):
@@ -1392,6 +1394,9 @@ class Pages(Room):
         for title in ("\ud800", "a\0b"):
             with self.subTest(title), self.assertRaises(CensusError):
                 program.page(Codes.REPORT, title=title)
+        for names in ({"xs4_33": ""}, {"": "block"}, {"xs4\t_33": "block"}, {"#xs4_33": "block"}, {"xs4_33": "a\nb"}, {"xs4_33": "block\r"}):
+            with self.subTest(names), self.assertRaises((ValueError, NamesFault)):
+                program.page(Codes.REPORT, names=names)
         self.assertEqual(calls(), 0)
         with self.assertRaises(ReportFault) as caught:
             program.page(Codes.REPORT[:-8])

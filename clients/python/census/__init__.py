@@ -33,7 +33,7 @@ Text = Union[str, bytes, bytearray, memoryview]
 # names of codes: a text of them, as `read_names` reads it, or names by their codes
 Names = Union[Text, Mapping[str, str]]
 # the order of the codes of a page
-Order = Literal["report", "count", "code", "period", "name"]
+Order = Literal["report", "count", "rare", "code", "period", "name"]
 # RLE texts by their names, or a list of them
 Texts = Union[Mapping[str, Text], Iterable[Text]]
 # a program or a folder
@@ -574,12 +574,14 @@ class Census:
             return _report_of(self._run([*words, *map(str, range(len(texts)))], folder=folder))
 
     def page(self, report: Text, *, title: Optional[str] = None, note: Optional[str] = None, sort: Optional[Order] = None,
-             top: Optional[int] = None, base: Optional[str] = None, links: bool = False, patterns: bool = True) -> str:
+             top: Optional[int] = None, base: Optional[str] = None, links: bool = False, patterns: bool = True,
+             names: Optional[Names] = None) -> str:
         """An HTML page of a report, or of several one after another, with a picture of each code: `census page`. It is to be kept in UTF-8.
 
         `sort` is the order of the codes, that of the report where it is None, and `top` how many of each collection are shown, 1 to
         4,294,967,295 (None: all). With `base`, which begins with `http://` or `https://`, names are links to `base`, the collection, `/` and
-        the name joined; with `links`, codes are links to Catagolue. Without `patterns` the patterns are left out.
+        the name joined; with `links`, codes are links to Catagolue. Without `patterns`, of the patterns that have a code only the first is
+        shown, and of the others those that are unresolved. `names` are names of codes.
 
         Raises what `codes` raises.
         """
@@ -587,11 +589,16 @@ class Census:
             raise ValueError(f"sort must be {', '.join(_ORDERS[:-1])} or {_ORDERS[-1]}, not {sort}")
         if base is not None and not base.startswith(("http://", "https://")):
             raise ValueError(f"base must begin with http:// or https://, not {base}")
-        texts = (("title", title), ("note", note), ("sort", sort), ("base", base))
-        ran = self._run([
+        common_names = _names_of(names)
+        texts = (("title", title), ("note", note), ("sort", sort), ("base", base), ("names", "names" if common_names else None))
+        words = [
             "page", "--explain", *(f"--{name}={_path_of(text)}" for name, text in texts if text is not None),
             *_option("top", top, _MOST_CELLS), *_flag("links", links), *_flag("no-patterns", not patterns), "-",
-        ], _bytes_of(report))
+        ]
+        with tempfile.TemporaryDirectory(prefix="census-") as folder:
+            with open(os.path.join(folder, "names"), "wb") as it:
+                it.write(_text_of_names(common_names))
+            ran = self._run(words, _bytes_of(report), folder)
         if ran.returncode == 1:
             raise _fault_of_report(ran)
         return _page_of(ran)
@@ -808,6 +815,14 @@ def _names_of(names: Optional[Names]) -> Mapping[str, str]:
     if names is None:
         return {}
     return names if isinstance(names, Mapping) else read_names(names)
+
+
+def _text_of_names(names: Mapping[str, str]) -> bytes:
+    """The text of names by their codes, as `read_names` reads it."""
+    text = b"".join(b"%s\t%s\n" % (_bytes_of(code), _bytes_of(name)) for code, name in names.items())
+    if read_names(text) != names:
+        raise ValueError("a code or a name is empty, begins or ends as a line can't, or has a tab or a line feed")
+    return text
 
 
 _Coded = TypeVar("_Coded", Pattern, Row, Code)
@@ -1031,7 +1046,7 @@ def _disagreements_of(ran: subprocess.CompletedProcess[bytes]) -> List[Disagreem
     return [Disagreement(kind, text) for kind, text in lines]
 
 
-_ORDERS = ("report", "count", "code", "period", "name")
+_ORDERS = ("report", "count", "rare", "code", "period", "name")
 _KINDS = ("wrong", "missing", "several", "unclaimed")
 _SAME = ("code", "collection_name", "collection_name_hex", "name", "name_hex", "rule")
 
