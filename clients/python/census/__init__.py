@@ -1365,7 +1365,7 @@ def _code(word: bytes) -> str:
 
 def _fits_code(period: int, displacement: Tuple[int, int], code: str) -> bool:
     """Whether a code begins as period and displacement say, and it moves by at most a cell in each generation."""
-    if max(map(abs, displacement)) > period:
+    if any(abs(way) > period for way in displacement):
         return False
     if displacement != (0, 0):
         return period > 0 and code.startswith(f"xq{period}_")
