@@ -1,5 +1,5 @@
 -- Where growth is the answer, and that this answer is right.
-use Rattle.std.proofs.Common.{◌≡◌, ℕ, zero, suc, ◌*◌, ◌≤◌, min, Bool, true, false, cond, List, Option, Some, None, inl, inr, sym, refl, ap, subst, ◌∙◌, true≢false, arith}
+use Rattle.std.proofs.Common.{◌≡◌, ℕ, zero, suc, ◌*◌, ◌==◌, ◌≤◌, min, Bool, true, false, cond, List, Option, Some, None, inl, inr, sym, refl, ap, subst, ◌∙◌, true≢false, arith}
 use Rattle.std.specs.Prelude.{is_none}
 use Rattle.std.proofs.lemmas.Bool.{cases_Bool, cases_lt}
 use Rattle.life_model.specs.Rule.{Rule}
@@ -10,9 +10,11 @@ use Rattle.life_objects.specs.Ash.{HasFallenApart}
 use Rattle.life_objects.specs.Decided.Decided.{ash_of}
 use Rattle.life_growth.specs.Growth.{IsGrowth}
 use Rattle.life_growth.proofs.OneGrowth.{engine_of, some_element}
-use Rattle.life_answer.specs.Census.{ash_onset, census_found, census_of}
+use Rattle.life_answer.specs.Answers.{outcome_of}
+use Rattle.life_answer.specs.Census.{ash_onset, census_found, census_of, counted_parts, fallen_of, unless_one}
 use Rattle.life_answer.specs.Growing.{allowed_bound, growing_or}
 use Rattle.life_answer.specs.Limited.{StaysWithin, first_past, outcome_unless_large, unless_large}
+use Rattle.life_answer.specs.Parts.{objects_in}
 use Rattle.life_answer.specs.Questions.{outcome_to}
 use Rattle.life_answer.specs.Told.{growth_told, told_of_engines}
 use Rattle.life_answer.specs.declared.finding.Outcome.{Outcome}
@@ -22,6 +24,7 @@ use Rattle.life_answer.specs.declared.question.Question.TheVariants.{Objects}
 use Rattle.life_answer.specs.declared.tale.Engines.{Engines}
 use Rattle.life_answer.proofs.Ashes.{ash_is_so, ash_no_growth}
 use Rattle.life_answer.proofs.Limits.{none_past-is}
+use Rattle.life_answer.proofs.Texts.{outcome-no_growth}
 use Rattle.life_growth.proofs.FatesLemmas.Finding.{cases_Option}
 use Rattle.life_answer.proofs.Told.{growth_is_so, growth_later_told, told_alike, told_nothing}
 
@@ -105,19 +108,27 @@ growing-else None found other e apart = e
 growing-else (Some lines) found other e apart = absurd (apart lines (sym e))
 
 -- what else is found is no growth
-census_no_growth : (near : Bool) (R : Rule) (b onset : ℕ) (found : Option (List Generation)) (lines : List Engines) →
-    census_found near R b onset found ≡ Grows lines → ⊥
-census_no_growth near R b onset None lines e = cc
-census_no_growth near R b onset (Some parts) lines e = cc
+ash_no_growth_by : (one : Bool) (recurring : Outcome) (onset : ℕ) (parts : List Part) (lines : List Engines) →
+    (recurring ≡ Grows lines → ⊥) → cond one recurring (Ash onset parts) ≡ Grows lines → ⊥
+ash_no_growth_by true recurring onset parts lines apart e = apart e
+ash_no_growth_by false recurring onset parts lines apart e = cc
+
+census_no_growth : (near : Bool) (R : Rule) (b onset : ℕ) (recurring : Outcome) (found : Option (List Generation))
+    (lines : List Engines) → (recurring ≡ Grows lines → ⊥) →
+    unless_one recurring (census_found near R b onset found) ≡ Grows lines → ⊥
+census_no_growth near R b onset recurring None lines apart e = cc
+census_no_growth near R b onset recurring (Some parts) lines apart e =
+    ash_no_growth_by (objects_in (counted_parts near R b parts) == 1) recurring onset (counted_parts near R b parts) lines apart e
 
 module _ (near : Bool) (limit : Option ℕ) (R : Rule) (G : Generation) where
   module _ (b : ℕ) where
     abbrev pub before : Outcome
-    before = outcome_unless_large limit R G (3 * b) (census_of near R G b)
+    before = outcome_unless_large limit R G (3 * b) (fallen_of near R G b)
 
     unless_no_growth : (past : Option ℕ) (found : Option (List Generation)) (lines : List Engines) →
-        unless_large (census_found near R b (ash_onset R G b) found) past ≡ Grows lines → ⊥
-    unless_no_growth None found lines e = census_no_growth near R b (ash_onset R G b) found lines e
+        unless_large (unless_one (outcome_of R G (2 * b)) (census_found near R b (ash_onset R G b) found)) past ≡ Grows lines → ⊥
+    unless_no_growth None found lines e =
+        census_no_growth near R b (ash_onset R G b) (outcome_of R G (2 * b)) found lines (outcome-no_growth R G (2 * b) lines) e
     unless_no_growth (Some n) found lines e = cc
 
     before_no_growth : (lines : List Engines) → before ≡ Grows lines → ⊥
@@ -219,7 +230,7 @@ module _ (near : Bool) (R : Rule) (G : Generation) where
       (subst (λ H. HasFallenApart R b H fallen.0) (sym (generation-zero R G)) fallen.1) q.10
 
   pub ash_answered : (limit : Option ℕ) (b onset horizon : ℕ) (parts : List Part) → census_of near R G b ≡ Ash onset parts →
-      outcome_to (Objects b limit near horizon) R G ≡ outcome_unless_large limit R G (3 * b) (census_of near R G b)
+      outcome_to (Objects b limit near horizon) R G ≡ outcome_unless_large limit R G (3 * b) (fallen_of near R G b)
   ash_answered limit b onset horizon parts ash =
       let c : ℕ = allowed near limit R G b in
       elim (cases_Option (growth_told near R (min horizon c) (generation R G c))) [

@@ -23,6 +23,7 @@ pub mod Told
 pub mod Ashes
 pub mod Rising
 pub mod Growing
+pub mod OneParts
 pub mod Moving
 pub mod Ranges
 pub mod Taken

@@ -142,7 +142,7 @@ same_finding r s f g e = cc
 settled_no_growth : (R : Rule) (G : Generation) (r : Recurrence) (lines : List Engines) → recurrence_outcome R G r ≡ Grows lines → ⊥
 settled_no_growth R G r lines e = cc
 
-outcome-no_growth : (R : Rule) (G : Generation) (b : ℕ) (lines : List Engines) → outcome_of R G b ≡ Grows lines → ⊥
+pub outcome-no_growth : (R : Rule) (G : Generation) (b : ℕ) (lines : List Engines) → outcome_of R G b ≡ Grows lines → ⊥
 outcome-no_growth R G b lines e =
     elim (settled_or_not R G b) [
       | inl found ↦ settled_no_growth R G found.recurrence lines (sym found.found ∙ e)

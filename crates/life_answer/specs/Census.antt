@@ -1,12 +1,12 @@
 -- What a pattern falls apart into, counted by codes.
-use Rattle.std.specs.Prelude.{ℕ, List, [], Bool, Option, Some, None, is_some, map, unwrap_or}
+use Rattle.std.specs.Prelude.{ℕ, ◌*◌, ◌==◌, List, [], Bool, Option, Some, None, is_some, map, unwrap_or, if◌then◌else◌}
 use Rattle.life_model.specs.Rule.{Rule}
 use Rattle.life_model.specs.Generation.{Generation}
 use Rattle.life_model.specs.Evolution.{generation}
 use Rattle.life_objects.specs.Decided.Decided.{ash_of}
 use Rattle.life_answer.specs.Answers.{outcome_of}
 use Rattle.life_answer.specs.Counted.{code_bound, counted_of}
-use Rattle.life_answer.specs.Parts.{counted_codes}
+use Rattle.life_answer.specs.Parts.{counted_codes, objects_in}
 use Rattle.life_answer.specs.Recurrence.{first_from}
 use Rattle.life_answer.specs.declared.part.Part.{Part}
 use Rattle.life_answer.specs.declared.tale.Engines.{Engines}
@@ -52,3 +52,13 @@ census_found near R b onset (Some objects) = Ash onset (counted_parts near R b o
 -- apart, where it does, or the independent parts of these.
 unfoldable pub census_of : Bool → Rule → Generation → ℕ → Outcome
 census_of near R G b = census_found near R b (ash_onset R G b) (ash_of R b (generation R G b))
+
+-- that a pattern recurs in some way, where it was found to have fallen apart into exactly one part; and otherwise what was found
+abbrev pub unless_one : Outcome → Outcome → Outcome
+unless_one recurring (Ash onset parts) = if objects_in parts == 1 then recurring else Ash onset parts
+unless_one recurring found = found
+
+-- What is reported of a set that is to fall apart within b. Where one part is left, it is what becomes of the set: it recurs as
+-- that part does, from the onset of its ash on. Neither the onset nor the period is more than b.
+abbrev pub fallen_of : Bool → Rule → Generation → ℕ → Outcome
+fallen_of near R G b = unless_one (outcome_of R G (2 * b)) (census_of near R G b)

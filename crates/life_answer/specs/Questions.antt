@@ -17,7 +17,7 @@ use Rattle.life_answer.specs.declared.finding.Outcome.{Outcome}
 use Rattle.life_answer.specs.declared.question.Question.{Question}
 use Rattle.life_answer.specs.declared.question.Question.TheVariants.{Objects, Settles}
 use Rattle.life_answer.specs.Answers.{finding_with, outcome_of}
-use Rattle.life_answer.specs.Census.{census_of}
+use Rattle.life_answer.specs.Census.{fallen_of}
 use Rattle.life_answer.specs.Growing.{allowed_bound, growing_or}
 use Rattle.life_answer.specs.Limited.{outcome_unless_large}
 use Rattle.life_answer.specs.Told.{growth_told}
@@ -56,7 +56,7 @@ outcome_to (Settles bound cells) R G = outcome_unless_large cells R G bound (out
 outcome_to (Objects bound cells near horizon) R G =
     let c = allowed_bound cells R G bound in
     growing_or (growth_told near R (min horizon c) (generation R G c))
-    (outcome_unless_large cells R G (3 * bound) (census_of near R G bound))
+    (outcome_unless_large cells R G (3 * bound) (fallen_of near R G bound))
 
 -- what is found for a set
 abbrev pub finding_to : Question → Rule → Generation → Finding

@@ -14,7 +14,7 @@ ghost use Rattle.life_objects.specs.Kinds.{AreAlike};
 ghost use Rattle.life_growth.specs.Engine.{Emits, IsEngine, IsEngineWithin, Way};
 ghost use Rattle.life_growth.specs.Growth.{IsGrowth};
 ghost use Rattle.life_growth.specs.Told.{AreToldAlike};
-ghost use Rattle.life_answer.specs.Census.{census_of, counted_parts};
+ghost use Rattle.life_answer.specs.Census.{census_of, counted_parts, fallen_of};
 ghost use Rattle.life_answer.specs.Counted.{counted_of};
 ghost use Rattle.life_answer.specs.CountedTales.{counted_tales, engines_in, same_tale, tale_cmp};
 ghost use Rattle.life_answer.specs.Limited.{StaysWithin, outcome_unless_large};
@@ -124,7 +124,7 @@ pub fn what_is_answered_is_right()
         ((c h : ℕ) (S : Generation) (Es : List Generation) → h ≤ c → h ≤ horizon → c ≤ b → StaysWithin limit R G (4 * c) →
         IsGrowth R h (generation R G c) Es S → ⊥) →
         outcome_to (Objects b limit near horizon) R G
-        ≡ outcome_unless_large limit R G (3 * b) (census_of near R G b) }
+        ≡ outcome_unless_large limit R G (3 * b) (fallen_of near R G b) }
     ensures lasts { (near : Bool) (limit : Option ℕ) (R : Rule) (b c horizon further : ℕ) (G : Generation)
         (told : List Engines) → b ≤ c → horizon ≤ further →
         outcome_to (Objects b limit near horizon) R G ≡ Grows told →
@@ -155,7 +155,7 @@ pub fn what_is_ash_never_grows()
         outcome_to (Objects c limit close horizon) R G ≡ Grows told → ⊥ }
     ensures found { (near : Bool) (limit : Option ℕ) (R : Rule) (b onset horizon : ℕ) (G : Generation) (parts : List Part) →
         census_of near R G b ≡ Ash onset parts → outcome_to (Objects b limit near horizon) R G
-        ≡ outcome_unless_large limit R G (3 * b) (census_of near R G b) }
+        ≡ outcome_unless_large limit R G (3 * b) (fallen_of near R G b) }
 {}
 
 /// What is reported about growth is true for ever. Take a number of generations that is a whole number of periods of each

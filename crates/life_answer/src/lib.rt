@@ -17,7 +17,8 @@ mod refusal;
 mod tale;
 
 pub use ash_laws::{
-    a_census_lasts, ash_that_is_seen_sooner_is_found, nothing_else_is_ash, the_census_is_right,
+    a_census_lasts, ash_of_one_part_recurs, ash_that_is_seen_sooner_is_found, nothing_else_is_ash,
+    the_census_is_right,
 };
 pub use code::Code;
 pub use engine_list::EngineList;

@@ -10,7 +10,7 @@ pub enum Question {
         /// The greatest number of cells that a generation from 0 to the bound may have; none: any number.
         cells: Option<u32>,
     },
-    /// Into which objects it has fallen apart, or by which engines it grows.
+    /// Into which objects it has fallen apart, how it recurs where that is one, or by which engines it grows.
     Objects {
         /// The generation by which it is to have fallen apart, and the longest period of an object: 1 to 100,000.
         bound: u32,

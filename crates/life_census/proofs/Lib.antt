@@ -13,3 +13,4 @@ pub mod Emissions
 pub mod OneByOne
 pub mod Refused
 pub mod OneIsland
+pub mod OnePart

@@ -48,11 +48,11 @@ fn answer_on<P: Plane, W: Observer>(
     }
 }
 
-/// What is found of an RLE text within the bound: the rule, and what the objects of the pattern that it means count as, by codes,
-/// where it falls apart, or the engines by which it grows within the horizon; or the number of its fault. The bound is 1 to
-/// 100,000 generations, and the horizon 1 to 10,000. With a limit no generation from 0 to three times the bound may have more
-/// cells. What is near one another counts as one object where that is asked for; otherwise the independent parts of each object
-/// count.
+/// What is found of an RLE text within the bound: the rule, and how the pattern that it means recurs, where that falls apart
+/// into one object, or what its objects count as, by codes, where it falls apart into none or several, or the engines by which
+/// it grows within the horizon; or the number of its fault. The bound is 1 to 100,000 generations, and the horizon 1 to 10,000.
+/// With a limit no generation from 0 to three times the bound may have more cells. What is near one another counts as one
+/// object where that is asked for; otherwise the independent parts of each object count.
 ///
 /// It may look at generations past the bound, up to four times the bound. Those on the way, up to three times the bound, are
 /// reported to an observer.

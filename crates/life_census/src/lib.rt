@@ -1,7 +1,7 @@
 //! The census of a pattern: the objects that it falls apart into, or the independent parts of these, counted by codes, or the
 //! engines by which it grows.
 //!
-//! Tested in `tests_objects` and `tests_objects`.
+//! Tested in `tests_objects`.
 #![tactic(auto)]
 
 mod allowed;

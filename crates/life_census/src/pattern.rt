@@ -6,10 +6,11 @@ ghost use Rattle.life_model.specs.Rule.{Rule as ModelRule};
 ghost use Rattle.life_model.specs.Generation as generations;
 ghost use Rattle.life_cells.specs.Limits.{IsWithin};
 ghost use Rattle.life_objects.specs.Ash.{IsAsh};
-ghost use Rattle.life_answer.specs.Census.{census_of};
+ghost use Rattle.life_answer.specs.Census.{fallen_of};
 ghost use Rattle.life_answer.specs.Growing.{allowed_bound, growing_or};
 ghost use Rattle.life_answer.specs.Questions.{finding_to, outcome_to};
 ghost use Rattle.life_answer.specs.Told.{growth_told};
+ghost use Rattle.life_answer.specs.declared.finding.Outcome.TheVariants.{Recurs};
 ghost use Rattle.life_answer.specs.declared.question.Question.TheVariants.{Objects};
 ghost use Rattle.life_apart.specs.Sets.{IsCourseBy, sets_of};
 ghost use Rattle.life_apart.specs.Onsets.Moments.{IsMomentOf};
@@ -21,18 +22,19 @@ use crate::parts::parts_of;
 use crate::seen::Seen;
 use crate::telling::told;
 use crate::walk::seen;
-use life_answer::{EngineList, Finding, Outcome};
+use life_answer::{Code, EngineList, Finding, Outcome, Part};
 use life_apart::{Trail, onset};
 use life_ash::{Ash, Fate};
 use life_cells::{CellList, Rule};
 use life_growing::Growth;
-use life_orbit::BOUND_LIMIT;
+use life_orbit::{BOUND_LIMIT, Orbit};
 use life_plane::{Observer, Plane};
 use life_things::WAY_LIMIT;
 use std::alloc::{AllocError, Global};
 
 /// What becomes of a pattern, by the ash that its generation of this age is and some generations on a trail: the first generation
-/// that is ash, and what the objects count as, by codes. It is the same within each bound that is no less than the age.
+/// that is ash, and what the objects count as, by codes; or how it recurs from that generation on, where they count as one. It is
+/// the same within each bound that is no less than the age.
 fn outcome_of_ash<P: Plane>(
     alloc: Global,
     rule: &Rule,
@@ -49,12 +51,29 @@ fn outcome_of_ash<P: Plane>(
     requires ash { (b : ℕ) × IsAsh rule.now b (generation rule.now cells.now age) (sets_of ash.now) }
     ensures { IfOk result (λ outcome. (b : ℕ) → age ≤ b →
         IsAsh rule.now b (generation rule.now cells.now age) (sets_of ash.now) →
-        outcome ≡ census_of near rule.now cells.now b) }
+        outcome ≡ fallen_of near rule.now cells.now b) }
 {
     let orbits = ash.orbits();
-    Ok(Outcome::Ash {
-        onset: onset::<P>(alloc, rule, cells, trail, orbits, age)?,
-        parts: parts_of(alloc, orbits, near)?,
+    let onset = onset::<P>(alloc, rule, cells, trail, orbits, age)?;
+    let parts = parts_of(alloc, orbits, near)?;
+    if parts.count() != 1 {
+        return Ok(Outcome::Ash { onset, parts });
+    }
+    recurring(alloc, onset, &orbits[0], &parts.as_slice()[0])
+}
+
+/// That a pattern recurs from this onset on, as an orbit's set does, which counts as this part.
+fn recurring(alloc: Global, onset: u32, orbit: &Orbit, part: &Part) -> Result<Outcome, AllocError>
+    ensures { IfOk result (λ outcome. outcome
+        ≡ Recurs onset orbit.now.period orbit.now.displacement.0 orbit.now.displacement.1 part.now.code) }
+{
+    let (dx, dy) = orbit.displacement();
+    Ok(Outcome::Recurs {
+        onset,
+        period: orbit.period(),
+        dx,
+        dy,
+        code: Code::of(alloc, part.code.as_slice())?,
     })
 }
 
@@ -121,12 +140,13 @@ fn outcome_of_fate<P: Plane>(
     }
 }
 
-/// What a pattern falls apart into within the bound, counted by codes, and the first generation that is ash: `Ash` exactly where
-/// it falls apart. Otherwise the engines by which it grows, counted by what is reported of each, and with the codes of what it
-/// emits: `Grows` exactly where it grows within the horizon, as seen within the greatest bound, up to this one, such that no
-/// generation up to four times that bound has more cells than it may have. Otherwise `Large`, with the first such generation,
-/// where some generation from 0 to three times the bound has more cells than it may have; and that goes before `Ash`. Otherwise
-/// `Unresolved`.
+/// What becomes of a pattern within the bound. `Recurs` exactly where it falls apart into one object: it recurs as that one
+/// does, from the first generation that is ash on. `Ash` exactly where it falls apart into none or several: that generation,
+/// and the objects, counted by codes. Otherwise the engines by which it grows, counted by what is reported of each, and with
+/// the codes of what it emits: `Grows` exactly where it grows within the horizon, as seen within the greatest bound, up to this
+/// one, such that no generation up to four times that bound has more cells than it may have. Otherwise `Large`, with the first
+/// such generation, where some generation from 0 to three times the bound has more cells than it may have; and that goes before
+/// `Recurs` and `Ash`. Otherwise `Unresolved`.
 ///
 /// The bound is 1 to 100,000 generations, and the horizon 1 to 10,000. What is near one another counts as one object where that
 /// is asked for; otherwise the independent parts of each object count. The generations on the way, up to three times the bound,

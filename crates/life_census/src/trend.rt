@@ -45,8 +45,19 @@ fn is_rising(counts: &[u64]) -> bool {
     false
 }
 
+/// Whether the counts so far leave a period, up to a third of the `length` counts that there will be, in which they may rise by the
+/// same each time. There are at least as many counts as two such periods have.
+fn may_rise(counts: &[u64], length: usize) -> bool {
+    for period in 1..(length / 3).min(counts.len() / 2) + 1 {
+        if rise_alike(counts, period) {
+            return true;
+        }
+    }
+    false
+}
+
 /// Whether the population of a plane's cells seems to rise steadily over the next `length` generations. Neither answer is
-/// certain.
+/// certain. Where three quarters of them show that it does not, the last quarter is spared.
 pub fn rises_steadily<P: Plane>(
     alloc: Global,
     plane: &P,
@@ -57,7 +68,10 @@ pub fn rises_steadily<P: Plane>(
 {
     let mut later = plane.copy()?;
     let mut counts = Vec::new(alloc);
-    'steps: for _ in 0..length {
+    'steps: for age in 0..length {
+        if age == length / 4 * 3 && !may_rise(counts.as_slice(), length as usize) {
+            return Ok(false);
+        }
         counts.push(later.population())?;
         later.step(rule)?;
     }

@@ -23,8 +23,9 @@ use life_things::WAY_LIMIT;
 use std::alloc::{AllocError, Global};
 use std::mem;
 
-/// The first age at which growth is searched for. Each further one is twice the one before it.
-const FIRST_LOOK: u32 = 512;
+/// The first age at which the population is noted. At each further one, twice the one before it, growth is searched for where the
+/// population has risen since.
+const FIRST_LOOK: u32 = 256;
 
 /// After the bound, patterns are checked for falling apart late for this many times the horizon. That spares the search for their
 /// growth, which costs about as much.
@@ -185,8 +186,8 @@ fn seen_at_bound<P: Plane>(
 }
 
 /// What is seen of a pattern within the bound. On the way there it is checked now and then for having fallen apart, and each time
-/// that the age has doubled for growth, where its population rises steadily. The generations on the way are reported to an
-/// observer.
+/// that the age has doubled for growth, where its population has risen since then and rises steadily. The generations on the way
+/// are reported to an observer.
 pub fn seen<P: Plane, W: Observer>(
     alloc: Global,
     observer: &W,
@@ -206,15 +207,20 @@ pub fn seen<P: Plane, W: Observer>(
     let mut pace = Pace::new();
     let mut trail = Trail::new(alloc);
     let mut next = FIRST_LOOK;
+    let mut before = u64::MAX;
     'looks: while next < bound {
         if let Some(fate) = fate_before(
             alloc, observer, &mut plane, &mut met, &mut pace, &mut trail, limit, next,
         )? {
             return Ok(Seen::Becomes { fate });
         }
-        if let Some(growth) = growth_on_the_way(alloc, &plane, rule, cells, limit, horizon)? {
-            return Ok(Seen::Grows { growth });
+        let population = plane.population();
+        if population > before {
+            if let Some(growth) = growth_on_the_way(alloc, &plane, rule, cells, limit, horizon)? {
+                return Ok(Seen::Grows { growth });
+            }
         }
+        before = population;
         next *= 2;
     }
     if let Some(fate) = fate_before(
