@@ -6,69 +6,18 @@ use Rattle.std.proofs.lemmas.List.Folds.{list_any_at, sum_by-replicate}
 use Rattle.std.proofs.lemmas.List.Sums.{sum_by-append, sum_by-cons}
 use Rattle.std.specs.List.{All, list_any, count_by}
 use Rattle.census_bundle.specs.declared.bundle.Entry.{Entry}
-use Rattle.life_answer.specs.Census.{census_found, census_of, parts_found}
-use Rattle.life_answer.specs.Growing.{allowed_bound}
-use Rattle.life_answer.specs.Limited.{first_past, unless_large}
-use Rattle.life_answer.specs.Questions.{answer_to, answer_to_question}
-use Rattle.life_answer.specs.Told.{growth_told}
 use Rattle.life_answer.specs.declared.finding.Answer.{Answer}
 use Rattle.life_answer.specs.declared.finding.Answer.TheVariants.{Found, Refused}
-use Rattle.life_answer.specs.declared.finding.Finding.{Finding}
 use Rattle.life_answer.specs.declared.finding.Outcome.{Outcome}
-use Rattle.life_answer.specs.declared.finding.Outcome.TheVariants.{Recurs, Ash, Grows}
+use Rattle.life_answer.specs.declared.finding.Outcome.TheVariants.{Recurs, Ash}
 use Rattle.life_answer.specs.declared.part.Part.{Part}
 use Rattle.life_answer.specs.declared.question.Question.TheVariants as question
-use Rattle.life_answer.specs.declared.tale.Engines.{Engines}
-use Rattle.life_answer.proofs.Growing.{growing-else}
-use Rattle.life_answer.proofs.Texts.{same_finding}
-use Rattle.life_model.specs.Evolution.{generation}
-use Rattle.life_model.specs.Generation.{Generation}
 use Rattle.life_model.specs.Rule.{Rule}
-use Rattle.life_text.specs.declared.rle.RleFault.{RleFault}
-use Rattle.life_text.specs.Picture.{Picture, picture_of}
-use Rattle.life_text.specs.Rle.{reading}
 use Rattle.census_format.specs.Lines.{answer_to_entry, answers}
 use Rattle.census_format.specs.Objects.{Object, object, objects, outcome_objects, part_objects, same_object, distinct_elements, tally}
 use Rattle.census_format.specs.ObjectLaws.{one_object, same_itself}
-use Rattle.census_format.specs.PartCounts.{parts_as, fallen_as, all_fallen_as, CountsParts, CodesCountParts}
-use Rattle.census_format.proofs.Lost.{found_answer}
+use Rattle.census_format.specs.PartCounts.{parts_as, outcome_as, fallen_as, all_fallen_as, CountsParts, CodesCountParts}
 use Rattle.census_format.proofs.Tallies.{count_first, count_map, count_none, any_distinct, count_distinct}
-
--- ---- where objects are asked for, no pattern is said to recur
-
-module _ (onset period : ℕ) (dx dy : ℤ) (code : List ℕ) where
-  census_found-apart : (near : Bool) (R : Rule) (b from : ℕ) (o : Option (List Generation)) → census_found near R b from o ≡ Recurs onset period dx dy code → ⊥
-  census_found-apart near R b from None e = cc
-  census_found-apart near R b from (Some parts) e = cc
-
-  census_of-apart : (near : Bool) (R : Rule) (G : Generation) (b : ℕ) → census_of near R G b ≡ Recurs onset period dx dy code → ⊥
-  unfolding census_of
-  census_of-apart near R G b e = census_found-apart near R b _ _ e
-
-  large_apart : (found : Outcome) (o : Option ℕ) → (found ≡ Recurs onset period dx dy code → ⊥) → unless_large found o ≡ Recurs onset period dx dy code → ⊥
-  large_apart found None apart e = apart e
-  large_apart found (Some n) apart e = cc
-
-  recurs_no_growth : (lines : List Engines) → Recurs onset period dx dy code ≡ Grows lines → ⊥
-  recurs_no_growth lines e = cc
-
-  answer_apart : (bound : ℕ) (most : Option ℕ) (near : Bool) (horizon : ℕ) (rule : Rule) (finding : Finding) (r : Result Picture RleFault) → answer_to (question.Objects bound most near horizon) r ≡ Found rule finding
-      → finding.outcome ≡ Recurs onset period dx dy code → ⊥
-  answer_apart bound most near horizon rule finding (Ok pattern) e recurs =
-      let R = pattern.rule in
-      let G = pattern.cells in
-      let past = first_past most R G (3 * bound) in
-      let c : ℕ = allowed_bound most R G bound in
-      large_apart (census_of near R G bound) past (census_of-apart near R G bound)
-      (growing-else (growth_told near R (min horizon c) (generation R G c)) (unless_large (census_of near R G bound) past)
-      (Recurs onset period dx dy code)
-      (ap (λ (f : Finding). f.outcome) (same_finding R rule _ _ e) ∙ recurs) recurs_no_growth)
-  answer_apart bound most near horizon rule finding (Err fault) e recurs = cc
-
-  no_recurrence : (bound : ℕ) (most : Option ℕ) (near : Bool) (horizon : ℕ) (text : List ℕ) (rule : Rule) (finding : Finding) → answer_to_question (question.Objects bound most near horizon) text ≡ Found rule finding
-      → finding.outcome ≡ Recurs onset period dx dy code → ⊥
-  unfolding answer_to_question
-  no_recurrence bound most near horizon text rule finding e recurs = answer_apart bound most near horizon rule finding (picture_of (reading text)) e recurs
 
 -- ---- the objects with a rule and a code
 
@@ -89,12 +38,12 @@ count_parts k rule (part ∷ parts) =
     ∙ ap (λ n. n + count_by (same_object k) (part_objects rule parts)) (count_replicate (same_object k) part.count (object rule part.code))
     ∙ ap (λ n. cond (same_object k (object rule part.code)) part.count 0 + n) (count_parts k rule parts)
 
-count_outcome : (k : Object) (rule : Rule) (outcome : Outcome) (rest : List Object) → ((onset period : ℕ) (dx dy : ℤ) (code : List ℕ) → outcome ≡ Recurs onset period dx dy code → ⊥)
-    → count_by (same_object k) (outcome_objects rule outcome ++ rest) ≡ parts_as k rule (parts_found outcome) + count_by (same_object k) rest
-count_outcome k rule (Recurs onset period dx dy code) rest apart = absurd (apart onset period dx dy code refl)
-count_outcome k rule (Ash onset parts) rest apart =
+count_outcome : (k : Object) (rule : Rule) (outcome : Outcome) (rest : List Object) →
+    count_by (same_object k) (outcome_objects rule outcome ++ rest) ≡ outcome_as k rule outcome + count_by (same_object k) rest
+count_outcome k rule (Recurs onset period dx dy code) rest = count_first (same_object k) (object rule code) rest
+count_outcome k rule (Ash onset parts) rest =
     count_append (same_object k) (part_objects rule parts) rest ∙ ap (λ n. n + count_by (same_object k) rest) (count_parts k rule parts)
-count_outcome k rule _ rest apart = sym (zero-add (count_by (same_object k) rest))
+count_outcome k rule _ rest = sym (zero-add (count_by (same_object k) rest))
 
 module _ (bound : ℕ) (most : Option ℕ) (near : Bool) (horizon : ℕ) where
   abbrev answer_in : Entry → Answer
@@ -103,16 +52,15 @@ module _ (bound : ℕ) (most : Option ℕ) (near : Bool) (horizon : ℕ) where
   abbrev all_objects : List Entry → List Object
   all_objects es = objects (answers (question.Objects bound most near horizon) es)
 
-  count_answer : (k : Object) (e : Entry) (a : Answer) (rest : List Answer) → answer_in e ≡ a → count_by (same_object k) (objects (a ∷ rest)) ≡ fallen_as k a + count_by (same_object k) (objects rest)
-  count_answer k e (Found rule finding) rest is =
-      count_outcome k rule finding.outcome (objects rest)
-      (λ onset period dx dy code recurs. no_recurrence onset period dx dy code bound most near horizon e.text rule finding (found_answer (question.Objects bound most near horizon) e rule finding is) recurs)
-  count_answer k e (Refused number) rest is = sym (zero-add (count_by (same_object k) (objects rest)))
+  count_answer : (k : Object) (a : Answer) (rest : List Answer) →
+      count_by (same_object k) (objects (a ∷ rest)) ≡ fallen_as k a + count_by (same_object k) (objects rest)
+  count_answer k (Found rule finding) rest = count_outcome k rule finding.outcome (objects rest)
+  count_answer k (Refused number) rest = sym (zero-add (count_by (same_object k) (objects rest)))
 
   count_all : (k : Object) (es : List Entry) → count_by (same_object k) (all_objects es) ≡ all_fallen_as bound most near horizon es k
   count_all k [] = refl
   count_all k (e ∷ es) =
-      count_answer k e (answer_in e) (answers (question.Objects bound most near horizon) es) refl
+      count_answer k (answer_in e) (answers (question.Objects bound most near horizon) es)
       ∙ ap (λ n. fallen_as k (answer_in e) + n) (count_all k es)
       ∙ sym (sum_by-cons (λ (x : Entry). fallen_as k (answer_in x)) e es)
 

@@ -1,10 +1,13 @@
--- What the counts of a closing say of the objects that patterns fall apart into, by what these count as.
+-- What the counts of a closing say of the objects that patterns fall apart into, by what these count as, where objects are asked
+-- for.
 use Rattle.std.specs.Prelude.{◌≡◌, ℕ, ◌+◌, ◌≤◌, Bool, if◌then◌else◌, List, [], ◌∷◌, Option, count_by}
 use Rattle.std.specs.List.{All, sum_by}
 use Rattle.census_bundle.specs.declared.bundle.Entry.{Entry}
 use Rattle.life_answer.specs.declared.finding.Answer.{Answer}
 use Rattle.life_answer.specs.declared.finding.Answer.TheVariants.{Found, Refused}
 use Rattle.life_answer.specs.Census.{parts_found}
+use Rattle.life_answer.specs.declared.finding.Outcome.{Outcome}
+use Rattle.life_answer.specs.declared.finding.Outcome.TheVariants.{Recurs}
 use Rattle.life_answer.specs.declared.part.Part.{Part}
 use Rattle.life_answer.specs.declared.question.Question.TheVariants as question
 use Rattle.life_model.specs.Rule.{Rule}
@@ -16,9 +19,14 @@ abbrev pub parts_as : Object → Rule → List Part → ℕ
 parts_as k rule [] = 0
 parts_as k rule (part ∷ parts) = (if same_object k (object rule part.code) then part.count else 0) + parts_as k rule parts
 
+-- how many objects with this rule and code an outcome counts as: what recurs is one object
+abbrev pub outcome_as : Object → Rule → Outcome → ℕ
+outcome_as k rule (Recurs onset period dx dy code) = if same_object k (object rule code) then 1 else 0
+outcome_as k rule outcome = parts_as k rule (parts_found outcome)
+
 -- how many objects with this rule and code are counted of a pattern of which this was found
 abbrev pub fallen_as : Object → Answer → ℕ
-fallen_as k (Found rule finding) = parts_as k rule (parts_found finding.outcome)
+fallen_as k (Found rule finding) = outcome_as k rule finding.outcome
 fallen_as k (Refused number) = 0
 
 -- how many objects with this rule and code are counted of these patterns in all
