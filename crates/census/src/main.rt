@@ -3,13 +3,18 @@
 #![tactic(auto)]
 
 mod announced;
+mod line;
+mod pace;
+mod progress;
 mod screen;
 mod short_name;
 mod shown;
+mod slots;
 
 use announced::Announced;
 use census_command::{Streams, program};
-use screen::{Progress, Screen};
+use progress::Progress;
+use screen::Screen;
 use shown::Shown;
 use std::io::IsTerminal;
 use std::process::ExitCode;

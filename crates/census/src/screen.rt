@@ -1,8 +1,10 @@
 //! The line at a terminal that shows the progress of a run, or of a pattern.
-use crate::short_name::ShortName;
-use census_bundle::Ticket;
-use census_crew::Gate;
+use crate::line::{Line, write_head};
+use crate::pace::Pace;
+use crate::short_name::{LONGEST, ShortName};
+use crate::slots::Slots;
 use std::io::Eprint;
+use std::sync::Mutex;
 use std::sync::atomic::{AtomicBool, AtomicU64, Ordering};
 use std::time::Clock;
 
@@ -25,10 +27,14 @@ pub struct Screen<'a, R> {
     stands: AtomicBool,
     /// How many patterns the run has, or 0 where none has begun.
     patterns: AtomicU64,
-    /// How many of them were taken by workers.
-    taken: AtomicU64,
+    /// How many of them workers have finished with.
+    finished: AtomicU64,
     /// The millisecond from which on progress may be shown again; the greatest number where none is known.
     next: AtomicU64,
+    /// How fast the run is. It is locked only while it is looked at.
+    pace: Mutex<Pace>,
+    /// What the workers of the run work on.
+    slots: Slots,
 }
 
 impl<'a, R: Clock + Eprint> Screen<'a, R> {
@@ -39,8 +45,10 @@ impl<'a, R: Clock + Eprint> Screen<'a, R> {
             is_terminal,
             stands: AtomicBool::new(false),
             patterns: AtomicU64::new(0),
-            taken: AtomicU64::new(0),
+            finished: AtomicU64::new(0),
             next: AtomicU64::new(u64::MAX),
+            pace: Mutex::new(Pace::new(0)),
+            slots: Slots::new(),
         }
     }
 
@@ -66,26 +74,53 @@ impl<'a, R: Clock + Eprint> Screen<'a, R> {
         }
     }
 
-    // A run of `patterns` patterns is about to begin.
-    fn begin(&self, patterns: u64) {
-        if self.is_terminal {
-            self.patterns.store(patterns, Ordering::SeqCst);
-            self.taken.store(0, Ordering::SeqCst);
-            let due = self.now().saturating_add(PATIENCE);
-            self.next.store(due, Ordering::SeqCst);
+    // Whether a run has begun whose progress is shown.
+    fn is_running(&self) -> bool {
+        self.next.load(Ordering::SeqCst) < u64::MAX
+    }
+
+    /// A run of `patterns` patterns is about to begin.
+    pub(crate) fn begin(&self, patterns: u64) {
+        if !self.is_terminal {
+            return;
+        }
+        let now = self.now();
+        self.patterns.store(patterns, Ordering::SeqCst);
+        self.finished.store(0, Ordering::SeqCst);
+        if let Some(mut pace) = self.pace.try_lock() {
+            *pace = Pace::new(now);
+        }
+        self.next
+            .store(now.saturating_add(PATIENCE), Ordering::SeqCst);
+    }
+
+    /// A worker works a pattern from now on.
+    pub(crate) fn start(&self, worker: u32, collection: &[u8], name: &[u8]) {
+        if self.is_running() {
+            let now = self.now();
+            self.slots.start(worker, now, collection, name);
+            self.tell(now);
         }
     }
 
-    // A worker took a ticket.
-    fn take_one(&self) {
-        if self.is_terminal {
-            let before = self.taken.fetch_add(1, Ordering::SeqCst);
-            self.tell(before.saturating_add(1));
+    /// A worker has come to a generation of its pattern.
+    pub(crate) fn advance(&self, worker: u32, generation: u32) {
+        if self.is_running() {
+            self.slots.advance(worker, generation);
+            self.tell(self.now());
         }
     }
 
-    // The run has ended.
-    fn end(&self) {
+    /// A worker has finished with its pattern.
+    pub(crate) fn finish(&self, worker: u32) {
+        if self.is_running() {
+            self.slots.finish(worker);
+            self.finished.fetch_add(1, Ordering::SeqCst);
+        }
+    }
+
+    /// The run has ended.
+    pub(crate) fn end(&self) {
         self.next.store(u64::MAX, Ordering::SeqCst);
         self.wipe();
     }
@@ -106,18 +141,29 @@ impl<'a, R: Clock + Eprint> Screen<'a, R> {
         is_first
     }
 
-    // Shows the progress of the run, where that is due.
-    fn tell(&self, taken: u64) {
-        let next = self.next.load(Ordering::SeqCst);
-        let now = self.now();
-        if self.is_due(next, now) {
-            let patterns = self.patterns.load(Ordering::SeqCst);
-            let _ = eprint!(self.rt; "\rcensus: {taken} of {patterns} patterns");
-        }
+    // How many seconds are left of the run, if that is known.
+    fn left(&self, now: u64, finished: u64, patterns: u64) -> Option<u64> {
+        let mut pace = self.pace.try_lock()?;
+        pace.left(now, finished, patterns)
     }
 
-    // The pattern of a file has reached generation `generation` of `last`.
-    fn reach(&self, name: &[u8], generation: u32, last: u32) {
+    // Shows the progress of the run, where that is due.
+    fn tell(&self, now: u64) {
+        let next = self.next.load(Ordering::SeqCst);
+        if !self.is_due(next, now) {
+            return;
+        }
+        let finished = self.finished.load(Ordering::SeqCst);
+        let patterns = self.patterns.load(Ordering::SeqCst);
+        let seconds = self.left(now, finished, patterns);
+        let mut line = Line::new();
+        let _ = write_head(&mut line, finished, patterns, seconds);
+        self.slots.write_longest(&mut line);
+        let _ = eprint!(self.rt; "\r{line}\x1b[K");
+    }
+
+    /// The pattern of a file has reached generation `generation` of `last`.
+    pub(crate) fn reach(&self, name: &[u8], generation: u32, last: u32) {
         if !self.is_terminal || generation % STRIDE != 0 {
             return;
         }
@@ -127,43 +173,11 @@ impl<'a, R: Clock + Eprint> Screen<'a, R> {
             let due = now.saturating_add(PATIENCE);
             self.next.store(due, Ordering::SeqCst);
         } else if self.is_due(next, now) {
-            let name = ShortName(name);
+            let name = ShortName {
+                name,
+                columns: LONGEST,
+            };
             let _ = eprint!(self.rt; "\rcensus: {name}, generation {generation} of {last}\x1b[K");
         }
-    }
-}
-
-/// The gate of a program at a terminal: it shows on a screen the progress of a run, or of a pattern, and holds no worker.
-#[derive(Drop)]
-pub struct Progress<'a, R> {
-    screen: &'a Screen<'a, R>,
-}
-
-impl<'a, R: Clock + Eprint> Progress<'a, R> {
-    /// A gate that shows progress on this screen.
-    pub fn new(screen: &'a Screen<'a, R>) -> Self {
-        Progress { screen }
-    }
-}
-
-impl<'a, R: Clock + Eprint + Sync> Gate for Progress<'a, R> {
-    type Pass = ();
-
-    ghost admits = { λ _ _. Unit {0} };
-
-    fn begin(&mut self, patterns: u64) {
-        self.screen.begin(patterns);
-    }
-
-    fn enter(&self, _ticket: Ticket) {
-        self.screen.take_one();
-    }
-
-    fn end(&mut self) {
-        self.screen.end();
-    }
-
-    fn reached(&self, name: &[u8], generation: u32, last: u32) {
-        self.screen.reach(name, generation, last);
     }
 }

@@ -2,30 +2,45 @@
 use crate::shown::is_steering;
 use std::fmt;
 
-/// A name of more bytes than this is shown by its end.
-const LONGEST: usize = 40;
+/// The most columns of a name.
+pub(crate) const LONGEST: usize = 40;
 
-/// The most bytes of that end.
-const END: usize = 37;
-
-/// A name as it is shown at a terminal: of a long one its end, after three dots. What could steer the terminal is escaped as
-/// `Shown` does, and so are a line feed and a tab.
+/// A name as it is shown at a terminal in at most so many columns: of a long one its end, after three dots. What could steer the
+/// terminal is escaped as `Shown` does, and so are a line feed and a tab.
 #[derive(Drop)]
-pub(crate) struct ShortName<'a>(pub(crate) &'a [u8]);
-
-// Whether a byte of UTF-8 continues a character that began before it.
-fn goes_on(byte: u8) -> bool {
-    byte & 0xc0 == 0x80
+pub(crate) struct ShortName<'a> {
+    pub(crate) name: &'a [u8],
+    pub(crate) columns: usize,
 }
 
-// The end of a name, from the beginning of a character on.
-fn end_of(name: &[u8]) -> &[u8] {
-    for at in name.len().saturating_sub(END)..name.len() {
-        if !goes_on(name[at]) {
-            return &name[at..];
-        }
+// Whether a character is shown as its bytes.
+fn is_escaped(one: char) -> bool {
+    one == '\n' || one == '\t' || is_steering(one)
+}
+
+// How many columns an escaped byte has.
+const ESCAPED: usize = 4;
+
+// The most columns of a character: none has more than its bytes.
+fn columns_of(one: char) -> usize {
+    let bytes = one.len_utf8();
+    if is_escaped(one) {
+        bytes.saturating_mul(ESCAPED)
+    } else {
+        bytes
     }
-    &[]
+}
+
+// The most columns of a name.
+fn columns(name: &[u8]) -> usize {
+    let mut all: usize = 0;
+    for chunk in name.utf8_chunks() {
+        for one in chunk.valid().chars() {
+            all = all.saturating_add(columns_of(one));
+        }
+        all = all.saturating_add(chunk.invalid().len().saturating_mul(ESCAPED));
+    }
+    all
 }
 
 // Writes bytes as `\x` and two digits each.
@@ -36,29 +51,43 @@ fn write_bytes<W: fmt::Write>(bytes: &[u8], f: &mut fmt::Formatter<W>) -> fmt::R
     Ok(())
 }
 
-// Writes a name, what could steer the terminal escaped.
-fn write_name<W: fmt::Write>(name: &[u8], f: &mut fmt::Formatter<W>) -> fmt::Result {
+// Writes a character.
+fn write_char<W: fmt::Write>(one: char, f: &mut fmt::Formatter<W>) -> fmt::Result {
+    if is_escaped(one) {
+        let mut room = [0; 4];
+        return write_bytes(one.encode_utf8(&mut room).as_bytes(), f);
+    }
+    write!(f, "{one}")
+}
+
+// Writes a name, except for what is in its first columns.
+fn write_end<W: fmt::Write>(name: &[u8], skipped: usize, f: &mut fmt::Formatter<W>) -> fmt::Result {
+    let mut at: usize = 0;
     for chunk in name.utf8_chunks() {
         for one in chunk.valid().chars() {
-            if one == '\n' || one == '\t' || is_steering(one) {
-                let mut room = [0; 4];
-                write_bytes(one.encode_utf8(&mut room).as_bytes(), f)?;
-            } else {
-                write!(f, "{one}")?;
+            if at >= skipped {
+                write_char(one, f)?;
             }
+            at = at.saturating_add(columns_of(one));
         }
-        write_bytes(chunk.invalid(), f)?;
+        for byte in chunk.invalid() {
+            if at >= skipped {
+                write_bytes(&[*byte], f)?;
+            }
+            at = at.saturating_add(ESCAPED);
+        }
     }
     Ok(())
 }
 
 impl<'a> fmt::Display for ShortName<'a> {
     fn fmt<W: fmt::Write>(&self, f: &mut fmt::Formatter<W>) -> fmt::Result {
-        let name = self.0;
-        if name.len() <= LONGEST {
-            return write_name(name, f);
+        let all = columns(self.name);
+        if all <= self.columns {
+            return write_end(self.name, 0, f);
         }
         write!(f, "...")?;
-        write_name(end_of(name), f)
+        let skipped = all.saturating_sub(self.columns.saturating_sub(3));
+        write_end(self.name, skipped, f)
     }
 }

@@ -8,12 +8,17 @@ use census_book::Done;
 use census_bundle::{Entry, Ticket};
 use life_answer::{Answer, Question};
 use life_find::answer_soon;
-use life_plane::Unobserved;
+use life_plane::{Observer, Unobserved};
 use std::alloc::{AllocError, Global};
 
 // What is found of an entry, whatever is asked.
 #[tactic(auto, unfolding(census_format::specs::Lines::answer_to_entry))]
-fn find(alloc: Global, entry: &Entry, question: Question) -> Result<Answer, AllocError>
+fn find<W: Observer>(
+    alloc: Global,
+    observer: &W,
+    entry: &Entry,
+    question: Question,
+) -> Result<Answer, AllocError>
     requires { IsAnswered question }
     ensures found { IfOk result (λ found. found ≡ answer_to_entry question entry.now) }
     ensures memory { OnErr result (TakesMemory entry.now) }
@@ -23,19 +28,15 @@ fn find(alloc: Global, entry: &Entry, question: Question) -> Result<Answer, Allo
     }
     let text = entry.text.as_slice();
     match question {
-        Question::Settles { bound, cells } => life_find::answer(
-            alloc,
-            &Unobserved,
-            text,
-            bound,
-            cells,
-        ),
+        Question::Settles { bound, cells } => {
+            life_find::answer(alloc, observer, text, bound, cells)
+        }
         Question::Objects {
             bound,
             cells,
             near,
             horizon,
-        } => life_census::answer(alloc, &Unobserved, text, bound, cells, near, horizon),
+        } => life_census::answer(alloc, observer, text, bound, cells, near, horizon),
     }
 }
 
@@ -73,7 +74,24 @@ pub fn work<'a>(
     ensures question { IfOk result (λ d. d.question ≡ question) }
     ensures memory { OnErr result (TakesMemory entry.now) }
 {
-    let answer = find(alloc, entry, question)?;
+    work_observed(alloc, &Unobserved, ticket, entry, question)
+}
+
+/// Does what `work` does, and reports to an observer which generation of the pattern was reached.
+pub(crate) fn work_observed<'a, W: Observer>(
+    alloc: Global,
+    observer: &W,
+    ticket: Ticket,
+    entry: &'a Entry,
+    question: Question,
+) -> Result<Done<'a>, AllocError>
+    requires { IsAnswered question }
+    ensures ticket { IfOk result (λ d. d.ticket ≡ ticket) }
+    ensures entry { IfOk result (λ d. d.entry ≡ entry.now) }
+    ensures question { IfOk result (λ d. d.question ≡ question) }
+    ensures memory { OnErr result (TakesMemory entry.now) }
+{
+    let answer = find(alloc, observer, entry, question)?;
     Done::of(alloc, ticket, entry, question, answer)
 }
 

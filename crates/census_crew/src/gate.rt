@@ -6,7 +6,7 @@ ghost use Rattle.census_crew.specs.Gates.{Begun, Hears, News, Over};
 use census_bundle::Ticket;
 
 /// Each worker passes it with a ticket that it took, before it works. It may hold the worker. It is told when a run begins and
-/// when the run has ended.
+/// when the run has ended, and how far the workers have come with their patterns.
 pub trait Gate: Sync {
     /// What the gate gives to a worker that passes.
     type Pass: Drop + Send + Sync;
@@ -31,6 +31,16 @@ pub trait Gate: Sync {
 
     /// Of what has this name, generation `_generation` of `_last` was reached.
     fn reached(&self, _name: &[u8], _generation: u32, _last: u32) {}
+
+    /// A worker passed, and works a pattern from now on. Workers of a run have the numbers from 0 on.
+    fn started(&self, _worker: u32, _collection: &[u8], _name: &[u8]) {}
+
+    /// A worker has come to a generation of its pattern that is a multiple of 64. It may start again, and then early
+    /// generations are reported again.
+    fn advanced(&self, _worker: u32, _generation: u32) {}
+
+    /// A worker has finished with its pattern, whether or not it was found what becomes of it.
+    fn finished(&self, _worker: u32) {}
 }
 
 /// Holds no worker, and ignores what it is told.

@@ -6,9 +6,10 @@ use crate::answering;
 use crate::gate::{Gate, Passed, pass};
 use crate::handles::Hand;
 use census_book::Done;
-use census_bundle::Bundle;
+use census_bundle::{Bundle, Ticket};
 use crossbeam_channel::Sender;
 use life_answer::{Answer, Outcome, Question};
+use life_plane::Observer;
 use std::alloc::Global;
 use std::hint::spin_loop;
 use std::sync::{Mutex, Wait};
@@ -45,6 +46,36 @@ fn was_quick(answer: &Answer) -> bool {
             _ => false,
         },
         Answer::Refused(_) => true,
+    }
+}
+
+/// A generation is reported to the gate once in this many.
+const STRIDE: u32 = 64;
+
+/// A gate, and the number of the worker that reports to it.
+#[derive(Drop)]
+struct Reporter<'g, G> {
+    gate: &'g G,
+    worker: u32,
+}
+
+impl<'g, G: Gate> Observer for Reporter<'g, G> {
+    fn reached(&self, generation: u32) {
+        if generation % STRIDE == 0 {
+            self.gate.advanced(self.worker, generation);
+        }
+    }
+}
+
+// Reports that the worker works the pattern of a ticket from now on.
+fn report_start<G: Gate>(reporter: &Reporter<'_, G>, bundle: &Bundle, ticket: Ticket) {
+    let at = (ticket.folder as usize).wrapping_sub(1);
+    if let (Some(folder), Some(entry)) = (bundle.folders().get(at), bundle.entry(ticket)) {
+        reporter.gate.started(
+            reporter.worker,
+            folder.name.as_slice(),
+            entry.name.as_slice(),
+        );
     }
 }
 
@@ -116,8 +147,9 @@ fn work_soon<'a, P: Drop>(
 
 // Works a pattern whose worker passed the gate, however long it takes. The result goes into the batch. `None` when out of
 // memory.
-fn work_long<'a, P: Drop>(
+fn work_long<'a, W: Observer, P: Drop>(
     alloc: Global,
+    observer: &W,
     bundle: &'a Bundle,
     question: Question,
     passed: &Passed<P>,
@@ -126,7 +158,7 @@ fn work_long<'a, P: Drop>(
     requires { IsAnswered question }
 {
     let entry = bundle.entry(passed.ticket())?;
-    match answering::work(alloc, passed.ticket(), entry, question) {
+    match answering::work_observed(alloc, observer, passed.ticket(), entry, question) {
         Ok(done) => Some(put_in(batch, done)),
         Err(_) => None,
     }
@@ -141,7 +173,7 @@ fn work<'a, G: Gate, R: Wait>(
     bundle: &'a Bundle,
     question: Question,
     mut hand: Hand,
-    gate: &G,
+    reporter: Reporter<'_, G>,
     beginning: &Mutex<()>,
     results: Sender<Batch<'a>, Global>,
 )
@@ -152,14 +184,16 @@ fn work<'a, G: Gate, R: Wait>(
         let Some(ticket) = hand.take(rt) else {
             break;
         };
-        let passed = pass(gate, ticket);
+        let passed = pass(reporter.gate, ticket);
+        report_start(&reporter, bundle, ticket);
         let mut worked = work_soon(alloc, bundle, question, &passed, &mut batch);
         if worked.is_none() {
             if !batch.is_empty() && !send_batch(rt, alloc, &mut batch, &results) {
                 return;
             }
-            worked = work_long(alloc, bundle, question, &passed, &mut batch);
+            worked = work_long(alloc, &reporter, bundle, question, &passed, &mut batch);
         }
+        reporter.gate.finished(reporter.worker);
         let Some(waits) = worked else {
             continue;
         };
@@ -201,13 +235,16 @@ pub(crate) fn work_beside<'a, G: Gate, R: Threads + Wait + Sync, S: Task>(
         {
             // No worker begins before this is dropped, unless it gave up waiting.
             let turn = beginning.try_lock();
+            let mut worker: u32 = 0;
             for hand in hands {
+                let reporter = Reporter { gate, worker };
+                worker = worker.saturating_add(1);
                 let Ok(mine) = results.clone() else {
                     break;
                 };
                 let one = move ||
                     requires { IsAnswered question }
-                { work(rt, alloc, bundle, question, hand, gate, beginning, mine) };
+                { work(rt, alloc, bundle, question, hand, reporter, beginning, mine) };
                 if scope.spawn(one).is_err() {
                     break;
                 }

@@ -1,0 +1,52 @@
+//! How long a run still takes, by how fast its last patterns were finished.
+
+/// The rate is that of at least this many patterns, once so many are finished.
+const MANY: u64 = 16;
+
+/// The rate is that of at least this many milliseconds, once the run has taken so long.
+const SPAN: u64 = 2_000;
+
+/// There is no rate of fewer patterns.
+const FEW: u64 = 3;
+
+/// How many patterns were finished at a millisecond.
+#[derive(Clone, Copy, Drop)]
+struct Mark {
+    time: u64,
+    finished: u64,
+}
+
+/// Two marks of a run. Its rate is that since the earlier one.
+#[derive(Drop)]
+pub(crate) struct Pace {
+    earlier: Mark,
+    later: Mark,
+}
+
+impl Pace {
+    /// The pace of a run that begins at this millisecond.
+    pub(crate) fn new(time: u64) -> Pace {
+        let begin = Mark { time, finished: 0 };
+        Pace {
+            earlier: begin,
+            later: begin,
+        }
+    }
+
+    /// How many seconds are left of a run of `patterns` patterns, of which so many are finished now. `None` while few are
+    /// finished, and once all are.
+    pub(crate) fn left(&mut self, time: u64, finished: u64, patterns: u64) -> Option<u64> {
+        let since = finished.saturating_sub(self.later.finished);
+        if since >= MANY && time.saturating_sub(self.later.time) >= SPAN {
+            self.earlier = self.later;
+            self.later = Mark { time, finished };
+        }
+        let done = finished.saturating_sub(self.earlier.finished);
+        if done < FEW || finished >= patterns {
+            return None;
+        }
+        let took = time.saturating_sub(self.earlier.time);
+        let left = took.saturating_mul(patterns - finished) / done;
+        Some(left.div_ceil(1_000))
+    }
+}
