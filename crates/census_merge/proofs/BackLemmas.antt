@@ -1,6 +1,5 @@
 pub mod Agree
 pub mod Rules
-pub mod Codes
 pub mod Unfed
 pub mod Parts
 pub mod Engines

@@ -3,6 +3,8 @@ pub mod SettledRanges
 pub mod CellCounts
 pub mod CountedCells
 pub mod Codes
+pub mod Leaving
+pub mod Early
 pub mod GrowthRanges
 pub mod ObjectRanges
 pub mod Readings

@@ -1,9 +1,10 @@
 -- The body of a code is of `0` to `9` and `a` to `z`, and has at least a byte; a code has neither a blank nor LF.
-use Rattle.std.proofs.Common.{◌≡◌, ℕ, zero, suc, ◌+◌, ◌*◌, ◌/◌, ◌%◌, ◌<◌, pos, true, false, ◌&&◌, cond, List, [], ◌∷◌, ◌++◌, map, fold, length, codes, ap, ◌∙◌, refl, sym, arith}
+use Rattle.std.proofs.Common.{◌≡◌, ◌≢◌, ℕ, inl, inr, nat_eq, not, zero, suc, ◌+◌, ◌*◌, ◌/◌, ◌%◌, ◌<◌, pos, true, true≢false, false, ◌&&◌, cond, List, [], ◌∷◌, ◌++◌, map, fold, length, codes, ap, ◌∙◌, refl, sym, arith}
 use Rattle.std.specs.Prelude.{nat_abs}
+use Rattle.std.specs.Cmp.Lexicographic.{pointwise}
 use Rattle.std.specs.List.{AllByRecursion as Each, join_with_byte, list_all, range_with_len}
 use Rattle.std.specs.Ordering.{is_gt}
-use Rattle.std.proofs.lemmas.Bool.{and_from, and_parts, lt-ltb}
+use Rattle.std.proofs.lemmas.Bool.{and_from, and_parts, eqb-true, lt-ltb}
 use Rattle.std.proofs.lemmas.Bool.Decides.{nat_tests}
 use Rattle.std.proofs.lemmas.List.Folds.{list_all-append}
 use Rattle.census_merge.proofs.Solid.{IsAbove, above-append, above-checked, above-solid, each-flat_map, each-map, prefix-above}
@@ -15,13 +16,17 @@ use Rattle.life_cells.proofs.Weights.{live_value-lt}
 use Rattle.life_cells.specs.CodeReading.{cells_spelled, is_base_36_digit}
 use Rattle.life_cells.specs.TextOrder.{least_text, lesser_text, shorter_cmp}
 use Rattle.life_cells.specs.Wechsler.{body, column_value, columns_text, digit, full_runs, short_zeros, strip_text, strips_text, zeros}
-use Rattle.life_model.proofs.Generations.{cells-from_list}
+use Rattle.life_model.proofs.Generations.{cells-from_list, contains-empty}
+use Rattle.life_model.proofs.Moves.{moved-empty, moved_from_normal, normal-empty, nothing_or_some}
+use Rattle.life_model.proofs.Symmetries.{contains-turned, turn-undone}
 use Rattle.life_model.specs.Box.{extent, height, width}
 use Rattle.life_model.specs.Evolution.{generation}
-use Rattle.life_model.specs.Cell.{Cell}
+use Rattle.life_model.specs.Cell.{Cell, opposite, plus}
 use Rattle.life_model.specs.Generation.{Generation, cells, contains, empty, size}
+use Rattle.life_model.specs.Recurrence.{RecursBy}
 use Rattle.life_model.specs.Rule.{Rule}
-use Rattle.life_model.specs.Symmetry.{image_under, normal}
+use Rattle.life_model.specs.Symmetry.{Orientation, corner, image_under, normal, turn}
+use Rattle.life_objects.proofs.Recurring.{lives_for_ever}
 
 -- ---- digits and letters
 
@@ -114,22 +119,54 @@ IsBody text = (is_filled text && list_all is_base_36_digit text) ≡ true
 is-body : (G : Generation) → IsBody (body G)
 is-body G = and_from (is_filled (body G)) (list_all is_base_36_digit (body G)) (lt-ltb 0 (length (body G)) (body-some G (body G) refl)) (plain-body G)
 
--- ---- the least of some bodies
+-- only the body of no cell is `0`
+abbrev pub IsFilled : List ℕ → Type 0
+IsFilled text = not (pointwise nat_eq text (codes "0")) ≡ true
 
-lesser-is : (a b : List ℕ) → IsBody a → IsBody b → IsBody (lesser_text a b)
-lesser-is a b h k =
-    elim (is_gt (shorter_cmp a b)) as (λ v. IsBody (cond v b a)) [
-      | true ↦ k
-      | false ↦ h
+only-zero : (text : List ℕ) → pointwise nat_eq text (codes "0") ≡ true → text ≡ codes "0"
+only-zero [] h = absurd (cc)
+only-zero (c ∷ []) h = ap (λ d. d ∷ []) (eqb-true c 48 (and_parts (nat_eq c 48) true h).0)
+only-zero (c ∷ d ∷ text) h = absurd (let no = (and_parts (nat_eq c 48) false h).1 in cc)
+
+zero-spelled : cells_spelled (codes "0") ≡ empty
+zero-spelled = ap cells_spelled (sym (body-normal empty ∙ ap body_by normal-empty ∙ body-empty)) ∙ spelt-body empty ∙ normal-empty
+
+body-filled : (G : Generation) → G ≢ empty → IsFilled (body G)
+body-filled G some =
+    (elim (pointwise nat_eq (body G) (codes "0")) as (λ v. pointwise nat_eq (body G) (codes "0") ≡ v → not v ≡ true) [
+      | true ↦ λ e.
+          let none : normal G ≡ empty = sym (spelt-body G) ∙ ap cells_spelled (only-zero (body G) e) ∙ zero-spelled in
+          absurd (some (moved_from_normal empty G (normal-empty ∙ sym none) ∙ moved-empty (plus (opposite (corner empty)) (corner G))))
+      | false ↦ λ e. refl
+    ]) refl
+
+turned-some : (G : Generation) (m : Orientation) → G ≢ empty → image_under G m ≢ empty
+turned-some G m some none =
+    elim (nothing_or_some G) [
+      | inl nothing ↦ some nothing
+      | inr one ↦
+          let here : contains (image_under G m) (turn m one.0) ≡ true =
+          contains-turned G m (turn m one.0) ∙ ap (contains G) (turn-undone m one.0) ∙ one.1 in
+          true≢false (sym here ∙ ap (λ H. contains H (turn m one.0)) none ∙ contains-empty (turn m one.0))
     ]
 
-fold-lesser : (text : List ℕ) (others : List (List ℕ)) → IsBody text → Each IsBody others → IsBody (fold lesser_text text others)
-fold-lesser text [] h k = h
-fold-lesser text (other ∷ others) h k = fold-lesser (lesser_text text other) others (lesser-is text other h k.0) k.1
+-- ---- the least of some bodies
 
-least-is : (texts : List (List ℕ)) → 0 < length texts → Each IsBody texts → IsBody (least_text texts)
-least-is [] some h = absurd (omega (arith, some))
-least-is (text ∷ others) some h = fold-lesser text others h.0 h.1
+module _ (P : List ℕ → Type 0) where
+  lesser-is : (a b : List ℕ) → P a → P b → P (lesser_text a b)
+  lesser-is a b h k =
+      elim (is_gt (shorter_cmp a b)) as (λ v. P (cond v b a)) [
+        | true ↦ k
+        | false ↦ h
+      ]
+
+  fold-lesser : (text : List ℕ) (others : List (List ℕ)) → P text → Each P others → P (fold lesser_text text others)
+  fold-lesser text [] h k = h
+  fold-lesser text (other ∷ others) h k = fold-lesser (lesser_text text other) others (lesser-is text other h k.0) k.1
+
+  least-is : (texts : List (List ℕ)) → 0 < length texts → Each P texts → P (least_text texts)
+  least-is [] some h = absurd (omega (arith, some))
+  least-is (text ∷ others) some h = fold-lesser text others h.0 h.1
 
 bodies-are : (R : Rule) (H : Generation) (period : ℕ) → Each IsBody (bodies R H period)
 bodies-are R H period =
@@ -142,7 +179,17 @@ bodies-some R H (suc period) h = omega arith
 
 -- the body of the code of what recurs
 pub least-body : (R : Rule) (H : Generation) (period : ℕ) → 0 < period → IsBody (least_text (bodies R H period))
-least-body R H period some = least-is (bodies R H period) (bodies-some R H period some) (bodies-are R H period)
+least-body R H period some = least-is IsBody (bodies R H period) (bodies-some R H period some) (bodies-are R H period)
+
+-- that of some cells that recur is not `0`
+pub least-filled : (R : Rule) (H : Generation) (period : ℕ) (d : Cell) → RecursBy R H period d → H ≢ empty → IsFilled (least_text (bodies R H period))
+least-filled R H period d again some =
+    let lives = lives_for_ever R H period d again some in
+    let later = again.later in
+    let each = each-flat_map IsFilled (λ n. turned_bodies (generation R H n))
+    (λ n. each-map IsFilled (λ m. body (image_under (generation R H n) m))
+    (λ m. body-filled (image_under (generation R H n) m) (turned-some (generation R H n) m (lives n))) orientations) (range_with_len 0 period) in
+    least-is IsFilled (bodies R H period) (bodies-some R H period (omega (arith, later))) each
 
 -- ---- neither a blank nor LF
 
@@ -157,7 +204,7 @@ plain-above (c ∷ text) h =
 
 least-above : (texts : List (List ℕ)) → Each IsBody texts → IsAbove (least_text texts)
 least-above [] h = tt
-least-above (text ∷ others) h = plain-above (fold lesser_text text others) (and_parts (is_filled (fold lesser_text text others)) _ (fold-lesser text others h.0 h.1)).1
+least-above (text ∷ others) h = plain-above (fold lesser_text text others) (and_parts (is_filled (fold lesser_text text others)) _ (fold-lesser IsBody text others h.0 h.1)).1
 
 pub code-solid : (R : Rule) (H : Generation) (period : ℕ) (displacement : Cell) → IsSolid (code_of R H period displacement)
 unfolding code_of

@@ -1,5 +1,5 @@
 -- The codes of answers are codes.
-use Rattle.std.proofs.Common.{◌≡◌, ℕ, ℤ, zero, suc, ◌+◌, ◌/◌, ◌%◌, ◌<◌, Bool, true, false, not, ◌&&◌, ◌||◌, ◌==◌, cond, eqb, ltb, nat_eq, Option, Some, None as Nothing, List, [], ◌∷◌, ◌++◌, map, fold, length, length-append, drop, position, take, codes, decimal, Ordering, Less, Equal, Greater, ap, ◌∙◌, inl, inr, sym, subst, refl, arith, append_assoc}
+use Rattle.std.proofs.Common.{◌≡◌, ◌≢◌, ℕ, ℤ, zero, suc, ◌+◌, ◌/◌, ◌%◌, ◌<◌, Bool, true, false, not, ◌&&◌, ◌||◌, ◌==◌, cond, eqb, ltb, nat_eq, Option, Some, None as Nothing, List, [], ◌∷◌, ◌++◌, map, fold, length, length-append, drop, position, take, codes, decimal, Ordering, Less, Equal, Greater, ap, ◌∙◌, inl, inr, sym, subst, refl, arith, append_assoc}
 use Rattle.std.specs.Prelude.{⊤}
 use Rattle.std.specs.Cmp.Lexicographic.{pointwise}
 use Rattle.std.specs.Fmt.{digit_glyph, digits, digits_onto}
@@ -8,7 +8,7 @@ use Rattle.std.specs.Option.{option_map, option_map_or}
 use Rattle.std.proofs.lemmas.Bool.{and_from, and_parts, eqb-true, lt-ltb}
 use Rattle.std.proofs.lemmas.Cmp.{nat_list_eq_equiv}
 use Rattle.std.proofs.Math.Seq.{take-append_seam}
-use Rattle.census_readback.specs.Codes.{CodeParts, are_lawful, code_parts, is_code, is_code_after, is_filled, tells}
+use Rattle.census_readback.specs.Codes.{CodeParts, are_lawful, code_parts, has_cells, is_code, is_code_after, is_filled, is_moving, tells}
 use Rattle.census_readback.specs.Lawful.{is_recurrence, moves_within}
 use Rattle.life_answer.proofs.Findings.{settled_or_not}
 use Rattle.life_answer.specs.Answers.{outcome_of, recurrence_outcome}
@@ -20,13 +20,13 @@ use Rattle.life_answer.specs.declared.finding.Outcome.TheVariants.{Recurs}
 use Rattle.life_answer.specs.declared.part.Part.{Part}
 use Rattle.life_model.specs.Cell.{Cell, origin, same_cell}
 use Rattle.life_model.specs.Evolution.{generation}
-use Rattle.life_model.specs.Generation.{Generation, size}
-use Rattle.life_model.specs.Recurrence.{Recurrence, Settles}
+use Rattle.life_model.specs.Generation.{Generation, empty, size}
+use Rattle.life_model.specs.Recurrence.{Recurrence, RecursBy, Settles}
 use Rattle.life_model.specs.Rule.{Rule}
 use Rattle.life_cells.specs.CodeReading.{is_base_36_digit}
 use Rattle.life_cells.specs.TextOrder.{least_text, shorter_cmp}
 use Rattle.life_text.proofs.HeadingLemmas.{decimal_digits}
-use Rattle.census_merge.proofs.CodeBodies.{IsBody, least-body}
+use Rattle.census_merge.proofs.CodeBodies.{IsBody, IsFilled, least-body, least-filled}
 use Rattle.census_merge.proofs.Displaced.{moved-within}
 use Rattle.census_merge.proofs.Solid.{each-map}
 use Rattle.texts.specs.Bytes.{is_digit}
@@ -149,6 +149,33 @@ code-told R H period d some =
       | true ↦ at-rest period (size H) body some bodied
       | false ↦ moving-told period body some bodied
     ]
+
+-- the code of some cells that recur is not that of no cell
+pub code-cells : (R : Rule) (H : Generation) (period : ℕ) (d : Cell) → RecursBy R H period d → H ≢ empty → has_cells (code_of R H period d) ≡ true
+unfolding code_of
+code-cells R H period d again some =
+    let body = least_text (bodies R H period) in
+    let filled = least-filled R H period d again some in
+    let still = cond (eqb period 1) (codes "xs" ++ decimal (size H)) (codes "xp" ++ decimal period) in
+    elim (same_cell d origin) as (λ v. has_cells ((cond v still (codes "xq" ++ decimal period) ++ codes "_") ++ body) ≡ true) [
+      | true ↦ elim (eqb period 1) as (λ v. has_cells ((cond v (codes "xs" ++ decimal (size H)) (codes "xp" ++ decimal period) ++ codes "_") ++ body) ≡ true) [
+        | true ↦ by_letter 115 (size H) body filled
+        | false ↦ by_letter 112 period body filled
+      ]
+      | false ↦ by_letter 113 period body filled
+    ]
+  where
+    by_letter : (letter n : ℕ) (body : List ℕ) → IsFilled body → has_cells (120 ∷ letter ∷ ((decimal n ++ 95 ∷ []) ++ body)) ≡ true
+    by_letter letter n body h = ap (λ o. option_map_or (λ (s : CodeParts). not (pointwise nat_eq s.body (codes "0"))) o false) (parted letter n body) ∙ h
+
+-- the code of what moves begins so
+pub code-moving : (R : Rule) (H : Generation) (period : ℕ) (d : Cell) → same_cell d origin ≡ false → is_moving (code_of R H period d) ≡ true
+unfolding code_of
+code-moving R H period d h =
+    let body = least_text (bodies R H period) in
+    let still = cond (eqb period 1) (codes "xs" ++ decimal (size H)) (codes "xp" ++ decimal period) in
+    ap (λ v. is_moving ((cond v still (codes "xq" ++ decimal period) ++ codes "_") ++ body)) h
+    ∙ ap (λ o. option_map_or (λ (s : CodeParts). s.letter == 113) o false) (parted 113 period body)
 
 -- a code of what recurs so is a code
 after-code : (moved : Bool) (period : ℕ) (code : List ℕ) → IsAfter moved period code → is_code code ≡ true

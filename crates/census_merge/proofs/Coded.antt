@@ -9,7 +9,7 @@ use Rattle.census_format.specs.Lines.{answer_to_entry}
 use Rattle.census_format.specs.Objects.{Object, distinct_elements, object, objects, outcome_objects, part_objects, tally}
 use Rattle.life_answer.specs.Answers.{outcome_at, outcome_from, outcome_of}
 use Rattle.life_answer.specs.Counted.{code_bound, counted_of}
-use Rattle.life_answer.specs.Census.{ash_onset, census_found, census_of, code_found, counted_parts, part_code, parts_found}
+use Rattle.life_answer.specs.Census.{ash_onset, census_found, census_of, code_found, counted_parts, fallen_of, part_code, parts_found}
 use Rattle.life_answer.specs.Growing.{allowed_bound, growing_or}
 use Rattle.life_answer.specs.Limited.{first_past, outcome_unless_large, unless_large}
 use Rattle.life_answer.specs.Parts.{with_code_by_order, with_code}
@@ -33,6 +33,7 @@ use Rattle.life_text.specs.Picture.{Picture}
 use Rattle.life_text.specs.declared.rle.RleFault.{RleFault}
 use Rattle.census_merge.proofs.Tales.{told-holds}
 use Rattle.census_merge.proofs.CodeBodies.{code-solid}
+use Rattle.census_merge.proofs.OneOrMore.{one_of_two}
 use Rattle.census_merge.proofs.Solid.{each-append, each-filter, each-map, each-replicate}
 use Rattle.census_merge.specs.Lawful.{IsCoded, IsCodedAnswer, IsSolid, IsSolidEngines, IsSolidPart}
 
@@ -112,9 +113,10 @@ outcome-to-coded : (question : Question) (R : Rule) (G : Generation) → IsCoded
 outcome-to-coded (Settles bound cells) R G = unless-coded (outcome_of R G bound) _ (outcome-coded R G bound)
 outcome-to-coded (Objects bound cells near horizon) R G =
     let c = allowed_bound cells R G bound in
-    growing-coded (growth_told near R (min horizon c) (generation R G c)) (outcome_unless_large cells R G (3 * bound) (census_of near R G bound))
+    growing-coded (growth_told near R (min horizon c) (generation R G c)) (outcome_unless_large cells R G (3 * bound) (fallen_of near R G bound))
     (growth-solid near R (min horizon c) (generation R G c))
-    (unless-coded (census_of near R G bound) (first_past cells R G (3 * bound)) (census-coded near R G bound))
+    (unless-coded (fallen_of near R G bound) (first_past cells R G (3 * bound))
+    (one_of_two IsCoded (outcome_of R G (2 * bound)) (census_of near R G bound) (outcome-coded R G (2 * bound)) (census-coded near R G bound)))
 
 answer-to-coded : (question : Question) (read : Result Picture RleFault) → IsCodedAnswer (answer_to question read)
 answer-to-coded question (Ok pattern) = outcome-to-coded question pattern.rule pattern.cells

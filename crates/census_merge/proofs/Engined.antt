@@ -7,8 +7,8 @@ use Rattle.std.specs.Ordering.{is_lt, ordering_then}
 use Rattle.std.proofs.lemmas.Bool.{eq-eqb, le-leb, lt-ltb}
 use Rattle.std.proofs.lemmas.List.{append-nil, length-map}
 use Rattle.census_format.specs.Found.{lent}
-use Rattle.census_readback.specs.Codes.{is_code}
-use Rattle.census_readback.specs.Engines.{Emitted, LastEngine, after_emits, after_engine, begun, compared, compared_by, compared_with, emitted_cmp, to_compare, way_cmp, with_emitted}
+use Rattle.census_readback.specs.Codes.{is_object}
+use Rattle.census_readback.specs.Engines.{Emitted, LastEngine, after_emits, after_engine, begun, compared, compared_by, compared_with, emitted_cmp, gets_away, to_compare, way_cmp, with_emitted}
 use Rattle.census_readback.specs.Lawful.{is_lawful, is_way}
 use Rattle.census_readback.specs.Told.{Told, emits_told, engine_told, told_by, with_engine}
 use Rattle.census_readback.specs.declared.engines.Way.{Way}
@@ -30,12 +30,16 @@ emits_row c i e p = Emits c i e (lent p.code) p.count
 
 -- its row is lawful
 abbrev pub IsLawfulEmitted : part.Part → Type 0
-IsLawfulEmitted p = (0 < p.count) × (is_code p.code ≡ true)
+IsLawfulEmitted p = (0 < p.count) × (is_object p.code ≡ true)
 
 emits-lawful : (c i e : ℕ) (p : part.Part) → 0 < e → IsLawfulEmitted p → is_lawful (emits_row c i e p) ≡ true
 emits-lawful c i e p some h =
-    ap (λ b. b && (is_code p.code && ltb 0 p.count)) (lt-ltb 0 e some)
+    ap (λ b. b && (is_object p.code && ltb 0 p.count)) (lt-ltb 0 e some)
     ∙ ap (λ b. b && ltb 0 p.count) h.1 ∙ lt-ltb 0 p.count h.0
+
+-- all of them get away from an engine that goes this way
+abbrev pub AllGetAway : Way → List part.Part → Type 0
+AllGetAway way parts = Each (λ (p : part.Part). gets_away way p.code ≡ true) parts
 
 -- it comes after the engine before it, or will once it has emitted all this
 abbrev Comes : LastEngine → List Emitted → Type 0
@@ -44,7 +48,7 @@ Comes e xs = cond e.rises (Unit {0}) (slice_cmp emitted_cmp e.before xs ≡ Less
 -- after one more row
 record Emitting (e : LastEngine) (x : Emitted) (xs : List Emitted) : Type 0 where
   after : LastEngine
-  emits-it : after_emits e x ≡ Some after
+  emits-it : option_map (with_emitted x) (compared e x) ≡ Some after
   number : after.number ≡ e.number
   way : after.way ≡ e.way
   emits : after.emits ≡ e.emits ++ x ∷ []
@@ -123,8 +127,8 @@ emits-fit t c e x after owner number later is =
     ∙ ap (λ o. cond (is_lt o) told Nothing) later ∙ ap (option_map (with_engine t t.left x.code)) is
 
 emits-told : (c i e : ℕ) (parts : List part.Part) (t : Told) → 0 < e → t.collection ≡ c → t.engine.number ≡ e → Rise (Some t.last) parts → Each IsLawfulEmitted parts
-    → Comes t.engine (map emitted_part parts) → Engined t (map (emits_row c i e) parts) t.left e t.engine.way (t.engine.emits ++ map emitted_part parts)
-emits-told c i e [] t some owner number rise lawful comes = record {
+    → AllGetAway t.engine.way parts → Comes t.engine (map emitted_part parts) → Engined t (map (emits_row c i e) parts) t.left e t.engine.way (t.engine.emits ++ map emitted_part parts)
+emits-told c i e [] t some owner number rise lawful away comes = record {
   after = t;
   tells = refl;
   collection = refl;
@@ -134,14 +138,14 @@ emits-told c i e [] t some owner number rise lawful comes = record {
   emits-are = sym (append-nil t.engine.emits);
   rises = ended t.engine comes;
 }
-emits-told c i e (p ∷ parts) t some owner number rise lawful comes =
+emits-told c i e (p ∷ parts) t some owner number rise lawful away comes =
     let x = emitted_part p in
     let one = emitting t.engine x (map emitted_part parts) comes in
     let u : Told = with_engine t t.left p.code one.after in
     let row = emits_row c i e p in
     let taken = told-one t u row (map (emits_row c i e) parts)
-    (fits t u row (emits-lawful c i e p some lawful.0) (emits-fit t c e x one.after owner number rise.0 one.emits-it)) in
-    let others = emits-told c i e parts u some owner (one.number ∙ number) rise.1 lawful.1 one.comes in
+    (fits t u row (emits-lawful c i e p some lawful.0) (emits-fit t c e x one.after owner number rise.0 (ap (λ b. cond b (option_map (with_emitted x) (compared t.engine x)) Nothing) away.0 ∙ one.emits-it))) in
+    let others = emits-told c i e parts u some owner (one.number ∙ number) rise.1 lawful.1 (subst (λ w. AllGetAway w parts) (sym one.way) away.1) one.comes in
     record {
       after = others.after;
       tells = taken ∙ others.tells;
@@ -187,16 +191,16 @@ engine-lawful c i e k way goes some = ap (λ b. b && ltb 0 k) goes ∙ lt-ltb 0 
 -- The row of engines that are alike, and the rows of what each of them emits. They come after the last ones, emit something, in
 -- the order of codes, and are no more than are left.
 pub engine-told : (c i e k : ℕ) (way : Way) (parts : List part.Part) (t : Told) → t.collection ≡ c → k ≤ t.left → 0 < k → t.engine.rises ≡ true → e ≡ t.engine.number + 1
-    → is_way way.period way.dx way.dy ≡ true → 0 < length parts → Rise (Some []) parts → Each IsLawfulEmitted parts → ComesBehind t.engine way (map emitted_part parts)
+    → is_way way.period way.dx way.dy ≡ true → 0 < length parts → Rise (Some []) parts → Each IsLawfulEmitted parts → AllGetAway way parts → ComesBehind t.engine way (map emitted_part parts)
     → Engined t (Engine c i e way.period way.dx way.dy k ∷ map (emits_row c i e) parts) (t.left - k) e way (map emitted_part parts)
-engine-told c i e k way parts t owner few counted rises next goes some rise lawful comes =
+engine-told c i e k way parts t owner few counted rises next goes some rise lawful away comes =
     let filled : 0 < length (map emitted_part parts) = (let size = length-map parts emitted_part in omega (arith, some, size)) in
     let from = begin (way_cmp t.engine.way way) t.engine.emits (map emitted_part parts) filled comes in
     let u : Told = with_engine t (t.left - k) [] (begun e way from.before) in
     let row = Engine c i e way.period way.dx way.dy k in
     let taken = told-one t u row (map (emits_row c i e) parts)
     (fits t u row (engine-lawful c i e k way goes counted) (engine-fits t c k e way from.before owner few rises next from.is)) in
-    let others = emits-told c i e parts u (omega (arith, next)) owner refl rise lawful from.comes in
+    let others = emits-told c i e parts u (omega (arith, next)) owner refl rise lawful away from.comes in
     record {
       after = others.after;
       tells = taken ∙ others.tells;

@@ -6,7 +6,7 @@ use Rattle.census_format.specs.Lines.{answer_to_entry}
 use Rattle.census_format.specs.Objects.{objects}
 use Rattle.life_answer.specs.Answers.{outcome_at, outcome_from}
 use Rattle.life_answer.specs.Answers as answers
-use Rattle.life_answer.specs.Census.{ash_onset, census_found, census_of}
+use Rattle.life_answer.specs.Census.{ash_onset, census_found, census_of, fallen_of}
 use Rattle.life_answer.specs.Growing.{allowed_bound, growing_or}
 use Rattle.life_answer.specs.Limited.{first_past, outcome_unless_large, unless_large}
 use Rattle.life_answer.specs.Questions.{answer_to, answer_to_question, outcome_to}
@@ -27,6 +27,7 @@ use Rattle.life_text.specs.declared.rle.RleFault.{RleFault}
 use Rattle.census_merge.proofs.CodeTexts.{IsToldRecurrence, outcome-told as recurrence-told}
 use Rattle.census_merge.proofs.FaultNumbers.{IsNumbered, text-numbered}
 use Rattle.census_merge.proofs.Grown.{growth-fair}
+use Rattle.census_merge.proofs.OneOrMore.{one_of_two}
 use Rattle.census_merge.proofs.PartsFound.{parts-fair}
 use Rattle.census_merge.specs.Lawful.{IsFair, IsFairAnswer, IsFairGrowth}
 
@@ -81,9 +82,10 @@ outcome-fair : (question : Question) (R : Rule) (G : Generation) → IsFair (out
 outcome-fair (Settles bound cells) R G = unless-fair (answers.outcome_of R G bound) _ (settled-fair R G bound)
 outcome-fair (Objects bound cells near horizon) R G =
     let c = allowed_bound cells R G bound in
-    growing-fair (growth_told near R (min horizon c) (generation R G c)) (outcome_unless_large cells R G (3 * bound) (census_of near R G bound))
+    growing-fair (growth_told near R (min horizon c) (generation R G c)) (outcome_unless_large cells R G (3 * bound) (fallen_of near R G bound))
     (growth-fair near R (min horizon c) (generation R G c))
-    (unless-fair (census_of near R G bound) (first_past cells R G (3 * bound)) (census-fair near R G bound))
+    (unless-fair (fallen_of near R G bound) (first_past cells R G (3 * bound))
+    (one_of_two IsFair (answers.outcome_of R G (2 * bound)) (census_of near R G bound) (settled-fair R G (2 * bound)) (census-fair near R G bound)))
 
 answer-to-fair : (question : Question) (read : Result Picture RleFault) → IsNumbered read → IsFairAnswer (answer_to question read)
 answer-to-fair question (Ok pattern) few = outcome-fair question pattern.rule pattern.cells

@@ -11,10 +11,10 @@ use Rattle.life_cells.specs.declared.rule.RuleFault.{RuleFault}
 use Rattle.life_cells.specs.declared.rule.RuleFault.TheVariants.{HasB0, NotLifeLike}
 use Rattle.life_model.specs.Rule.{Rule}
 use Rattle.life_text.specs.Faults.{fault_number}
-use Rattle.life_text.specs.Picture.{Picture, picture_of}
+use Rattle.life_text.specs.Picture.{picture_of}
 use Rattle.life_text.specs.Rle.{Meaning, Token, after_rule_name, after_sizes, body_tokens, cells_after, column, first_fault, header_line, header_rule, is_bad_run, is_missing, is_no_tag, is_other_state, is_too_far, is_too_many, line_rule, live_cells, named_rule, reading, row, rule_behind, rule_or_fault, token_fault, unless_fault, with_body}
 use Rattle.life_text.specs.declared.rle.RleFault.{RleFault}
-use Rattle.life_text.specs.declared.rle.RleFault.TheVariants.{BadChar, BadHeader, BadRun, ManyStates, NoEnd, NoHeader, TooFar, TooMany}
+use Rattle.life_text.specs.declared.rle.RleFault.TheVariants.{BadChar, BadRun, ManyStates, NoEnd, NoHeader, TooFar, TooMany}
 
 abbrev pub IsNumbered : {X : Type 0} → Result X RleFault → Type 0
 IsNumbered (Ok x) = ⊤

@@ -13,7 +13,7 @@ use Rattle.census_rows.specs.declared.row.Row.{Row}
 use Rattle.census_rows.specs.declared.row.Row.TheVariants.{Engine}
 use Rattle.life_answer.specs.declared.part.Part as part
 use Rattle.life_cells.specs.TextOrder.{shorter_cmp}
-use Rattle.census_merge.proofs.Engined.{IsLawfulEmitted, emits_row, emitted_part, engine-told}
+use Rattle.census_merge.proofs.Engined.{AllGetAway, IsLawfulEmitted, emits_row, emitted_part, engine-told}
 use Rattle.census_merge.proofs.Taken.{told-then}
 use Rattle.census_merge.specs.Lawful.{Rise}
 
@@ -39,7 +39,7 @@ AllBehind way xs (l ∷ lines) =
 -- what the row says of them is lawful
 abbrev pub IsLawfulLine : Line → Type 0
 IsLawfulLine l =
-    (is_way l.0.period l.0.dx l.0.dy ≡ true) × (0 < l.2) × (0 < length l.1) × Rise (Some []) l.1 × Each IsLawfulEmitted l.1
+    (is_way l.0.period l.0.dx l.0.dy ≡ true) × (0 < l.2) × (0 < length l.1) × Rise (Some []) l.1 × Each IsLawfulEmitted l.1 × AllGetAway l.0 l.1
 
 -- what is told after the rows of all engines
 pub record AllEngined (t : Told) (rows : List Row) : Type 0 where
@@ -56,7 +56,7 @@ engines-told c i e [] t owner left rises next behind lawful = record {
 }
 engines-told c i e (l ∷ lines) t owner left rises next behind lawful =
     let h = lawful.0 in
-    let one = engine-told c i e l.2 l.0 l.1 t owner (omega (arith, left)) h.1 rises next h.0 h.2 h.3 h.4 behind.0 in
+    let one = engine-told c i e l.2 l.0 l.1 t owner (omega (arith, left)) h.1 rises next h.0 h.2 h.3 h.4 h.5 behind.0 in
     let fewer : one.after.left ≡ engines_of lines = (let size = one.left-are in omega (arith, left, size)) in
     let later : suc e ≡ one.after.engine.number + 1 = (let number = one.number in omega (arith, number)) in
     let others = engines-told c i (suc e) lines one.after (one.collection ∙ owner) fewer one.rises later

@@ -10,7 +10,6 @@ use Rattle.census_format.specs.Lines.{engine_rows, rows_of_engines}
 use Rattle.census_readback.specs.Engines.{emitted_cmp, no_engine, way_cmp}
 use Rattle.census_readback.specs.Lawful.{is_way}
 use Rattle.census_readback.specs.Limits.{period_limit}
-use Rattle.census_readback.specs.declared.engines.Way.{Way}
 use Rattle.life_answer.specs.CountedTales.{counted_tales, engines_in, part_cmp, tale_cmp}
 use Rattle.life_answer.specs.Parts.{objects_in}
 use Rattle.life_answer.specs.Tales.{tale_of}
@@ -25,9 +24,10 @@ use Rattle.life_model.specs.Generation.{Generation}
 use Rattle.life_model.specs.Rule.{Rule}
 use Rattle.life_objects.proofs.DecidedLemmas.Tests.{small_abs}
 use Rattle.life_objects.proofs.Lists.{AllPairs-head, AllPairs-tail}
-use Rattle.census_merge.specs.Ranges.{FitsEmitted, FitsEngines, IsCodedPart}
+use Rattle.census_merge.specs.Ranges.{FitsEmitted, FitsEngines, IsCodedPart, way_of}
 use Rattle.census_merge.proofs.Engined.{IsLawfulEmitted, emitted_part}
 use Rattle.census_merge.proofs.Growing.{AllBehind, IsLawfulLine, Line, behind-none, engines_of, line_rows, parts-stand, way-first}
+use Rattle.census_merge.proofs.ObjectCodes.{cells-object}
 use Rattle.census_merge.proofs.PartsFound.{parts-fair, rise-some}
 use Rattle.census_merge.proofs.Tales.{told-holds}
 use Rattle.census_merge.specs.Lawful.{AreFairEngines, AreFairParts, Ascend, IsCodePart, IsCounted, IsFairGrowth, Rises}
@@ -51,9 +51,6 @@ growth-fair near R b G told e =
     }
 
 -- ---- the lines of engines
-
-abbrev way_of : Tale → Way
-way_of t = record { period = t.period; dx = t.dx; dy = t.dy }
 
 abbrev pub line_of : Engines → Line
 line_of line = (way_of line.tale, line.tale.emits, line.count)
@@ -113,7 +110,7 @@ some-parts (p ∷ parts) h = omega arith
 
 emits-lawful : (parts : List part.Part) → Each FitsEmitted parts → Each IsCounted parts → Each IsCodePart parts → Each IsLawfulEmitted parts
 emits-lawful [] fits counted told = tt
-emits-lawful (p ∷ parts) fits counted told = ((counted.0, told.0 fits.0.0), emits-lawful parts fits.1 counted.1 told.1)
+emits-lawful (p ∷ parts) fits counted told = ((counted.0, cells-object p.code told.0 fits.0.0), emits-lawful parts fits.1 counted.1 told.1)
 
 coded : (parts : List part.Part) → Each FitsEmitted parts → Each IsCodedPart parts
 coded [] fits = tt
@@ -125,6 +122,6 @@ lines-lawful (line ∷ lines) fits fair =
     let emits = line.tale.emits in
     let h = fits.0 in
     let k = fair.0 in (
-      (goes line h, h.0.some, some-parts emits h.0.emits, rise-some emits k.0 (coded emits h.1), emits-lawful emits h.1 k.1 k.2),
+      (goes line h, h.0.some, some-parts emits h.0.emits, rise-some emits k.0 (coded emits h.1), emits-lawful emits h.1 k.1 k.2, h.2),
       lines-lawful lines fits.1 fair.1,
     )

@@ -15,6 +15,7 @@ pub mod Shifted
 pub mod Joined
 pub mod Solid
 pub mod Tales
+pub mod OneOrMore
 pub mod Coded
 pub mod Parsed
 pub mod CutRows
@@ -30,6 +31,7 @@ pub mod Ruled
 pub mod CodeBodies
 pub mod CodeTexts
 pub mod Displaced
+pub mod ObjectCodes
 pub mod FaultNumbers
 pub mod Taken
 pub mod Engined

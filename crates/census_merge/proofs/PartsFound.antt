@@ -14,6 +14,7 @@ use Rattle.life_cells.specs.TextOrder.{shorter_cmp}
 use Rattle.life_cells.proofs.TextOrders.{shorter_total}
 use Rattle.census_merge.specs.Ranges.{IsCodedPart}
 use Rattle.census_merge.proofs.CodeTexts.{parts-told}
+use Rattle.census_merge.proofs.ObjectCodes.{cells-some}
 use Rattle.census_merge.specs.Lawful.{AreFairParts, IsBehind, IsCounted, Rise}
 
 rise-beside : (last : Option (List ℕ)) (code : List ℕ) (p : part.Part) (parts rest : List part.Part) (o : Ordering) → shorter_cmp code p.code ≡ o
@@ -38,7 +39,7 @@ some-first (c ∷ code) h = ap (λ o. ordering_then o (slice_cmp nat_cmp [] (c �
 -- the first code has a byte
 pub rise-some : (parts : List part.Part) → Rise Nothing parts → Each IsCodedPart parts → Rise (Some []) parts
 rise-some [] rise some = tt
-rise-some (p ∷ parts) rise some = (some-first p.code some.0, rise.1)
+rise-some (p ∷ parts) rise some = (some-first p.code (cells-some p.code some.0), rise.1)
 
 beside-counted : (o : Ordering) (code : List ℕ) (p : part.Part) (parts rest : List part.Part) → Each IsCounted (p ∷ parts) → Each IsCounted rest
     → Each IsCounted (with_code_by_order o code p parts rest)

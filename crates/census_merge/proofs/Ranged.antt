@@ -1,8 +1,9 @@
 -- The rows that say what is said of a bundle are on lines, if their numbers are in range.
-use Rattle.std.proofs.Common.{◌≡◌, ℕ, zero, suc, ◌+◌, ◌-◌, ◌<◌, ⊎_elim, eq-zero-or-pos, replicate, ◌≤◌, ◌^◌, Bool, None as Nothing, List, [], ◌∷◌, ◌++◌, map, length, count_by, slice_get, sym, refl, arith, subst}
+use Rattle.std.proofs.Common.{◌≡◌, ℕ, zero, suc, ◌+◌, ◌-◌, ◌<◌, ⊎_elim, eq-zero-or-pos, replicate, ◌≤◌, ◌^◌, Bool, true, leb, None as Nothing, List, [], ◌∷◌, ◌++◌, map, length, count_by, slice_get, sym, refl, arith, subst}
 use Rattle.std.specs.List.{AllByRecursion as Each}
 use Rattle.std.specs.Prelude.{FitsSigned}
 use Rattle.std.specs.Int.{w64}
+use Rattle.std.proofs.lemmas.Bool.{and_parts, leb-true}
 use Rattle.std.proofs.lemmas.Int.{ints}
 use Rattle.std.proofs.lemmas.List.{length-map}
 use Rattle.std.proofs.lemmas.List.Sums.{count_by-le-length}
@@ -13,11 +14,14 @@ use Rattle.census_format.specs.Lines.{Collection, Saying, emits_row, engine_row,
 use Rattle.census_format.specs.Objects.{Object, code_line, distinct_elements, object, objects, outcome_objects, part_objects, same_object}
 use Rattle.census_format.specs.Reports.{section, section_if, section_of}
 use Rattle.census_merge.specs.Sums.{sums_of}
+use Rattle.census_readback.specs.Lawful.{has_lawful_numbers}
+use Rattle.census_readback.specs.Limits.{cell_limit}
 use Rattle.census_readback.specs.Steps.{collection_of}
 use Rattle.census_rows.specs.declared.row.Row.{Row}
 use Rattle.census_rows.specs.Lines.{IsOutcome, IsRow, IsWord}
 use Rattle.life_answer.specs.declared.finding.Answer.{Answer}
 use Rattle.life_answer.specs.declared.finding.Answer.TheVariants.{Found, Refused}
+use Rattle.life_answer.specs.declared.finding.Finding.{Finding}
 use Rattle.life_answer.specs.declared.finding.Outcome as becomes
 use Rattle.life_answer.specs.declared.finding.Outcome.TheVariants.{Recurs, Unresolved, Large, Ash, Grows}
 use Rattle.life_answer.specs.declared.part.Part as part
@@ -26,8 +30,9 @@ use Rattle.life_answer.specs.CountedTales.{engines_in}
 use Rattle.life_answer.specs.declared.tale.Engines.{Engines}
 use Rattle.life_cells.specs.Rules.{rule_text}
 use Rattle.life_model.specs.Rule.{Rule}
-use Rattle.census_merge.specs.Ranges.{FitsEmitted, FitsEngines, FitsOutcome, IsCodedPart, IsToldAnswer}
+use Rattle.census_merge.specs.Ranges.{FitsEmitted, FitsEngines, FitsOutcome, IsCodedPart, IsToldAnswer, fields_of}
 use Rattle.census_merge.proofs.Named.{found-coded}
+use Rattle.census_merge.proofs.ObjectCodes.{cells-some}
 use Rattle.census_merge.proofs.Coded.{IsSolidObject, counted-each, distinct-each, tally-coded}
 use Rattle.census_merge.proofs.Parsed.{solid-plain}
 use Rattle.census_merge.proofs.Rowed.{close_row, code_groups, counted_in, row_outcome, section-is}
@@ -53,8 +58,13 @@ row-outcome-fits rule population (Large generation) few h k = (rule-word rule, (
 row-outcome-fits rule population (Ash onset parts) few h k = (rule-word rule, (few, (h.0.0, (h.0.1.0, tt))))
 row-outcome-fits rule population (Grows engines) few h k = (rule-word rule, (few, (h.0.0, tt)))
 
+few-cells : (finding : Finding) → has_lawful_numbers (fields_of finding) ≡ true → finding.population < 2 ^ 64
+few-cells finding h =
+    let few = leb-true finding.population cell_limit (and_parts (leb finding.population cell_limit) _ h).0 in
+    omega (arith, few)
+
 outcome-fits : (found : Answer) → IsToldAnswer found → IsCodedAnswer found → IsOutcome (outcome_of found)
-outcome-fits (Found rule finding) h k = row-outcome-fits rule finding.population finding.outcome h.0 h.1 k
+outcome-fits (Found rule finding) h k = row-outcome-fits rule finding.population finding.outcome (few-cells finding h.0) h.1 k
 outcome-fits (Refused number) h k = (h, tt)
 
 parts-fit : (c i : ℕ) (parts : List part.Part) → c < 2 ^ 64 → i < 2 ^ 64 → objects_in parts < 2 ^ 64 → Each IsCodedPart parts → Each IsSolidPart parts
@@ -63,13 +73,13 @@ parts-fit c i [] a b few some h = tt
 parts-fit c i (p ∷ parts) a b few some h =
     let here : p.count < 2 ^ 64 = omega (arith, few) in
     let more : objects_in parts < 2 ^ 64 = omega (arith, few) in
-    ((refl, refl, (a, b, word p.code some.0 h.0, here)), parts-fit c i parts a b more some.1 h.1)
+    ((refl, refl, (a, b, word p.code (cells-some p.code some.0) h.0, here)), parts-fit c i parts a b more some.1 h.1)
 
 emits-fit : (c i e : ℕ) (parts : List part.Part) → c < 2 ^ 64 → i < 2 ^ 64 → e < 2 ^ 64 → Each FitsEmitted parts → Each IsSolidPart parts
     → Each (IsFit c) (map (emits_row c i e) parts)
 emits-fit c i e [] a b d h k = tt
 emits-fit c i e (p ∷ parts) a b d h k =
-    ((refl, refl, (a, b, d, word p.code h.0.0 k.0, h.0.1)), emits-fit c i e parts a b d h.1 k.1)
+    ((refl, refl, (a, b, d, word p.code (cells-some p.code h.0.0) k.0, h.0.1)), emits-fit c i e parts a b d h.1 k.1)
 
 engine-fit : (c i e : ℕ) (line : Engines) → c < 2 ^ 64 → i < 2 ^ 64 → e < 2 ^ 64 → line.count < 2 ^ 64 → FitsEngines line → IsFit c (engine_row c i e line)
 engine-fit c i e line a b d few h =
@@ -121,7 +131,7 @@ parts-some : (rule : Rule) (parts : List part.Part) → Each IsCodedPart parts �
 parts-some rule [] h = tt
 parts-some rule (p ∷ parts) h =
     each-append HasObjectCode (replicate p.count (object rule p.code)) (part_objects rule parts)
-    (each-replicate HasObjectCode p.count (object rule p.code) h.0) (parts-some rule parts h.1)
+    (each-replicate HasObjectCode p.count (object rule p.code) (cells-some p.code h.0)) (parts-some rule parts h.1)
 
 outcome-some : (rule : Rule) (outcome : becomes.Outcome) → FitsOutcome outcome → Each HasObjectCode (outcome_objects rule outcome)
 outcome-some rule (Recurs onset period dx dy code) h = (h.0.1.1.1.1.0, tt)

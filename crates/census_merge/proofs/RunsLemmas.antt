@@ -5,3 +5,4 @@ pub mod CodeCounts
 pub mod ObjectsOfAsh
 pub mod OneCollection
 pub mod Growing
+pub mod Settled

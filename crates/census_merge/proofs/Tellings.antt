@@ -7,7 +7,7 @@ use Rattle.std.specs.Ordering.{is_lt}
 use Rattle.census_rows.specs.declared.row.Row.{Row}
 use Rattle.census_rows.specs.declared.row.Row.TheVariants.{Open, Line, Part, Engine, Emits, Code, Close, End}
 use Rattle.census_rows.specs.Kinds.{Said, said}
-use Rattle.census_readback.specs.Codes.{is_code}
+use Rattle.census_readback.specs.Codes.{is_object}
 use Rattle.census_readback.specs.Engines.{LastEngine, after_emits, after_engine, no_engine}
 use Rattle.census_readback.specs.Lawful.{is_lawful, is_way}
 use Rattle.census_readback.specs.Steps.{collection_of}
@@ -228,7 +228,7 @@ told-goes all t w u (Line c i o name) m own held h =
     (g.0, if-pass (is_lawful (Line c i o name)) (line_told u (closed_to all c) (said o)) g.0 k.0 g.1, g.2)
 told-goes all t w u (Part c i code n) m own held h =
     let k = if-told (is_lawful (Part c i code n)) (part_told t c code.now n) w h in
-    let l = and_parts (is_code code.now) (ltb 0 n) k.0 in
+    let l = and_parts (is_object code.now) (ltb 0 n) k.0 in
     let g = part-goes all t w u m c code.now n held (ltb-true _ _ l.1) k.1 in
     (g.0, if-pass (is_lawful (Part c i code n)) (part_told u (closed_to all c) code.now n) g.0 k.0 g.1, g.2)
 told-goes all t w u (Engine c i e p x y n) m own held h =
@@ -239,7 +239,7 @@ told-goes all t w u (Engine c i e p x y n) m own held h =
     (g.0, if-pass (is_lawful (Engine c i e p x y n)) (engine_told u (closed_to all c) n (after u.engine)) g.0 k.0 g.1, g.2)
 told-goes all t w u (Emits c i e code n) m own held h =
     let k = if-told (is_lawful (Emits c i e code n)) (emits_told t c e code.now n) w h in
-    let l = and_parts (ltb 0 e) (is_code code.now && ltb 0 n) k.0 in
+    let l = and_parts (ltb 0 e) (is_object code.now && ltb 0 n) k.0 in
     let g = emits-goes all t w u m c e code.now n held (ltb-true _ _ l.0) k.1 in
     (g.0, if-pass (is_lawful (Emits c i e code n)) (emits_told u (closed_to all c) e code.now n) g.0 k.0 g.1, g.2)
 told-goes all t w u (Code c rule code n) m own held h =

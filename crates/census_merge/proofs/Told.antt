@@ -2,7 +2,7 @@
 use Rattle.std.proofs.Common.{◌≡◌, ℕ, ℤ, zero, suc, ◌+◌, ◌-◌, ◌<◌, ◌≤◌, Bool, true, false, ◌&&◌, cond, eqb, leb, ltb, Some, None as Nothing, List, [], ◌∷◌, ◌++◌, map, length, count_by, replicate, slice_get, Less, ap, ◌∙◌, sym, subst, refl, arith}
 use Rattle.std.proofs.lemmas.List.Sums.{sum_by-cons}
 use Rattle.std.specs.List.{AllByRecursion as Each}
-use Rattle.std.proofs.lemmas.Bool.{eq-eqb, le-leb, lt-ltb}
+use Rattle.std.proofs.lemmas.Bool.{and_from, eq-eqb, le-leb, lt-ltb}
 use Rattle.std.specs.Ordering.{is_lt}
 use Rattle.census_bundle.specs.Names.{is_name}
 use Rattle.census_format.specs.Found.{outcome_of, lent}
@@ -12,9 +12,9 @@ use Rattle.census_format.specs.ObjectLaws.{same_itself}
 use Rattle.census_format.specs.Reports.{Owned, lines_of, section, section_if, section_of}
 use Rattle.census_readback.specs.Told.{Told, is_told, line_told, nothing_told, part_told, told_by, told_next, to_tell}
 use Rattle.census_readback.specs.Engines.{LastEngine, no_engine}
-use Rattle.census_readback.specs.Lawful.{is_lawful, is_recurrence}
+use Rattle.census_readback.specs.Lawful.{has_lawful_numbers, is_lawful, is_recurrence}
 use Rattle.census_readback.specs.Limits.{fault_limit}
-use Rattle.census_readback.specs.Codes.{is_code}
+use Rattle.census_readback.specs.Codes.{is_code, is_object}
 use Rattle.census_readback.specs.Rules.{is_rule}
 use Rattle.life_cells.specs.Rules.{rule_text}
 use Rattle.census_rows.specs.declared.row.Row.{Row}
@@ -25,6 +25,7 @@ use Rattle.life_answer.specs.CountedTales.{engines_in}
 use Rattle.life_answer.specs.Parts.{objects_in}
 use Rattle.life_answer.specs.declared.finding.Answer.{Answer}
 use Rattle.life_answer.specs.declared.finding.Answer.TheVariants.{Found, Refused}
+use Rattle.life_answer.specs.declared.finding.Finding.{Finding}
 use Rattle.life_answer.specs.declared.finding.Outcome.{Outcome}
 use Rattle.life_answer.specs.declared.finding.Outcome.TheVariants.{Recurs, Unresolved, Large, Ash, Grows}
 use Rattle.life_answer.specs.declared.part.Part as part
@@ -32,13 +33,14 @@ use Rattle.life_answer.specs.declared.tale.Engines.{Engines}
 use Rattle.life_model.specs.Rule.{Rule}
 use Rattle.life_cells.specs.TextOrder.{shorter_cmp}
 use Rattle.census_merge.specs.Telling.{rows_in}
-use Rattle.census_merge.specs.Ranges.{FitsEngines, FitsOutcome, IsCodedPart, IsToldAnswer}
+use Rattle.census_merge.specs.Ranges.{FitsEngines, FitsOutcome, IsCodedPart, IsToldAnswer, fields_of}
 use Rattle.census_merge.proofs.Coded.{counted-each, distinct-each}
 use Rattle.census_merge.proofs.Grouped.{each-then}
 use Rattle.census_merge.proofs.CodeTexts.{recurrence-code}
 use Rattle.census_merge.proofs.Grown as grown
 use Rattle.census_merge.proofs.Grown.{engines-are, first-behind, lines-lawful, rows-are}
 use Rattle.census_merge.proofs.Growing.{AllBehind, engines-told}
+use Rattle.census_merge.proofs.ObjectCodes.{cells-object}
 use Rattle.census_merge.proofs.PartsFound.{rise-some}
 use Rattle.census_merge.proofs.Ranged.{HasObjectCode, objects-some}
 use Rattle.census_merge.proofs.Ruled.{IsLifeLikeObject, objects-ruled, rule-printed}
@@ -84,7 +86,7 @@ with_left t left last = record t { left = left; last = last }
 
 -- a part whose row is lawful
 abbrev pub IsLawfulPart : part.Part → Type 0
-IsLawfulPart p = IsCounted p × (is_code p.code ≡ true)
+IsLawfulPart p = IsCounted p × (is_object p.code ≡ true)
 
 part-lawful : (c i : ℕ) (p : part.Part) → IsLawfulPart p → is_lawful (part_row c i p) ≡ true
 part-lawful c i p h = ap (λ b. b && ltb 0 p.count) h.1 ∙ lt-ltb 0 p.count h.0
@@ -168,40 +170,51 @@ grows-told c i o name engines lawful all range fair t calm =
       calm = others.told;
     }
 
-growing-line : (rule : Rule) (name : List ℕ) (n : ℕ) → IsLifeLike rule → 1 ≤ n → is_name name ≡ true → (is_rule (rule_text rule) && (ltb 0 n && is_name name)) ≡ true
-growing-line rule name n ruled some named =
-    ap (λ b. b && (ltb 0 n && is_name name)) (rule-printed rule ruled) ∙ ap (λ b. b && is_name name) (lt-ltb 0 n some) ∙ named
+growing-line : (rule : Rule) (last : Bool) (n : ℕ) → IsLifeLike rule → 1 ≤ n → last ≡ true → (is_rule (rule_text rule) && (ltb 0 n && last)) ≡ true
+growing-line rule last n ruled some ends =
+    ap (λ b. b && (ltb 0 n && last)) (rule-printed rule ruled) ∙ ap (λ b. b && last) (lt-ltb 0 n some) ∙ ends
 
-named-line : (rule : Rule) (name : List ℕ) → IsLifeLike rule → is_name name ≡ true → (is_rule (rule_text rule) && is_name name) ≡ true
-named-line rule name ruled named = ap (λ b. b && is_name name) (rule-printed rule ruled) ∙ named
+plain-line : (rule : Rule) (last : Bool) → IsLifeLike rule → last ≡ true → (is_rule (rule_text rule) && last) ≡ true
+plain-line rule last ruled ends = ap (λ b. b && last) (rule-printed rule ruled) ∙ ends
 
-coded-line : (rule : Rule) (name : List ℕ) (period : ℕ) (dx dy : ℤ) (code : List ℕ) → IsLifeLike rule → is_recurrence period dx dy code ≡ true → is_name name ≡ true
-    → (is_rule (rule_text rule) && (is_recurrence period dx dy code && is_name name)) ≡ true
-coded-line rule name period dx dy code ruled told named =
-    ap (λ b. b && (is_recurrence period dx dy code && is_name name)) (rule-printed rule ruled) ∙ ap (λ b. b && is_name name) told ∙ named
+coded-line : (rule : Rule) (last : Bool) (period : ℕ) (dx dy : ℤ) (code : List ℕ) → IsLifeLike rule → is_recurrence period dx dy code ≡ true → last ≡ true
+    → (is_rule (rule_text rule) && (is_recurrence period dx dy code && last)) ≡ true
+coded-line rule last period dx dy code ruled told ends =
+    ap (λ b. b && (is_recurrence period dx dy code && last)) (rule-printed rule ruled) ∙ ap (λ b. b && last) told ∙ ends
 
 parts-lawful : (parts : List part.Part) → Each IsCounted parts → Each IsCodePart parts → Each IsCodedPart parts → Each IsLawfulPart parts
 parts-lawful [] counted told some = tt
-parts-lawful (p ∷ parts) counted told some = ((counted.0, told.0 some.0), parts-lawful parts counted.1 told.1 some.1)
+parts-lawful (p ∷ parts) counted told some = ((counted.0, cells-object p.code told.0 some.0), parts-lawful parts counted.1 told.1 some.1)
 
-outcome-told : (c i : ℕ) (rule : Rule) (population : ℕ) (outcome : Outcome) (name : List ℕ) → IsLifeLike rule → is_name name ≡ true
-    → FitsOutcome outcome → IsFair outcome
+-- its numbers are lawful, and so is the name
+abbrev ends_line : Finding → List ℕ → Bool
+ends_line finding name = has_lawful_numbers (fields_of finding) && is_name name
+
+outcome-told : (c i : ℕ) (rule : Rule) (population : ℕ) (outcome : Outcome) (name : List ℕ) → IsLifeLike rule
+    → ends_line (record { population = population; outcome = outcome }) name ≡ true → FitsOutcome outcome → IsFair outcome
     → IsTold (Line c i (row_outcome rule population outcome) (lent name) ∷ outcome_rows c i outcome)
-outcome-told c i rule population (Recurs onset period dx dy code) name ruled named range fair =
-    line-told c i (row_outcome rule population (Recurs onset period dx dy code)) name [] (coded-line rule name period dx dy code ruled fair named) refl tt tt
-outcome-told c i rule population Unresolved name ruled named range fair =
-    line-told c i (row_outcome rule population Unresolved) name [] (named-line rule name ruled named) refl tt tt
-outcome-told c i rule population (Large n) name ruled named range fair =
-    line-told c i (row_outcome rule population (Large n)) name [] (named-line rule name ruled named) refl tt tt
-outcome-told c i rule population (Ash onset parts) name ruled named range fair =
-    line-told c i (row_outcome rule population (Ash onset parts)) name parts (named-line rule name ruled named) refl (rise-some parts fair.0 range.1) (parts-lawful parts fair.1 fair.2 range.1)
-outcome-told c i rule population (Grows engines) name ruled named range fair =
-    grows-told c i (row_outcome rule population (Grows engines)) name engines (growing-line rule name (engines_in engines) ruled fair.some named) refl range.2 fair
+outcome-told c i rule population (Recurs onset period dx dy code) name ruled ends range fair =
+    line-told c i (row_outcome rule population (Recurs onset period dx dy code)) name []
+    (coded-line rule (ends_line (record { population = population; outcome = Recurs onset period dx dy code }) name) period dx dy code ruled fair ends) refl tt tt
+outcome-told c i rule population Unresolved name ruled ends range fair =
+    line-told c i (row_outcome rule population Unresolved) name []
+    (plain-line rule (ends_line (record { population = population; outcome = Unresolved }) name) ruled ends) refl tt tt
+outcome-told c i rule population (Large n) name ruled ends range fair =
+    line-told c i (row_outcome rule population (Large n)) name []
+    (plain-line rule (ends_line (record { population = population; outcome = Large n }) name) ruled ends) refl tt tt
+outcome-told c i rule population (Ash onset parts) name ruled ends range fair =
+    line-told c i (row_outcome rule population (Ash onset parts)) name parts
+    (plain-line rule (ends_line (record { population = population; outcome = Ash onset parts }) name) ruled ends) refl
+    (rise-some parts fair.0 range.1) (parts-lawful parts fair.1 fair.2 range.1)
+outcome-told c i rule population (Grows engines) name ruled ends range fair =
+    grows-told c i (row_outcome rule population (Grows engines)) name engines
+    (growing-line rule (ends_line (record { population = population; outcome = Grows engines }) name) (engines_in engines) ruled fair.some ends) refl range.2 fair
 
 answer-told : (c i : ℕ) (found : Answer) (name : List ℕ) → is_name name ≡ true → IsLifeLikeAnswer found → IsToldAnswer found → IsFairAnswer found
     → IsTold (pattern_row c i found name ∷ rows_behind c i found)
 answer-told c i (Found rule finding) name named ruled range fair =
-    outcome-told c i rule finding.population finding.outcome name ruled named range.1 fair
+    outcome-told c i rule finding.population finding.outcome name ruled
+    (and_from (has_lawful_numbers (fields_of finding)) (is_name name) range.0 named) range.1 fair
 answer-told c i (Refused number) name named ruled range fair =
     line-told c i (outcome_of (Refused number)) name [] (ap (λ b. b && is_name name) (le-leb number fault_limit fair) ∙ named) refl tt tt
 

@@ -1,3 +1,4 @@
 pub mod Fallen
 pub mod Growing
 pub mod ObjectsOfAsh
+pub mod Settled

@@ -1,8 +1,9 @@
 //! Several reports merged into one, what is kept of a text that was cut in the middle of a report, and laws of reports. The
 //! merged report has the collections of all, numbered consecutively, and one `end` line with the sums. `laws` says what rows say
 //! of collections, that a report's rows say it of its bundle, and that merged reports are a report of their bundles, one after
-//! another; `said` that a text is read exactly where it is lawful reports; `runs` says what a report's numbers count, `bounds`
-//! that what is found of patterns is in range, and `cuts` what is kept of a report that was cut.
+//! another; `said` that a text is read exactly where it is lawful reports; `runs` says what a report's numbers count, and that `ok`
+//! lines of objects are those of `run`, `bounds` that what is found of patterns is in range, and `cuts` what is kept of a report
+//! that was cut.
 //!
 //! Tested in `tests_reports`.
 #![tactic(auto)]
@@ -42,7 +43,7 @@ pub use merging::{Counted, TooMany, count, put_end, put_rows};
 pub use report_sums::{Sums, sums_at_end};
 pub use runs::{
     ash_lines_tell_the_onset, codes_count_objects_of_ash, growth_is_told_exactly,
-    one_collection_has_one_report,
+    ok_lines_are_those_of_run, one_collection_has_one_report,
 };
 pub use said::{
     lawful_texts_are_read, texts_that_are_read_are_lawful, what_is_said_of_a_bundle_is_lawful,

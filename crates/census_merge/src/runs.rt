@@ -1,7 +1,7 @@
-//! Laws of reports: what the numbers in a report of objects count, as cells on the plane; which patterns it says grow; and that
-//! one collection has one report.
+//! Laws of reports: what the numbers in a report of objects count, as cells on the plane; which patterns it says recur, and that
+//! `run` says so too; which it says grow; and that one collection has one report.
 
-ghost use Rattle.std.specs.Prelude.{◌≡◌, ◌↔◌, ◌++◌, [], ◌∷◌, ℕ, Bool, List, Option, Some, codes};
+ghost use Rattle.std.specs.Prelude.{◌≡◌, ◌≤◌, ◌↔◌, ◌+◌, ◌++◌, [], ◌∷◌, ℕ, Bool, List, Option, Some, codes};
 ghost use Rattle.census_bundle.specs.declared.bundle.Entry.{Entry};
 ghost use Rattle.census_format.specs.Found.{outcome_of};
 ghost use Rattle.census_format.specs.Lines.{Collection, answer_to_entry, groups_text, pattern_rows};
@@ -13,8 +13,9 @@ ghost use Rattle.census_rows.specs.declared.kinds.Value.TheVariants.{Number};
 ghost use Rattle.census_merge.specs.Runs.Fallen.{FallsApart};
 ghost use Rattle.census_merge.specs.Runs.Growing.{HasGrown, growing_rows};
 ghost use Rattle.census_merge.specs.Runs.ObjectsOfAsh.{CodesCountObjectsOfAsh};
+ghost use Rattle.census_merge.specs.Runs.Settled.{IsNeverLarge, SaysOk};
 ghost use Rattle.life_answer.specs.Told.{told_of_engines};
-ghost use Rattle.life_answer.specs.declared.question.Question.TheVariants.{Objects};
+ghost use Rattle.life_answer.specs.declared.question.Question.TheVariants.{Objects, Settles};
 ghost use Rattle.life_objects.specs.Onset.{IsAshOnset};
 
 /// Where objects are asked for, each `code` line of a collection counts one object. The line has the object's rule and code.
@@ -33,6 +34,16 @@ pub fn ash_lines_tell_the_onset()
         (onset : ℕ) × IsAshOnset f.rule bound f.cells onset
         × (value_at Onset (said (outcome_of (answer_to_entry (Objects bound most near horizon) e))).fields
         ≡ Some (Number onset)) }
+{}
+
+/// Where objects are asked for, an `ok` line is, but for the number of its collection, the line that `run` writes of that pattern
+/// at each bound from the line's onset plus its period on. `run` then has no limit of cells, or one that no generation up to its
+/// bound exceeds. (Here both have the same number c, whatever it is.)
+pub fn ok_lines_are_those_of_run()
+    ensures { (near : Bool) (bound : ℕ) (most : Option ℕ) (horizon onset period : ℕ) (e : Entry) →
+        SaysOk onset period (answer_to_entry (Objects bound most near horizon) e) →
+        (later : ℕ) (limit : Option ℕ) → onset + period ≤ later → IsNeverLarge limit later e →
+        (c i : ℕ) → pattern_rows (Objects bound most near horizon) c i e ≡ pattern_rows (Settles later limit) c i e }
 {}
 
 /// Where objects are asked for, a line says that a pattern grows exactly if some generation of it grows within the horizon, as

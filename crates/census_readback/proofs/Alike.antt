@@ -16,8 +16,8 @@ use Rattle.census_rows.specs.declared.kinds.Value.{Value}
 use Rattle.census_rows.specs.declared.kinds.Value.TheVariants.{Number, Signed, Text}
 use Rattle.census_rows.specs.Kinds.{Said, label_number, said, value_at}
 use Rattle.census_rows.specs.Lines.{SameFields, SameOutcome, SameRow, SameSaid, SameValue}
-use Rattle.census_readback.specs.Codes.{is_code}
-use Rattle.census_readback.specs.Lawful.{has_lawful_code, has_lawful_engines, has_lawful_fault, has_lawful_rule, is_lawful, is_recurrence, is_way, number_in, signed_in, text_in}
+use Rattle.census_readback.specs.Codes.{is_code, is_object}
+use Rattle.census_readback.specs.Lawful.{has_lawful_code, has_lawful_engines, has_lawful_fault, has_lawful_numbers, has_lawful_rule, is_lawful, is_recurrence, is_way, number_in, signed_in, text_in}
 use Rattle.census_readback.specs.Engines.{after_engine, no_engine}
 use Rattle.census_readback.specs.declared.engines.Way.{Way}
 use Rattle.census_readback.specs.Rules.{is_rule}
@@ -29,7 +29,7 @@ use Rattle.census_readback.specs.Counts.{Counts, line_counted, object, with_more
 use Rattle.census_readback.specs.Sections.{counted, may_stand, with_line, with_part, with_told, tells_next, next_within, first_place, place_after}
 use Rattle.census_readback.specs.Steps.{Reading, collection_of, patterns_opened, place_at, gone_on, section_step, end_step, step, first_stray}
 use Rattle.census_readback.specs.Texts.{SameRows}
-use Rattle.census_readback.specs.Limits.{count_limit, fault_limit}
+use Rattle.census_readback.specs.Limits.{bound_limit, cell_limit, count_limit, fault_limit}
 
 -- # Fields
 
@@ -195,24 +195,38 @@ code-same fields others h =
     ∙ ap (λ n. option_map_or (is_recurrence n dx dy) code true) (numbers fields others h label.Period)
     ∙ ap (λ text. option_map_or (is_recurrence (number_in (value_at label.Period others)) dx dy) text true) (texts fields others h label.Code)
 
+limits-same : (fields others : List Field) → SameFields fields others → has_lawful_numbers fields ≡ has_lawful_numbers others
+limits-same fields others h =
+    let same : (l : Label) → number_in (value_at l fields) ≡ number_in (value_at l others) = numbers fields others h in
+    let onset : ℕ = number_in (value_at label.Onset others) in
+    let period : ℕ = number_in (value_at label.Period others) in
+    let cells : ℕ = number_in (value_at label.Population others) in
+    let last : ℕ = number_in (value_at label.Generation fields) in
+    let limits : ℕ → ℕ → ℕ → ℕ → Bool = λ c o p g. nat_le c cell_limit && (nat_le (o + p) bound_limit && nat_le g bound_limit) in
+    ap (λ c. limits c (number_in (value_at label.Onset fields)) (number_in (value_at label.Period fields)) last) (same label.Population)
+    ∙ ap (λ o. limits cells o (number_in (value_at label.Period fields)) last) (same label.Onset)
+    ∙ ap (λ p. limits cells onset p last) (same label.Period)
+    ∙ ap (limits cells onset period) (same label.Generation)
+
 lawful-same : (r q : Row) → SameRow r q → is_lawful r ≡ is_lawful q
 lawful-same (Open c n name) (Open c2 n2 name2) h = ap is_name h.2
 lawful-same (Line c i o name) (Line c2 i2 o2 name2) h =
     let fs = (said o).fields in
     let gs = (said o2).fields in
-    ap (λ rule. option_map_or is_rule rule true && (has_lawful_code fs && (has_lawful_engines fs && (has_lawful_fault fs && is_name name.now)))) (texts fs gs h.2.3 label.Rule)
-    ∙ ap (λ b. has_lawful_rule gs && (b && (has_lawful_engines fs && (has_lawful_fault fs && is_name name.now)))) (code-same fs gs h.2.3)
-    ∙ ap (λ b. has_lawful_rule gs && (has_lawful_code gs && (b && (has_lawful_fault fs && is_name name.now)))) (some-same (value_at label.Engines fs) (value_at label.Engines gs) (at-same label.Engines fs gs h.2.3))
-    ∙ ap (λ n. has_lawful_rule gs && (has_lawful_code gs && (has_lawful_engines gs && (nat_le n fault_limit && is_name name.now)))) (numbers fs gs h.2.3 label.Fault)
-    ∙ ap (λ w. has_lawful_rule gs && (has_lawful_code gs && (has_lawful_engines gs && (has_lawful_fault gs && is_name w)))) h.3
-lawful-same (Part c i code k) (Part c2 i2 code2 k2) h = ap (λ w. is_code w && nat_lt 0 k) h.2 ∙ ap (λ m. is_code code2.now && nat_lt 0 m) h.3
+    ap (λ rule. option_map_or is_rule rule true && (has_lawful_code fs && (has_lawful_engines fs && (has_lawful_fault fs && (has_lawful_numbers fs && is_name name.now))))) (texts fs gs h.2.3 label.Rule)
+    ∙ ap (λ b. has_lawful_rule gs && (b && (has_lawful_engines fs && (has_lawful_fault fs && (has_lawful_numbers fs && is_name name.now))))) (code-same fs gs h.2.3)
+    ∙ ap (λ b. has_lawful_rule gs && (has_lawful_code gs && (b && (has_lawful_fault fs && (has_lawful_numbers fs && is_name name.now))))) (some-same (value_at label.Engines fs) (value_at label.Engines gs) (at-same label.Engines fs gs h.2.3))
+    ∙ ap (λ n. has_lawful_rule gs && (has_lawful_code gs && (has_lawful_engines gs && (nat_le n fault_limit && (has_lawful_numbers fs && is_name name.now))))) (numbers fs gs h.2.3 label.Fault)
+    ∙ ap (λ b. has_lawful_rule gs && (has_lawful_code gs && (has_lawful_engines gs && (has_lawful_fault gs && (b && is_name name.now))))) (limits-same fs gs h.2.3)
+    ∙ ap (λ w. has_lawful_rule gs && (has_lawful_code gs && (has_lawful_engines gs && (has_lawful_fault gs && (has_lawful_numbers gs && is_name w))))) h.3
+lawful-same (Part c i code k) (Part c2 i2 code2 k2) h = ap (λ w. is_object w && nat_lt 0 k) h.2 ∙ ap (λ m. is_object code2.now && nat_lt 0 m) h.3
 lawful-same (Engine c i e p x y k) (Engine c2 i2 e2 p2 x2 y2 k2) h =
     ap (λ m. is_way m x y && nat_lt 0 k) h.3 ∙ ap (λ z. is_way p2 z y && nat_lt 0 k) h.4 ∙ ap (λ z. is_way p2 x2 z && nat_lt 0 k) h.5
     ∙ ap (λ m. is_way p2 x2 y2 && nat_lt 0 m) h.6
 lawful-same (Emits c i e code k) (Emits c2 i2 e2 code2 k2) h =
-    ap (λ m. nat_lt 0 m && (is_code code.now && nat_lt 0 k)) h.2
-    ∙ ap (λ w. nat_lt 0 e2 && (is_code w && nat_lt 0 k)) h.3
-    ∙ ap (λ m. nat_lt 0 e2 && (is_code code2.now && nat_lt 0 m)) h.4
+    ap (λ m. nat_lt 0 m && (is_object code.now && nat_lt 0 k)) h.2
+    ∙ ap (λ w. nat_lt 0 e2 && (is_object w && nat_lt 0 k)) h.3
+    ∙ ap (λ m. nat_lt 0 e2 && (is_object code2.now && nat_lt 0 m)) h.4
 lawful-same (Code c rule code k) (Code c2 rule2 code2 k2) h =
     ap (λ w. is_rule w && (is_code code.now && nat_lt 0 k)) h.1 ∙ ap (λ w. is_rule rule2.now && (is_code w && nat_lt 0 k)) h.2
     ∙ ap (λ m. is_rule rule2.now && (is_code code2.now && nat_lt 0 m)) h.3

@@ -1,5 +1,5 @@
 -- Codes of objects: `x`, a letter, a number, `_` and a body.
-use Rattle.std.specs.Prelude.{ℕ, ◌+◌, Bool, false, not, ◌&&◌, ◌||◌, ◌==◌, nat_eq, nat_lt, if◌then◌else◌, Option, None as Nothing, List, ◌∷◌, decimal, drop, length, position, take}
+use Rattle.std.specs.Prelude.{ℕ, ◌+◌, Bool, false, not, ◌&&◌, ◌||◌, ◌==◌, nat_eq, nat_lt, if◌then◌else◌, Option, None as Nothing, List, ◌∷◌, codes, decimal, drop, length, position, take}
 use Rattle.std.specs.Cmp.Lexicographic.{pointwise}
 use Rattle.std.specs.List.{list_all}
 use Rattle.std.specs.Option.{option_map, option_map_or}
@@ -40,6 +40,18 @@ tells moved period parts =
 -- `xs`, `xp` or `xq`, a number, `_` and a body
 abbrev pub is_code : List ℕ → Bool
 is_code code = option_map_or are_lawful (code_parts code) false
+
+-- a text with the form of a code has another body than `0`, which that of no cell has
+abbrev pub has_cells : List ℕ → Bool
+has_cells code = option_map_or (λ parts. not (pointwise nat_eq parts.body (codes "0"))) (code_parts code) false
+
+-- a code of at least one cell
+abbrev pub is_object : List ℕ → Bool
+is_object code = is_code code && has_cells code
+
+-- a text with the form of a code begins as that of what moves
+abbrev pub is_moving : List ℕ → Bool
+is_moving code = option_map_or (λ parts. parts.letter == 113) (code_parts code) false
 
 -- `xs` for what stays as it is, `xp` and the period for what recurs in place, `xq` and the period for what moves
 abbrev pub is_code_after : Bool → ℕ → List ℕ → Bool

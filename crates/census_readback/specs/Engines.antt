@@ -1,12 +1,14 @@
 -- What the `engine` and `emits` rows after a line say, one after another.
-use Rattle.std.specs.Prelude.{ℕ, pos, ◌+◌, Bool, false, true, ◌&&◌, ◌==◌, if◌then◌else◌, Option, Some, None as Nothing, List, [], ◌∷◌, ◌++◌, drop, map}
+use Rattle.std.specs.Prelude.{ℕ, pos, ◌+◌, Bool, false, true, not, ◌&&◌, ◌||◌, ◌==◌, if◌then◌else◌, Option, Some, None as Nothing, List, [], ◌∷◌, ◌++◌, drop, map}
 use Rattle.std.specs.Option.{option_map}
 use Rattle.std.specs.Ordering.{int_cmp, nat_cmp, ordering_then}
 use Rattle.std.specs.declared.cmp.Ordering.{Ordering}
 use Rattle.std.specs.declared.cmp.Ordering.TheVariants.{Less, Equal, Greater}
 use Rattle.census_readback.specs.declared.engines as rust
 use Rattle.census_readback.specs.declared.engines.Way.{Way}
+use Rattle.census_readback.specs.Codes.{is_moving}
 use Rattle.life_cells.specs.TextOrder.{shorter_cmp}
+use Rattle.life_model.specs.Cell.{origin, same_cell}
 
 -- what an `emits` row says: a code, and how often it is emitted
 pub record Emitted : Type 0 where
@@ -78,6 +80,10 @@ compared e next = if e.rises then Some e else compared_with e.before e next
 abbrev pub with_emitted : Emitted → LastEngine → LastEngine
 with_emitted next e = record e { emits = e.emits ++ next ∷ [] }
 
+-- an engine that doesn't move can emit what has this code: only what moves gets away
+abbrev pub gets_away : Way → List ℕ → Bool
+gets_away way code = not (same_cell (way.dx, way.dy) origin) || is_moving code
+
 -- after an `emits` row
 abbrev pub after_emits : LastEngine → Emitted → Option LastEngine
-after_emits e next = option_map (with_emitted next) (compared e next)
+after_emits e next = if gets_away e.way next.code then option_map (with_emitted next) (compared e next) else Nothing

@@ -1,5 +1,5 @@
 -- What a row of a lawful report says by itself.
-use Rattle.std.specs.Prelude.{ℕ, ℤ, pos, Bool, true, not, ◌&&◌, nat_le, nat_lt, unsigned_abs, Option, Some, None as Nothing, List}
+use Rattle.std.specs.Prelude.{ℕ, ℤ, pos, ◌+◌, Bool, true, not, ◌&&◌, nat_le, nat_lt, unsigned_abs, Option, Some, None as Nothing, List}
 use Rattle.std.specs.Option.{option_map_or}
 use Rattle.census_bundle.specs.Names.{is_name}
 use Rattle.census_rows.specs.Kinds.{said, value_at}
@@ -9,8 +9,8 @@ use Rattle.census_rows.specs.declared.kinds.Value.{Value}
 use Rattle.census_rows.specs.declared.kinds.Value.TheVariants.{Number, Signed, Text}
 use Rattle.census_rows.specs.declared.row.Row.{Row}
 use Rattle.census_rows.specs.declared.row.Row.TheVariants.{Open, Line, Part, Engine, Emits, Code}
-use Rattle.census_readback.specs.Codes.{is_code, is_code_after}
-use Rattle.census_readback.specs.Limits.{fault_limit, period_limit}
+use Rattle.census_readback.specs.Codes.{is_code, is_code_after, is_object}
+use Rattle.census_readback.specs.Limits.{bound_limit, cell_limit, fault_limit, period_limit}
 use Rattle.census_readback.specs.Rules.{is_rule}
 use Rattle.life_model.specs.Cell.{origin, same_cell}
 
@@ -54,20 +54,28 @@ has_lawful_engines fields = option_map_or (λ value. nat_lt 0 (number_in (Some v
 abbrev pub has_lawful_fault : List Field → Bool
 has_lawful_fault fields = nat_le (number_in (value_at label.Fault fields)) fault_limit
 
+-- there are no more cells than a pattern may have, and what recurs, has fallen apart or is too large has shown it by the greatest bound
+abbrev pub has_lawful_numbers : List Field → Bool
+has_lawful_numbers fields =
+    nat_le (number_in (value_at label.Population fields)) cell_limit
+    && (nat_le (number_in (value_at label.Onset fields) + number_in (value_at label.Period fields)) bound_limit
+    && nat_le (number_in (value_at label.Generation fields)) bound_limit)
+
 -- after how many generations an engine recurs, and how far it moves in them: at most a cell in each
 abbrev pub is_way : ℕ → ℤ → ℤ → Bool
 is_way period dx dy =
     nat_lt 0 period && (nat_le period period_limit && moves_within period dx dy)
 
--- Its name is lawful, its rule is one as it is printed, its code is one, its fault is one of a text, and it counts something if it
--- counts objects or engines. What recurs, and each engine, moves by at most a cell in a generation.
+-- Its name is lawful, its rule is one as it is printed, its code is one, its fault is one of a text, its numbers are in range, and it
+-- counts something if it counts objects or engines. What recurs, and each engine, moves by at most a cell in a generation, and what
+-- is left of a pattern or emitted has cells.
 abbrev pub is_lawful : Row → Bool
 is_lawful (Open collection patterns name) = is_name name.now
 is_lawful (Line collection pattern outcome name) =
     let fields = (said outcome).fields in
-    has_lawful_rule fields && (has_lawful_code fields && (has_lawful_engines fields && (has_lawful_fault fields && is_name name.now)))
-is_lawful (Part collection pattern code count) = is_code code.now && nat_lt 0 count
+    has_lawful_rule fields && (has_lawful_code fields && (has_lawful_engines fields && (has_lawful_fault fields && (has_lawful_numbers fields && is_name name.now))))
+is_lawful (Part collection pattern code count) = is_object code.now && nat_lt 0 count
 is_lawful (Engine collection pattern number period dx dy count) = is_way period dx dy && nat_lt 0 count
-is_lawful (Emits collection pattern engine code count) = nat_lt 0 engine && (is_code code.now && nat_lt 0 count)
+is_lawful (Emits collection pattern engine code count) = nat_lt 0 engine && (is_object code.now && nat_lt 0 count)
 is_lawful (Code collection rule code count) = is_rule rule.now && (is_code code.now && nat_lt 0 count)
 is_lawful _ = true

@@ -9,6 +9,14 @@ count_limit = 65535
 abbrev pub fault_limit : ℕ
 fault_limit = 10
 
+-- the most live cells of a pattern
+abbrev pub cell_limit : ℕ
+cell_limit = 1048576
+
+-- the last generation by which something is found of a pattern, other than growth
+abbrev pub bound_limit : ℕ
+bound_limit = 1000000
+
 -- the most generations after which an engine recurs
 abbrev pub period_limit : ℕ
 period_limit = 10000

@@ -2,7 +2,7 @@
 ghost use Rattle.std.specs.Prelude.{◌≡◌, ◌==◌, ◌<◌, IfSome, length, position};
 ghost use Rattle.std.specs.List.{list_all};
 ghost use Rattle.std.specs.Option.{option_map};
-ghost use Rattle.census_readback.specs.Codes.{are_lawful, code_parts, is_code, is_code_after, is_filled, parts_of, tells};
+ghost use Rattle.census_readback.specs.Codes.{are_lawful, code_parts, has_cells, is_code, is_code_after, is_filled, is_moving, is_object, parts_of, tells};
 ghost use Rattle.life_cells.specs.CodeReading.{is_base_36_digit};
 ghost use Rattle.texts.specs.Bytes.{is_digit};
 
@@ -101,6 +101,33 @@ pub fn is_code(code: &[u8]) -> bool
 {
     match code_parts(code) {
         Some(parts) => parts.are_lawful(),
+        None => false,
+    }
+}
+
+// Whether a text with the form of a code has another body than `0`, which that of no cell has.
+fn has_cells(code: &[u8]) -> bool
+    ensures { result ≡ has_cells code.now }
+{
+    match code_parts(code) {
+        Some(parts) => !(parts.body == b"0".as_slice()),
+        None => false,
+    }
+}
+
+/// Whether a text is a code of at least one cell.
+pub fn is_object(code: &[u8]) -> bool
+    ensures { result ≡ is_object code.now }
+{
+    is_code(code) && has_cells(code)
+}
+
+/// Whether a text with the form of a code begins as that of what moves.
+pub fn is_moving(code: &[u8]) -> bool
+    ensures { result ≡ is_moving code.now }
+{
+    match code_parts(code) {
+        Some(parts) => parts.letter == b'q',
         None => false,
     }
 }

@@ -1,8 +1,9 @@
 //! What the `engine` and `emits` rows after a line say, one after another.
 ghost use Rattle.std.specs.Prelude.{◌≡◌, ◌==◌, ◌+◌, IfOk, IsFalse, IsTrue, None, Some, map};
 ghost use Rattle.std.specs.Option.{option_map};
-ghost use Rattle.census_readback.specs.Engines.{after_emits, after_engine, compared, emitted_cmp, emitted_of, engine_of, no_engine, to_compare, way_cmp};
+ghost use Rattle.census_readback.specs.Engines.{after_emits, after_engine, compared, emitted_cmp, emitted_of, engine_of, gets_away, no_engine, to_compare, way_cmp};
 
+use crate::code::is_moving;
 use life_cells::shorter;
 use std::alloc::{AllocError, Global};
 use std::cmp::Ordering;
@@ -44,6 +45,13 @@ impl Way {
     {
         let moved = self.dx.cmp(&other.dx).then(self.dy.cmp(&other.dy));
         self.period.cmp(&other.period).then(moved)
+    }
+
+    // Whether what has this code gets away from an engine that goes so: from one that doesn't move only what moves does.
+    fn gets_away(&self, code: &[u8]) -> bool
+        ensures { result ≡ gets_away self.now code.now }
+    {
+        (self.dx, self.dy) != (0, 0) || is_moving(code)
     }
 }
 
@@ -141,7 +149,7 @@ impl<'a> LastEngine<'a> {
         ensures { IfOk result (λ after. option_map engine_of after ≡
             after_emits (engine_of self.entry) (emitted_of next.entry)) }
     {
-        if !self.compare(&next) {
+        if !self.way.gets_away(next.code) || !self.compare(&next) {
             return Ok(None);
         }
         self.emits.push(next)?;

@@ -2,10 +2,10 @@
 ghost use Rattle.std.specs.Prelude.{◌≡◌};
 ghost use Rattle.std.specs.Option.{option_copied};
 ghost use Rattle.census_rows.specs.Kinds.{said, value_at};
-ghost use Rattle.census_readback.specs.Lawful.{has_lawful_code, has_lawful_engines, has_lawful_fault, has_lawful_rule, is_lawful, is_recurrence, is_way, moves_within, number_in, signed_in, text_in};
+ghost use Rattle.census_readback.specs.Lawful.{has_lawful_code, has_lawful_engines, has_lawful_fault, has_lawful_numbers, has_lawful_rule, is_lawful, is_recurrence, is_way, moves_within, number_in, signed_in, text_in};
 
-use crate::code::{is_code, is_code_after};
-use crate::limits::{FAULT_LIMIT, PERIOD_LIMIT};
+use crate::code::{is_code, is_code_after, is_object};
+use crate::limits::{BOUND_LIMIT, CELL_LIMIT, FAULT_LIMIT, PERIOD_LIMIT};
 use crate::rules::is_rule;
 use census_bundle::is_lawful_name;
 use census_rows::{Label, Outcome, Row, Value};
@@ -97,6 +97,18 @@ fn has_lawful_fault(outcome: &Outcome) -> bool
     number_at(outcome, Label::Fault) <= FAULT_LIMIT
 }
 
+// Whether there are no more cells than a pattern may have, and what recurs, has fallen apart or is too large has shown it by the
+// greatest bound.
+fn has_lawful_numbers(outcome: &Outcome) -> bool
+    ensures { result ≡ has_lawful_numbers (said outcome.now).fields }
+{
+    let onset = u128::from(number_at(outcome, Label::Onset));
+    let period = u128::from(number_at(outcome, Label::Period));
+    number_at(outcome, Label::Population) <= CELL_LIMIT
+        && onset + period <= u128::from(BOUND_LIMIT)
+        && number_at(outcome, Label::Generation) <= BOUND_LIMIT
+}
+
 // Whether an engine may recur after `period` generations, moved by `dx` and `dy`: each is at most a cell a generation.
 fn is_way(period: u64, dx: i64, dy: i64) -> bool
     ensures { result ≡ is_way period dx dy }
@@ -104,8 +116,9 @@ fn is_way(period: u64, dx: i64, dy: i64) -> bool
     0 < period && period <= PERIOD_LIMIT && moves_within(period, dx, dy)
 }
 
-/// Whether a row's name is lawful, its rule is one as it is printed, its code is one, its fault is one of a text, and it
-/// counts something if it counts objects or engines. What recurs, and each engine, moves by at most a cell in a generation.
+/// Whether a row's name is lawful, its rule is one as it is printed, its code is one, its fault is one of a text, its numbers
+/// are in range, and it counts something if it counts objects or engines. What recurs, and each engine, moves by at most a cell
+/// in a generation, and what is left of a pattern or emitted has cells.
 pub fn is_lawful(row: &Row) -> bool
     ensures { result ≡ is_lawful row.now }
 {
@@ -116,9 +129,10 @@ pub fn is_lawful(row: &Row) -> bool
                 && has_lawful_code(outcome)
                 && has_lawful_engines(outcome)
                 && has_lawful_fault(outcome)
+                && has_lawful_numbers(outcome)
                 && is_lawful_name(*name)
         }
-        Row::Part { code, count, .. } => is_code(*code) && 0 < *count,
+        Row::Part { code, count, .. } => is_object(*code) && 0 < *count,
         Row::Engine {
             period,
             dx,
@@ -131,7 +145,7 @@ pub fn is_lawful(row: &Row) -> bool
             code,
             count,
             ..
-        } => 0 < *engine && is_code(*code) && 0 < *count,
+        } => 0 < *engine && is_object(*code) && 0 < *count,
         Row::Code {
             rule,
             code,

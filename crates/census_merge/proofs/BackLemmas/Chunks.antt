@@ -7,7 +7,7 @@ use Rattle.std.proofs.lemmas.Bool.{and_parts, eqb-true, leb-true, ltb-true}
 use Rattle.census_format.specs.Lines.{Group}
 use Rattle.census_format.specs.Reports.{Owned}
 use Rattle.census_readback.proofs.Telling.{told-first}
-use Rattle.census_readback.specs.Codes.{is_code}
+use Rattle.census_readback.specs.Codes.{is_object}
 use Rattle.census_readback.specs.Engines.{after_emits, after_engine, no_engine}
 use Rattle.census_readback.specs.Lawful.{is_way}
 use Rattle.census_readback.specs.Shapes.{all_rows}
@@ -178,7 +178,7 @@ none-follow (Part c i code n ∷ rows) t u left number h follow =
     let row = Part c i code n in
     let first = told-first t u row rows h in
     let one = taken t first.0 row first.1 in
-    let law = and_parts (is_code code.now) (ltb 0 n) one.0 in
+    let law = and_parts (is_object code.now) (ltb 0 n) one.0 in
     let fit = if-told (eqb c t.collection && (leb n t.left && is_lt (shorter_cmp t.last code.now))) (Some (record t { left = t.left - n; last = code.now })) first.0 one.1 in
     let own = and_parts (eqb c t.collection) (leb n t.left && is_lt (shorter_cmp t.last code.now)) fit.0 in
     let few = and_parts (leb n t.left) (is_lt (shorter_cmp t.last code.now)) own.1 in
@@ -199,7 +199,7 @@ none-follow (Emits c i e code n ∷ rows) t u left number h follow =
     let row = Emits c i e code n in
     let first = told-first t u row rows h in
     let one = taken t first.0 row first.1 in
-    let law = and_parts (ltb 0 e) (is_code code.now && ltb 0 n) one.0 in
+    let law = and_parts (ltb 0 e) (is_object code.now && ltb 0 n) one.0 in
     let fit = if-told (eqb c t.collection && (eqb e t.engine.number && is_lt (shorter_cmp t.last code.now))) (option_map (with_engine t t.left code.now) (after_emits t.engine (record { code = code.now; count = n }))) first.0 one.1 in
     let own = and_parts (eqb c t.collection) (eqb e t.engine.number && is_lt (shorter_cmp t.last code.now)) fit.0 in
     let same = and_parts (eqb e t.engine.number) (is_lt (shorter_cmp t.last code.now)) own.1 in

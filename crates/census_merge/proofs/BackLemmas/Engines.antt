@@ -8,8 +8,8 @@ use Rattle.std.proofs.lemmas.Bool.{and_parts, eqb-true, leb-true, ltb-true}
 use Rattle.std.proofs.lemmas.List.{append-nil, length-append}
 use Rattle.census_format.specs.Lines.{engine_row, emits_row, rows_of_engines}
 use Rattle.census_readback.proofs.Telling.{told-first}
-use Rattle.census_readback.specs.Codes.{is_code}
-use Rattle.census_readback.specs.Engines.{Emitted, LastEngine, after_emits, after_engine, begun, compared_by, compared_with, emitted_cmp, to_compare, way_cmp, with_emitted}
+use Rattle.census_readback.specs.Codes.{has_cells, is_code, is_object}
+use Rattle.census_readback.specs.Engines.{Emitted, LastEngine, after_emits, after_engine, begun, compared, compared_by, compared_with, emitted_cmp, gets_away, to_compare, way_cmp, with_emitted}
 use Rattle.census_readback.specs.Lawful.{is_way}
 use Rattle.census_readback.specs.Texts.{AllLines}
 use Rattle.census_readback.specs.Told.{Told, is_told, told_by, with_engine}
@@ -24,7 +24,6 @@ use Rattle.life_answer.specs.declared.tale.Tale.{Tale}
 use Rattle.life_cells.specs.TextOrder.{shorter_cmp}
 use Rattle.census_merge.specs.Ranges.{FitsEmitted}
 use Rattle.census_merge.proofs.BackLemmas.Agree.{Agree, agree-append, agree-none, agree-one}
-use Rattle.census_merge.proofs.BackLemmas.Codes.{code-some}
 use Rattle.census_merge.proofs.BackLemmas.Parts.{if-told, is-less, some-of, taken}
 use Rattle.census_merge.proofs.BackLemmas.Unfed.{row-unfed, tight}
 use Rattle.census_merge.proofs.Engined.{IsLawfulEmitted, emitted_part}
@@ -48,6 +47,10 @@ BeginsEngine (row ∷ rows) = ⊥
 pub mapped : {X Y : Type 0} (f : X → Y) (o : Option X) (y : Y) → option_map f o ≡ Some y → (x : X) × (o ≡ Some x) × (f x ≡ y)
 mapped f Nothing y h = absurd (cc)
 mapped f (Some x) y h = (x, refl, cc)
+
+if-engine : (b : Bool) (o : Option LastEngine) (g : LastEngine) → cond b o Nothing ≡ Some g → (b ≡ true) × (o ≡ Some g)
+if-engine true o g h = (refl, h)
+if-engine false o g h = absurd (cc)
 
 -- ---- what an engine emits
 
@@ -102,7 +105,7 @@ came-with [] e after x pending is h =
 came-with (b ∷ before) e after x pending is h = came-by (emitted_cmp b x) e after b before x pending is refl h
 
 came : (e after : LastEngine) (x : Emitted) → after_emits e x ≡ Some after → Came e after x
-came e after x h = by e.rises refl h
+came e after x h = by e.rises refl (if-engine (gets_away e.way x.code) (option_map (with_emitted x) (compared e x)) after h).1
   where
     by : (b : Bool) → e.rises ≡ b → option_map (with_emitted x) (cond b (Some e) (compared_with e.before e x)) ≡ Some after → Came e after x
     by true known k =
@@ -140,6 +143,7 @@ record EmitsBack (c n e : ℕ) (t u : Told) (rows : List Row) : Type 0 where
   lawful : Each IsLawfulEmitted parts
   fits : Each FitsEmitted parts
   solid : Each IsSolidPart parts
+  away : Each (λ (p : part.Part). gets_away t.engine.way p.code ≡ true) parts
 
 no-emits : (c n e : ℕ) (t u : Told) (rows : List Row) → told_by t rows ≡ Some u → BeginsEngine rows → AreEngineRows n rows → AllLines rows → t.collection ≡ c → t.engine.number ≡ e
     → EmitsBack c n e t u rows
@@ -164,6 +168,7 @@ no-emits c n e t u rows h begins own lines owner number = record {
   lawful = tt;
   fits = tt;
   solid = tt;
+  away = tt;
 }
 
 emits-back : (c n e : ℕ) (rows : List Row) (t u : Told) → told_by t rows ≡ Some u → AreEngineRows n rows → AllLines rows → t.collection ≡ c → t.engine.number ≡ e
@@ -175,13 +180,14 @@ emits-back c n e (Emits d i f code k ∷ rows) t u h own lines owner number =
     let x : Emitted = record { code = code.now; count = k } in
     let first = told-first t u row rows h in
     let one = taken t first.0 row first.1 in
-    let law = and_parts (ltb 0 f) (is_code code.now && ltb 0 k) one.0 in
-    let coded = and_parts (is_code code.now) (ltb 0 k) law.1 in
+    let law = and_parts (ltb 0 f) (is_object code.now && ltb 0 k) one.0 in
+    let coded = and_parts (is_object code.now) (ltb 0 k) law.1 in
     let fit = if-told (eqb d t.collection && (eqb f t.engine.number && is_lt (shorter_cmp t.last code.now))) (option_map (with_engine t t.left code.now) (after_emits t.engine x)) first.0 one.1 in
     let owned = and_parts (eqb d t.collection) (eqb f t.engine.number && is_lt (shorter_cmp t.last code.now)) fit.0 in
     let order = and_parts (eqb f t.engine.number) (is_lt (shorter_cmp t.last code.now)) owned.1 in
     let engine = mapped (with_engine t t.left code.now) (after_emits t.engine x) first.0 fit.1 in
     let next : Told = with_engine t t.left code.now engine.0 in
+    let gone = if-engine (gets_away t.engine.way code.now) (option_map (with_emitted x) (compared t.engine x)) engine.0 engine.1 in
     let cameto = came t.engine engine.0 x engine.1 in
     let more = emits-back c n e rows next u (ap (λ (z : Told). told_by z rows) engine.2 ∙ first.2) own.1 lines.1 owner (cameto.number ∙ number) in
     let here : spelling row ≡ spelling (emits_row c n e (part_of code.now k)) =
@@ -206,8 +212,9 @@ emits-back c n e (Emits d i f code k ∷ rows) t u h own lines owner number =
       comes = λ j. cameto.comes (map emitted_part more.parts) (more.comes j);
       rise = (is-less (shorter_cmp t.last code.now) order.1, more.rise);
       lawful = ((ltb-true 0 k coded.1, coded.0), more.lawful);
-      fits = ((code-some code.now coded.0, lines.0.0.4), more.fits);
+      fits = (((and_parts (is_code code.now) (has_cells code.now) coded.0).1, lines.0.0.4), more.fits);
       solid = (tight code.now lines.0.0.3.1 (row-unfed row lines.0.1).1.1.1.0, more.solid);
+      away = (gone.0, subst (λ w. Each (λ (p : part.Part). gets_away w p.code ≡ true) more.parts) cameto.way more.away);
     }
 emits-back c n e (Open d k name ∷ rows) t u h own lines owner number = absurd own
 emits-back c n e (Line d i o name ∷ rows) t u h own lines owner number = absurd own
@@ -313,15 +320,11 @@ engines-back (suc m) n (Engine c i e p x y k ∷ rows) few t u h told own lines 
       engines = line ∷ more.engines;
       same = subst (λ w. Agree (row ∷ w) (rows_of_engines t.collection n next-number (line ∷ more.engines))) (sym back.whole) together;
       behind = (behind.0, subst (λ w. AllBehind w (map emitted_part back.parts) (map line_of more.engines)) back.way (subst (λ xs. AllBehind back.after.engine.way xs (map line_of more.engines)) back.emits more.behind));
-      lawful = ((law.0, ltb-true 0 k law.1, some-positive back.parts behind.1, back.rise, back.lawful), more.lawful);
+      lawful = ((law.0, ltb-true 0 k law.1, some-positive back.parts behind.1, back.rise, back.lawful, back.away), more.lawful);
       fits = (back.fits, more.fits);
       solid = (back.solid, more.solid);
       all = (let sum = more.all in let left = back.left in let most = leb-true k t.left owned.1 in omega (arith, sum, left, most));
     }
-  where
-    if-engine : (b : Bool) (o : Option LastEngine) (g : LastEngine) → cond b o Nothing ≡ Some g → (b ≡ true) × (o ≡ Some g)
-    if-engine true o g h = (refl, h)
-    if-engine false o g h = absurd (cc)
 engines-back m n (Open c k name ∷ rows) few t u h told own lines begins = absurd begins
 engines-back m n (Line c i o name ∷ rows) few t u h told own lines begins = absurd begins
 engines-back m n (Part c i code k ∷ rows) few t u h told own lines begins = absurd begins

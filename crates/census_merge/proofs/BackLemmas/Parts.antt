@@ -5,7 +5,7 @@ use Rattle.std.specs.Ordering.{is_lt}
 use Rattle.std.proofs.lemmas.Bool.{and_parts, eqb-true, leb-true, ltb-true}
 use Rattle.census_format.specs.Lines.{part_row}
 use Rattle.census_readback.proofs.Telling.{told-first}
-use Rattle.census_readback.specs.Codes.{is_code}
+use Rattle.census_readback.specs.Codes.{is_object}
 use Rattle.census_readback.specs.Lawful.{is_lawful}
 use Rattle.census_readback.specs.Texts.{AllLines}
 use Rattle.census_readback.specs.Told.{Told, is_told, told_after, told_by, told_next}
@@ -65,7 +65,7 @@ parts-back n [] t u h told own lines =
 parts-back n (Part c i code count ∷ rows) t u h told own lines =
     let first = told-first t u (Part c i code count) rows h in
     let one = taken t first.0 (Part c i code count) first.1 in
-    let law = and_parts (is_code code.now) (ltb 0 count) one.0 in
+    let law = and_parts (is_object code.now) (ltb 0 count) one.0 in
     let next : Told = record t { left = t.left - count; last = code.now } in
     let fit = if-told (eqb c t.collection && (leb count t.left && is_lt (shorter_cmp t.last code.now))) (Some next) first.0 one.1 in
     let owner = and_parts (eqb c t.collection) (leb count t.left && is_lt (shorter_cmp t.last code.now)) fit.0 in

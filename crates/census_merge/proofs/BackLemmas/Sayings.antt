@@ -1,5 +1,5 @@
 -- What a `line` row and the rows behind it say of a pattern.
-use Rattle.std.proofs.Common.{◌≡◌, ℕ, ◌+◌, ◌<◌, ◌≤◌, ◌^◌, true, ◌&&◌, cond, eqb, ltb, leb, Some, None as Nothing, List, [], ◌∷◌, map, length, ap, sym, subst, refl, arith}
+use Rattle.std.proofs.Common.{◌≡◌, ℕ, ◌+◌, ◌<◌, ◌≤◌, ◌^◌, Bool, true, ◌&&◌, cond, eqb, ltb, leb, Some, None as Nothing, List, [], ◌∷◌, map, length, ap, sym, subst, refl, arith}
 use Rattle.std.specs.Borrow.{Bor}
 use Rattle.std.specs.List.{AllByRecursion as Each}
 use Rattle.std.specs.Option.{option_map}
@@ -10,10 +10,10 @@ use Rattle.census_bundle.specs.Names.{is_name}
 use Rattle.census_format.specs.Found.{lent}
 use Rattle.census_format.specs.Lines.{Group, Saying, pattern_row, rows_behind, saying_rows}
 use Rattle.census_readback.proofs.Telling.{told-first}
-use Rattle.census_readback.specs.Codes.{is_code}
+use Rattle.census_readback.specs.Codes.{has_cells, is_code, is_object}
 use Rattle.census_readback.specs.Counts.{Counts, line_counted}
 use Rattle.census_readback.specs.Engines.{after_emits, no_engine}
-use Rattle.census_readback.specs.Lawful.{has_lawful_code, has_lawful_engines, has_lawful_fault, is_lawful, is_recurrence}
+use Rattle.census_readback.specs.Lawful.{has_lawful_code, has_lawful_engines, has_lawful_fault, has_lawful_numbers, is_lawful, is_recurrence}
 use Rattle.census_readback.specs.Limits.{fault_limit}
 use Rattle.census_readback.specs.Limits.{period_limit}
 use Rattle.census_readback.specs.Rules.{is_rule}
@@ -23,6 +23,7 @@ use Rattle.census_rows.specs.Kinds.{said}
 use Rattle.census_rows.specs.Lines.{spelling}
 use Rattle.census_rows.specs.declared.kinds.Behind.{Behind}
 use Rattle.census_rows.specs.declared.kinds.Behind.TheVariants as behind
+use Rattle.census_rows.specs.declared.kinds.Field.{Field}
 use Rattle.census_rows.specs.declared.row.Finding.{Finding}
 use Rattle.census_rows.specs.declared.row.Finding.TheVariants as finding
 use Rattle.census_rows.specs.declared.row.Outcome.{Outcome}
@@ -42,7 +43,6 @@ use Rattle.life_cells.specs.TextOrder.{shorter_cmp}
 use Rattle.life_objects.proofs.DecidedLemmas.Tests.{abs_small}
 use Rattle.census_merge.specs.Ranges.{FitsEmitted, FitsEngines, IsCodedPart, IsToldAnswer}
 use Rattle.census_merge.proofs.BackLemmas.Agree.{Agree, agree-none, agree-one}
-use Rattle.census_merge.proofs.BackLemmas.Codes.{code-some}
 use Rattle.census_merge.proofs.BackLemmas.Engines.{AreEngineRows, BeginsEngine, engines-back}
 use Rattle.census_merge.proofs.BackLemmas.Parts.{ArePartRows, if-told, parts-back, taken}
 use Rattle.census_merge.proofs.BackLemmas.Rules.{RuleBack, rule-back}
@@ -101,11 +101,16 @@ line-with c i population f name g rule text is =
 
 coded-parts : (parts : List part.Part) → Each IsLawfulPart parts → Each IsCodedPart parts × Each IsCounted parts × Each IsCodePart parts
 coded-parts [] h = (tt, tt, tt)
-coded-parts (p ∷ parts) h = (let more = coded-parts parts h.1 in ((code-some p.code h.0.1, more.0), (h.0.0, more.1), ((λ some. h.0.1), more.2)))
+coded-parts (p ∷ parts) h =
+    let more = coded-parts parts h.1 in
+    let both = and_parts (is_code p.code) (has_cells p.code) h.0.1 in
+    ((both.1, more.0), (h.0.0, more.1), ((λ some. both.0), more.2))
 
 emitted-parts : (parts : List part.Part) → Each IsLawfulEmitted parts → Each IsCounted parts × Each IsCodePart parts
 emitted-parts [] h = (tt, tt)
-emitted-parts (p ∷ parts) h = (let more = emitted-parts parts h.1 in ((h.0.0, more.0), ((λ some. h.0.1), more.1)))
+emitted-parts (p ∷ parts) h =
+    let more = emitted-parts parts h.1 in
+    ((h.0.0, more.0), ((λ some. (and_parts (is_code p.code) (has_cells p.code) h.0.1).0), more.1))
 
 rise-any : (parts : List part.Part) → Rise (Some []) parts → Rise Nothing parts
 rise-any [] h = tt
@@ -134,6 +139,7 @@ engine-fits line h k =
         emits = some-objects t.emits h.2 (emitted-parts t.emits h.4).0;
       },
       k,
+      h.5,
     )
 
 engines-fit : (lines : List Engines) → Each IsLawfulLine (map line_of lines) → Each (λ (line : Engines). Each FitsEmitted line.tale.emits) lines → Each FitsEngines lines
@@ -157,7 +163,7 @@ begins c i t u (Emits d j e code n ∷ rows) number h own =
     let row = Emits d j e code n in
     let first = told-first t u row rows h in
     let one = taken t first.0 row first.1 in
-    let law = and_parts (ltb 0 e) (is_code code.now && ltb 0 n) one.0 in
+    let law = and_parts (ltb 0 e) (is_object code.now && ltb 0 n) one.0 in
     let engine = after_emits t.engine (record { code = code.now; count = n }) in
     let fit = if-told (eqb d t.collection && (eqb e t.engine.number && is_lt (shorter_cmp t.last code.now))) (option_map (with_engine t t.left code.now) engine) first.0 one.1 in
     let owner = and_parts (eqb d t.collection) (eqb e t.engine.number && is_lt (shorter_cmp t.last code.now)) fit.0 in
@@ -186,53 +192,61 @@ module _ (c i : ℕ) (name : Bor (List ℕ)) (rows : List Row) (u : Told) (lines
   none-behind : (found : Answer) → rows ≡ [] → rows_behind c i found ≡ [] → Agree rows (rows_behind c i found)
   none-behind found e f = subst (λ w. Agree rows w) (sym f) (subst (λ w. Agree w []) (sym e) agree-none)
 
+  -- its numbers are lawful, and so is the name
+  abbrev ends : List Field → Bool
+  ends fields = has_lawful_numbers fields && is_name name.now
+
   -- a finding of a rule
   module _ (rule : Bor (List ℕ)) (population : ℕ) (back : RuleBack rule.now) where
-    pub found-back : (f : Finding) → IsLine (Line c i (outcomes.Found rule population f) name) → (has_lawful_code (said (outcomes.Found rule population f)).fields && (has_lawful_engines (said (outcomes.Found rule population f)).fields && (has_lawful_fault (said (outcomes.Found rule population f)).fields && is_name name.now))) ≡ true
+    pub found-back : (f : Finding) → IsLine (Line c i (outcomes.Found rule population f) name) → (has_lawful_code (said (outcomes.Found rule population f)).fields && (has_lawful_engines (said (outcomes.Found rule population f)).fields && (has_lawful_fault (said (outcomes.Found rule population f)).fields && ends (said (outcomes.Found rule population f)).fields))) ≡ true
         → told_by (begun c (outcomes.Found rule population f)) rows ≡ Some u → AreBehind (said (outcomes.Found rule population f)).behind i rows
         → SayingBack c i (Line c i (outcomes.Found rule population f) name ∷ rows)
     found-back (finding.Ok onset period dx dy code) line lawful tells own =
         let f = finding.Ok onset period dx dy code in
         let o = outcomes.Found rule population f in
-        let law = and_parts (is_recurrence period dx dy code.now) (is_name name.now) lawful in
+        let law = and_parts (is_recurrence period dx dy code.now) (ends (said o).fields) lawful in
+        let last = and_parts (has_lawful_numbers (said o).fields) (is_name name.now) law.1 in
         let h = line.0.2 in
         let found = found_with back.rule population (Recurs onset period dx dy code.now) in
         made c i o name rows found
         (line-with c i population f name (finding.Ok onset period dx dy (lent code.now)) rule (rule_text back.rule) back.is (one-line c i o (outcomes.Found (lent rule.now) population (finding.Ok onset period dx dy (lent code.now))) name refl (λ k. refl) refl))
-        (none-behind found own refl) law.1 (tight code.now h.1.1.1.1.1.1.0.1 (row-unfed (Line c i o name) line.1).1.1.1.1.1.1.1.1.1.0) back.ruled
-        (h.1.0, ((h.1.1.0, (h.1.1.1.0, (h.1.1.1.1.0, (h.1.1.1.1.1.0, (h.1.1.1.1.1.1.0.0, tt))))), tt, tt)) law.0
+        (none-behind found own refl) last.1 (tight code.now h.1.1.1.1.1.1.0.1 (row-unfed (Line c i o name) line.1).1.1.1.1.1.1.1.1.1.0) back.ruled
+        (last.0, ((h.1.1.0, (h.1.1.1.0, (h.1.1.1.1.0, (h.1.1.1.1.1.0, (h.1.1.1.1.1.1.0.0, tt))))), tt, tt)) law.0
     found-back finding.Unresolved line lawful tells own =
         let o = outcomes.Found rule population finding.Unresolved in
-        let h = line.0.2 in
+        let last = and_parts (has_lawful_numbers (said o).fields) (is_name name.now) lawful in
         let found = found_with back.rule population Unresolved in
         made c i o name rows found
         (line-with c i population finding.Unresolved name finding.Unresolved rule (rule_text back.rule) back.is (one-line c i o (outcomes.Found (lent rule.now) population finding.Unresolved) name refl (λ k. refl) refl))
-        (none-behind found own refl) lawful tt back.ruled (h.1.0, (tt, tt, tt)) tt
+        (none-behind found own refl) last.1 tt back.ruled (last.0, (tt, tt, tt)) tt
     found-back (finding.Large generation) line lawful tells own =
         let f = finding.Large generation in
         let o = outcomes.Found rule population f in
         let h = line.0.2 in
+        let last = and_parts (has_lawful_numbers (said o).fields) (is_name name.now) lawful in
         let found = found_with back.rule population (Large generation) in
         made c i o name rows found
         (line-with c i population f name f rule (rule_text back.rule) back.is (one-line c i o (outcomes.Found (lent rule.now) population f) name refl (λ k. refl) refl))
-        (none-behind found own refl) lawful tt back.ruled (h.1.0, ((h.1.1.0, tt), tt, tt)) tt
+        (none-behind found own refl) last.1 tt back.ruled (last.0, ((h.1.1.0, tt), tt, tt)) tt
     found-back (finding.Ash onset objects) line lawful tells own =
         let f = finding.Ash onset objects in
         let o = outcomes.Found rule population f in
         let h = line.0.2 in
         let b = parts-back i rows (begun c o) u tells told own lines in
         let coded = coded-parts b.parts b.lawful in
+        let last = and_parts (has_lawful_numbers (said o).fields) (is_name name.now) lawful in
         let found = found_with back.rule population (Ash onset b.parts) in
         let first = line-with c i population f name f rule (rule_text back.rule) back.is (one-line c i o (outcomes.Found (lent rule.now) population f) name refl (λ k. refl) refl) in
         made c i o name rows found
         (subst (λ n. Agree (Line c i o name ∷ []) (Line c i (outcomes.Found (lent (rule_text back.rule)) population (finding.Ash onset n)) (lent name.now) ∷ [])) (sym b.all) first)
-        b.same lawful b.solid back.ruled
-        (h.1.0, ((h.1.1.0, (subst (λ n. n < 2 ^ 64) (sym b.all) h.1.1.1.0, tt)), coded.0, tt)) (rise-any b.parts b.rise, coded.1, coded.2)
+        b.same last.1 b.solid back.ruled
+        (last.0, ((h.1.1.0, (subst (λ n. n < 2 ^ 64) (sym b.all) h.1.1.1.0, tt)), coded.0, tt)) (rise-any b.parts b.rise, coded.1, coded.2)
     found-back (finding.Grows engines) line lawful tells own =
         let f = finding.Grows engines in
         let o = outcomes.Found rule population f in
         let h = line.0.2 in
-        let law = and_parts (ltb 0 engines) (is_name name.now) lawful in
+        let law = and_parts (ltb 0 engines) (ends (said o).fields) lawful in
+        let last = and_parts (has_lawful_numbers (said o).fields) (is_name name.now) law.1 in
         let b = engines-back (length rows) i rows (omega arith) (begun c o) u tells told own lines (begins c i (begun c o) u rows refl tells own) in
         let found = found_with back.rule population (Grows b.engines) in
         let first = line-with c i population f name f rule (rule_text back.rule) back.is (one-line c i o (outcomes.Found (lent rule.now) population f) name refl (λ k. refl) refl) in
@@ -240,15 +254,15 @@ module _ (c i : ℕ) (name : Bor (List ℕ)) (rows : List Row) (u : Told) (lines
         let all = b.all in
         made c i o name rows found
         (subst (λ n. Agree (Line c i o name ∷ []) (Line c i (outcomes.Found (lent (rule_text back.rule)) population (finding.Grows n)) (lent name.now) ∷ [])) (sym b.all) first)
-        b.same law.1 b.solid back.ruled
-        (h.1.0, ((subst (λ n. n < 2 ^ 64) (sym b.all) h.1.1.0, tt), tt, engines-fit b.engines b.lawful b.fits))
+        b.same last.1 b.solid back.ruled
+        (last.0, ((subst (λ n. n < 2 ^ 64) (sym b.all) h.1.1.0, tt), tt, engines-fit b.engines b.lawful b.fits))
         (record { some = omega (arith, some, all); rise = ascends b.engines b.behind; emits = engines-fair b.engines b.lawful })
 
   pub line-back : (o : Outcome) → IsLine (Line c i o name) → is_lawful (Line c i o name) ≡ true → told_by (begun c o) rows ≡ Some u → AreBehind (said o).behind i rows
       → SayingBack c i (Line c i o name ∷ rows)
   line-back (outcomes.Found rule population f) line lawful tells own =
       let fields = (said (outcomes.Found rule population f)).fields in
-      let law = and_parts (is_rule rule.now) (has_lawful_code fields && (has_lawful_engines fields && (has_lawful_fault fields && is_name name.now))) lawful in
+      let law = and_parts (is_rule rule.now) (has_lawful_code fields && (has_lawful_engines fields && (has_lawful_fault fields && ends fields))) lawful in
       found-back rule population (rule-back rule.now law.0) f line law.1 tells own
   line-back (outcomes.Bad fault) line lawful tells own =
       let law = and_parts (leb fault fault_limit) (is_name name.now) lawful in

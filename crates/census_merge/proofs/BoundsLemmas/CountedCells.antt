@@ -22,10 +22,10 @@ use Rattle.life_parts.specs.Parts.Parts.{IsIndependentPart}
 use Rattle.census_merge.proofs.BoundsLemmas.CellCounts.{few_sets}
 
 -- G is these sets, each of which has a cell, and no two of which share a cell
-record AreSetsOf (G : Generation) (Qs : List Generation) : Type 0 where
-  together : union_of Qs ≡ G
-  some : All (λ Q. Q ≢ empty) Qs
-  once : AllPairs AreDisjoint Qs
+pub record AreSetsOf (G : Generation) (Qs : List Generation) : Type 0 where
+  pub together : union_of Qs ≡ G
+  pub some : All (λ Q. Q ≢ empty) Qs
+  pub once : AllPairs AreDisjoint Qs
 
 itself : (P : Generation) → P ≢ empty → AreSetsOf P (P ∷ [])
 itself P some = record {
@@ -49,7 +49,7 @@ module _ (R : Rule) (b : ℕ) where
       }
   by_answer P object false = itself P object.nonempty
 
-  of_object : (near : Bool) (P : Generation) → IsObject R b P → AreSetsOf P (counted_as near R b P)
+  pub of_object : (near : Bool) (P : Generation) → IsObject R b P → AreSetsOf P (counted_as near R b P)
   of_object true P object = itself P object.nonempty
   of_object false P object = by_answer P object (all_come_again R objects_bound_limit (independent_parts_of R b P))
 

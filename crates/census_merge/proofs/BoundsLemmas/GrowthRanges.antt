@@ -13,7 +13,6 @@ use Rattle.life_answer.specs.Tales.{tale_of}
 use Rattle.life_answer.specs.Told.{growth_told}
 use Rattle.life_answer.specs.declared.part.Part.{Part}
 use Rattle.life_answer.specs.declared.tale.Engines.{Engines}
-use Rattle.life_answer.specs.declared.tale.Tale.{Tale}
 use Rattle.life_answer.proofs.CountedTales.{lines_add_up}
 use Rattle.life_answer.proofs.Ranges.{lines_in_range, wider}
 use Rattle.life_answer.proofs.Tales.{emits_objects, tale_right}
@@ -36,12 +35,13 @@ use Rattle.life_objects.specs.Union.{union, union_of}
 use Rattle.life_objects.proofs.Distances.{disjoint_from_apart}
 use Rattle.life_objects.proofs.Lists.{AllPairs-weaker, Contains-head, Contains-later}
 use Rattle.life_objects.proofs.Unions.{in_first, in_second}
-use Rattle.census_merge.specs.Ranges.{FitsEmitted, FitsEngines, IsCodedPart}
+use Rattle.census_merge.specs.Ranges.{FitsEmitted, FitsEngines, FitsTale, IsCodedPart}
 use Rattle.census_merge.proofs.Named.{each-of}
 use Rattle.census_merge.proofs.Tales.{OfEngines, counted-holds}
 use Rattle.census_merge.proofs.BoundsLemmas.CellCounts.{few_sets}
 use Rattle.census_merge.proofs.BoundsLemmas.Codes.{counted-coded}
 use Rattle.census_merge.proofs.BoundsLemmas.CountedCells.{apart_now, few_counted}
+use Rattle.census_merge.proofs.BoundsLemmas.Leaving.{emitted-away}
 
 -- ---- how much an engine emits
 
@@ -124,13 +124,14 @@ module _ (R : Rule) (near : Bool) (h c : ℕ) (soon : h ≤ period_limit) (young
           both-each (counted_parts near R h objects) (counted-coded R h near objects (emits_objects R h way objects emits))
           (each-at-most (counted_parts near R h objects) (2 ^ 62) few-emitted)
 
-    tale-fits : Each FitsEmitted (tale_of near R h E).emits
+    tale-fits : FitsTale (tale_of near R h E)
     tale-fits =
         let some = emits_some R h E way engine in
-        subst (λ (t : Tale). Each FitsEmitted t.emits) (sym (tale_right R near h E way some.0 engine some.1)) (fits-emitted some.0 some.1)
+        subst FitsTale (sym (tale_right R near h E way some.0 engine some.1))
+        (fits-emitted some.0 some.1, emitted-away R near h E way engine some.0 some.1)
 
   tales-fit : (Es : List Generation) → All (IsEngineWithin R h) Es → ((E : Generation) → Contains Es E → All (IsWithin c) (cells E)) →
-      Each (λ (t : Tale). Each FitsEmitted t.emits) (map (tale_of near R h) Es)
+      Each FitsTale (map (tale_of near R h) Es)
   tales-fit [] engines stand = tt
   tales-fit (E ∷ Es) engines stand =
       let first = All-head (IsEngineWithin R h) E Es engines in (
@@ -140,9 +141,9 @@ module _ (R : Rule) (near : Bool) (h c : ℕ) (soon : h ≤ period_limit) (young
 
   -- ---- growth
 
-  lines-fit : (told : List Engines) → Each (IsInRange h) told → Each (OfEngines (λ parts. Each FitsEmitted parts)) told → Each FitsEngines told
+  lines-fit : (told : List Engines) → Each (IsInRange h) told → Each (OfEngines FitsTale) told → Each FitsEngines told
   lines-fit [] range emits = tt
-  lines-fit (line ∷ told) range emits = ((wider h period_limit line soon range.0, emits.0), lines-fit told range.1 emits.1)
+  lines-fit (line ∷ told) range emits = ((wider h period_limit line soon range.0, emits.0.0, emits.0.1), lines-fit told range.1 emits.1)
 
   engines-few : (G : Generation) (Es : List Generation) (S : Generation) → IsGrowth R h G Es S → All (IsWithin c) (cells G) → length Es ≤ 2 ^ 48
   engines-few G Es S growth stands =
@@ -161,8 +162,8 @@ module _ (R : Rule) (near : Bool) (h c : ℕ) (soon : h ≤ period_limit) (young
   growth-fits G stands told e =
       let q = growth_is_so near R h G told e in
       let Es = q.0 in
-      let emits = subst (Each (OfEngines (λ parts. Each FitsEmitted parts))) (sym q.3)
-      (counted-holds (λ parts. Each FitsEmitted parts) (map (tale_of near R h) Es)
+      let emits = subst (Each (OfEngines FitsTale)) (sym q.3)
+      (counted-holds FitsTale (map (tale_of near R h) Es)
       (tales-fit Es q.2.each (engine-stands G Es q.1 q.2 stands))) in
       let most = engines-few G Es q.1 q.2 stands in
       let all = lines_add_up (map (tale_of near R h) Es) in

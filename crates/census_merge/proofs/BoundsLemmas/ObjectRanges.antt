@@ -1,5 +1,5 @@
 -- What is found of patterns whose objects are asked for has numbers in the range of a line.
-use Rattle.std.proofs.Common.{◌≡◌, ℕ, suc, ◌+◌, ◌*◌, ◌<◌, ◌≤◌, ◌^◌, min, Bool, true, false, cond, Option, Some, None, Result, Ok, Err, List, [], ◌∷◌, length, map, slice_get, refl, sym, subst, arith}
+use Rattle.std.proofs.Common.{◌≡◌, ℕ, suc, ◌+◌, ◌*◌, ◌<◌, ◌≤◌, ◌^◌, min, Bool, true, false, cond, Option, Some, None, Result, Ok, Err, List, [], ◌∷◌, length, map, slice_get, inl, inr, refl, sym, ap, subst, ◌∙◌, arith}
 use Rattle.std.specs.List.{All, AllByRecursion as Each}
 use Rattle.std.proofs.lemmas.List.{length-append, length-map}
 use Rattle.census_bundle.specs.Sizes.{IsWithinCounts, count_limit}
@@ -8,7 +8,8 @@ use Rattle.census_bundle.specs.declared.bundle.Folder.{Folder}
 use Rattle.census_format.specs.Lines.{answer_to_entry, answers}
 use Rattle.census_format.specs.Objects.{objects, outcome_objects}
 use Rattle.census_format.proofs.AshParts.{length-part_objects}
-use Rattle.life_answer.specs.Census.{ash_onset, census_found, census_of, counted_parts, part_code, parts_found}
+use Rattle.life_answer.specs.Answers.{outcome_of, recurrence_outcome}
+use Rattle.life_answer.specs.Census.{ash_onset, census_found, census_of, counted_parts, fallen_of, part_code, parts_found}
 use Rattle.life_answer.specs.Counted.{code_bound, counted_of}
 use Rattle.life_answer.specs.Limited.{first_past, unless_large}
 use Rattle.life_answer.specs.Parts.{counted_codes, objects_in}
@@ -19,11 +20,11 @@ use Rattle.life_answer.specs.declared.finding.Outcome.{Outcome}
 use Rattle.life_answer.specs.declared.finding.Outcome.TheVariants.{Recurs, Ash}
 use Rattle.life_answer.specs.declared.question.Question.{Question}
 use Rattle.life_answer.specs.declared.question.Question.TheVariants.{Objects}
+use Rattle.life_answer.proofs.Findings.{settled_or_not}
 use Rattle.life_answer.proofs.Limits.{past_within}
 use Rattle.life_answer.proofs.Onsets.{ash_onset-within}
 use Rattle.life_answer.proofs.Tallying.{counted_all}
 use Rattle.life_cells.proofs.Places.{generation_within, place_of}
-use Rattle.life_cells.proofs.Sizes.{few_cells}
 use Rattle.life_cells.specs.Limits.{IsWithin}
 use Rattle.life_cells.specs.Readings.{cell_of_pair}
 use Rattle.life_objects.specs.Decided.Decided.{ash_of}
@@ -31,6 +32,7 @@ use Rattle.life_objects.proofs.DecidedLemmas.Deciding.{ash_if_found}
 use Rattle.life_model.specs.Cell.{Cell}
 use Rattle.life_model.specs.Evolution.{generation}
 use Rattle.life_model.specs.Generation.{Generation, cells, contains, from_list, size}
+use Rattle.life_model.specs.Recurrence.{Recurrence}
 use Rattle.life_model.specs.Rule.{Rule}
 use Rattle.life_model.proofs.Generations.{cells-from_list}
 use Rattle.life_objects.specs.Limits.{objects_bound_limit}
@@ -39,34 +41,47 @@ use Rattle.life_text.specs.Rle.{Token, body_tokens, cells_after, first_fault, he
 use Rattle.life_text.specs.declared.rle.RleFault.{RleFault}
 use Rattle.life_text.proofs.PictureLemmas.{placed_rises, placed_within}
 use Rattle.life_text.proofs.RisingLemmas.{meaning_rises}
-use Rattle.census_readback.specs.Limits.{period_limit}
+use Rattle.census_readback.specs.Limits.{bound_limit, cell_limit, period_limit}
 use Rattle.life_answer.specs.Growing.{allowed_bound, growing_or}
 use Rattle.life_answer.specs.Told.{growth_told}
 use Rattle.life_answer.specs.declared.tale.Engines.{Engines}
 use Rattle.life_answer.proofs.Growing.{allowed_within}
 use Rattle.census_merge.specs.Ranges.{FitsOutcome, InRange, IsToldAnswer, IsToldFolder}
 use Rattle.census_merge.proofs.BoundsLemmas.Codes.{counted-coded}
+use Rattle.census_merge.proofs.BoundsLemmas.Early.{IsEarly, numbers-lawful, settled-early}
 use Rattle.census_merge.proofs.BoundsLemmas.GrowthRanges.{FitsGrowth, growth-fits}
 use Rattle.census_merge.proofs.BoundsLemmas.CountedCells.{few_counted}
-use Rattle.census_merge.proofs.BoundsLemmas.SettledRanges.{fault-small}
+use Rattle.census_merge.proofs.BoundsLemmas.SettledRanges.{fault-small, found-told}
+use Rattle.census_merge.proofs.BoundsLemmas.Standing.{few-meant}
+use Rattle.census_merge.proofs.OneOrMore.{one_of_two}
 use Rattle.census_merge.proofs.Solid.{each-map}
 
 -- ---- what is found of a set
 
--- the outcome can be reported, and has at most 2^48 objects
+-- the outcome can be reported, has at most 2^48 objects, and is found by the greatest bound
 abbrev IsRanged : Outcome → Type 0
-IsRanged outcome = FitsOutcome outcome × (objects_in (parts_found outcome) ≤ 2 ^ 48)
+IsRanged outcome = FitsOutcome outcome × (objects_in (parts_found outcome) ≤ 2 ^ 48) × IsEarly outcome
 
 abbrev IsRangedAnswer : Answer → Type 0
-IsRangedAnswer (Found rule finding) = (finding.population < 2 ^ 64) × IsRanged finding.outcome
+IsRangedAnswer (Found rule finding) = (finding.population ≤ cell_limit) × IsRanged finding.outcome
 IsRangedAnswer (Refused number) = number < 2 ^ 64
 
 unless-ranged : (found : Outcome) (large : Option ℕ) → IsRanged found
-    → ((n : ℕ) → large ≡ Some n → n < 2 ^ 64) → IsRanged (unless_large found large)
+    → ((n : ℕ) → large ≡ Some n → n ≤ bound_limit) → IsRanged (unless_large found large)
 unless-ranged found None h early = h
-unless-ranged found (Some n) h early = (((early n refl, tt), tt, tt), omega arith)
+unless-ranged found (Some n) h early = let first = early n refl in (((omega (arith, first), tt), tt, tt), omega arith, first)
 
-module _ (R : Rule) (G : Generation) (b : ℕ) (few : b ≤ objects_bound_limit) (within : All (IsWithin 0) (cells G)) where
+-- what recurs has not fallen apart into parts
+parts_of_settled : (R : Rule) (G : Generation) (r : Recurrence) → objects_in (parts_found (recurrence_outcome R G r)) ≡ 0
+parts_of_settled R G r = refl
+
+no_parts : (R : Rule) (G : Generation) (b : ℕ) → objects_in (parts_found (outcome_of R G b)) ≡ 0
+no_parts R G b = elim (settled_or_not R G b) [
+  | inl some ↦ ap (λ o. objects_in (parts_found o)) some.found ∙ parts_of_settled R G some.recurrence
+  | inr none ↦ ap (λ o. objects_in (parts_found o)) none.found
+]
+
+module _ (R : Rule) (G : Generation) (b : ℕ) (few : b ≤ objects_bound_limit) (within : All (IsWithin 0) (cells G)) (small : size G ≤ cell_limit) where
   abbrev last : Generation
   last = generation R G b
 
@@ -74,11 +89,6 @@ module _ (R : Rule) (G : Generation) (b : ℕ) (few : b ≤ objects_bound_limit)
   within_last =
       place_of b last
       (subst (λ k. All (IsWithin k) (cells last)) (let e : 0 + b ≡ b = omega arith in e) (generation_within R 0 G within b))
-
-  population_fits : size G < 2 ^ 64
-  population_fits =
-      let most : size G ≤ 2 ^ 48 = few_cells G 0 (omega arith) (place_of 0 G within) in
-      omega arith
 
   ash-ranged : (near : Bool) (parts : List Generation) → ash_of R b last ≡ Some parts
       → IsRanged (Ash (ash_onset R G b) (counted_parts near R b parts))
@@ -89,19 +99,31 @@ module _ (R : Rule) (G : Generation) (b : ℕ) (few : b ≤ objects_bound_limit)
       let most : length sets ≤ 2 ^ 48 = few_counted R b near last parts ash b (omega arith) within_last in
       let counted : objects_in (counted_codes all) ≡ length all = counted_all all in
       let long : length all ≡ length sets = length-map sets (part_code R (code_bound b)) in
-      let small : objects_in (counted_codes all) ≤ 2 ^ 48 = omega arith in
+      let count : objects_in (counted_codes all) ≤ 2 ^ 48 = omega arith in
       let fits : objects_in (counted_codes all) < 2 ^ 64 = omega arith in
-      let early : ash_onset R G b < 2 ^ 64 = let by_then = ash_onset-within R G b in omega arith in
-      (((early, (fits, tt)), counted-coded R b near parts ash.objects, tt), small)
+      let by_then = ash_onset-within R G b in
+      let early : ash_onset R G b ≤ bound_limit = omega arith in
+      (((omega (arith, early), (fits, tt)), counted-coded R b near parts ash.objects, tt), count, early)
 
   found-ranged : (near : Bool) (o : Option (List Generation)) → ash_of R b last ≡ o
       → IsRanged (census_found near R b (ash_onset R G b) o)
-  found-ranged near None e = ((tt, tt, tt), omega arith)
+  found-ranged near None e = ((tt, tt, tt), omega arith, tt)
   found-ranged near (Some parts) e = ash-ranged near parts e
 
   census-ranged : (near : Bool) → IsRanged (census_of near R G b)
   unfolding census_of
   census-ranged near = found-ranged near (ash_of R b last) refl
+
+  -- what recurs within twice the bound can be reported too
+  settled-ranged : IsRanged (outcome_of R G (2 * b))
+  settled-ranged = (
+    found-told R G (2 * b) (record { stands = place_of 0 G within; few = small }) (omega arith),
+    let none = no_parts R G (2 * b) in omega arith,
+    settled-early R G (2 * b) (omega arith),
+  )
+
+  fallen-ranged : (near : Bool) → IsRanged (fallen_of near R G b)
+  fallen-ranged near = one_of_two IsRanged (outcome_of R G (2 * b)) (census_of near R G b) settled-ranged (census-ranged near)
 
   -- what is reported of growth goes before what was found
   growing-ranged : (told : Option (List Engines)) (found : Outcome) → ((engines : List Engines) → told ≡ Some engines → FitsGrowth engines)
@@ -109,7 +131,7 @@ module _ (R : Rule) (G : Generation) (b : ℕ) (few : b ≤ objects_bound_limit)
   growing-ranged None found grown h = h
   growing-ranged (Some engines) found grown h =
       let fits = grown engines refl in
-      (((fits.few, tt), tt, fits.each), omega arith)
+      (((fits.few, tt), tt, fits.each), omega arith, tt)
 
   finding-ranged : (limit : Option ℕ) (near : Bool) (horizon : ℕ) → horizon ≤ growth_horizon_limit
       → IsRangedAnswer (Found R (finding_to (Objects b limit near horizon) R G))
@@ -118,11 +140,11 @@ module _ (R : Rule) (G : Generation) (b : ℕ) (few : b ≤ objects_bound_limit)
       let early = allowed_within limit R G b in
       let young : c ≤ objects_bound_limit = omega arith in
       let soon : min horizon c ≤ period_limit = omega arith in (
-        population_fits,
-        growing-ranged (growth_told near R (min horizon c) (generation R G c)) (unless_large (census_of near R G b) (first_past limit R G (3 * b)))
+        small,
+        growing-ranged (growth_told near R (min horizon c) (generation R G c)) (unless_large (fallen_of near R G b) (first_past limit R G (3 * b)))
             (growth-fits R near (min horizon c) c soon young (generation R G c)
             (subst (λ k. All (IsWithin k) (cells (generation R G c))) (let e : 0 + c ≡ c = omega arith in e) (generation_within R 0 G within c)))
-            (unless-ranged (census_of near R G b) (first_past limit R G (3 * b)) (census-ranged near)
+            (unless-ranged (fallen_of near R G b) (first_past limit R G (3 * b)) (fallen-ranged near)
             (λ n past. let first : n ≤ 3 * b = past_within R G (3 * b) limit n past in omega arith)),
       )
 
@@ -140,7 +162,7 @@ module _ (bound : ℕ) (limit : Option ℕ) (near : Bool) (horizon : ℕ) (answe
       finding-ranged r (from_list (map cell_of_pair places)) bound answered.1
       (subst (All (IsWithin 0)) (sym (cells-from_list (map cell_of_pair places) (placed_rises 0 0 places rises)))
       (placed_within 0 0 places rises))
-      limit near horizon answered.2.1
+      (few-meant ts e) limit near horizon answered.2.1
   body-ranged r ts (Some fault) e = fault-small fault
 
   rule-ranged : (r : Result Rule RleFault) (ts : List Token) → IsRangedAnswer (answer_to question (picture_of (with_body r ts)))
@@ -160,7 +182,7 @@ module _ (bound : ℕ) (limit : Option ℕ) (near : Bool) (horizon : ℕ) (answe
       ]
 
 answer-told : (found : Answer) → IsRangedAnswer found → IsToldAnswer found
-answer-told (Found rule finding) h = (h.0, h.1.0)
+answer-told (Found rule finding) h = (numbers-lawful finding.population finding.outcome h.0 h.1.2, h.1.0)
 answer-told (Refused number) h = h
 
 pub objects_are_told : (bound : ℕ) (limit : Option ℕ) (near : Bool) (horizon : ℕ) (text : List ℕ) → IsAnswered (Objects bound limit near horizon)

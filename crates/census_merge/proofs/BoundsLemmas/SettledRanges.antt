@@ -9,12 +9,12 @@ use Rattle.census_bundle.specs.declared.bundle.Folder.{Folder}
 use Rattle.census_format.specs.Lines.{answer_to_entry, answers}
 use Rattle.census_format.specs.Objects.{objects, outcome_objects}
 use Rattle.life_answer.proofs.Findings.{settled_or_not}
-use Rattle.life_answer.proofs.Limits.{first_past-is}
+use Rattle.life_answer.proofs.Limits.{first_past-is, past_within}
 use Rattle.life_answer.proofs.Texts.{answer-no_ash}
 use Rattle.life_answer.specs.Answers.{outcome_of, recurrence_outcome}
 use Rattle.life_answer.specs.Apgcode.{bodies, code_of, prefix}
 use Rattle.life_answer.specs.Limited.{first_past, outcome_unless_large, unless_large}
-use Rattle.life_answer.specs.Questions.{IsAnswered, answer_to, answer_to_question, settles_bound_limit}
+use Rattle.life_answer.specs.Questions.{IsAnswered, answer_to, answer_to_question, outcome_to, settles_bound_limit}
 use Rattle.life_answer.specs.declared.finding.Answer.{Answer}
 use Rattle.life_answer.specs.declared.finding.Answer.TheVariants.{Found, Refused}
 use Rattle.life_answer.specs.declared.finding.Finding.{Finding}
@@ -35,6 +35,7 @@ use Rattle.life_text.specs.Faults.{fault_number}
 use Rattle.life_text.proofs.FaultLemmas.{fault_number-most}
 use Rattle.census_merge.specs.Ranges.{FitsOutcome, InRange, IsToldAnswer, IsToldFolder}
 use Rattle.census_merge.proofs.Solid.{each-map}
+use Rattle.census_merge.proofs.BoundsLemmas.Early.{numbers-lawful, settled-early, unless-early}
 use Rattle.census_merge.proofs.BoundsLemmas.Standing.{IsTextual, IsTextualPicture, Stands, generation-stands, moved-fits, text-textual}
 
 -- ---- codes and faults
@@ -119,7 +120,12 @@ module _ (bound : ℕ) (cells : Option ℕ) (answered : IsAnswered (Settles boun
   picture-told (Ok pattern) textual =
       let told = found-told pattern.rule pattern.cells bound textual answered.1 in
       let short : bound < 2 ^ 64 = omega (arith, answered.1) in
-      (textual.few, limited-told pattern.rule pattern.cells bound short (outcome_of pattern.rule pattern.cells bound) told cells)
+      let early = unless-early (outcome_of pattern.rule pattern.cells bound) (first_past cells pattern.rule pattern.cells bound)
+      (settled-early pattern.rule pattern.cells bound answered.1)
+      (λ n past. let first = past_within pattern.rule pattern.cells bound cells n past in omega (arith, first, answered.1)) in (
+        numbers-lawful (size pattern.cells) (outcome_to (Settles bound cells) pattern.rule pattern.cells) textual.few early,
+        limited-told pattern.rule pattern.cells bound short (outcome_of pattern.rule pattern.cells bound) told cells,
+      )
   picture-told (Err fault) textual = fault-small fault
 
   pub settled-is-told : (text : List ℕ) → IsToldAnswer (answer_to_question (Settles bound cells) text)

@@ -1,11 +1,14 @@
 -- Where the cells that a text means are, in each generation, and how many there are.
-use Rattle.std.proofs.Common.{◌≡◌, ℕ, zero, suc, ◌+◌, ◌*◌, ◌<◌, ◌≤◌, ◌^◌, ⊎_elim, true, Option, Some, None, Result, Ok, Err, List, [], ◌∷◌, map, length, FitsSigned, w64, ap, subst, ◌∙◌, sym, refl, arith}
-use Rattle.std.specs.List.{All}
-use Rattle.std.proofs.Math.Nat.{eq-or-lt_of_le}
+use Rattle.std.proofs.Common.{◌≡◌, ℕ, zero, suc, ◌+◌, ◌≤◌, ⊎_elim, Bool, true, false, ◌&&◌, cond, nat_lt, Option, Some, None, Result, Ok, Err, List, [], ◌∷◌, ◌++◌, map, length, FitsSigned, w64, ap, subst, ◌∙◌, sym, refl, arith}
+use Rattle.std.specs.List.{All, range_with_len}
+use Rattle.std.specs.Option.{option_or}
+use Rattle.std.proofs.lemmas.Bool.Decides.{nat_tests}
 use Rattle.std.proofs.lemmas.Int.{ints}
-use Rattle.std.proofs.lemmas.List.{length-map}
+use Rattle.std.proofs.lemmas.List.{length-append, length-map}
+use Rattle.std.proofs.lemmas.List.FromFn.{length-range_with_len}
+use Rattle.std.proofs.lemmas.List.Sums.{sum_by-append, sum_by-cons}
 use Rattle.life_answer.proofs.Sizes.{size-from_list}
-use Rattle.life_cells.specs.Limits.{IsWithin, place_limit}
+use Rattle.life_cells.specs.Limits.{IsWithin}
 use Rattle.life_cells.specs.Readings.{cell_of_pair}
 use Rattle.life_model.proofs.Cells.{plus-opposite}
 use Rattle.life_model.proofs.Generations.{cells-from_list}
@@ -18,11 +21,11 @@ use Rattle.life_model.specs.Generation.{Generation, cells, contains, empty, from
 use Rattle.life_model.specs.Rule.{Rule}
 use Rattle.life_model.specs.Symmetry.{translate_of}
 use Rattle.life_cells.proofs.Members.{member_has}
+use Rattle.life_text.proofs.CappedLemmas.{good}
 use Rattle.life_text.proofs.PictureLemmas.{placed_rises, placed_within}
 use Rattle.life_text.proofs.RisingLemmas.{meaning_rises}
 use Rattle.life_text.specs.Picture.{Picture, picture_of}
-use Rattle.life_text.specs.Rising.{RisesFrom}
-use Rattle.life_text.specs.Rle.{Token, body_tokens, cells_after, first_fault, header_rule, reading, unless_fault, with_body}
+use Rattle.life_text.specs.Rle.{Token, body_tokens, cell_limit, cells_after, column, first_fault, header_rule, is_live, live_cells, reading, row, run_cells, run_length, token_fault, unless_fault, with_body}
 use Rattle.life_text.specs.declared.rle.RleFault.{RleFault}
 
 -- each cell is where cells are at this age
@@ -67,24 +70,51 @@ moved-fits age later G d young soon here there unmoved = ⊎_elim
 
 -- ---- the cells of a text
 
--- cells that rise from a place on are no more than the places from there on, row by row
-few-rising : (y x : ℕ) (cs : List (ℕ × ℕ)) → y < place_limit → x ≤ place_limit → RisesFrom y x cs
-    → place_limit * y + x + length cs ≤ 1099511627776
-few-rising y x [] high wide h = omega arith
-few-rising y x (c ∷ cs) high wide h =
-    let low : y ≤ c.1 = h.0 in
-    let right : c.0 < place_limit = h.2 in
-    let down : c.1 < place_limit = h.3 in
-    let others = few-rising c.1 (c.0 + 1) cs down (omega (arith, right)) h.4 in
-    ⊎_elim
-    (λ same. let beside : x ≤ c.0 = h.1 same in omega (arith, same, beside, others))
-    (λ above. omega (arith, above, wide, others))
-    (eq-or-lt_of_le low)
+abbrev in_row : ℕ → ℕ → ℕ × ℕ
+in_row y x = (x, y)
 
--- a set as texts mean them: its cells are where those of generation 0 may be, and are fewer than 2^64
+drawn-size : (b : Bool) (y x n : ℕ) → length (cond b (map (in_row y) (range_with_len x n)) []) ≡ cond b n 0
+drawn-size true y x n = length-map (range_with_len x n) (in_row y) ∙ length-range_with_len x n
+drawn-size false y x n = refl
+
+within-limit : (b : Bool) (live n : ℕ) → (b && nat_lt cell_limit (live + n)) ≡ false → live ≤ cell_limit → live + cond b n 0 ≤ cell_limit
+within-limit true live n h few = grind (arith, nat_tests)
+within-limit false live n h few = omega (arith, few)
+
+neither : (fault others : Option RleFault) → option_or fault others ≡ None → (fault ≡ None) × (others ≡ None)
+neither None others h = (refl, h)
+neither (Some fault) others h = absurd (cc)
+
+few-drawn : (before ts : List Token) → first_fault before ts ≡ None → live_cells before ≤ cell_limit → live_cells before + length (cells_after before ts) ≤ cell_limit
+few-drawn before [] none few = omega (arith, few)
+few-drawn before (t ∷ ts) none few =
+    let y = row before in
+    let x = column before in
+    let live = live_cells before in
+    let size : ℕ = cond (is_live t) (run_length t) 0 in
+    let parts = neither (token_fault y x live t) (first_fault (before ++ t ∷ []) ts) none in
+    let here : live + size ≤ cell_limit = within-limit (is_live t) live (run_length t) (good y x live t parts.0).too_many few in
+    let both = sum_by-append (λ t. cond (is_live t) (run_length t) 0) before (t ∷ []) in
+    let one = sum_by-cons (λ t. cond (is_live t) (run_length t) 0) t [] in
+    let now : live_cells (before ++ t ∷ []) ≡ live + size = omega (arith, both, one) in
+    let more = few-drawn (before ++ t ∷ []) ts parts.1 (omega (arith, now, here)) in
+    let all : length (cells_after before (t ∷ ts)) ≡ length (run_cells y x t) + length (cells_after (before ++ t ∷ []) ts) =
+    length-append (run_cells y x t) (cells_after (before ++ t ∷ []) ts) in
+    let first : length (run_cells y x t) ≡ size = drawn-size (is_live t) y x (run_length t) in
+    omega (arith, now, more, all, first)
+
+pub few-meant : (ts : List Token) → first_fault [] ts ≡ None → size (from_list (map cell_of_pair (cells_after [] ts))) ≤ cell_limit
+few-meant ts none =
+    let drawn = cells_after [] ts in
+    let most = size-from_list (map cell_of_pair drawn) in
+    let count = length-map drawn cell_of_pair in
+    let few = few-drawn [] ts none (omega arith) in
+    omega (arith, most, count, few)
+
+-- a set as texts mean them: its cells are where those of generation 0 may be, and no more than a text may have
 pub record IsTextual (G : Generation) : Type 0 where
   pub stands : Stands 0 G
-  pub few : size G < 2 ^ 64
+  pub few : size G ≤ cell_limit
 
 textual : (ts : List Token) → first_fault [] ts ≡ None → IsTextual (from_list (map cell_of_pair (cells_after [] ts)))
 textual ts none =
@@ -92,14 +122,10 @@ textual ts none =
     let all = map cell_of_pair drawn in
     let rises = meaning_rises ts none in
     let listed = cells-from_list all (placed_rises 0 0 drawn rises) in
-    let places = placed_within 0 0 drawn rises in
-    let within : All (IsWithin 0) (cells (from_list all)) = subst (All (IsWithin 0)) (sym listed) places in
-    let most = size-from_list all in
-    let count = length-map drawn cell_of_pair in
-    let few = few-rising 0 0 drawn (omega arith) (omega arith) rises in
+    let within : All (IsWithin 0) (cells (from_list all)) = subst (All (IsWithin 0)) (sym listed) (placed_within 0 0 drawn rises) in
     record {
       stands = member_has (IsWithin 0) (from_list all) within;
-      few = omega (arith, most, count, few);
+      few = few-meant ts none;
     }
 
 -- what is meant is such a set

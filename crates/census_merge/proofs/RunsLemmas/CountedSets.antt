@@ -34,7 +34,7 @@ wider R b c Q le again =
     let within : again.steps ≤ b = again.within in
     record { steps = again.steps; by = again.by; within = omega arith; recurs = again.recurs }
 
-only_one : (P Q : Generation) → Contains (P ∷ []) Q → P ≡ Q
+pub only_one : (P Q : Generation) → Contains (P ∷ []) Q → P ≡ Q
 only_one P Q one =
     elim (head_or_later P Q [] one.0 one.1 one.2) [
       | inl same ↦ same

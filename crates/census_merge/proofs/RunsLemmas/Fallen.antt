@@ -1,21 +1,26 @@
 -- A pattern falls apart exactly if its answer says so.
-use Rattle.std.proofs.Common.{◌≡◌, ℕ, ◌*◌, min, Bool, false, List, Option, Some, None, Result, Ok, Err, refl, sym, ap, ◌∙◌}
+use Rattle.std.proofs.Common.{◌≡◌, ℕ, ◌*◌, min, Bool, false, List, [], ◌∷◌, Option, inl, inr, Some, None, Result, Ok, Err, ℤ, refl, sym, ap, subst, ◌∙◌}
 use Rattle.std.specs.List.Sorted.{IsPermutation}
+use Rattle.std.proofs.lemmas.Bool.Decides.{eqb_tells}
 use Rattle.census_bundle.specs.declared.bundle.Entry.{Entry}
-use Rattle.life_answer.specs.Census.{ash_onset, census_found, census_of, counted_parts}
+use Rattle.life_answer.specs.Answers.{outcome_of as settled_outcome}
+use Rattle.life_answer.specs.Census.{ash_onset, census_found, census_of, counted_parts, fallen_of, unless_one}
 use Rattle.life_answer.specs.Growing.{allowed_bound}
 use Rattle.life_answer.specs.Limited.{outcome_unless_large}
 use Rattle.life_answer.specs.Told.{growth_told}
+use Rattle.life_answer.specs.Parts.{objects_in, single}
 use Rattle.life_answer.specs.Questions.{answer_to, answer_to_question, finding_to, outcome_to}
 use Rattle.life_answer.specs.Answers.{finding_with}
 use Rattle.life_answer.specs.declared.finding.Answer.{Answer}
 use Rattle.life_answer.specs.declared.finding.Answer.TheVariants.{Found}
 use Rattle.life_answer.specs.declared.finding.Finding.{Finding}
-use Rattle.life_answer.specs.declared.finding.Outcome.TheVariants.{Ash, Grows, Large}
+use Rattle.life_answer.specs.declared.finding.Outcome.{Outcome}
+use Rattle.life_answer.specs.declared.finding.Outcome.TheVariants.{Ash, Grows, Large, Recurs, Unresolved}
 use Rattle.life_answer.specs.declared.part.Part.{Part}
 use Rattle.life_answer.specs.declared.question.Question.TheVariants.{Objects}
 use Rattle.life_answer.specs.declared.tale.Engines.{Engines}
 use Rattle.life_answer.proofs.Growing.{ash_answered, growing-else}
+use Rattle.life_answer.proofs.OneParts.{found_as_one, more_reported, one_recurs, one_reported}
 use Rattle.life_answer.proofs.Limits.{limited-else, limited-same}
 use Rattle.life_answer.proofs.Texts.{answer-found, same_finding}
 use Rattle.life_objects.specs.Decided.Decided.{ash_of}
@@ -38,30 +43,58 @@ census_some : (near : Bool) (R : Rule) (G : Generation) (b : ℕ) (found : List 
 unfolding census_of
 census_some near R G b found e = ap (census_found near R b (ash_onset R G b)) e
 
-some_found : (near : Bool) (R : Rule) (b first onset : ℕ) (parts : List Part) (o : Option (List Generation))
-    → census_found near R b first o ≡ Ash onset parts → (found : List Generation) × (o ≡ Some found)
-some_found near R b first onset parts None e = absurd cc
-some_found near R b first onset parts (Some found) e = (found, refl)
+-- ---- what is reported of what has fallen apart
 
-ash_found : (near : Bool) (R : Rule) (G : Generation) (b onset : ℕ) (parts : List Part) → census_of near R G b ≡ Ash onset parts
+-- It is the census, or, of one part, how the pattern recurs from the same onset on, by the code of that part.
+pub fallen_either : (near : Bool) (R : Rule) (G : Generation) (b onset : ℕ) (parts : List Part) → census_of near R G b ≡ Ash onset parts
+    → (Holds : Outcome → Type 0) → Holds (Ash onset parts)
+    → ((period : ℕ) (dx dy : ℤ) (code : List ℕ) → parts ≡ single code ∷ [] → Holds (Recurs onset period dx dy code))
+    → Holds (fallen_of near R G b)
+fallen_either near R G b onset parts found Holds ash recurs =
+    let recurring = settled_outcome R G (2 * b) in
+    subst Holds (ap (unless_one recurring) (sym found))
+    (elim (eqb_tells (objects_in parts) 1) [
+      | inl one ↦
+          let q = one_recurs near R G b onset parts found one.1 in
+          let r = q.2.recurrence in
+          subst Holds (sym (one_reported recurring onset parts one.1 ∙ found_as_one R G b onset q.0 q.2))
+          (recurs r.period r.displacement.0 r.displacement.1 q.0 q.1)
+      | inr more ↦ subst Holds (sym (more_reported recurring onset parts more.1)) ash
+    ])
+
+-- ---- an outcome that says so
+
+-- It says neither that the pattern is unresolved nor that a generation is too large nor that it grows.
+record IsSettled (outcome : Outcome) : Type 0 where
+  resolved : outcome ≡ Unresolved → ⊥
+  small : (first : ℕ) → outcome ≡ Large first → ⊥
+  no_growth : (lines : List Engines) → outcome ≡ Grows lines → ⊥
+
+ash_settled : (onset : ℕ) (parts : List Part) → IsSettled (Ash onset parts)
+ash_settled onset parts = record { resolved = λ e. cc; small = λ first e. cc; no_growth = λ lines e. cc }
+
+recurs_settled : (onset period : ℕ) (dx dy : ℤ) (code : List ℕ) → IsSettled (Recurs onset period dx dy code)
+recurs_settled onset period dx dy code = record { resolved = λ e. cc; small = λ first e. cc; no_growth = λ lines e. cc }
+
+some_found : (near : Bool) (R : Rule) (b first : ℕ) (recurring outcome : Outcome) (o : Option (List Generation))
+    → unless_one recurring (census_found near R b first o) ≡ outcome → IsSettled outcome → (found : List Generation) × (o ≡ Some found)
+some_found near R b first recurring outcome None e settled = absurd (settled.resolved (sym e))
+some_found near R b first recurring outcome (Some found) e settled = (found, refl)
+
+ash_found : (near : Bool) (R : Rule) (G : Generation) (b : ℕ) (outcome : Outcome) → fallen_of near R G b ≡ outcome → IsSettled outcome
     → (found : List Generation) × (ash_of R b (generation R G b) ≡ Some found)
 unfolding census_of
-ash_found near R G b onset parts e = some_found near R b (ash_onset R G b) onset parts (ash_of R b (generation R G b)) e
-
-no_growth : (onset : ℕ) (parts : List Part) (lines : List Engines) → Ash onset parts ≡ Grows lines → ⊥
-no_growth onset parts lines e = cc
+ash_found near R G b outcome e settled =
+    some_found near R b (ash_onset R G b) (settled_outcome R G (2 * b)) outcome (ash_of R b (generation R G b)) e settled
 
 -- what has fallen apart was found so before growth was looked for
-fallen_before : (near : Bool) (most : Option ℕ) (R : Rule) (G : Generation) (bound horizon onset : ℕ) (parts : List Part)
-    → outcome_to (Objects bound most near horizon) R G ≡ Ash onset parts
-    → outcome_unless_large most R G (3 * bound) (census_of near R G bound) ≡ Ash onset parts
-fallen_before near most R G bound horizon onset parts becomes =
+fallen_before : (near : Bool) (most : Option ℕ) (R : Rule) (G : Generation) (bound horizon : ℕ) (outcome : Outcome)
+    → outcome_to (Objects bound most near horizon) R G ≡ outcome → IsSettled outcome
+    → outcome_unless_large most R G (3 * bound) (fallen_of near R G bound) ≡ outcome
+fallen_before near most R G bound horizon outcome becomes settled =
     let c = allowed_bound most R G bound in
     growing-else (growth_told near R (min horizon c) (generation R G c))
-    (outcome_unless_large most R G (3 * bound) (census_of near R G bound)) (Ash onset parts) becomes (no_growth onset parts)
-
-not_large : (onset : ℕ) (parts : List Part) (first : ℕ) → Ash onset parts ≡ Large first → ⊥
-not_large onset parts first e = cc
+    (outcome_unless_large most R G (3 * bound) (fallen_of near R G bound)) outcome becomes settled.no_growth
 
 module _ (near : Bool) (bound : ℕ) (most : Option ℕ) (horizon : ℕ) (e : Entry) where
   abbrev pub answer_in : Answer
@@ -73,7 +106,8 @@ module _ (near : Bool) (bound : ℕ) (most : Option ℕ) (horizon : ℕ) (e : En
   pub record IsSaid (f : FallsApart bound most e) : Type 0 where
     pub found : List Generation
     pub order : IsPermutation f.parts found
-    pub is : answer_in ≡ Found f.rule (finding_with f.cells (Ash (ash_onset f.rule f.cells bound) (counted_parts near f.rule bound found)))
+    pub is : answer_in ≡ Found f.rule (finding_with f.cells (fallen_of near f.rule f.cells bound))
+    pub census : census_of near f.rule f.cells bound ≡ Ash (ash_onset f.rule f.cells bound) (counted_parts near f.rule bound found)
 
   pub to_say : (f : FallsApart bound most e) → IsSaid f
   to_say f =
@@ -86,8 +120,8 @@ module _ (near : Bool) (bound : ℕ) (most : Option ℕ) (horizon : ℕ) (e : En
             ∙ ap (λ o. Found f.rule (finding_with f.cells o))
             (ash_answered near f.rule f.cells most bound (ash_onset f.rule f.cells bound) horizon
             (counted_parts near f.rule bound parts.0) (census_some near f.rule f.cells bound parts.0 parts.1)
-            ∙ limited-same f.rule f.cells (3 * bound) most (census_of near f.rule f.cells bound) f.small
-            ∙ census_some near f.rule f.cells bound parts.0 parts.1);
+            ∙ limited-same f.rule f.cells (3 * bound) most (fallen_of near f.rule f.cells bound) f.small);
+        census = census_some near f.rule f.cells bound parts.0 parts.1;
       }
 
   -- ---- and one that is said to, does
@@ -97,20 +131,20 @@ module _ (near : Bool) (bound : ℕ) (most : Option ℕ) (horizon : ℕ) (e : En
   unfolding answer_to_question
   answer_by kept r read = kept_answer (Objects bound most near horizon) e kept ∙ ap (answer_to (Objects bound most near horizon)) read
 
-  said_by : (rule : Rule) (finding : Finding) (onset : ℕ) (parts : List Part) → answer_in ≡ Found rule finding → finding.outcome ≡ Ash onset parts
-      → (r : Result Picture RleFault) → picture_of (reading e.text) ≡ r → FallsApart bound most e
-  said_by rule finding onset parts is ash (Err fault) read =
+  said_by : (rule : Rule) (finding : Finding) (outcome : Outcome) → answer_in ≡ Found rule finding → finding.outcome ≡ outcome
+      → IsSettled outcome → (r : Result Picture RleFault) → picture_of (reading e.text) ≡ r → FallsApart bound most e
+  said_by rule finding outcome is becomes settled (Err fault) read =
       let kept = found_kept (Objects bound most near horizon) e rule finding is in
       absurd (let fails = sym is ∙ answer_by kept (Err fault) read in cc)
-  said_by rule finding onset parts is ash (Ok pattern) read =
+  said_by rule finding outcome is becomes settled (Ok pattern) read =
       let R = pattern.rule in
       let G = pattern.cells in
       let kept = found_kept (Objects bound most near horizon) e rule finding is in
       let same = same_finding rule R finding (finding_to (Objects bound most near horizon) R G) (sym is ∙ answer_by kept (Ok pattern) read) in
-      let becomes : outcome_to (Objects bound most near horizon) R G ≡ Ash onset parts = ap (λ (f : Finding). f.outcome) (sym same) ∙ ash in
-      let fell = fallen_before near most R G bound horizon onset parts becomes in
-      let small = limited-else R G (3 * bound) most (census_of near R G bound) (Ash onset parts) fell (not_large onset parts) in
-      let found = ash_found near R G bound onset parts small.1 in
+      let asked : outcome_to (Objects bound most near horizon) R G ≡ outcome = ap (λ (f : Finding). f.outcome) (sym same) ∙ becomes in
+      let fell = fallen_before near most R G bound horizon outcome asked settled in
+      let small = limited-else R G (3 * bound) most (fallen_of near R G bound) outcome fell settled.small in
+      let found = ash_found near R G bound outcome small.1 settled in
       record {
         rule = R;
         cells = G;
@@ -121,6 +155,15 @@ module _ (near : Bool) (bound : ℕ) (most : Option ℕ) (horizon : ℕ) (e : En
         small = small.0;
       }
 
+  -- it is ash
   pub said : (rule : Rule) (finding : Finding) (onset : ℕ) (parts : List Part) → answer_in ≡ Found rule finding → finding.outcome ≡ Ash onset parts
       → FallsApart bound most e
-  said rule finding onset parts is ash = said_by rule finding onset parts is ash (picture_of (reading e.text)) refl
+  said rule finding onset parts is ash =
+      said_by rule finding (Ash onset parts) is ash (ash_settled onset parts) (picture_of (reading e.text)) refl
+
+  -- or it recurs
+  pub said_one : (rule : Rule) (finding : Finding) (onset period : ℕ) (dx dy : ℤ) (code : List ℕ) → answer_in ≡ Found rule finding
+      → finding.outcome ≡ Recurs onset period dx dy code → FallsApart bound most e
+  said_one rule finding onset period dx dy code is recurs =
+      said_by rule finding (Recurs onset period dx dy code) is recurs (recurs_settled onset period dx dy code)
+      (picture_of (reading e.text)) refl

@@ -1,9 +1,9 @@
 -- The counts of a closing count the objects that patterns fall apart into, by what these count as.
-use Rattle.std.proofs.Common.{◌≡◌, ℕ, zero, suc, ◌≤◌, Bool, List, Option, map, get_or, Decides}
+use Rattle.std.proofs.Common.{◌≡◌, ℕ, zero, suc, ◌≤◌, ℤ, Bool, List, [], ◌∷◌, Option, map, get_or, Decides}
 use Rattle.std.proofs.Common.{refl, sym, ap, subst, ◌∙◌, arith}
 use Rattle.std.specs.List.{All, Contains, count_by}
 use Rattle.census_bundle.specs.declared.bundle.Entry.{Entry}
-use Rattle.life_answer.specs.Census.{part_code, parts_found}
+use Rattle.life_answer.specs.Census.{ash_onset, census_of, counted_parts, fallen_of, part_code}
 use Rattle.life_answer.specs.Counted.{code_bound, counted_as, counted_of}
 use Rattle.life_answer.proofs.PartCodes.{wider_code}
 use Rattle.life_answer.proofs.Permuted.{count_by-map}
@@ -11,21 +11,34 @@ use Rattle.life_answer.specs.declared.finding.Answer.{Answer}
 use Rattle.life_answer.specs.declared.finding.Answer.TheVariants.{Found, Refused}
 use Rattle.life_answer.specs.declared.finding.Finding.{Finding}
 use Rattle.life_answer.specs.declared.finding.Outcome.{Outcome}
-use Rattle.life_answer.specs.declared.finding.Outcome.TheVariants.{Ash}
+use Rattle.life_answer.specs.declared.finding.Outcome.TheVariants.{Ash, Recurs}
+use Rattle.life_answer.specs.declared.part.Part.{Part}
+use Rattle.life_answer.specs.Parts.{single}
 use Rattle.life_model.specs.Generation.{Generation}
 use Rattle.life_model.specs.Recurrence.{AreOneObject}
 use Rattle.life_model.specs.Rule.{Rule}
 use Rattle.life_objects.specs.Ash.{RecursWithin}
 use Rattle.census_format.specs.Objects.{Object, object, same_object}
 use Rattle.census_format.specs.ObjectLaws.{one_object, same_itself}
-use Rattle.census_format.specs.PartCounts.{fallen_as, parts_as, CountsParts}
+use Rattle.census_format.specs.PartCounts.{fallen_as, outcome_as, parts_as, CountsParts}
 use Rattle.census_format.proofs.PartCounts.{codes_count_parts}
 use Rattle.census_merge.specs.Runs.Fallen.{FallsApart, AreCounted, CountsIn, counted_sets}
 use Rattle.census_merge.specs.Runs.ObjectsOfAsh.{IsCoded, CountsPartsOfObject, code_counts, coming_bound, PartsHaveOneLine, CodesCountObjectsOfAsh}
 use Rattle.census_merge.proofs.RunsLemmas.CodeCounts.{adding, as_counted, passing, some_count, some_sum}
-use Rattle.census_merge.proofs.RunsLemmas.Fallen.{answer_in, said, to_say}
+use Rattle.census_merge.proofs.RunsLemmas.Fallen.{answer_in, fallen_either, said, said_one, to_say}
 use Rattle.census_merge.proofs.RunsLemmas.PartCodes.{at_once, part_code-is, part_codes_tell}
 use Rattle.census_merge.proofs.RunsLemmas.CountedSets.{count_in_any_order, counted_recurs, counted_told, sooner}
+
+-- what is reported of what has fallen apart counts as its parts do, also where it is one part and recurs
+recurs_as : (k : Object) (R : Rule) (onset period : ℕ) (dx dy : ℤ) (code : List ℕ) →
+    outcome_as k R (Recurs onset period dx dy code) ≡ parts_as k R (single code ∷ [])
+recurs_as k R onset period dx dy code = omega arith
+
+one_as : (near : Bool) (R : Rule) (G : Generation) (b : ℕ) (k : Object) (onset : ℕ) (parts : List Part) →
+    census_of near R G b ≡ Ash onset parts → outcome_as k R (fallen_of near R G b) ≡ parts_as k R parts
+one_as near R G b k onset parts found =
+    fallen_either near R G b onset parts found (λ o. outcome_as k R o ≡ parts_as k R parts) refl
+    (λ period dx dy code e. recurs_as k R onset period dx dy code ∙ ap (parts_as k R) (sym e))
 
 -- the object that is reported for a set
 told : Rule → ℕ → Generation → Object
@@ -49,6 +62,7 @@ module _ (near : Bool) (bound : ℕ) (most : Option ℕ) (horizon : ℕ) where
       let code = part_code f.rule (code_bound bound) in
       let counted = counted_of near f.rule bound s.found in
       ap (fallen_as k) s.is
+      ∙ one_as near f.rule f.cells bound k (ash_onset f.rule f.cells bound) (counted_parts near f.rule bound s.found) s.census
       ∙ as_counted k f.rule (map code counted)
       ∙ count_by-map (λ c. same_object k (object f.rule c)) code counted
       ∙ count_in_any_order (λ Q. same_object k (object f.rule (code Q))) (counted_as near f.rule bound) f.parts s.found s.order
@@ -67,10 +81,12 @@ module _ (near : Bool) (bound : ℕ) (most : Option ℕ) (horizon : ℕ) where
       record { fallen = f; part = p.one; of_it = p.among; is = one_object k (told f.rule bound p.one) p.passes }
 
   from_outcome : (k : Object) (e : Entry) (rule : Rule) (finding : Finding) (outcome : Outcome)
-      → answer_in near bound most horizon e ≡ Found rule finding → finding.outcome ≡ outcome → 1 ≤ parts_as k rule (parts_found outcome)
+      → answer_in near bound most horizon e ≡ Found rule finding → finding.outcome ≡ outcome → 1 ≤ outcome_as k rule outcome
       → 1 ≤ number k e → IsFrom k e
   from_outcome k e rule finding (Ash onset parts) is ash more some =
       from_fallen k e (said near bound most horizon e rule finding onset parts is ash) some
+  from_outcome k e rule finding (Recurs onset period dx dy code) is recurs more some =
+      from_fallen k e (said_one near bound most horizon e rule finding onset period dx dy code is recurs) some
   from_outcome k e rule finding _ is becomes none some = absurd (omega arith)
 
   from_answer : (k : Object) (e : Entry) (a : Answer) → answer_in near bound most horizon e ≡ a → 1 ≤ fallen_as k a
