@@ -4,7 +4,7 @@ use crate::fault::Fault;
 use crate::lines::{Lines, Words};
 use crate::rle::{place_text, words_of};
 use crate::sentences::sentence;
-use census_bundle::{Bundle, Entry};
+use census_bundle::{Bundle, Entry, Folder, Ticket};
 use life_text::{RleFault, read_rle};
 use std::alloc::{AllocError, Global};
 
@@ -15,12 +15,13 @@ fn add_fault(words: &mut Words, text: &[u8], fault: RleFault) -> Result<(), Allo
     words.add(words_of(text, fault).as_bytes())
 }
 
-// Adds the line of a pattern that is lost or refused, and nothing for any other.
+// Adds the line of a pattern that is lost, for this reason, or refused, and nothing for any other.
 fn push_entry(
     alloc: Global,
     lines: &mut Lines,
     collection: &[u8],
     entry: &Entry,
+    loss: Fault,
 ) -> Result<(), AllocError> {
     let mut words = Words::none(alloc);
     words.add(collection)?;
@@ -28,7 +29,7 @@ fn push_entry(
     words.add(entry.name.as_slice())?;
     if entry.is_lost {
         words.add(b": ")?;
-        words.add(sentence(Fault::Read).as_bytes())?;
+        words.add(sentence(loss).as_bytes())?;
         return lines.push(&words);
     }
     let text = entry.text.as_slice();
@@ -42,15 +43,63 @@ fn push_entry(
     }
 }
 
+// These tickets but for the first, if that is the one of a pattern of a folder, whose numbers count from 1.
+fn after_first(tickets: &[Ticket], folder: usize, number: usize) -> Option<&[Ticket]> {
+    match tickets {
+        [first, rest @ ..] => {
+            if first.folder as usize == folder && first.number as usize == number {
+                Some(rest)
+            } else {
+                None
+            }
+        }
+        [] => None,
+    }
+}
+
+// Adds the lines of a folder, whose number counts from 1. Of these tickets, which are in order, it returns those after it.
+fn push_folder<'a>(
+    alloc: Global,
+    lines: &mut Lines,
+    folder: &Folder,
+    number: usize,
+    too_long: &'a [Ticket],
+) -> Result<&'a [Ticket], AllocError> {
+    let mut left = too_long;
+    let entries = folder.entries.as_slice();
+    for index in 0..entries.len() {
+        let loss = match after_first(left, number, index + 1) {
+            Some(rest) => {
+                left = rest;
+                Fault::TooLong
+            }
+            None => Fault::Read,
+        };
+        push_entry(
+            alloc,
+            lines,
+            folder.name.as_slice(),
+            &entries[index],
+            loss,
+        )?;
+    }
+    Ok(left)
+}
+
 /// The lines that explain what a report of a bundle gives as `bad`, one for each such line of it, collection by collection, and
 /// within each in the order of its patterns: `COLLECTION/NAME:LINE:COLUMN: ` and the sentence for the text's fault, or for a text
-/// that is lost `COLLECTION/NAME: ` and that of what can't be read.
-pub fn refusal_lines(alloc: Global, bundle: &Bundle) -> Result<Lines, AllocError> {
+/// that is lost `COLLECTION/NAME: ` and that of what can't be read, or of what is too long for those with these tickets, which
+/// are in their order.
+pub fn refusal_lines(
+    alloc: Global,
+    bundle: &Bundle,
+    too_long: &[Ticket],
+) -> Result<Lines, AllocError> {
     let mut lines = Lines::none(alloc);
-    for folder in bundle.folders() {
-        for entry in folder.entries.as_slice() {
-            push_entry(alloc, &mut lines, folder.name.as_slice(), entry)?;
-        }
+    let mut left = too_long;
+    let folders = bundle.folders();
+    for index in 0..folders.len() {
+        left = push_folder(alloc, &mut lines, &folders[index], index + 1, left)?;
     }
     Ok(lines)
 }

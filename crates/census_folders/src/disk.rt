@@ -20,6 +20,9 @@ use watched::{Input, read_all};
 /// The number of times that the system is asked again where a signal interrupts it.
 const TRIES: u32 = 1_000;
 
+/// The number of the system's error where a folder is read as a file.
+const IS_FOLDER: i32 = 21;
+
 // The system's answer, where it is asked again if a signal interrupts it.
 fn answered<T: Drop, F: Fn() -> io::Result<T>>(ask: F) -> io::Result<T>
     requires { F.IsAlwaysCallable ask }
@@ -145,6 +148,16 @@ fn regular_file<F: OpenFile + Drop>(opened: io::Result<F>) -> io::Result<F> {
     }
 }
 
+// What was opened by its name, unless it is a folder: the system says that only once it is read.
+fn named_file<F: OpenFile + Drop>(opened: io::Result<F>) -> io::Result<F> {
+    let file = opened?;
+    if answered(|| file.metadata())?.is_dir() {
+        Err(io::Error::from_raw_os_error(IS_FOLDER))
+    } else {
+        Ok(file)
+    }
+}
+
 // The names in a folder, each ended by a byte 0. The list of a folder that is removed meanwhile ends early, so this checks
 // whether the folder is still there.
 fn names_at<R: Files>(files: &R, alloc: Global, path: Path) -> io::Result<Vec<u8>> {
@@ -213,5 +226,10 @@ impl<R: Files> Shelf for R {
     ) -> Result<Vec<u8>, ShelfFault> {
         let path = path_in(alloc, folder, name)?;
         read_opened(alloc, regular_file(fs::open(self, path)), limit)
+    }
+
+    fn read_named(&self, alloc: Global, path: &[u8], limit: usize) -> Result<Vec<u8>, ShelfFault> {
+        let path = path_in(alloc, "", path)?;
+        read_opened(alloc, named_file(fs::open(self, path)), limit)
     }
 }

@@ -6,7 +6,7 @@ ghost use Rattle.census_folders.specs.Told.{GivesTold, RefusesFile};
 
 use crate::bytes::Bytes;
 use crate::shelf::Shelf;
-use crate::unread::{ShelfFault, Unread};
+use crate::unread::ShelfFault;
 use census_bundle::{INPUT_LIMIT, Text};
 use std::alloc::{AllocError, Global};
 use std::io::Read;
@@ -38,8 +38,7 @@ fn heard_of(read: Result<Vec<u8>, ReadFault>) -> Result<Heard, AllocError>
     }
 }
 
-/// The bytes of the file of this path, of which there may be at most 67,108,864. It is not opened where it is no regular
-/// file.
+/// The bytes of what this path names, of which there may be at most 67,108,864. It may be whatever can be read.
 pub fn read_file<S: Shelf>(shelf: &S, alloc: Global, path: &[u8]) -> Result<Vec<u8>, ShelfFault>
     ensures within { IfOk result (λ bytes. vec_len bytes ≤ INPUT_LIMIT) }
     ensures told { IfOk result
@@ -47,10 +46,7 @@ pub fn read_file<S: Shelf>(shelf: &S, alloc: Global, path: &[u8]) -> Result<Vec<
     ensures fault { IfErr result
         (RefusesFile INPUT_LIMIT ((S.tellings shelf.now).held [] path.now)) }
 {
-    if !shelf.is_file(alloc, "", path)? {
-        return Err(ShelfFault::Unread(Unread::silent()));
-    }
-    shelf.read(alloc, "", path, INPUT_LIMIT)
+    shelf.read_named(alloc, path, INPUT_LIMIT)
 }
 
 fn hear_file<S: Shelf>(shelf: &S, alloc: Global, path: &[u8]) -> Result<Heard, AllocError>
@@ -89,8 +85,8 @@ pub fn words_or_input<'a, 'b>(words: &'a [&'b str]) -> &'a [&'b str]
     if words.is_empty() { &["-"] } else { words }
 }
 
-/// What is got of a word: of `-` what standard input has left, up to its end; of any other word the bytes of the file
-/// of this path, which is not opened where it is no regular file. `AllocError` is answered where a growth was refused.
+/// What is got of a word: of `-` what standard input has left, up to its end; of any other word the bytes of what this path
+/// names, which may be whatever can be read. `AllocError` is answered where a growth was refused.
 ///
 /// Standard input may be read more than once, and gives what it then has left. What files hold is the shelf's word:
 /// each is looked for by its path alone, in the folder without a name. A disk tells nothing.

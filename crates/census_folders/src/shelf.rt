@@ -1,5 +1,5 @@
 //! What folders are read from.
-ghost use Rattle.std.specs.Prelude.{◌≡◌, ◌≤◌, ℕ, Bool, true, false, List, Ok, IfOk, IfErr, vec_len};
+ghost use Rattle.std.specs.Prelude.{◌≡◌, ◌≤◌, ℕ, Bool, true, false, List, [], Ok, IfOk, IfErr, vec_len};
 ghost use Rattle.census_folders.specs.Tellings.{Tellings, tells_nothing};
 ghost use Rattle.census_folders.specs.Told.{GivesTold, MayFail, RefusesFile, RefusesList, silent};
 
@@ -50,4 +50,11 @@ pub trait Shelf {
             (λ bytes. GivesTold ((tellings self.now).held folder.now name.now) bytes.items) }
         ensures fault { IfErr result
             (RefusesFile limit ((tellings self.now).held folder.now name.now)) };
+
+    /// The bytes of what a path names, of which there may be at most `limit`. It may be whatever can be read, as a pipe.
+    fn read_named(&self, alloc: Global, path: &[u8], limit: usize) -> Result<Vec<u8>, ShelfFault>
+        ensures within { IfOk result (λ bytes. vec_len bytes ≤ limit) }
+        ensures told { IfOk result
+            (λ bytes. GivesTold ((tellings self.now).held [] path.now) bytes.items) }
+        ensures fault { IfErr result (RefusesFile limit ((tellings self.now).held [] path.now)) };
 }
