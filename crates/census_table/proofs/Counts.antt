@@ -1,6 +1,5 @@
 -- A table has as many rows as a report has `line` rows.
 use Rattle.std.proofs.Common.{◌≡◌, ℕ, zero, suc, ◌+◌, ◌<◌, ◌≤◌, List, [], ◌∷◌, ◌++◌, ap, ◌∙◌, sym, refl, arith, subst, length, append_assoc}
-use Rattle.std.specs.List.{filter_map}
 use Rattle.std.specs.Borrow.{Bor}
 use Rattle.std.proofs.Math.Numerals.{one-add}
 use Rattle.std.proofs.lemmas.List.{length-append}
@@ -10,7 +9,7 @@ use Rattle.census_readback.specs.Shapes.{AreReports, AreWhole, IsOpenRow, IsSect
 use Rattle.census_readback.specs.Grouped.{collections_of, sections_of}
 use Rattle.census_readback.proofs.Cutting.{collections-body}
 use Rattle.census_readback.proofs.Totals.{AddsUp, count-append, total, total-all}
-use Rattle.census_table.specs.Entries.{all_entries, entries_of, entry_of_row, section_entries}
+use Rattle.census_table.specs.Entries.{all_entries, entries_of, entries_under, section_entries}
 
 zero-plus : (n : ℕ) → n ≡ 0 + n
 zero-plus n = omega arith
@@ -18,7 +17,7 @@ zero-plus n = omega arith
 lines-add : AddsUp (lines_that any_outcome)
 lines-add = record { none = refl; more = λ r rows. omega arith }
 
-under-size : (m n k : ℕ) (title : Bor (List ℕ)) (rows : List Row) → length (filter_map (entry_of_row m (Open n k title)) rows) ≡ lines_that any_outcome rows
+under-size : (m n k : ℕ) (title : Bor (List ℕ)) (rows : List Row) → length (entries_under m (Open n k title) rows) ≡ lines_that any_outcome rows
 under-size m n k title [] = refl
 under-size m n k title (Open c p name ∷ rows) = under-size m n k title rows ∙ zero-plus (lines_that any_outcome rows)
 under-size m n k title (Line c i o name ∷ rows) = ap (λ x. suc x) (under-size m n k title rows) ∙ sym (one-add (lines_that any_outcome rows))

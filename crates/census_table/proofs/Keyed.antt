@@ -27,16 +27,16 @@ of-entry : (entry : Entry) (count : ℕ) (rule code : Option (Bor (List ℕ))) (
     → IsKeyed (unwrap_or (object_with (Some entry) count code) (with_key d rule code)) (with_key d rule code)
 of-entry entry count rule None d same = itself (with_key d rule None)
 of-entry entry count rule (Some code) d same =
-    subst (λ own. IsKeyed (unwrap_or (option_map (λ (r : Bor (List ℕ)). record { first = entry; rule = r; code = code; count = count; patterns = 1 }) own) (with_key d rule (Some code))) (with_key d rule (Some code))) (sym same) (under rule)
+    subst (λ own. IsKeyed (unwrap_or (option_map (λ (r : Bor (List ℕ)). record { first = entry; rule = r; code = code; count = count; patterns = 1; share = 0 }) own) (with_key d rule (Some code))) (with_key d rule (Some code))) (sym same) (under rule)
   where
-    under : (rule : Option (Bor (List ℕ))) → IsKeyed (unwrap_or (option_map (λ (r : Bor (List ℕ)). record { first = entry; rule = r; code = code; count = count; patterns = 1 }) rule) (with_key d rule (Some code))) (with_key d rule (Some code))
+    under : (rule : Option (Bor (List ℕ))) → IsKeyed (unwrap_or (option_map (λ (r : Bor (List ℕ)). record { first = entry; rule = r; code = code; count = count; patterns = 1; share = 0 }) rule) (with_key d rule (Some code))) (with_key d rule (Some code))
     under None = itself (with_key d None (Some code))
     under (Some r) = record { rule = refl; code = refl }
 
 of-row : (number : ℕ) (heading line : Row) (count : ℕ) (code : Option (Bor (List ℕ))) (d : Object)
     → IsKeyed (unwrap_or (object_with (entry_of_row number heading line) count code) (with_key d (rule_in line) code)) (with_key d (rule_in line) code)
 of-row number (Open c k title) (Line e i outcome name) count code d =
-    of-entry (record { collection = number; collection_name = title; pattern = i; name = name; outcome = outcome }) count (text_in (value_at label.Rule (said outcome).fields)) code d refl
+    of-entry (record { collection = number; collection_name = title; pattern = i; name = name; outcome = outcome; way = None }) count (text_in (value_at label.Rule (said outcome).fields)) code d refl
 of-row number (Line c j found title) (Line e i outcome name) count code d = itself (with_key d (rule_in (Line e i outcome name)) code)
 of-row number (Part c j kind k) (Line e i outcome name) count code d = itself (with_key d (rule_in (Line e i outcome name)) code)
 of-row number (Engine c j x p dx dy k) (Line e i outcome name) count code d = itself (with_key d (rule_in (Line e i outcome name)) code)

@@ -13,7 +13,7 @@ use Rattle.std.proofs.lemmas.List.Elements.{All-cons, All-from_recursion, All-ni
 use Rattle.std.proofs.lemmas.List.Sorted.{All-permutation, IsPermutation-reverse, IsPermutation-sym, IsPermutation-trans, ranks_by, sum_by-IsPermutation}
 use Rattle.std.proofs.lemmas.List.Sums.{sum_by-cons}
 use Rattle.std.proofs.lemmas.List.{get_or-map, length-map}
-use Rattle.census_table.specs.Kinds.{capped, count_cmp, counted, kind_cmp, same_kind, same_pattern, AreKinds, IsCounted}
+use Rattle.census_table.specs.Kinds.{capped, count_cmp, counted, rank_cmp, kind_cmp, same_kind, same_pattern, AreKinds, IsCounted}
 use Rattle.census_table.specs.KindLaws.{kind_total}
 use Rattle.census_table.specs.Grouping.{alone, grouped, joined, with_told, AreInKinds}
 use Rattle.census_table.specs.Places.{Rises}
@@ -359,29 +359,33 @@ turned = record {
   congr = λ x y z e. nat_cmp_total.antisymm z x ∙ ap ordering_reverse (sym (nat_cmp_total.congr y x z e)) ∙ sym (nat_cmp_total.antisymm z y);
 }
 
-count_total : IsTotalOrder count_cmp
-count_total = then_total (on_total (λ (o : Object). o.count) turned) kind_total
+rank_total : (rare : Bool) → IsTotalOrder (rank_cmp rare)
+rank_total false = turned
+rank_total true = nat_cmp_total
+
+count_total : (rare : Bool) → IsTotalOrder (count_cmp rare)
+count_total rare = then_total (on_total (λ (o : Object). o.count) (rank_total rare)) kind_total
 
 -- what a sort by count gives, where kinds are held like this
-module _ {P : Type 0} (told : P → Object) where
+module _ {P : Type 0} (rare : Bool) (told : P → Object) where
   abbrev pub count-less : P → P → Bool
-  count-less one other = is_lt (count_cmp (told one) (told other))
+  count-less one other = is_lt (count_cmp rare (told one) (told other))
 
   pub counts-order : IsStrictWeakOrder count-less
-  counts-order = ranks_by count_total told
+  counts-order = ranks_by (count_total rare) told
 
-  pub counts-sorted : (ps : List P) → IsSortedBy count-less ps → IsSorted count_cmp (map told ps)
+  pub counts-sorted : (ps : List P) → IsSortedBy count-less ps → IsSorted (count_cmp rare) (map told ps)
   counts-sorted [] up = λ k d low small. absurd (omega (arith, small))
   counts-sorted (p ∷ ps) up = λ k d low small.
       let all = p ∷ ps in
       let more : k + 1 < length all = omega (arith, small, length-map all told) in
-      ap₂ (λ a b. is_lt (count_cmp a b)) (get_or-map told all (k + 1) p d more) (get_or-map told all k p d (omega (arith, more))) ∙ up k p low more
+      ap₂ (λ a b. is_lt (count_cmp rare a b)) (get_or-map told all (k + 1) p d more) (get_or-map told all k p d (omega (arith, more))) ∙ up k p low more
 
 -- what two sorts and the step between them give
-pub are-kinds : (objects sorted stack kinds : List Object) → IsPermutation objects sorted
+pub are-kinds : (rare : Bool) (objects sorted stack kinds : List Object) → IsPermutation objects sorted
     → ((kind : Object) → filter (same_kind kind) sorted ≡ filter (same_kind kind) objects) → AreInKinds sorted → reverse stack ≡ grouped sorted
-    → IsPermutation stack kinds → IsSorted count_cmp kinds → AreKinds objects kinds
-are-kinds objects sorted stack kinds moved stable up are moved-on ordered = record {
+    → IsPermutation stack kinds → IsSorted (count_cmp rare) kinds → AreKinds rare objects kinds
+are-kinds rare objects sorted stack kinds moved stable up are moved-on ordered = record {
   each = All-permutation (IsCounted objects) (grouped sorted) kinds whole (λ k d small.
       let is = each-grouped sorted up k d small in
       record { first = is.first; others = is.others; told = sym (stable (slice_index_or (grouped sorted) k d)) ∙ is.told; is = is.is });

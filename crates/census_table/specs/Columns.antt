@@ -10,6 +10,7 @@ use Rattle.census_rows.specs.Kinds.{said, value_at}
 use Rattle.census_faults.specs.Rle.Reported.{fault_words}
 use Rattle.census_table.specs.declared.column.Column.{Column}
 use Rattle.census_table.specs.declared.column.Column.TheVariants as column
+use Rattle.census_table.specs.declared.entry.EngineWay.{EngineWay}
 use Rattle.census_table.specs.declared.entry.Entry.{Entry}
 use Rattle.census_table.specs.Called.{Names, called}
 use Rattle.census_table.specs.Contents.{Content, Member, nothing, count, shift, text, hex}
@@ -37,6 +38,10 @@ value_content (Text bytes) = text bytes.now
 abbrev pub field_content : Outcome → Label → Content
 field_content outcome label = option_map_or value_content (value_at label (said outcome).fields) nothing
 
+-- what the way of its only engine has, or else the field with a label
+abbrev pub way_content : (EngineWay → Content) → Label → Entry → Content
+way_content content label entry = option_map_or content entry.way (field_content entry.outcome label)
+
 abbrev pub fault_content : Option Value → Content
 fault_content (Some (Number n)) = text (fault_words n)
 fault_content _ = nothing
@@ -56,9 +61,9 @@ column_means column.Status = (codes "status", λ names entry. text (said entry.o
 column_means column.Rule = (codes "rule", λ names entry. field_content entry.outcome label.Rule)
 column_means column.Population = (codes "population", λ names entry. field_content entry.outcome label.Population)
 column_means column.Onset = (codes "onset", λ names entry. field_content entry.outcome label.Onset)
-column_means column.Period = (codes "period", λ names entry. field_content entry.outcome label.Period)
-column_means column.Dx = (codes "dx", λ names entry. field_content entry.outcome label.Dx)
-column_means column.Dy = (codes "dy", λ names entry. field_content entry.outcome label.Dy)
+column_means column.Period = (codes "period", λ names entry. way_content (λ way. count way.period) label.Period entry)
+column_means column.Dx = (codes "dx", λ names entry. way_content (λ way. shift way.dx) label.Dx entry)
+column_means column.Dy = (codes "dy", λ names entry. way_content (λ way. shift way.dy) label.Dy entry)
 column_means column.Code = (codes "code", λ names entry. field_content entry.outcome label.Code)
 column_means column.CommonName = (codes "common_name", λ names entry. called_content names (value_at label.Code (said entry.outcome).fields))
 column_means column.Fault = (codes "fault", λ names entry. field_content entry.outcome label.Fault)

@@ -1,5 +1,5 @@
 -- The content of a row in one column.
-use Rattle.std.specs.Prelude.{◌≡◌, ℕ, ℤ, Bool, true, false, ◌&&◌, ◌==◌, List, [], ◌∷◌, Option, Some, None, codes, unwrap_or, if◌then◌else◌, decimal, map}
+use Rattle.std.specs.Prelude.{◌≡◌, ℕ, ℤ, ◌/◌, ◌%◌, Bool, true, false, ◌&&◌, ◌==◌, List, [], ◌∷◌, ◌++◌, Option, Some, None, codes, unwrap_or, if◌then◌else◌, decimal, map}
 use Rattle.std.specs.Fmt.{signed_decimal}
 use Rattle.std.specs.List.{list_any}
 use Rattle.std.specs.Str.{is_utf8}
@@ -8,15 +8,16 @@ use Rattle.hex.specs.Hex.{encode_lower}
 use Rattle.census_faults.specs.Rle.Reported.{fault_words}
 use Rattle.census_table.specs.Lists.{Engines}
 use Rattle.census_table.specs.declared.cell.Cell.{Cell}
-use Rattle.census_table.specs.declared.cell.Cell.TheVariants.{Empty, Count, Shift, Text, Hex, Fault}
+use Rattle.census_table.specs.declared.cell.Cell.TheVariants.{Empty, Count, Shift, Share, Text, Hex, Fault}
 use Rattle.census_table.specs.declared.cell.Field.{Field}
 use Rattle.census_table.specs.declared.lists.Portion.{Portion}
 
--- nothing, a number, a signed number, a text, the bytes of a text in hex where it isn't UTF-8, or a list of engines or parts
+-- nothing, a number, a signed number, a part of a whole in millionths, a text, the bytes of a text in hex where it isn't UTF-8, or a list of engines or parts
 pub data Content : Type 0 where
   nothing : Content
   count : ℕ → Content
   shift : ℤ → Content
+  share : ℕ → Content
   text : List ℕ → Content
   hex : List ℕ → Content
   engines : List Engines → Content
@@ -26,6 +27,7 @@ abbrev pub content_of : Cell → Content
 content_of Empty = nothing
 content_of (Count n) = count n
 content_of (Shift z) = shift z
+content_of (Share n) = share n
 content_of (Text bytes) = text bytes.now
 content_of (Hex bytes) = hex bytes.now
 content_of (Fault n) = text (fault_words n)
@@ -54,10 +56,16 @@ begins_formula (byte ∷ bytes) = list_any (λ sign. sign == byte) (codes "=+-@\
 abbrev pub text_bytes : Bool → List ℕ → List ℕ
 text_bytes safe bytes = if safe && begins_formula bytes then 39 ∷ bytes else bytes
 
+-- a number of millionths, with six digits after the point
+abbrev pub share_bytes : ℕ → List ℕ
+share_bytes n =
+    decimal (n / 1000000) ++ (codes "." ++ (decimal (n / 100000 % 10) ++ (decimal (n / 10000 % 10) ++ (decimal (n / 1000 % 10) ++ (decimal (n / 100 % 10) ++ (decimal (n / 10 % 10) ++ decimal (n % 10)))))))
+
 -- the text of a field, where texts are to be safe or not; lists occur only in JSON
 abbrev pub content_bytes : Bool → Content → List ℕ
 content_bytes safe (count n) = decimal n
 content_bytes safe (shift z) = signed_decimal z
+content_bytes safe (share n) = share_bytes n
 content_bytes safe (text bytes) = text_bytes safe (utf8_lossy bytes)
 content_bytes safe (hex bytes) = unwrap_or (hex_of bytes) []
 content_bytes safe _ = []

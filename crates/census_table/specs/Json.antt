@@ -9,7 +9,7 @@ use Rattle.serde_json.specs.Written.{comma_if, compact_text}
 use Rattle.census_facts.specs.Json.Lines.{with_line_ends_escaped}
 use Rattle.census_table.specs.Called.{Names}
 use Rattle.census_table.specs.Columns.{entry_row, first_columns, last_columns, middle_columns}
-use Rattle.census_table.specs.Contents.{Content, Member, count, engines, hex, hex_of, nothing, parts, shift, text}
+use Rattle.census_table.specs.Contents.{Content, Member, count, engines, hex, hex_of, nothing, parts, share, share_bytes, shift, text}
 use Rattle.census_table.specs.Lists.{Engines, portion_of}
 use Rattle.census_rows.specs.declared.row.Row.{Row}
 use Rattle.census_table.specs.declared.entry.Entry.{Entry}
@@ -72,6 +72,7 @@ abbrev pub content_json : Content → List ℕ
 content_json nothing = codes "null"
 content_json (count n) = decimal n
 content_json (shift z) = signed_decimal z
+content_json (share n) = share_bytes n
 content_json (text bytes) = text_json bytes
 content_json (hex bytes) = option_map_or string_json (hex_of bytes) (codes "null")
 content_json (engines list) = codes "[" ++ (items_text engine_json false list ++ codes "]")

@@ -1,6 +1,8 @@
 pub mod Called
 pub mod Columns
 pub mod Contents
+pub mod Emitting
+pub mod EngineColumns
 pub mod Entries
 pub mod Grouping
 pub mod Json

@@ -1,10 +1,10 @@
 -- The columns of tables of objects.
 use Rattle.std.specs.Prelude.{ℕ, Bool, true, false, filter, None, List, [], ◌∷◌, codes, map}
 use Rattle.census_table.specs.Called.{Names, called}
-use Rattle.census_table.specs.Contents.{Content, Member, count, text}
+use Rattle.census_table.specs.Contents.{Content, Member, count, share, text}
 use Rattle.census_table.specs.declared.object.Object.{Object}
 use Rattle.census_table.specs.declared.object_column.ObjectColumn.{ObjectColumn}
-use Rattle.census_table.specs.declared.object_column.ObjectColumn.TheVariants.{Collection, CollectionName, Pattern, Name, Rule, Code, CommonName, Count, Patterns, FirstCollectionName, FirstName}
+use Rattle.census_table.specs.declared.object_column.ObjectColumn.TheVariants.{Collection, CollectionName, Pattern, Name, Rule, Code, CommonName, Count, Patterns, FirstCollectionName, FirstName, Share}
 
 -- the columns of a table of parts, in their order
 abbrev pub part_columns : List ObjectColumn
@@ -12,14 +12,14 @@ part_columns = Collection ∷ CollectionName ∷ Pattern ∷ Name ∷ Rule ∷ C
 
 -- the columns of a table of codes, in their order
 abbrev pub code_columns : List ObjectColumn
-code_columns = Rule ∷ Code ∷ CommonName ∷ Count ∷ Patterns ∷ FirstCollectionName ∷ FirstName ∷ []
+code_columns = Rule ∷ Code ∷ CommonName ∷ Count ∷ Patterns ∷ FirstCollectionName ∷ FirstName ∷ Share ∷ []
 
 -- the same in the order of their names
 abbrev pub part_columns_in_json : List ObjectColumn
 part_columns_in_json = Code ∷ Collection ∷ CollectionName ∷ CommonName ∷ Count ∷ Name ∷ Pattern ∷ Rule ∷ []
 
 abbrev pub code_columns_in_json : List ObjectColumn
-code_columns_in_json = Code ∷ CommonName ∷ Count ∷ FirstCollectionName ∷ FirstName ∷ Patterns ∷ Rule ∷ []
+code_columns_in_json = Code ∷ CommonName ∷ Count ∷ FirstCollectionName ∷ FirstName ∷ Patterns ∷ Rule ∷ Share ∷ []
 
 -- what a column is called, and what the row of an object has in it
 abbrev pub column_means : ObjectColumn → List ℕ × (Names → Object → Content)
@@ -34,6 +34,7 @@ column_means Count = (codes "count", λ names object. count object.count)
 column_means Patterns = (codes "patterns", λ names object. count object.patterns)
 column_means FirstCollectionName = (codes "first_collection_name", λ names object. text object.first.collection_name.now)
 column_means FirstName = (codes "first_name", λ names object. text object.first.name.now)
+column_means Share = (codes "share", λ names object. share object.share)
 
 abbrev pub title_of : ObjectColumn → List ℕ
 title_of column = (column_means column).0

@@ -21,7 +21,7 @@ text_in _ = None
 -- a number of objects with a code under the pattern's rule
 abbrev pub object_with : Option Entry → ℕ → Option (Bor (List ℕ)) → Option Object
 object_with (Some entry) number (Some code) =
-    option_map (λ rule. record { first = entry; rule = rule; code = code; count = number; patterns = 1 })
+    option_map (λ rule. record { first = entry; rule = rule; code = code; count = number; patterns = 1; share = 0 })
     (text_in (value_at label.Rule (said entry.outcome).fields))
 object_with _ number _ = None
 

@@ -7,21 +7,22 @@ use Rattle.census_rows.specs.declared.row.Row.{Row}
 use Rattle.census_table.specs.Called.{Names}
 use Rattle.census_table.specs.Columns.{columns, entry_row, first_columns, is_shown, last_columns, middle_columns, name_of}
 use Rattle.census_table.specs.Contents.{Member, content_bytes}
+use Rattle.census_table.specs.EngineColumns.{emitted_row, engine_columns, engine_columns_in_json, heading_of, is_headed}
 use Rattle.census_table.specs.Json.{json_line}
-use Rattle.census_table.specs.Kinds.{AreKinds}
+use Rattle.census_table.specs.Kinds.{AreKinds, left_in, total_of}
 use Rattle.census_table.specs.ObjectColumns.{code_columns, code_columns_in_json, is_there, object_row, part_columns, part_columns_in_json, title_of}
 use Rattle.census_table.specs.Objects.{objects_of}
-use Rattle.census_table.specs.Things.{all_things, engines_behind, parts_behind, things_of}
+use Rattle.census_table.specs.Things.{all_things, engines_behind, kind_thing, parts_behind, things_of}
 use Rattle.census_table.specs.declared.object.Object.{Object}
 use Rattle.census_table.specs.declared.subject.Subject.{Subject}
-use Rattle.census_table.specs.declared.subject.Subject.TheVariants.{Patterns, Parts, Codes}
+use Rattle.census_table.specs.declared.subject.Subject.TheVariants.{Patterns, Parts, Engines, Codes}
 use Rattle.census_table.specs.declared.subject.Table.{Table}
 use Rattle.census_table.specs.declared.subject.Table.TheVariants as table
 use Rattle.census_table.specs.declared.table.Format.{Format}
 use Rattle.census_table.specs.declared.table.Format.TheVariants.{Csv, Json}
 use Rattle.census_table.specs.declared.thing.Item.TheVariants as item
 use Rattle.census_table.specs.declared.thing.Thing.{Thing}
-use Rattle.census_table.specs.declared.thing.Thing.TheVariants.{Pattern, Part, Kind}
+use Rattle.census_table.specs.declared.thing.Thing.TheVariants.{Pattern, Part, Emitted, Kind}
 
 -- # What a table has rows for
 
@@ -30,14 +31,18 @@ pub record Listing : Type 0 where
   pub subject : Subject
   pub things : List Thing
 
--- each pattern of reports, each `part` row, or each rule and code, which is counted
-abbrev pub AreThingsOf : Subject → List Row → List Thing → Type 0
-AreThingsOf Patterns rows things = things ≡ things_of item.Pattern rows
-AreThingsOf Parts rows things = things ≡ things_of item.Part rows
-AreThingsOf Codes rows things = (kinds : List Object) × AreKinds (objects_of rows) kinds × (things ≡ map Kind kinds)
+-- each pattern of reports, each `part` row, each `emits` row, or each rule and code, which is counted; of codes there may be only
+-- those without a name
+abbrev pub AreThingsOf : Subject → Names → List Row → List Thing → Type 0
+AreThingsOf Patterns names rows things = things ≡ things_of item.Pattern rows
+AreThingsOf Parts names rows things = things ≡ things_of item.Part rows
+AreThingsOf Engines names rows things = things ≡ things_of item.Emitted rows
+AreThingsOf (Codes choice) names rows things =
+    (kinds : List Object) × AreKinds choice.rare (objects_of rows) kinds
+    × (things ≡ map (kind_thing (total_of kinds)) (left_in names choice.unnamed kinds))
 
-abbrev pub IsListingOf : Subject → List Row → Listing → Type 0
-IsListingOf subject rows listing = (listing.subject ≡ subject) × AreThingsOf subject rows listing.things
+abbrev pub IsListingOf : Subject → Names → List Row → Listing → Type 0
+IsListingOf subject names rows listing = (listing.subject ≡ subject) × AreThingsOf subject names rows listing.things
 
 -- # What a row has in each column
 
@@ -45,12 +50,14 @@ IsListingOf subject rows listing = (listing.subject ≡ subject) × AreThingsOf 
 abbrev pub titles_of : Names → Subject → List (List ℕ)
 titles_of names Patterns = map name_of (filter (is_shown names) columns)
 titles_of names Parts = map title_of (filter (is_there names) part_columns)
-titles_of names Codes = map title_of (filter (is_there names) code_columns)
+titles_of names Engines = map heading_of (filter (is_headed names) engine_columns)
+titles_of names (Codes choice) = map title_of (filter (is_there names) code_columns)
 
 -- a row; in JSON its columns are in the order of their names, and a pattern has its engines and its parts as lists
 abbrev pub thing_row : Names → Format → Thing → List Member
 thing_row names (Csv safe) (Pattern entry rows) = entry_row names columns entry
 thing_row names (Csv safe) (Part object) = object_row names part_columns object
+thing_row names (Csv safe) (Emitted emitted) = emitted_row names engine_columns emitted
 thing_row names (Csv safe) (Kind object) = object_row names code_columns object
 thing_row names Json (Pattern entry rows) =
     entry_row names first_columns entry
@@ -59,6 +66,7 @@ thing_row names Json (Pattern entry rows) =
     ++ record { name = codes "parts"; content = parts_behind (said entry.outcome).behind rows }
     ∷ entry_row names last_columns entry)
 thing_row names Json (Part object) = object_row names part_columns_in_json object
+thing_row names Json (Emitted emitted) = emitted_row names engine_columns_in_json emitted
 thing_row names Json (Kind object) = object_row names code_columns_in_json object
 
 -- # How it is written
@@ -87,19 +95,22 @@ listing_text format names listing = head_text format (titles_of names listing.su
 abbrev pub table_size : Table → ℕ
 table_size (table.Patterns sections) = length sections
 table_size (table.Parts sections) = length sections
-table_size (table.Codes kinds) = 1
+table_size (table.Engines sections) = length sections
+table_size (table.Codes choice kinds total) = 1
 
 -- what a table has from the collection at an index on
 abbrev pub table_from : Table → ℕ → List Thing
 table_from (table.Patterns sections) index = all_things item.Pattern (index + 1) (drop index sections)
 table_from (table.Parts sections) index = all_things item.Part (index + 1) (drop index sections)
-table_from (table.Codes kinds) zero = map Kind kinds
-table_from (table.Codes kinds) (suc index) = []
+table_from (table.Engines sections) index = all_things item.Emitted (index + 1) (drop index sections)
+table_from (table.Codes choice kinds total) zero = map (kind_thing total) kinds
+table_from (table.Codes choice kinds total) (suc index) = []
 
 abbrev pub subject_of : Table → Subject
 subject_of (table.Patterns sections) = Patterns
 subject_of (table.Parts sections) = Parts
-subject_of (table.Codes kinds) = Codes
+subject_of (table.Engines sections) = Engines
+subject_of (table.Codes choice kinds total) = Codes choice
 
 abbrev pub listing_of : Table → Listing
 listing_of table = record { subject = subject_of table; things = table_from table 0 }

@@ -1,7 +1,7 @@
 -- What tables have rows for.
 use Rattle.std.specs.Prelude.{ℕ, Bool, if◌then◌else◌, Option, Some, None, List, [], ◌∷◌, drop, length, map}
 use Rattle.std.specs.List.{cons_option, enumerate_from, filter_map, flat_map}
-use Rattle.std.specs.Option.{option_map, option_or}
+use Rattle.std.specs.Option.{option_map}
 use Rattle.census_rows.specs.Kinds.{said}
 use Rattle.census_rows.specs.declared.kinds.Behind.{Behind}
 use Rattle.census_rows.specs.declared.kinds.Behind.TheVariants as behind
@@ -10,9 +10,13 @@ use Rattle.census_readback.specs.Following.{rows_behind}
 use Rattle.census_readback.specs.Grouped.{collections_of}
 use Rattle.census_readback.specs.Sections.{same_behind}
 use Rattle.census_table.specs.Contents.{Content, engines, nothing, parts}
-use Rattle.census_table.specs.Entries.{entry_of_row}
+use Rattle.census_table.specs.Emitting.{emitted_of, last_after, no_last}
+use Rattle.census_table.specs.Entries.{entry_of_row, with_way}
+use Rattle.census_table.specs.Kinds.{with_share}
 use Rattle.census_table.specs.Lists.{all_engines, portion_of}
 use Rattle.census_table.specs.Objects.{object_of_row}
+use Rattle.census_table.specs.declared.engine.Emitted.{Emitted}
+use Rattle.census_table.specs.declared.engine.Last.{Last}
 use Rattle.census_table.specs.declared.entry.Entry.{Entry}
 use Rattle.census_table.specs.declared.lines.Lines.{Lines}
 use Rattle.census_table.specs.declared.lines.Lines.TheVariants.{Rows, Kinds}
@@ -20,7 +24,7 @@ use Rattle.census_table.specs.declared.object.Object.{Object}
 use Rattle.census_table.specs.declared.thing.Item.{Item}
 use Rattle.census_table.specs.declared.thing.Item.TheVariants as item
 use Rattle.census_table.specs.declared.thing.Thing.{Thing}
-use Rattle.census_table.specs.declared.thing.Thing.TheVariants.{Pattern, Part, Kind}
+use Rattle.census_table.specs.declared.thing.Thing.TheVariants as thing
 
 -- the object is one of several that a pattern has fallen apart into
 abbrev pub is_part : Object → Bool
@@ -28,32 +32,36 @@ is_part o = same_behind (said o.first.outcome).behind behind.Parts
 
 abbrev pub part_in : Option Object → Option Thing
 part_in None = None
-part_in (Some object) = if is_part object then Some (Part object) else None
+part_in (Some object) = if is_part object then Some (thing.Part object) else None
 
--- what a row adds to a table of patterns or of parts, where `own` is the pattern of its line, if it is one, and `last` is that of
--- the last line up to it
-abbrev pub thing_of : Item → Option Entry → Option Entry → Row → List Row → Option Thing
-thing_of item.Pattern own last row rows = option_map (λ entry. Pattern entry rows) own
-thing_of item.Part own last row rows = part_in (object_of_row last row)
+abbrev pub emitted_in : Option Emitted → Option Thing
+emitted_in emitted = option_map (λ e. thing.Emitted e) emitted
 
--- what these rows add, in the collection that a row opens and that has this number, where `last` is the last pattern before them
-abbrev pub things_under : Item → ℕ → Row → Option Entry → List Row → List Thing
+-- what a row adds to a table of patterns, of parts or of engines, where `own` is the pattern of its line, if it is one, and `last`
+-- is what is reported last up to it
+abbrev pub thing_of : Item → Option Entry → Last → Row → List Row → Option Thing
+thing_of item.Pattern own last row rows = option_map (λ entry. thing.Pattern (with_way entry rows) rows) own
+thing_of item.Part own last row rows = part_in (object_of_row last.pattern row)
+thing_of item.Emitted own last row rows = emitted_in (emitted_of last row)
+
+-- what these rows add, in the collection that a row opens and that has this number, where `last` is what is reported last
+-- before them
+abbrev pub things_under : Item → ℕ → Row → Last → List Row → List Thing
 things_under item number heading last [] = []
 things_under item number heading last (row ∷ rows) =
-    let own = entry_of_row number heading row in
-    let entry = option_or own last in
-    cons_option (thing_of item own entry row rows) (things_under item number heading entry rows)
+    let next = last_after number heading last row rows in
+    cons_option (thing_of item (entry_of_row number heading row) next row rows) (things_under item number heading next rows)
 
 -- what a collection's rows add, the first of which opens it
 abbrev pub section_things : Item → ℕ → List Row → List Thing
 section_things item number [] = []
-section_things item number (heading ∷ rows) = things_under item number heading None rows
+section_things item number (heading ∷ rows) = things_under item number heading no_last rows
 
 -- what each collection's rows add, numbered from this number on
 abbrev pub all_things : Item → ℕ → List (List Row) → List Thing
 all_things item number sections = flat_map (λ s. section_things item s.0 s.1) (enumerate_from number sections)
 
--- What reports add: each pattern with the rows after its line, or each `part` row. Collections are numbered from 1, and from one
+-- What reports add: each pattern with the rows after its line, each `part` row, or each `emits` row with the engines before it. Collections are numbered from 1, and from one
 -- report to the next the numbers go on.
 abbrev pub things_of : Item → List Row → List Thing
 things_of item rows = all_things item 1 (collections_of [] rows)
@@ -75,9 +83,13 @@ parts_behind _ rows = nothing
 -- how many rows or kinds there are
 abbrev pub lines_size : Lines → ℕ
 lines_size (Rows item number heading rows) = length rows
-lines_size (Kinds kinds) = length kinds.now
+lines_size (Kinds kinds total) = length kinds.now
 
--- what they add from an index on, where `last` is the last pattern before it
-abbrev pub things_from : Lines → Option Entry → ℕ → List Thing
+-- a kind of a table, with its part of all objects
+abbrev pub kind_thing : ℕ → Object → Thing
+kind_thing total kind = thing.Kind (with_share total kind)
+
+-- what they add from an index on, where `last` is what is reported last before it
+abbrev pub things_from : Lines → Last → ℕ → List Thing
 things_from (Rows item number heading rows) last index = things_under item number heading last (drop index rows)
-things_from (Kinds kinds) last index = map Kind (drop index kinds.now)
+things_from (Kinds kinds total) last index = map (kind_thing total) (drop index kinds.now)

@@ -1,8 +1,8 @@
 //! What a row of a table has in one column.
-ghost use Rattle.std.specs.Prelude.{◌≡◌, IfOk, option_map, string_bytes};
+ghost use Rattle.std.specs.Prelude.{◌≡◌, ◌++◌, ◌%◌, decimal, IfOk, OnOk, option_map, string_bytes};
 ghost use Rattle.std.specs.Str.Lossy.{utf8_lossy};
 ghost use Rattle.census_faults.specs.Rle.Reported.{fault_words};
-ghost use Rattle.census_table.specs.Contents.{TextsAreSafe, begins_formula, content_bytes, content_of, hex_of, text_bytes};
+ghost use Rattle.census_table.specs.Contents.{TextsAreSafe, begins_formula, content_bytes, content_of, hex_of, share_bytes, text_bytes};
 
 use census_faults::fault_words;
 use itoa::Buffer;
@@ -17,6 +17,8 @@ pub enum Cell<'a> {
     Count(u64),
     /// A number that may be negative.
     Shift(i64),
+    /// A number of millionths, written with six digits after the point.
+    Share(u64),
     /// A text. Bytes of it that are not UTF-8 are written as U+FFFD.
     Text(&'a [u8]),
     /// The bytes of a text in hex, if it is not UTF-8, and otherwise nothing.
@@ -73,6 +75,30 @@ pub fn fault_text(alloc: Global, number: u64) -> Result<String, AllocError>
     String::from_utf8_lossy(alloc, words.as_slice())
 }
 
+// Adds the last digit of a number.
+fn push_digit(text: &mut String, number: u64) -> Result<(), AllocError>
+    ensures { OnOk result (string_bytes text.new ≡ string_bytes text.old ++ decimal (number % 10)) }
+{
+    let mut buffer = Buffer::new();
+    text.push_str(buffer.format(number % 10))
+}
+
+// A number of millionths, with six digits after the point.
+pub fn share_text(alloc: Global, millionths: u64) -> Result<String, AllocError>
+    ensures { IfOk result (λ text. string_bytes text ≡ share_bytes millionths) }
+{
+    let mut buffer = Buffer::new();
+    let mut text = String::from_str(alloc, buffer.format(millionths / 1_000_000))?;
+    text.push_str(".")?;
+    push_digit(&mut text, millionths / 100_000)?;
+    push_digit(&mut text, millionths / 10_000)?;
+    push_digit(&mut text, millionths / 1_000)?;
+    push_digit(&mut text, millionths / 100)?;
+    push_digit(&mut text, millionths / 10)?;
+    push_digit(&mut text, millionths)?;
+    Ok(text)
+}
+
 /// No text of a safe field begins as a formula does.
 pub fn safe_texts_are_no_formulas()
     ensures { TextsAreSafe }
@@ -90,6 +116,7 @@ impl Cell<'_> {
             Cell::Empty => Ok(String::new(alloc)),
             Cell::Count(number) => String::from_str(alloc, buffer.format(*number)),
             Cell::Shift(number) => String::from_str(alloc, buffer.format(*number)),
+            Cell::Share(millionths) => share_text(alloc, *millionths),
             Cell::Text(bytes) => text_of(alloc, safe, String::from_utf8_lossy(alloc, bytes)?),
             Cell::Hex(bytes) => Ok(hex_of(alloc, bytes)?.unwrap_or(String::new(alloc))),
             Cell::Fault(number) => text_of(alloc, safe, fault_text(alloc, *number)?),

@@ -3,8 +3,8 @@ ghost use Rattle.std.specs.Prelude.{◌≡◌, IfOk};
 ghost use Rattle.std.specs.Option.{option_copied};
 ghost use Rattle.census_rows.specs.Kinds.{said, value_at};
 ghost use Rattle.census_rows.specs.declared.kinds.Label.TheVariants as label;
-ghost use Rattle.census_table.specs.Columns.{called_content, content_in_column, entry_row, fault_content, field_content, is_shown, name_of, value_content};
-ghost use Rattle.census_table.specs.Contents.{content_of, row_of};
+ghost use Rattle.census_table.specs.Columns.{called_content, content_in_column, entry_row, fault_content, field_content, is_shown, name_of, value_content, way_content};
+ghost use Rattle.census_table.specs.Contents.{content_of, count, row_of, shift};
 
 use crate::called::called;
 use crate::cell::{Cell, Field};
@@ -32,11 +32,11 @@ pub enum Column {
     Population,
     /// The first generation of its cycle, where it is `ok`.
     Onset,
-    /// The length of its cycle, where it is `ok`.
+    /// The length of its cycle, where it is `ok`, or of that of its engine, where it has one.
     Period,
-    /// How far it moves to the right in a period, where it is `ok`.
+    /// How far it or its engine moves to the right in a period, where it is `ok` or has one engine.
     Dx,
-    /// How far it moves down in a period, where it is `ok`.
+    /// How far it or its engine moves down in a period, where it is `ok` or has one engine.
     Dy,
     /// Its code, where it is `ok`.
     Code,
@@ -70,12 +70,42 @@ fn cell_of(value: Value) -> Cell
 }
 
 // What a row has for the field with this label.
-fn field_cell<'a>(outcome: &Outcome<'a>, label: Label) -> Cell<'a>
+pub fn field_cell<'a>(outcome: &Outcome<'a>, label: Label) -> Cell<'a>
     ensures { content_of result ≡ field_content outcome.now label }
 {
     match outcome.value(label) {
         Some(value) => cell_of(value),
         None => Cell::Empty,
+    }
+}
+
+// What a row has for a period.
+fn period_cell<'a>(entry: &Entry<'a>) -> Cell<'a>
+    ensures { content_of result ≡ way_content (λ way. count way.period) label.Period entry.now }
+{
+    match entry.way {
+        Some(way) => Cell::Count(way.period),
+        None => field_cell(&entry.outcome, Label::Period),
+    }
+}
+
+// What a row has for how far something moves to the right.
+fn dx_cell<'a>(entry: &Entry<'a>) -> Cell<'a>
+    ensures { content_of result ≡ way_content (λ way. shift way.dx) label.Dx entry.now }
+{
+    match entry.way {
+        Some(way) => Cell::Shift(way.dx),
+        None => field_cell(&entry.outcome, Label::Dx),
+    }
+}
+
+// What a row has for how far something moves down.
+fn dy_cell<'a>(entry: &Entry<'a>) -> Cell<'a>
+    ensures { content_of result ≡ way_content (λ way. shift way.dy) label.Dy entry.now }
+{
+    match entry.way {
+        Some(way) => Cell::Shift(way.dy),
+        None => field_cell(&entry.outcome, Label::Dy),
     }
 }
 
@@ -207,9 +237,9 @@ impl Column {
             Column::Rule => field_cell(&entry.outcome, Label::Rule),
             Column::Population => field_cell(&entry.outcome, Label::Population),
             Column::Onset => field_cell(&entry.outcome, Label::Onset),
-            Column::Period => field_cell(&entry.outcome, Label::Period),
-            Column::Dx => field_cell(&entry.outcome, Label::Dx),
-            Column::Dy => field_cell(&entry.outcome, Label::Dy),
+            Column::Period => period_cell(entry),
+            Column::Dx => dx_cell(entry),
+            Column::Dy => dy_cell(entry),
             Column::Code => field_cell(&entry.outcome, Label::Code),
             Column::CommonName => called_cell(names, &entry.outcome),
             Column::Fault => field_cell(&entry.outcome, Label::Fault),

@@ -1,7 +1,8 @@
 //! The kinds of objects: each code under a rule is one.
-ghost use Rattle.std.specs.Prelude.{◌≡◌, ◌<◌, length, map, reverse, slice_index_or, IfOk, OnOk};
+ghost use Rattle.std.specs.Prelude.{◌≡◌, ◌<◌, filter, length, map, reverse, slice_index_or, IfOk, OnOk};
+ghost use Rattle.std.specs.Option.{option_copied};
 ghost use Rattle.std.specs.List.Sorted.{IsPermutation, IsSorted};
-ghost use Rattle.census_table.specs.Kinds.{AreKinds, count_cmp, same_kind, same_pattern};
+ghost use Rattle.census_table.specs.Kinds.{AreKinds, count_cmp, has_no_name, left_in, same_kind, rank_cmp, same_pattern, share_of, total_of, with_share};
 ghost use Rattle.census_table.specs.Grouping.{alone, before, grouped, joined, step_of, with_told};
 ghost use Rattle.census_table.specs.Objects.{all_objects};
 ghost use Rattle.census_table.specs.Places.{kind_at};
@@ -9,6 +10,7 @@ ghost use Rattle.census_table.specs.Places.{kind_at};
 use crate::entry::Entry;
 use crate::object::Object;
 use crate::objects::{Objects, kind_order, no_object, objects_in_kinds};
+use census_facts::Names;
 use census_readback::Sections;
 use std::alloc::{AllocError, Global};
 use std::cmp::Ordering;
@@ -161,12 +163,29 @@ fn grouped(alloc: Global, nothing: &Object, objects: &Objects) -> Result<Vec<Kin
     Ok(kinds)
 }
 
-// Which of two kinds comes first: the one with more objects, and then the first in the order of kinds.
-fn count_order(nothing: &Object, objects: &Objects, one: &Kind, other: &Kind) -> Ordering
-    ensures { result ≡ count_cmp (kind_at nothing.now objects.now one.now)
+// How two counts compare: the greater comes first, or the `rare` one.
+fn rank_order(rare: bool, one: u64, other: u64) -> Ordering
+    ensures { result ≡ rank_cmp rare one other }
+{
+    if rare {
+        one.cmp(&other)
+    } else {
+        other.cmp(&one)
+    }
+}
+
+// Which of two kinds comes first: by their counts, and then by the order of kinds.
+fn count_order(
+    rare: bool,
+    nothing: &Object,
+    objects: &Objects,
+    one: &Kind,
+    other: &Kind,
+) -> Ordering
+    ensures { result ≡ count_cmp rare (kind_at nothing.now objects.now one.now)
         (kind_at nothing.now objects.now other.now) }
 {
-    match other.count.cmp(&one.count) {
+    match rank_order(rare, one.count, other.count) {
         Ordering::Equal => {
             let object = kind_at(nothing, objects, *one);
             kind_order(&object, &kind_at(nothing, objects, *other))
@@ -175,13 +194,46 @@ fn count_order(nothing: &Object, objects: &Objects, one: &Kind, other: &Kind) ->
     }
 }
 
-// Puts kinds in their order: by falling count and then in the order of kinds.
-fn sort_kinds(nothing: &Object, objects: &Objects, kinds: &mut Vec<Kind>)
+// Puts kinds in their order: by falling count, or by rising count where it is the `rare` ones that come first, and then in the
+// order of kinds.
+fn sort_kinds(rare: bool, nothing: &Object, objects: &Objects, kinds: &mut Vec<Kind>)
     ensures permutation { IsPermutation (map (kind_at nothing.now objects.now) kinds.old.items)
         (map (kind_at nothing.now objects.now) kinds.new.items) }
-    ensures sorted { IsSorted count_cmp (map (kind_at nothing.now objects.now) kinds.new.items) }
+    ensures sorted { IsSorted (count_cmp rare) (map (kind_at nothing.now objects.now) kinds.new.items) }
 {
-    kinds.sort_unstable_by(|one, other| count_order(nothing, objects, one, other));
+    kinds.sort_unstable_by(|one, other| count_order(rare, nothing, objects, one, other));
+}
+
+// How many objects these kinds are together, at most 2^64 - 1.
+fn count_all(nothing: &Object, objects: &Objects, kinds: &[Kind]) -> u64
+    ensures { result ≡ total_of (map (kind_at nothing.now objects.now) kinds.now) }
+{
+    let mut total: u64 = 0;
+    for kind in kinds {
+        total = total.saturating_add(kind.count);
+    }
+    total
+}
+
+// Those of these kinds whose codes have no name.
+fn unnamed_in<'a>(
+    alloc: Global,
+    names: &Names,
+    nothing: &Object<'a>,
+    objects: &Objects<'_, 'a>,
+    kinds: &[Kind],
+) -> Result<Vec<Kind>, AllocError>
+    ensures { IfOk result (λ left. map (kind_at nothing.now objects.now) left.items
+        ≡ filter (has_no_name names.now) (map (kind_at nothing.now objects.now) kinds.now)) }
+{
+    let mut left = Vec::new(alloc);
+    for kind in kinds {
+        let object = kind_at(nothing, objects, *kind);
+        if names.name_of(object.code).is_none() {
+            left.push(*kind)?;
+        }
+    }
+    Ok(left)
 }
 
 impl<'b, 'a> Kinds<'b, 'a> {
@@ -190,6 +242,13 @@ impl<'b, 'a> Kinds<'b, 'a> {
         ensures { result ≡ length self.now }
     {
         self.kinds.len()
+    }
+
+    /// How many objects they are together, at most 2^64 - 1.
+    pub fn total(&self) -> u64
+        ensures { result ≡ total_of self.now }
+    {
+        count_all(&self.nothing, &self.objects, self.kinds.as_slice())
     }
 
     /// The first object of the kind at this index, with the kind's counts.
@@ -202,20 +261,71 @@ impl<'b, 'a> Kinds<'b, 'a> {
 }
 
 /// The kinds of the objects of collections that are numbered from 1, each with the number of its objects and the number of
-/// patterns that it occurs in, by falling count and then in the order of kinds. The only error is out of memory.
+/// patterns that it occurs in, by falling count, or by rising count where it is the `rare` ones that come first, and then in the
+/// order of kinds. The only error is out of memory.
 pub fn kinds_of<'b, 'a>(
     alloc: Global,
+    rare: bool,
     sections: Sections<'b, 'a>,
 ) -> Result<Kinds<'b, 'a>, AllocError>
-    ensures { IfOk result (λ kinds. AreKinds (all_objects 1 sections.entry) kinds) }
+    ensures { IfOk result (λ kinds. AreKinds rare (all_objects 1 sections.entry) kinds) }
 {
     let objects = objects_in_kinds(alloc, sections)?;
     let nothing = no_object();
     let mut kinds = grouped(alloc, &nothing, &objects)?;
-    sort_kinds(&nothing, &objects, &mut kinds);
+    sort_kinds(rare, &nothing, &objects, &mut kinds);
     Ok(Kinds {
         objects,
         kinds,
         nothing,
     })
+}
+
+/// These kinds, or where those that have a name are to be left out, the others. The only error is out of memory.
+pub fn left_in<'b, 'a>(
+    alloc: Global,
+    names: Option<&Names>,
+    unnamed: bool,
+    kinds: Kinds<'b, 'a>,
+) -> Result<Kinds<'b, 'a>, AllocError>
+    ensures { IfOk result (λ left. left ≡ left_in (option_copied names.entry) unnamed kinds.entry) }
+{
+    match names {
+        Some(names) if unnamed => {
+            let left = unnamed_in(
+                alloc,
+                names,
+                &kinds.nothing,
+                &kinds.objects,
+                kinds.kinds.as_slice(),
+            )?;
+            Ok(Kinds {
+                kinds: left,
+                ..kinds
+            })
+        }
+        _ => Ok(kinds),
+    }
+}
+
+// What part `count` objects are of so many, in millionths, rounded to the nearest. A half is rounded up.
+fn share_of(count: u64, total: u64) -> u64
+    ensures { result ≡ share_of count total }
+{
+    if total == 0 {
+        return 0;
+    }
+    let (count, total) = (u128::from(count), u128::from(total));
+    let millionths = (2_000_000 * count + total) / (2 * total);
+    millionths.min(1_000_000) as u64
+}
+
+/// A kind with its part of so many objects.
+pub fn with_share<'a>(total: u64, kind: &Object<'a>) -> Object<'a>
+    ensures { result ≡ with_share total kind.now }
+{
+    Object {
+        share: share_of(kind.count, total),
+        ..*kind
+    }
 }

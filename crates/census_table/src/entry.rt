@@ -1,10 +1,19 @@
 //! The patterns of a report.
-ghost use Rattle.std.specs.Prelude.{◌≡◌, IfOk};
-ghost use Rattle.std.specs.List.{filter_map};
-ghost use Rattle.census_table.specs.Entries.{entry_of_row};
+ghost use Rattle.std.specs.Prelude.{◌≡◌, ◌++◌, [], IfOk, OnOk};
+ghost use Rattle.std.specs.List.{cons_option};
+ghost use Rattle.std.specs.Option.{option_map};
+ghost use Rattle.census_table.specs.Entries.{engines_in, entries_under, entry_of_row, first_way, only_way, way_in, with_way};
 
-use census_rows::{Outcome, Row, Section};
+use census_rows::{Label, Outcome, Row, Section, Value};
 use std::alloc::{AllocError, Global};
+
+/// After how many generations an engine comes again, and how far to the right and down it then stands.
+#[derive(Clone, Copy)]
+pub struct EngineWay {
+    pub period: u64,
+    pub dx: i64,
+    pub dy: i64,
+}
 
 /// What a table has for a pattern. Numbers count from 1.
 #[derive(Clone, Copy)]
@@ -14,9 +23,11 @@ pub struct Entry<'a> {
     pub pattern: u64,
     pub name: &'a [u8],
     pub outcome: Outcome<'a>,
+    /// How its engine goes, where it has one and the rows after its line were looked at.
+    pub way: Option<EngineWay>,
 }
 
-// What a row says about a pattern, in the collection that another row opens and that has this number.
+// What a row says by itself about a pattern, in the collection that another row opens and that has this number.
 pub fn entry_of_row<'a>(number: u64, heading: &Row<'a>, row: &Row<'a>) -> Option<Entry<'a>>
     ensures { result ≡ entry_of_row number heading.now row.now }
 {
@@ -36,11 +47,84 @@ pub fn entry_of_row<'a>(number: u64, heading: &Row<'a>, row: &Row<'a>) -> Option
                 pattern: *pattern,
                 name,
                 outcome: *outcome,
+                way: None,
             }),
             _ => None,
         },
         _ => None,
     }
+}
+
+// How many engines a pattern has.
+fn engines_in(outcome: &Outcome) -> u64
+    ensures { result ≡ engines_in outcome.now }
+{
+    match outcome.value(Label::Engines) {
+        Some(Value::Number(engines)) => engines,
+        _ => 0,
+    }
+}
+
+// How the engine goes that a row reports, if it does.
+fn way_in(row: &Row) -> Option<EngineWay>
+    ensures { result ≡ way_in row.now }
+{
+    match row {
+        Row::Engine { period, dx, dy, .. } => Some(EngineWay {
+            period: *period,
+            dx: *dx,
+            dy: *dy,
+        }),
+        _ => None,
+    }
+}
+
+// How the engine goes that the first of these rows reports, if it does.
+fn first_way(rows: &Section) -> Option<EngineWay>
+    ensures { result ≡ first_way rows.now }
+{
+    match rows.split_first() {
+        Some((row, _)) => way_in(&row),
+        None => None,
+    }
+}
+
+// How the only engine of a pattern goes, where these rows come after its line.
+fn only_way(outcome: &Outcome, behind: &Section) -> Option<EngineWay>
+    ensures { result ≡ only_way outcome.now behind.now }
+{
+    if engines_in(outcome) == 1 {
+        first_way(behind)
+    } else {
+        None
+    }
+}
+
+// A pattern with what the rows after its line say of it.
+pub fn with_way<'a>(entry: Entry<'a>, behind: &Section) -> Entry<'a>
+    ensures { result ≡ with_way entry.entry behind.now }
+{
+    Entry {
+        way: only_way(&entry.outcome, behind),
+        ..entry
+    }
+}
+
+// Adds the pattern of a row before these, if it is one, in the collection that another row opens and that has this number.
+fn push_entry<'a>(
+    entries: &mut Vec<Entry<'a>>,
+    number: u64,
+    heading: &Row<'a>,
+    row: &Row<'a>,
+    behind: &Section,
+) -> Result<(), AllocError>
+    ensures { OnOk result (entries.new.items ≡ entries.old.items
+        ++ cons_option (option_map (λ entry. with_way entry behind.now) (entry_of_row number heading.now row.now)) []) }
+{
+    if let Some(entry) = entry_of_row(number, heading, row) {
+        entries.push(with_way(entry, behind))?;
+    }
+    Ok(())
 }
 
 /// The patterns of these rows, in their order, in the collection that a row opens and that has this
@@ -52,13 +136,13 @@ pub fn entries_under<'a>(
     rows: &Section<'_, 'a>,
 ) -> Result<Vec<Entry<'a>>, AllocError>
     ensures { IfOk result
-        (λ entries. entries.items ≡ filter_map (entry_of_row number heading.now) rows.now) }
+        (λ entries. entries.items ≡ entries_under number heading.now rows.now) }
 {
     let mut entries = Vec::new(alloc);
     for index in 0..rows.len() {
-        if let Some(entry) = entry_of_row(number, heading, &rows.row(index)) {
-            entries.push(entry)?;
-        }
+        let row = rows.row(index);
+        let behind = rows.from(index + 1);
+        push_entry(&mut entries, number, heading, &row, &behind)?;
     }
     Ok(entries)
 }

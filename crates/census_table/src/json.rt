@@ -3,7 +3,7 @@ ghost use Rattle.std.specs.Prelude.{◌≡◌, ◌++◌, false, OnOk, string_byt
 ghost use Rattle.census_table.specs.Contents.{content_of, member_of, row_of};
 ghost use Rattle.census_table.specs.Json.{content_json, items_text, json_line, member_json, string_json, text_json};
 
-use crate::cell::{Cell, Field, fault_text, hex_of};
+use crate::cell::{Cell, Field, fault_text, hex_of, share_text};
 use census_facts::json_of;
 use itoa::{Buffer, Integer};
 use serde_json::Value;
@@ -40,6 +40,10 @@ fn push_cell(alloc: Global, text: &mut Vec<u8>, cell: &Cell) -> Result<(), Alloc
         Cell::Empty => text.extend_from_slice(b"null"),
         Cell::Count(number) => push_number(text, *number),
         Cell::Shift(number) => push_number(text, *number),
+        Cell::Share(millionths) => {
+            let share = share_text(alloc, *millionths)?;
+            text.extend_from_slice(share.as_bytes())
+        }
         Cell::Text(bytes) => push_text(alloc, text, bytes),
         Cell::Hex(bytes) => match hex_of(alloc, bytes)? {
             Some(hex) => push_string(alloc, text, hex),

@@ -1,11 +1,12 @@
 //! What a table has rows for, collection by collection.
-ghost use Rattle.std.specs.Prelude.{◌≡◌, ◌+◌, ◌<◌, ◌^◌, ◌++◌, [], None, length, slice_index_or};
+ghost use Rattle.std.specs.Prelude.{◌≡◌, ◌+◌, ◌<◌, ◌^◌, ◌++◌, [], length, slice_index_or};
 ghost use Rattle.std.specs.List.{cons_option};
+ghost use Rattle.census_table.specs.Emitting.{no_last};
 ghost use Rattle.census_table.specs.Tables.{table_from, table_size};
 ghost use Rattle.census_table.specs.Things.{lines_size, section_things, things_from};
 
-use crate::counting::Kinds;
-use crate::entry::Entry;
+use crate::counting::{Kinds, with_share};
+use crate::engine::Last;
 use crate::subject::Table;
 use crate::thing::{Item, Thing, next_thing};
 use census_readback::Sections;
@@ -16,8 +17,8 @@ use census_rows::{Row, Section};
 pub enum Lines<'t, 'b, 'a> {
     /// The rows of a collection that has this number and that the heading opens. Each may add an item.
     Rows(Item, u64, Row<'a>, Section<'t, 'a>),
-    /// Each of these kinds is added.
-    Kinds(&'t Kinds<'b, 'a>),
+    /// Each of these kinds is added, with its part of so many objects.
+    Kinds(&'t Kinds<'b, 'a>, u64),
 }
 
 impl<'t, 'b, 'a> Lines<'t, 'b, 'a> {
@@ -27,13 +28,13 @@ impl<'t, 'b, 'a> Lines<'t, 'b, 'a> {
     {
         match self {
             Lines::Rows(_, _, _, rows) => rows.len(),
-            Lines::Kinds(kinds) => kinds.len(),
+            Lines::Kinds(kinds, _) => kinds.len(),
         }
     }
 
-    /// What the row or the kind at this index adds to a table. `last` is the pattern of the last line before it, and afterwards
-    /// that of the last line up to it.
-    pub fn thing(&self, index: usize, last: &mut Option<Entry<'a>>) -> Option<Thing<'t, 'a>>
+    /// What the row or the kind at this index adds to a table. `last` is what was reported last before
+    /// it, and afterwards up to it.
+    pub fn thing(&self, index: usize, last: &mut Last<'a>) -> Option<Thing<'t, 'a>>
         requires within { index < lines_size self.now }
         requires few { index + 1 < 2 ^ 64 }
         ensures { things_from self.now last.old index
@@ -44,7 +45,9 @@ impl<'t, 'b, 'a> Lines<'t, 'b, 'a> {
                 let behind = rows.from(index + 1);
                 next_thing(*item, *number, heading, last, &rows.row(index), behind)
             }
-            Lines::Kinds(kinds) => Some(Thing::Kind(kinds.kind(index))),
+            Lines::Kinds(kinds, total) => {
+                Some(Thing::Kind(with_share(*total, &kinds.kind(index))))
+            }
         }
     }
 }
@@ -57,7 +60,7 @@ fn lines_in<'t, 'b, 'a>(
 ) -> Lines<'t, 'b, 'a>
     requires within { index < length sections.now }
     requires few { index + 1 < 2 ^ 64 }
-    ensures { things_from result None 0 ≡ section_things item (index + 1) (slice_index_or sections.now index []) }
+    ensures { things_from result no_last 0 ≡ section_things item (index + 1) (slice_index_or sections.now index []) }
 {
     let section = sections.section(index);
     let number = (index + 1) as u64;
@@ -81,7 +84,8 @@ impl<'b, 'a> Table<'b, 'a> {
         match self {
             Table::Patterns(sections) => sections.len(),
             Table::Parts(sections) => sections.len(),
-            Table::Codes(_) => 1,
+            Table::Engines(sections) => sections.len(),
+            Table::Codes(_, _, _) => 1,
         }
     }
 
@@ -90,12 +94,13 @@ impl<'b, 'a> Table<'b, 'a> {
         requires within { index < table_size self.now }
         requires few { index + 1 < 2 ^ 64 }
         ensures { table_from self.now index
-            ≡ things_from result None 0 ++ table_from self.now (index + 1) }
+            ≡ things_from result no_last 0 ++ table_from self.now (index + 1) }
     {
         match self {
             Table::Patterns(sections) => lines_in(Item::Pattern, sections, index),
             Table::Parts(sections) => lines_in(Item::Part, sections, index),
-            Table::Codes(kinds) => Lines::Kinds(kinds),
+            Table::Engines(sections) => lines_in(Item::Emitted, sections, index),
+            Table::Codes(_, kinds, total) => Lines::Kinds(kinds, *total),
         }
     }
 }

@@ -18,6 +18,8 @@ pub struct Object<'a> {
     pub count: u64,
     /// The number of patterns for which it is reported, at most 2^64 - 1.
     pub patterns: u64,
+    /// What part they are of all objects of a table, in millionths, or 0 where there is no table.
+    pub share: u64,
 }
 
 // The bytes of a value that is a text.
@@ -69,6 +71,7 @@ fn object_with<'a>(
         code,
         count,
         patterns: 1,
+        share: 0,
     })
 }
 

@@ -35,6 +35,8 @@ pub enum ObjectColumn {
     FirstCollectionName,
     /// The name of the first of these.
     FirstName,
+    /// What part they are of all objects: six digits after the point.
+    Share,
 }
 
 impl ObjectColumn {
@@ -51,7 +53,7 @@ impl ObjectColumn {
     ];
 
     /// The columns of a table of codes, in their order.
-    pub const OF_CODES: [ObjectColumn; 7] = [
+    pub const OF_CODES: [ObjectColumn; 8] = [
         ObjectColumn::Rule,
         ObjectColumn::Code,
         ObjectColumn::CommonName,
@@ -59,6 +61,7 @@ impl ObjectColumn {
         ObjectColumn::Patterns,
         ObjectColumn::FirstCollectionName,
         ObjectColumn::FirstName,
+        ObjectColumn::Share,
     ];
 
     /// The columns of a table of parts in the order of their names, which they have in JSON.
@@ -74,7 +77,7 @@ impl ObjectColumn {
     ];
 
     /// The columns of a table of codes in the order of their names.
-    pub const OF_CODES_IN_JSON: [ObjectColumn; 7] = [
+    pub const OF_CODES_IN_JSON: [ObjectColumn; 8] = [
         ObjectColumn::Code,
         ObjectColumn::CommonName,
         ObjectColumn::Count,
@@ -82,6 +85,7 @@ impl ObjectColumn {
         ObjectColumn::FirstName,
         ObjectColumn::Patterns,
         ObjectColumn::Rule,
+        ObjectColumn::Share,
     ];
 
     /// What the column is called: lowercase letters and `_`.
@@ -100,6 +104,7 @@ impl ObjectColumn {
             ObjectColumn::Patterns => "patterns",
             ObjectColumn::FirstCollectionName => "first_collection_name",
             ObjectColumn::FirstName => "first_name",
+            ObjectColumn::Share => "share",
         }
     }
 
@@ -129,6 +134,7 @@ impl ObjectColumn {
             ObjectColumn::Patterns => Cell::Count(object.patterns),
             ObjectColumn::FirstCollectionName => Cell::Text(object.first.collection_name),
             ObjectColumn::FirstName => Cell::Text(object.first.name),
+            ObjectColumn::Share => Cell::Share(object.share),
         }
     }
 }

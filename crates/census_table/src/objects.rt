@@ -355,6 +355,7 @@ pub fn no_object<'a>() -> Object<'a> {
         pattern: 0,
         name: &[],
         outcome: Outcome::Bad { fault: 0 },
+        way: None,
     };
     Object {
         first,
@@ -362,6 +363,7 @@ pub fn no_object<'a>() -> Object<'a> {
         code: &[],
         count: 0,
         patterns: 0,
+        share: 0,
     }
 }
 

@@ -3,16 +3,27 @@ ghost use Rattle.std.specs.Prelude.{◌≡◌, filter, map, IfOk};
 ghost use Rattle.std.specs.Option.{option_copied};
 ghost use Rattle.census_readback.specs.Shapes.{AreReports};
 ghost use Rattle.census_table.specs.Columns.{is_shown, name_of};
+ghost use Rattle.census_table.specs.EngineColumns.{heading_of, is_headed};
 ghost use Rattle.census_table.specs.ObjectColumns.{is_there, title_of};
 ghost use Rattle.census_table.specs.Tables.{IsListingOf, listing_of, titles_of};
 
 use crate::column::Column;
-use crate::counting::{Kinds, kinds_of};
+use crate::counting::{Kinds, kinds_of, left_in};
+use crate::engine_column::EngineColumn;
 use crate::object_column::ObjectColumn;
 use census_facts::Names;
 use census_readback::{Sections, collections};
 use census_rows::Rows;
 use std::alloc::{AllocError, Global};
+
+/// Which codes a table has, and in which order.
+#[derive(Clone, Copy, Debug, PartialEq, Eq)]
+pub struct Choice {
+    /// Whether they are ordered by rising count, and then as otherwise.
+    pub rare: bool,
+    /// Whether those that have a name are left out. What part of all objects each of the others has stays as it is.
+    pub unnamed: bool,
+}
 
 /// What a table has a row for each of.
 #[derive(Clone, Copy, Debug, PartialEq, Eq)]
@@ -21,9 +32,11 @@ pub enum Subject {
     Patterns,
     /// A `part` row, which says how many parts of a pattern have one code.
     Parts,
+    /// An `emits` row, which says how many objects of one code engines of a pattern emit.
+    Engines,
     /// A code under a rule, by falling count and then in the order of codes: the shorter first, codes of equal length by
     /// their bytes, and then by the bytes of the rule.
-    Codes,
+    Codes(Choice),
 }
 
 /// The content of a table.
@@ -33,24 +46,33 @@ pub enum Table<'b, 'a> {
     Patterns(Sections<'b, 'a>),
     /// The parts of such patterns.
     Parts(Sections<'b, 'a>),
-    /// The kinds of objects.
-    Codes(Kinds<'b, 'a>),
+    /// What the engines of such patterns emit.
+    Engines(Sections<'b, 'a>),
+    /// Kinds of objects that are chosen so, and how many objects there are of all kinds, at most 2^64 - 1.
+    Codes(Choice, Kinds<'b, 'a>, u64),
 }
 
-/// The content of the table of a sequence of reports. The only error is out of memory.
+/// The content of the table of a sequence of reports, where codes have these names. The only error is out of memory.
 pub fn table_of<'b, 'a>(
     alloc: Global,
     subject: Subject,
+    names: Option<&Names>,
     rows: &'b Rows<'a>,
 ) -> Result<Table<'b, 'a>, AllocError>
     requires { AreReports rows.now }
-    ensures { IfOk result (λ table. IsListingOf subject rows.now (listing_of table)) }
+    ensures { IfOk result (λ table. IsListingOf subject (option_copied names.entry) rows.now (listing_of table)) }
 {
     let sections = collections(alloc, rows)?;
     match subject {
         Subject::Patterns => Ok(Table::Patterns(sections)),
         Subject::Parts => Ok(Table::Parts(sections)),
-        Subject::Codes => Ok(Table::Codes(kinds_of(alloc, sections)?)),
+        Subject::Engines => Ok(Table::Engines(sections)),
+        Subject::Codes(choice) => {
+            let kinds = kinds_of(alloc, choice.rare, sections)?;
+            let total = kinds.total();
+            let left = left_in(alloc, names, choice.unnamed, kinds)?;
+            Ok(Table::Codes(choice, left, total))
+        }
     }
 }
 
@@ -90,6 +112,24 @@ fn pattern_names(
     Ok(titles)
 }
 
+// What each of these columns that a table of engines has is called.
+fn engine_names(
+    alloc: Global,
+    names: Option<&Names>,
+    columns: &[EngineColumn],
+) -> Result<Vec<&'static str>, AllocError>
+    ensures { IfOk result (λ titles. map (λ s. s.now) titles.items
+        ≡ map heading_of (filter (is_headed (option_copied names.entry)) columns.now)) }
+{
+    let mut titles = Vec::new(alloc);
+    for column in columns {
+        if column.is_there(names) {
+            titles.push(column.name())?;
+        }
+    }
+    Ok(titles)
+}
+
 impl Table<'_, '_> {
     /// What the columns are called. If there are names, the column after the codes has what these are called. The only error
     /// is out of memory.
@@ -104,7 +144,8 @@ impl Table<'_, '_> {
         match self {
             Table::Patterns(_) => pattern_names(alloc, names, &Column::ALL),
             Table::Parts(_) => names_of(alloc, names, &ObjectColumn::OF_PARTS),
-            Table::Codes(_) => names_of(alloc, names, &ObjectColumn::OF_CODES),
+            Table::Engines(_) => engine_names(alloc, names, &EngineColumn::ALL),
+            Table::Codes(_, _, _) => names_of(alloc, names, &ObjectColumn::OF_CODES),
         }
     }
 }

@@ -1,5 +1,5 @@
 //! Tables, written row by row.
-ghost use Rattle.std.specs.Prelude.{◌≡◌, ◌++◌, [], Bool, List, None, length, IfOk, MatchResult, OnOk};
+ghost use Rattle.std.specs.Prelude.{◌≡◌, ◌++◌, [], Bool, List, length, IfOk, MatchResult, OnOk};
 ghost use Rattle.std.specs.List.{cons_option};
 ghost use Rattle.std.specs.Option.{option_copied};
 ghost use Rattle.csv.specs.Records.{fields_of};
@@ -8,6 +8,8 @@ ghost use Rattle.watched.specs.Telling.{TellsAfter, TellsFront, sheet};
 ghost use Rattle.census_rows.specs.declared.row.Row.{Row};
 ghost use Rattle.census_readback.specs.Shapes.{AreReports, any_outcome, lines_that};
 ghost use Rattle.census_table.specs.Contents.{row_of};
+ghost use Rattle.census_table.specs.Emitting.{no_last};
+ghost use Rattle.census_table.specs.EngineColumns.{emitted_row};
 ghost use Rattle.census_table.specs.Json.{json_line};
 ghost use Rattle.census_table.specs.ObjectColumns.{object_row};
 ghost use Rattle.census_table.specs.Tables.{head_text, listing_of, listing_text, row_line, thing_row, things_text, titles_of};
@@ -15,10 +17,13 @@ ghost use Rattle.census_table.specs.Things.{things_from, things_of};
 ghost use Rattle.census_table.specs.Written.{Puts, TellsBut, records_text};
 ghost use Rattle.census_table.specs.declared.table.Format.TheVariants.{Csv, Json};
 ghost use Rattle.census_table.specs.declared.thing.Item.TheVariants as item;
+ghost use Rattle.census_table.specs.declared.thing.Thing.TheVariants as things;
 
 use crate::cell::Field;
 use crate::column::{Column, entry_row};
 use crate::comma::{row_record, text_of, titles_record};
+use crate::engine::{Emitted, Last};
+use crate::engine_column::{EngineColumn, emitted_row};
 use crate::json::push_object;
 use crate::lines::Lines;
 use crate::object::Object;
@@ -105,6 +110,7 @@ fn record_row<'a>(
     match thing {
         Thing::Pattern(entry, _) => entry_row(alloc, names, &Column::ALL, entry),
         Thing::Part(object) => object_row(alloc, names, &ObjectColumn::OF_PARTS, object),
+        Thing::Emitted(emitted) => emitted_row(alloc, names, &EngineColumn::ALL, emitted),
         Thing::Kind(object) => object_row(alloc, names, &ObjectColumn::OF_CODES, object),
     }
 }
@@ -124,6 +130,20 @@ fn object_line(
     Ok(text)
 }
 
+// The line of what engines emit, in JSON.
+fn emitted_line(
+    alloc: Global,
+    names: Option<&Names>,
+    emitted: &Emitted,
+) -> Result<Vec<u8>, AllocError>
+    ensures { IfOk result (λ text. text.items ≡ json_line (thing_row (option_copied names.entry) Json (things.Emitted emitted.now))) }
+{
+    let row = emitted_row(alloc, names, &EngineColumn::IN_JSON, emitted)?;
+    let mut text = Vec::new(alloc);
+    push_object(alloc, &mut text, row.as_slice())?;
+    Ok(text)
+}
+
 // Writes the line of an object in JSON, in these columns.
 fn put_object<W: Write>(
     alloc: Global,
@@ -137,6 +157,22 @@ fn put_object<W: Write>(
         (sheet block.old writer.old) (sheet block.new writer.new) }
 {
     let text = object_line(alloc, names, columns, object)?;
+    put(text.as_slice(), block, writer);
+    Ok(())
+}
+
+// Writes the line of what engines emit, in JSON.
+fn put_emitted<W: Write>(
+    alloc: Global,
+    names: Option<&Names>,
+    emitted: &Emitted,
+    block: &mut Block,
+    writer: &mut Output<W>,
+) -> Result<(), AllocError>
+    ensures { Puts (json_line (thing_row (option_copied names.entry) Json (things.Emitted emitted.now))) result
+        (sheet block.old writer.old) (sheet block.new writer.new) }
+{
+    let text = emitted_line(alloc, names, emitted)?;
     put(text.as_slice(), block, writer);
     Ok(())
 }
@@ -164,6 +200,7 @@ fn put_line<W: Write>(
                 writer,
             )
         }
+        Thing::Emitted(emitted) => put_emitted(alloc, names, emitted, block, writer),
         Thing::Kind(object) => {
             put_object(
                 alloc,
@@ -276,12 +313,12 @@ fn put_lines<W: Write>(
     writer: &mut Output<W>,
 ) -> Result<(), AllocError>
     ensures { MatchResult result
-        (λ _. TellsBut (records_text held.old.items ++ things_text (option_copied names.entry) format (things_from lines.now None 0)) (records_text held.new.items)
+        (λ _. TellsBut (records_text held.old.items ++ things_text (option_copied names.entry) format (things_from lines.now no_last 0)) (records_text held.new.items)
         (sheet block.old writer.old) (sheet block.new writer.new))
-        (λ _. TellsFront (records_text held.old.items ++ things_text (option_copied names.entry) format (things_from lines.now None 0))
+        (λ _. TellsFront (records_text held.old.items ++ things_text (option_copied names.entry) format (things_from lines.now no_last 0))
         (sheet block.old writer.old) (sheet block.new writer.new)) }
 {
-    let mut last = None;
+    let mut last = Last::NOTHING;
     for index in 0..lines.len() {
         let some = lines.thing(index, &mut last);
         put_some(alloc, format, names, &some, held, block, writer)?;

@@ -1,10 +1,11 @@
 //! What a table has rows for.
 ghost use Rattle.std.specs.Prelude.{◌≡◌};
-ghost use Rattle.std.specs.Option.{option_or};
 ghost use Rattle.census_table.specs.Entries.{entry_of_row};
-ghost use Rattle.census_table.specs.Things.{is_part, part_in, thing_of};
+ghost use Rattle.census_table.specs.Emitting.{last_after};
+ghost use Rattle.census_table.specs.Things.{emitted_in, is_part, part_in, thing_of};
 
-use crate::entry::{Entry, entry_of_row};
+use crate::engine::{Emitted, Last};
+use crate::entry::{Entry, entry_of_row, with_way};
 use crate::object::{Object, object_of_row};
 use census_rows::{Behind, Row, Section};
 
@@ -15,6 +16,8 @@ pub enum Thing<'b, 'a> {
     Pattern(Entry<'a>, Section<'b, 'a>),
     /// The parts of a pattern that are one object.
     Part(Object<'a>),
+    /// The objects of one code that engines of a pattern emit.
+    Emitted(Emitted<'a>),
     /// The objects of reports that are of one kind.
     Kind(Object<'a>),
 }
@@ -24,6 +27,7 @@ pub enum Thing<'b, 'a> {
 pub enum Item {
     Pattern,
     Part,
+    Emitted,
 }
 
 // Whether an object is one of several that a pattern has fallen apart into.
@@ -52,11 +56,21 @@ fn part_in<'b, 'a>(object: Option<Object<'a>>) -> Option<Thing<'b, 'a>>
     }
 }
 
-// What a row adds to a table, where `own` is the pattern of its line and `last` that of the last line up to it.
+// What engines emit, if they do.
+fn emitted_in<'b, 'a>(emitted: Option<Emitted<'a>>) -> Option<Thing<'b, 'a>>
+    ensures { result ≡ emitted_in emitted.entry }
+{
+    match emitted {
+        Some(emitted) => Some(Thing::Emitted(emitted)),
+        None => None,
+    }
+}
+
+// What a row adds to a table, where `own` is the pattern of its line and `last` what is reported last up to it.
 fn thing_of<'b, 'a>(
     item: Item,
     own: Option<Entry<'a>>,
-    last: &Option<Entry<'a>>,
+    last: &Last<'a>,
     row: &Row<'a>,
     behind: Section<'b, 'a>,
 ) -> Option<Thing<'b, 'a>>
@@ -64,28 +78,29 @@ fn thing_of<'b, 'a>(
 {
     match item {
         Item::Pattern => match own {
-            Some(entry) => Some(Thing::Pattern(entry, behind)),
+            Some(entry) => Some(Thing::Pattern(with_way(entry, &behind), behind)),
             None => None,
         },
-        Item::Part => part_in(object_of_row(last, row)),
+        Item::Part => part_in(object_of_row(&last.pattern, row)),
+        Item::Emitted => emitted_in(last.emitted(row)),
     }
 }
 
-/// What a row before these adds to a table, in the collection that another row opens and that has this number. `last` is the
-/// pattern of the last line before the row, and afterwards that of the last line up to it.
+/// What a row before these adds to a table, in the collection that another row opens and that has this number. `last` is what
+/// was reported last before the row, and afterwards up to it.
 pub fn next_thing<'b, 'a>(
     item: Item,
     number: u64,
     heading: &Row<'a>,
-    last: &mut Option<Entry<'a>>,
+    last: &mut Last<'a>,
     row: &Row<'a>,
     behind: Section<'b, 'a>,
 ) -> Option<Thing<'b, 'a>>
-    ensures last { last.new ≡ option_or (entry_of_row number heading.now row.now) last.old }
+    ensures last { last.new ≡ last_after number heading.now last.old row.now behind.entry }
     ensures thing { result ≡ thing_of item (entry_of_row number heading.now row.now)
-        (option_or (entry_of_row number heading.now row.now) last.old) row.now behind.entry }
+        (last_after number heading.now last.old row.now behind.entry) row.now behind.entry }
 {
     let own = entry_of_row(number, heading, row);
-    *last = own.or(*last);
+    *last = last.after(number, heading, row, &behind);
     thing_of(item, own, last, row, behind)
 }

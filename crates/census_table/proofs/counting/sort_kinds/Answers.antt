@@ -12,5 +12,5 @@ returns-clause-permutation c =
 pub returns-clause-sorted : goal.returns-clause-sorted
 returns-clause-sorted c =
     let told = kind_at c.args.nothing.now c.args.objects.now in
-    counts-sorted told c.sort_unstable_by.new.self.items
-    (c.sort_unstable_by.ensures.sorted (count-less told) (counts-order told) (always_returns_same _ _ _ (λ a r f k. search rules)))
+    counts-sorted c.args.rare told c.sort_unstable_by.new.self.items
+    (c.sort_unstable_by.ensures.sorted (count-less c.args.rare told) (counts-order c.args.rare told) (always_returns_same _ _ _ (λ a r f k. search rules)))

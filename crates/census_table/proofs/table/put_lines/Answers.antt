@@ -1,9 +1,10 @@
-use Rattle.std.proofs.Common.{◌++◌, ◌+◌, ◌∙◌, ℕ, List, [], None, Some, ap, subst, sym, arith}
+use Rattle.std.proofs.Common.{◌++◌, ◌+◌, ◌∙◌, ℕ, List, [], Some, ap, subst, sym, arith}
 use Rattle.std.specs.List.{cons_option}
 use Rattle.std.proofs.lemmas.Result.{err_from_is_err_and}
 use Rattle.std.specs.Option.{option_copied}
 use Rattle.watched.specs.Telling.{sheet}
 use Rattle.watched.proofs.Prefixes.{TellsUpTo, up_to_start}
+use Rattle.census_table.specs.Emitting.{no_last}
 use Rattle.census_table.specs.Tables.{things_text}
 use Rattle.census_table.specs.Things.{things_from}
 use Rattle.census_table.specs.Written.{records_text}
@@ -14,7 +15,7 @@ use Rattle.census_table.proofs.table.put_lines.Goals as goal
 
 pub loop-index-init : goal.loop-index-init
 loop-index-init g c =
-    up_to_start (records_text c.args.held.now.items ++ things_text (option_copied c.args.names) c.args.format (things_from c.args.lines.now None 0)) (sheet c.args.block.now c.args.writer.now)
+    up_to_start (records_text c.args.held.now.items ++ things_text (option_copied c.args.names) c.args.format (things_from c.args.lines.now no_last 0)) (sheet c.args.block.now c.args.writer.now)
 
 pub returns-in_err-put_some : goal.returns-in_err-put_some
 returns-in_err-put_some g c =
@@ -24,7 +25,7 @@ returns-in_err-put_some g c =
     let text : List Thing → List ℕ = things_text names c.args.format in
     let lines = c.args.lines.now in
     let held = records_text l.held.items in
-    let whole = records_text c.args.held.now.items ++ text (things_from lines None 0) in
+    let whole = records_text c.args.held.now.items ++ text (things_from lines no_last 0) in
     let first = sheet c.args.block.now c.args.writer.now in
     let here = sheet l.block l.writer in
     let one = c.thing-some.result in
@@ -41,7 +42,7 @@ loop-index-preserved g c =
     let text : List Thing → List ℕ = things_text names c.args.format in
     let lines = c.args.lines.now in
     let held = records_text l.held.items in
-    let whole = records_text c.args.held.now.items ++ text (things_from lines None 0) in
+    let whole = records_text c.args.held.now.items ++ text (things_from lines no_last 0) in
     let first = sheet c.args.block.now c.args.writer.now in
     let here = sheet l.block l.writer in
     let one = c.thing-some.result in
@@ -54,6 +55,6 @@ pub returns : goal.returns
 returns g c =
     let l = c.loop-index in
     let names = option_copied c.args.names in
-    up_to_but (records_text c.args.held.now.items ++ things_text names c.args.format (things_from c.args.lines.now None 0)) (records_text l.held.items)
+    up_to_but (records_text c.args.held.now.items ++ things_text names c.args.format (things_from c.args.lines.now no_last 0)) (records_text l.held.items)
     (things_text names c.args.format (things_from c.args.lines.now l.last l.index)) (sheet c.args.block.now c.args.writer.now) (sheet l.block l.writer) l.invariant
     (ap (things_text names c.args.format) (lines-end c.args.lines.now l.last l.index (omega (arith, c.loop-index-test.false, c.len-index-end.ensures))))

@@ -1,8 +1,9 @@
-use Rattle.std.proofs.Common.{◌++◌, ◌+◌, ℕ, List, None, ap, subst, arith}
+use Rattle.std.proofs.Common.{◌++◌, ◌+◌, ℕ, List, ap, subst, arith}
 use Rattle.std.proofs.lemmas.Result.{err_from_is_err_and}
 use Rattle.std.specs.Option.{option_copied}
 use Rattle.watched.specs.Telling.{sheet}
 use Rattle.watched.proofs.Prefixes.{TellsUpTo, front_none, up_to_start}
+use Rattle.census_table.specs.Emitting.{no_last}
 use Rattle.census_table.specs.Tables.{listing_of, listing_text, table_from, things_text}
 use Rattle.census_table.specs.Things.{things_from}
 use Rattle.census_table.specs.Written.{records_text}
@@ -31,7 +32,7 @@ returns-in_err-put_lines g c =
     let first = sheet c.args.block.now c.args.writer.now in
     let here = sheet l.block l.writer in
     let held = records_text l.held.items in
-    let one = things_from c.lines.result None 0 in
+    let one = things_from c.lines.result no_last 0 in
     let others = table_from c.args.table.now (l.index + 1) in
     rw p.1
     (up_to_lost whole held (things_text names c.args.format one) (things_text names c.args.format others) first here (sheet c.put_lines.new.block c.put_lines.new.writer)
@@ -46,7 +47,7 @@ loop-index-preserved g c =
     let first = sheet c.args.block.now c.args.writer.now in
     let here = sheet l.block l.writer in
     let held = records_text l.held.items in
-    let one = things_from c.lines.result None 0 in
+    let one = things_from c.lines.result no_last 0 in
     let others = table_from c.args.table.now (l.index + 1) in
     up_to_held whole held (things_text names c.args.format one) (things_text names c.args.format others) first here (sheet c.put_lines.new.block c.put_lines.new.writer)
     (subst (λ t. TellsUpTo whole (held ++ t) first here) (things-append names c.args.format one others (table_from c.args.table.now l.index) c.lines.ensures) l.invariant)
