@@ -78,17 +78,6 @@ fn push_fate(alloc: Global, html: &mut Html, outcome: &Outcome) -> Result<(), Al
     }
 }
 
-/// Whether a pattern recurs, so that the row of its code describes it.
-pub fn recurs(outcome: &Outcome) -> bool {
-    match outcome {
-        Outcome::Found {
-            finding: Finding::Ok { .. },
-            ..
-        } => true,
-        _ => false,
-    }
-}
-
 /// Whether a pattern has a row of its own: where such patterns are asked for each that does not recur, and otherwise one that is
 /// unresolved.
 pub fn has_row(patterns: bool, outcome: &Outcome) -> bool

@@ -1,14 +1,15 @@
-//! The parts of the page before and after the table of all collections.
+//! The parts of the page before and after the table of all collections, and its foot.
 use crate::html::Html;
 use crate::kind::Kind;
 use crate::kinds::count_kinds;
 use crate::options::PageOptions;
 use crate::own::{
-    ALL_OBJECTS, CHOICES, CHOICES_END, COLLECTIONS, KINDS, NOTE, NOTE_END, OSCILLATORS, OTHERS,
-    PAGE, PATTERNS, REFUSED, RESOLVED, SPACESHIPS, STILL_LIFES, STYLE, TITLE_END, TOTALS_END,
-    UNRESOLVED,
+    ALL_OBJECTS, CHOICES, CHOICES_END, COLLECTIONS, FOOT, KINDS, NOTE, NOTE_END, OSCILLATORS,
+    OTHERS, PAGE, PAGE_END, PATTERNS, REFUSED, RESOLVED, SPACESHIPS, STILL_LIFES, STYLE, TITLE_END,
+    TOTALS_END, UNRESOLVED,
 };
 use crate::tally::{Which, count_of, objects_of};
+use census_facts::VERSION;
 use census_rows::{Class, Rows};
 use std::alloc::{AllocError, Global};
 
@@ -68,24 +69,24 @@ pub fn front(
     Ok(html)
 }
 
-/// The kinds of rows that can be chosen, with how many there are. The only error is out of memory.
-pub fn choices(alloc: Global, rows: &Rows) -> Result<Html, AllocError> {
+/// The kinds of rows that can be chosen, with how many there are, where patterns are asked for or not. The only error is out of
+/// memory.
+pub fn choices(alloc: Global, patterns: bool, rows: &Rows) -> Result<Html, AllocError> {
     let mut html = Html::new(alloc);
-    push_count(&mut html, CHOICES, Which::Shown, rows)?;
-    push_count(
-        &mut html,
-        STILL_LIFES,
-        Which::ShownAs(Kind::StillLife),
-        rows,
-    )?;
-    push_count(
-        &mut html,
-        OSCILLATORS,
-        Which::ShownAs(Kind::Oscillator),
-        rows,
-    )?;
-    push_count(&mut html, SPACESHIPS, Which::ShownAs(Kind::Spaceship), rows)?;
-    push_count(&mut html, OTHERS, Which::ShownAs(Kind::Other), rows)?;
+    push_count(&mut html, CHOICES, Which::Shown(patterns), rows)?;
+    push_count(&mut html, STILL_LIFES, Which::Of(Kind::StillLife), rows)?;
+    push_count(&mut html, OSCILLATORS, Which::Of(Kind::Oscillator), rows)?;
+    push_count(&mut html, SPACESHIPS, Which::Of(Kind::Spaceship), rows)?;
+    push_count(&mut html, OTHERS, Which::Others(patterns), rows)?;
     html.own(CHOICES_END)?;
+    Ok(html)
+}
+
+/// The end of the page, with the version of the program. The only error is out of memory.
+pub fn foot(alloc: Global) -> Result<Html, AllocError> {
+    let mut html = Html::new(alloc);
+    html.own(FOOT)?;
+    html.text(alloc, VERSION.as_bytes())?;
+    html.own(PAGE_END)?;
     Ok(html)
 }

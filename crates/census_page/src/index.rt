@@ -63,15 +63,15 @@ fn index_row(alloc: Global, number: u64, rows: &Section) -> Result<Html, AllocEr
     push_cell(&mut html, refused)?;
     push_cell(
         &mut html,
-        count_among(Which::ShownAs(Kind::StillLife), rows) as u64,
+        count_among(Which::Of(Kind::StillLife), rows) as u64,
     )?;
     push_cell(
         &mut html,
-        count_among(Which::ShownAs(Kind::Oscillator), rows) as u64,
+        count_among(Which::Of(Kind::Oscillator), rows) as u64,
     )?;
     push_cell(
         &mut html,
-        count_among(Which::ShownAs(Kind::Spaceship), rows) as u64,
+        count_among(Which::Of(Kind::Spaceship), rows) as u64,
     )?;
     html.own(INDEX_ROW_END)?;
     Ok(html)

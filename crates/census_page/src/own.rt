@@ -144,10 +144,7 @@ h2,section>p{break-after:avoid}
     b"</small></label><label><input type=\"radio\" name=\"f\" id=\"fq\">Spaceships <small>",
     b"</small></label><label><input type=\"radio\" name=\"f\" id=\"fu\">Others <small>",
     b"</small></label></fieldset>\n",
-    b"</main>
-<footer>
-<p>Cells: of the phase that is drawn, which is the one that the code describes. Population: of the first generation. Onset: the generation from which a pattern recurs. Guns, rakes and puffers: how far they move, to the right and down, and what they emit is told of one period. Unresolved: nothing was found within the bound. Refused: the text means no pattern.</p>
-<p>census 0.2.0</p>
+    b"</p>
 </footer>
 </body>
 </html>
@@ -299,6 +296,11 @@ h2,section>p{break-after:avoid}
     b". The longest:</p>\n<ul>",
     b"</ul>\n",
     b" <small>onset ",
+    // The foot, before the version.
+    b"</main>
+<footer>
+<p>Cells: of the phase that is drawn, which is the one that the code describes. Population: of the first generation. Onset: the generation from which a pattern recurs. Guns, rakes and puffers: how far they move, to the right and down, and what they emit is told of one period. Unresolved: nothing was found within the bound. Refused: the text means no pattern.</p>
+<p>",
 ];
 
 // The text with this number among these, or nothing if there is none.
@@ -626,3 +628,5 @@ pub const LIVES_LIST: usize = 151;
 pub const LIVES_END: usize = 152;
 
 pub const ONSET_ALONE: usize = 153;
+
+pub const FOOT: usize = 154;

@@ -1,5 +1,5 @@
 //! How many rows there are of each kind.
-use crate::fate::{has_row, recurs};
+use crate::fate::has_row;
 use crate::kind::{Kind, kind_of};
 use crate::sorting::count_in;
 use census_rows::{Class, Row, Rows, Section};
@@ -7,10 +7,12 @@ use census_rows::{Class, Row, Rows, Section};
 /// Which rows are counted.
 #[derive(Clone, Copy)]
 pub enum Which {
-    /// The rows for which the page has a row.
-    Shown,
-    /// The rows for which the page has a row of this kind.
-    ShownAs(Kind),
+    /// The rows for which the page has a row, where patterns are asked for or not.
+    Shown(bool),
+    /// The rows that report codes of this kind.
+    Of(Kind),
+    /// The rows for which the page has a row of no such kind, where patterns are asked for or not.
+    Others(bool),
     /// The rows that report codes.
     Codes,
     /// The rows that report patterns that have a row of their own, where these are asked for or not.
@@ -35,15 +37,16 @@ fn is_class(one: Class, other: Class) -> bool {
 fn counts(which: Which, row: &Row) -> bool {
     match row {
         Row::Code { code, .. } => match which {
-            Which::Shown | Which::Codes => true,
-            Which::ShownAs(kind) => kind_of(*code) == kind,
+            Which::Shown(_) | Which::Codes => true,
+            Which::Of(kind) => kind_of(*code) == kind,
+            Which::Others(_) => kind_of(*code) == Kind::Other,
             _ => false,
         },
         Row::Line { outcome, .. } => match which {
-            Which::Shown => !recurs(outcome),
-            Which::Strays(patterns) => has_row(patterns, outcome),
-            Which::ShownAs(kind) => kind == Kind::Other && !recurs(outcome),
-            Which::Codes => false,
+            Which::Shown(patterns) | Which::Others(patterns) | Which::Strays(patterns) => {
+                has_row(patterns, outcome)
+            }
+            Which::Codes | Which::Of(_) => false,
             Which::Patterns => true,
             Which::Are(class) => is_class(outcome.class(), class),
         },

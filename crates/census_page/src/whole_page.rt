@@ -4,10 +4,10 @@ ghost use Rattle.census_readback.specs.Shapes.{AreReports};
 ghost use Rattle.std.specs.Option.{option_copied};
 ghost use Rattle.census_page.specs.Pages.{AreOfAll, AreShown, PutsRows};
 
-use crate::front::{choices, front};
+use crate::front::{choices, foot, front};
 use crate::index::put_index;
 use crate::options::PageOptions;
-use crate::own::{INDEX, INDEX_END, PAGE_END};
+use crate::own::{INDEX, INDEX_END};
 use crate::putting::{put_html, put_own};
 use crate::section::put_section;
 use census_facts::Names;
@@ -60,10 +60,11 @@ fn put_body<W: Write>(
     put_own(INDEX, block, writer);
     put_index(alloc, sections, block, writer)?;
     put_own(INDEX_END, block, writer);
-    let choices = choices(alloc, rows)?;
+    let choices = choices(alloc, options.patterns, rows)?;
+    let foot = foot(alloc)?;
     put_html(&choices, block, writer);
     put_sections(alloc, options, names, sections, block, writer)?;
-    put_own(PAGE_END, block, writer);
+    put_html(&foot, block, writer);
     Ok(())
 }
 

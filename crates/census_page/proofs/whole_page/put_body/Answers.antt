@@ -18,6 +18,12 @@ returns-in_err-choices g c =
     (some-stops (option_copied c.args.names) (AreOfAll c.args.options.now c.args.sections.now) (all-exist c.args.options.now c.args.sections.now) _ _
     (bits-more _ _ _ (bits-more _ _ _ c.put_own.ensures c.in_ok-put_index.ensures) c.put_own-2.ensures))
 
+pub returns-in_err-foot : goal.returns-in_err-foot
+returns-in_err-foot g c =
+    let p = err_from_is_err_and c.from_residual-in_err-foot.result c.from_residual-in_err-foot.ensures.1 in rw p.1
+    (some-stops (option_copied c.args.names) (AreOfAll c.args.options.now c.args.sections.now) (all-exist c.args.options.now c.args.sections.now) _ _
+    (bits-more _ _ _ (bits-more _ _ _ c.put_own.ensures c.in_ok-put_index.ensures) c.put_own-2.ensures))
+
 pub returns-in_err-put_sections : goal.returns-in_err-put_sections
 returns-in_err-put_sections g c =
     let p = err_from_is_err_and c.from_residual-in_err-put_sections.result c.from_residual-in_err-put_sections.ensures.1 in rw p.1
@@ -32,4 +38,4 @@ returns g c =
     (none-some names (AreOfAll c.args.options.now c.args.sections.now) _ _ _
     (bits-more _ _ _ (bits-more _ _ _ (bits-more _ _ _ c.put_own.ensures c.in_ok-put_index.ensures) c.put_own-2.ensures) c.put_html.ensures)
     c.in_ok-put_sections.ensures)
-    c.put_own-3.ensures
+    c.put_html-2.ensures
