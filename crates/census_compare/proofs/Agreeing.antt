@@ -59,10 +59,6 @@ not-false : (b : Bool) → not b ≡ false → b ≡ true
 not-false true e = refl
 not-false false e = absurd (true≢false e)
 
-not-true : (b : Bool) → not b ≡ true → b ≡ false
-not-true true e = absurd (true≢false (sym e))
-not-true false e = refl
-
 empty-is : (text : List ℕ) → is_empty text ≡ true → text ≡ []
 empty-is [] e = refl
 empty-is (byte ∷ bytes) e = absurd (true≢false (sym e))
@@ -74,7 +70,3 @@ verdict claims patterns text agree silent all = record {
   agree = (λ e. tested claims patterns (sym all ∙ not-false agree e), λ a. ap not (all ∙ agreed claims patterns a));
   silent = (λ e. ap not (silent ∙ ap is_empty e), λ e. empty-is text (sym silent ∙ not-false agree e));
 }
-
--- something was found where something was written
-pub silent_is : (any : Bool) (text : List ℕ) → not any ≡ is_empty text → (text ≡ []) ↔ (any ≡ false)
-silent_is any text e = (λ n. not-true any (e ∙ ap is_empty n), λ f. empty-is text (sym e ∙ ap not f))

@@ -6,7 +6,7 @@ use Rattle.std.specs.Ordering.{is_eq, is_lt}
 use Rattle.std.specs.declared.cmp.Ordering.TheVariants.{Less}
 use Rattle.std.proofs.Math.Numerals.{one-add}
 use Rattle.std.proofs.lemmas.List.{drop-drop, drop-map, length-drop, map-append, take-append-drop, take-map}
-use Rattle.std.proofs.lemmas.List.Elements.{All-cons, All-nil, All-tail, filter-append}
+use Rattle.std.proofs.lemmas.List.Elements.{All-cons, All-head, All-nil, All-tail, filter-append}
 use Rattle.std.proofs.lemmas.List.Sums.{prefix_len-le-length}
 use Rattle.census_rows.proofs.Filters.{filter-none}
 use Rattle.census_compare.specs.Order.{Key, is_key, has_key, key_cmp, key_of, AreInOrder}
@@ -188,3 +188,34 @@ taken told ps shared chosen new at n x on new_is chosen_is before =
     ∙ ap (λ us. mine (map told shared) ++ us) (on.same x ∙ ap (λ us. us ++ rest) some)
     ∙ sym (append_assoc (mine (map told shared)) (mine (map told chosen)) rest)
     ∙ ap₂ (λ (us vs : List Told). us ++ several (mine vs)) all (behind_places told ps at n)
+
+-- # What is left out of patterns in order
+
+all-without : (P : Told → Type 0) (ts us vs : List Told) → All P (ts ++ (us ++ vs)) → All P (ts ++ vs)
+all-without P [] [] vs all = all
+all-without P [] (u ∷ us) vs all = all-without P [] us vs (All-tail P u (us ++ vs) all)
+all-without P (t ∷ ts) us vs all = All-cons P t (ts ++ vs) (All-head P t (ts ++ (us ++ vs)) all) (all-without P ts us vs (All-tail P t (ts ++ (us ++ vs)) all))
+
+order-without : (ts us vs : List Told) → AreInOrder (ts ++ (us ++ vs)) → AreInOrder (ts ++ vs)
+order-without [] [] vs order = order
+order-without [] (u ∷ us) vs order = order-without [] us vs order.1
+order-without (t ∷ ts) us vs order =
+    (all-without (λ other. is_lt (key_cmp (key_of other) (key_of t)) ≡ false) ts us vs order.0, order-without ts us vs order.1)
+
+order-several : (ts us vs : List Told) → AreInOrder (ts ++ (us ++ vs)) → AreInOrder (ts ++ (several us ++ vs))
+order-several ts [] vs order = order
+order-several ts (u ∷ []) vs order = order-without ts (u ∷ []) vs order
+order-several ts (u ∷ (w ∷ us)) vs order = order
+
+-- what was listed, with the first group of what is left, is in order before what is left then
+pub taken-order : {P : Type 0} (told : P → Told) (ps shared chosen new : List P) (at n : ℕ) → new ≡ shared ++ chosen
+    → map told chosen ≡ several (map told (take n (drop at ps)))
+    → AreInOrder (map told shared ++ map told (drop at ps)) → AreInOrder (map told new ++ map told (drop (at + n) ps))
+taken-order told ps shared chosen new at n new_is chosen_is order =
+    let ss : List Told = map told shared in
+    let ts : List Told = map told (drop at ps) in
+    let parted : AreInOrder (ss ++ (take n ts ++ drop n ts)) = subst (λ us. AreInOrder (ss ++ us)) (sym (take-append-drop n ts)) order in
+    let group : several (take n ts) ≡ map told chosen = ap several (take-map told n (drop at ps)) ∙ sym chosen_is in
+    let all : ss ++ several (take n ts) ≡ map told new = ap (λ us. ss ++ us) group ∙ sym (map-append told shared chosen) ∙ ap (map told) (sym new_is) in
+    subst AreInOrder (sym (append_assoc ss (several (take n ts)) (drop n ts)) ∙ ap₂ (λ (us vs : List Told). us ++ vs) all (behind_places told ps at n))
+    (order-several ss (take n ts) (drop n ts) parted)

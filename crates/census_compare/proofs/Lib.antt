@@ -6,5 +6,9 @@ pub mod Numbers
 pub mod Silent
 pub mod SameKeys
 pub mod Groups
+pub mod Listed
 pub mod Placed
 pub mod Sorting
+pub mod Alike
+pub mod Started
+pub mod Put

@@ -6,8 +6,6 @@ use Rattle.watched.specs.Telling.{Sheet, TellsAfter}
 use Rattle.watched.proofs.Telling.{tells_more, tells_none}
 use Rattle.census_compare.specs.Columns.{is_empty}
 use Rattle.census_compare.specs.Reporting.{Reports}
-use Rattle.census_compare.specs.Same.{has_any}
-use Rattle.census_compare.specs.declared.told.Told.{Told}
 
 pub empty-append : (xs ys : List ℕ) → is_empty (xs ++ ys) ≡ (is_empty xs && is_empty ys)
 empty-append [] ys = refl
@@ -54,19 +52,6 @@ passed-more p xs i d one other less e f =
 -- the same with several more
 pub passed-all : {X : Type 0} (p : X → Bool) (xs ys : List X) (one other : Bool) → one ≡ list_all p xs → other ≡ list_all p ys → (one && other) ≡ list_all p (xs ++ ys)
 passed-all p xs ys one other e f = ap₂ (λ x y. x && y) e f ∙ sym (all-append p xs ys)
-
-pub and-false : (a : Bool) → (a && false) ≡ false
-and-false true = refl
-and-false false = refl
-
-some-any : (ts us : List Told) → 0 < length us → has_any (ts ++ us) ≡ true
-some-any [] [] some = absurd (omega arith)
-some-any [] (u ∷ us) some = refl
-some-any (t ∷ ts) us some = refl
-
-pub any-more : (ts : List Told) (i : ℕ) → i < length ts → true ≡ has_any (take (i + 1) ts)
-any-more [] i less = absurd (omega arith)
-any-more (t ∷ ts) i less = sym (ap has_any (take_more (t ∷ ts) i t less) ∙ some-any (take i (t ∷ ts)) (get_or (t ∷ ts) i t ∷ []) (omega arith))
 
 -- a text that ends in a line has a byte
 pub empty-line : (xs ys : List ℕ) (y : ℕ) → is_empty (xs ++ (ys ++ y ∷ [])) ≡ false

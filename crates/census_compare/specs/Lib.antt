@@ -14,3 +14,6 @@ pub mod SamePatterns
 pub mod Places
 pub mod Same
 pub mod KeyLaws
+pub mod Alike
+pub mod Starts
+pub mod StartsRead

@@ -1,15 +1,18 @@
-//! Patterns of reports, compared with each other, to list those that are the same object, and with claims.
+//! Patterns of reports, compared with each other, to list those that are the same object, and with claims, and patterns of folders
+//! that are the same at the start.
 #![tactic(auto)]
 
 mod claim;
 mod columns;
 mod found;
 mod lines;
+mod listing;
 mod matching;
 mod notes;
 mod place;
 mod reading;
 mod same;
+mod starts;
 mod taken;
 mod told;
 mod tolds;
@@ -20,4 +23,5 @@ pub use columns::{Title, numbers_may_be_claimed};
 pub use notes::{compared_line, counted_note};
 pub use reading::{Claims, read_claims};
 pub use same::put_same;
+pub use starts::{least_texts_tell_sets, write_starts};
 pub use verdict::put_verdict;

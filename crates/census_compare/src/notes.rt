@@ -142,8 +142,8 @@ fn push_number(text: &mut Vec<u8>, number: u64) -> Result<(), AllocError>
     text.extend_from_slice(buffer.format(number).as_bytes())
 }
 
-// How many patterns are compared, where that is not all.
-fn counted_line(alloc: Global, compared: u64, all: u64) -> Result<Vec<u8>, AllocError>
+/// How many patterns are compared, where that is not all.
+pub fn counted_line(alloc: Global, compared: u64, all: u64) -> Result<Vec<u8>, AllocError>
     ensures { IfOk result (λ line. line.items ≡ counted_line compared all) }
 {
     let mut line = Vec::new(alloc);

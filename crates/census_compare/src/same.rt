@@ -1,14 +1,14 @@
 //! The patterns that are one object.
-ghost use Rattle.std.specs.Prelude.{◌≡◌, ◌<◌, IfOk, OnOk, false, length, not};
-ghost use Rattle.watched.specs.Telling.{sheet};
+ghost use Rattle.std.specs.Prelude.{◌≡◌, ◌++◌, ℕ, None, List, IfOk, OnOk};
+ghost use Rattle.watched.specs.Telling.{sheet, TellsAfter};
 ghost use Rattle.census_readback.specs.Shapes.{AreReports};
-ghost use Rattle.census_compare.specs.Columns.{is_empty};
-ghost use Rattle.census_compare.specs.Reporting.{Reports};
-ghost use Rattle.census_compare.specs.Same.{FindsSame, has_any};
+ghost use Rattle.census_table.specs.Contents.{row_of};
+ghost use Rattle.census_compare.specs.Same.{begins_code, has_any, heading_line, members_of, name_line, told_text, tolds_text, FindsSame};
 ghost use Rattle.census_compare.specs.SamePatterns.{tolds_of};
 
+use crate::listing::{AtPlaces, Tolds};
 use crate::told::Told;
-use crate::tolds::{Tolds, shared_tolds};
+use crate::tolds::same_in_reports;
 use census_readback::collections;
 use census_rows::Rows;
 use census_table::{Cell, Field, push_object};
@@ -16,22 +16,29 @@ use std::alloc::{AllocError, Global};
 use std::io::Write;
 use watched::{Block, Output, put};
 
-// Whether two patterns have the same code under the same rule.
-fn are_same(told: &Told, other: &Told) -> bool {
-    told.code == other.code && told.rule == other.rule
+// Whether a pattern begins a code: the one before it, if there is one, has another code or rule.
+fn begins_code(before: &Option<Told>, told: &Told) -> bool
+    ensures { result ≡ begins_code before.now told.now }
+{
+    match before {
+        Some(other) => !(told.code == other.code && told.rule == other.rule),
+        None => true,
+    }
 }
 
-// Adds the rule and the code of a pattern.
-fn push_heading(text: &mut Vec<u8>, told: &Told) -> Result<(), AllocError> {
+// Adds the line of a code under its rule.
+fn push_heading(text: &mut Vec<u8>, told: &Told) -> Result<(), AllocError>
+    ensures { OnOk result (text.new.items ≡ text.old.items ++ heading_line told.now) }
+{
     text.extend_from_slice(told.rule)?;
     text.extend_from_slice(b" ")?;
     text.extend_from_slice(told.code)?;
     text.extend_from_slice(b"\n")
 }
 
-// Adds the name of a pattern in its collection.
+// Adds the line of a pattern: its name in its collection.
 fn push_line(text: &mut Vec<u8>, told: &Told) -> Result<(), AllocError>
-    ensures { OnOk result (is_empty text.new.items ≡ false) }
+    ensures { OnOk result (text.new.items ≡ text.old.items ++ name_line told.now) }
 {
     text.extend_from_slice(b"  ")?;
     text.extend_from_slice(told.collection)?;
@@ -41,7 +48,9 @@ fn push_line(text: &mut Vec<u8>, told: &Told) -> Result<(), AllocError>
 }
 
 // The members of the object of a pattern, in the order of their names.
-fn members_of<'a>(told: &Told<'a>) -> [Field<'a>; 6] {
+fn members_of<'a>(told: &Told<'a>) -> [Field<'a>; 6]
+    ensures { row_of result ≡ members_of told.now }
+{
     [
         Field {
             name: "code",
@@ -70,43 +79,47 @@ fn members_of<'a>(told: &Told<'a>) -> [Field<'a>; 6] {
     ]
 }
 
-// What is written of the pattern at an index: its object, or its name, where it is the first with its code under its rule and
-// code.
-fn text_of(alloc: Global, json: bool, tolds: &Tolds, index: usize) -> Result<Vec<u8>, AllocError>
-    requires { index < length tolds.now }
-    ensures { IfOk result (λ text. is_empty text.items ≡ false) }
+// What is written of a pattern behind another: its object, or its line, below that of its code where it begins one.
+fn text_of(
+    alloc: Global,
+    json: bool,
+    before: &Option<Told>,
+    told: &Told,
+) -> Result<Vec<u8>, AllocError>
+    ensures { IfOk result (λ text. text.items ≡ told_text json before.now told.now) }
 {
-    let told = tolds.told(index);
     let mut text = Vec::new(alloc);
     if json {
-        push_object(alloc, &mut text, &members_of(&told))?;
+        push_object(alloc, &mut text, &members_of(told))?;
         return Ok(text);
     }
-    if index == 0 || !are_same(&tolds.told(index - 1), &told) {
-        push_heading(&mut text, &told)?;
+    if begins_code(before, told) {
+        push_heading(&mut text, told)?;
     }
-    push_line(&mut text, &told)?;
+    push_line(&mut text, told)?;
     Ok(text)
 }
 
-// Writes these patterns. Returns whether there are any.
-fn put_tolds<W: Write>(
+/// Writes these patterns. Returns whether there are any. The only error is out of memory; then a prefix has been written.
+pub fn put_tolds<S: AtPlaces + Drop, W: Write>(
     alloc: Global,
     json: bool,
-    tolds: &Tolds,
+    tolds: &Tolds<S>,
     block: &mut Block,
     writer: &mut Output<W>,
 ) -> Result<bool, AllocError>
-    ensures tells { IfOk result (λ any. Reports (not any) (sheet block.old writer.old) (sheet block.new writer.new)) }
+    ensures tells { IfOk result (λ _. TellsAfter (tolds_text json None tolds.now) (sheet block.old writer.old)
+        (sheet block.new writer.new)) }
     ensures any { IfOk result (λ any. any ≡ has_any tolds.now) }
 {
-    let mut any = false;
+    let mut before = None;
     for index in 0..tolds.len() {
-        let text = text_of(alloc, json, tolds, index)?;
+        let told = tolds.told(index);
+        let text = text_of(alloc, json, &before, &told)?;
         put(text.as_slice(), block, writer);
-        any = true;
+        before = Some(told);
     }
-    Ok(any)
+    Ok(before.is_some())
 }
 
 /// Writes the patterns that are one object. For each code that several patterns of the reports have under one rule, it writes
@@ -129,10 +142,10 @@ pub fn put_same<W: Write>(
     writer: &mut Output<W>,
 ) -> Result<bool, AllocError>
     requires { AreReports rows }
-    ensures tells { IfOk result (λ any. Reports (not any) (sheet block.old writer.old) (sheet block.new writer.new)) }
-    ensures any { IfOk result (λ any. FindsSame (tolds_of rows.entry) any) }
+    ensures { IfOk result (λ found. (text : List ℕ) × FindsSame json (tolds_of rows.entry) found text
+        × TellsAfter text (sheet block.old writer.old) (sheet block.new writer.new)) }
 {
     let sections = collections(alloc, &rows)?;
-    let tolds = shared_tolds(alloc, sections)?;
+    let tolds = same_in_reports(alloc, sections)?;
     put_tolds(alloc, json, &tolds, block, writer)
 }

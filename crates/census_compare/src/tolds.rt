@@ -1,43 +1,20 @@
-//! The patterns that are objects, held by their places.
-ghost use Rattle.std.specs.Prelude.{◌≡◌, ◌<◌, ◌≤◌, ◌+◌, ◌++◌, [], List, None, filter, length, map, slice_index_or, IfOk, OnOk};
-ghost use Rattle.std.specs.List.{flat_map, prefix_len};
+//! The patterns of reports that are objects.
+ghost use Rattle.std.specs.Prelude.{◌≡◌, ◌<◌, ◌+◌, ◌++◌, [], List, None, length, map, slice_index_or, IfOk, OnOk};
+ghost use Rattle.std.specs.List.{flat_map};
 ghost use Rattle.census_rows.specs.declared.row.Row.{Row};
 ghost use Rattle.census_table.specs.Kinds.{capped};
 ghost use Rattle.census_table.specs.Places.{row_in, AreBefore, AreRising};
-ghost use Rattle.census_compare.specs.Order.{AreInOrder, Key, has_key, key_cmp, key_of};
-ghost use Rattle.census_compare.specs.Same.{AreSame, several};
-ghost use Rattle.census_table.specs.declared.place.Place.{Place as ModelPlace};
-ghost use Rattle.census_compare.specs.declared.told.Told.{Told as ModelTold};
+ghost use Rattle.census_compare.specs.Order.{AreInOrder, key_of};
+ghost use Rattle.census_compare.specs.Same.{AreSame};
 ghost use Rattle.census_compare.specs.SamePatterns.{collection_after, told_from};
 ghost use Rattle.census_compare.specs.Places.{opened_by, row_at, told_at, told_under};
 
+use crate::listing::{AtPlaces, Tolds, shared_tolds};
 use crate::told::{Told, collection_after, no_told, told_by};
 use census_readback::Sections;
 use census_rows::{Row, Section};
-use census_table::{OrderAtPlaces, Place, put_in_order};
+use census_table::Place;
 use std::alloc::{AllocError, Global};
-use std::cmp::Ordering;
-use std::marker::Model;
-
-/// Patterns of collections that are objects, in an order of their own. For each its place is held, in 12 bytes.
-#[derive(Drop)]
-pub struct Tolds<'b, 'a> {
-    sections: Sections<'b, 'a>,
-    places: Vec<Place>,
-    // What is there where no pattern is reported. No place has it.
-    nothing: Told<'a>,
-}
-
-impl<'b, 'a> Model for Tolds<'b, 'a> {
-    ghost use Rattle.std.specs.Prelude.{List, map};
-    ghost use Rattle.census_compare.specs.declared.told.Told.{Told};
-
-    ghost Value = { List Told };
-
-    ghost use Rattle.census_compare.specs.Places.{told_at};
-
-    ghost view = { λ s. map (told_at s.nothing s.sections) s.places.items };
-}
 
 // A row without a pattern.
 fn no_row<'a>() -> Row<'a>
@@ -100,71 +77,25 @@ fn keyed_at<'a>(nothing: &Told<'a>, sections: &Sections<'_, 'a>, place: Place) -
     told_under(nothing, nothing.collection, &row)
 }
 
-// Which of two patterns comes first: by their codes, and under one code by their rules.
-fn key_order(told: &Told, other: &Told) -> Ordering
-    ensures { result ≡ key_cmp (key_of told.now) (key_of other.now) }
-{
-    let rules = told.rule.cmp(other.rule);
-    told.code.cmp(other.code).then(rules)
-}
-
-// Which of the patterns at two places comes first.
-fn told_order(nothing: &Told, sections: &Sections, one: &Place, other: &Place) -> Ordering
-    ensures { result ≡ key_cmp (key_of (told_at nothing.now sections.now one.now))
-        (key_of (told_at nothing.now sections.now other.now)) }
-{
-    let told = keyed_at(nothing, sections, *one);
-    key_order(&told, &keyed_at(nothing, sections, *other))
-}
-
-// The order of patterns at places of collections: by their codes, and under one code by their rules.
+/// The patterns of collections that are objects, at the places of their lines.
 #[derive(Drop)]
-struct ByKey<'s, 'b, 'a> {
-    nothing: &'s Told<'a>,
-    sections: &'s Sections<'b, 'a>,
+pub struct InReports<'b, 'a> {
+    sections: Sections<'b, 'a>,
+    // What is there where no pattern is reported. No place has it.
+    nothing: Told<'a>,
 }
 
-impl<'s, 'b, 'a> OrderAtPlaces for ByKey<'s, 'b, 'a> {
-    ghost use Rattle.census_compare.specs.KeyLaws.{keys_at_total};
-    ghost use Rattle.census_compare.specs.Order.{key_cmp, key_of};
+impl<'b, 'a> AtPlaces for InReports<'b, 'a> {
     ghost use Rattle.census_compare.specs.Places.{told_at};
 
-    ghost cmp = { λ by p q. key_cmp (key_of (told_at by.nothing.now by.sections.now p))
-        (key_of (told_at by.nothing.now by.sections.now q)) };
+    ghost told = { λ r place. told_at r.nothing r.sections place };
 
-    ghost total = { λ by. keys_at_total (told_at by.nothing.now by.sections.now) };
-
-    fn order(&self, one: &Place, other: &Place) -> Ordering {
-        told_order(self.nothing, self.sections, one, other)
-    }
-}
-
-// Puts rising places in the order of the codes of their patterns, and of their rules under one code. Patterns with the same
-// code and rule keep their order.
-fn sort_places(nothing: &Told, sections: &Sections, places: &mut [Place])
-    requires { AreRising places.old }
-    ensures same { (key : Key) →
-        filter (has_key key) (map (told_at nothing.now sections.now) places.new)
-        ≡ filter (has_key key) (map (told_at nothing.now sections.now) places.old) }
-    ensures ordered { AreInOrder (map (told_at nothing.now sections.now) places.new) }
-{
-    put_in_order(&ByKey { nothing, sections }, places);
-}
-
-impl<'b, 'a> Tolds<'b, 'a> {
-    /// The number of patterns.
-    pub fn len(&self) -> usize
-        ensures { result ≡ length self.now }
-    {
-        self.places.len()
+    fn told_at(&self, place: Place) -> Told<'_> {
+        told_at(&self.nothing, &self.sections, place)
     }
 
-    /// The pattern at this index.
-    pub fn told(&self, index: usize) -> Told<'a>
-        requires { index < length self.now }
-        ensures { result ≡ slice_index_or self.now index result }
-    {
-        told_at(&self.nothing, &self.sections, self.places[index])
+    fn keyed_at(&self, place: Place) -> Told<'_> {
+        keyed_at(&self.nothing, &self.sections, place)
     }
 }
 
@@ -249,84 +180,17 @@ fn places_in(alloc: Global, nothing: &Told, sections: &Sections) -> Result<Vec<P
     Ok(places)
 }
 
-// Whether the pattern at a place has the code of this one under its rule.
-fn is_same<'a>(
-    nothing: &Told<'a>,
-    sections: &Sections<'_, 'a>,
-    told: &Told<'a>,
-    place: &Place,
-) -> bool
-    ensures { result ≡ has_key (key_of told.now) (told_at nothing.now sections.now place.now) }
-{
-    let other = keyed_at(nothing, sections, *place);
-    told.code == other.code && told.rule == other.rule
-}
-
-// How many places at the start have patterns with the code and the rule of this one.
-fn run_len<'a>(
-    nothing: &Told<'a>,
-    sections: &Sections<'_, 'a>,
-    places: &[Place],
-    told: &Told<'a>,
-) -> usize
-    ensures count { result ≡ prefix_len (has_key (key_of told.now)) (map (told_at nothing.now sections.now) places.now) }
-    ensures within { result ≤ length places.now }
-{
-    for index in 0..places.len() {
-        if !is_same(nothing, sections, told, &places[index]) {
-            return index;
-        }
-    }
-    places.len()
-}
-
-// These places, if they are several.
-fn several_of(places: &[Place]) -> &[Place]
-    ensures { (told : ModelPlace → ModelTold) → map told result.now ≡ several (map told places.now) }
-{
-    if places.len() > 1 { places } else { &[] }
-}
-
-// Of places in order those whose patterns are one object with others.
-fn shared_places<'a>(
-    alloc: Global,
-    nothing: &Told<'a>,
-    sections: &Sections<'_, 'a>,
-    places: &[Place],
-) -> Result<Vec<Place>, AllocError>
-    requires { AreInOrder (map (told_at nothing.now sections.now) places.now) }
-    ensures { IfOk result (λ shared. AreSame (map (told_at nothing.now sections.now) places.now)
-        (map (told_at nothing.now sections.now) shared.items)) }
-{
-    // There is room for all, so that none is moved: memory that is not touched costs nothing.
-    let mut shared = Vec::with_capacity(alloc, places.len())?;
-    let mut at = 0;
-    while at < places.len() {
-        let left = &places[at..];
-        let told = keyed_at(nothing, sections, left[0]);
-        let count = run_len(nothing, sections, left, &told);
-        shared.extend_from_slice(several_of(&left[..count]))?;
-        at += count;
-    }
-    Ok(shared)
-}
-
 /// The patterns of collections that are one object with others, in the order of their codes, and of their rules under one code.
 /// Those with the same code and rule are ordered collection by collection, in the order of the rows. The only error is out of
 /// memory.
-pub fn shared_tolds<'b, 'a>(
+pub fn same_in_reports<'b, 'a>(
     alloc: Global,
     sections: Sections<'b, 'a>,
-) -> Result<Tolds<'b, 'a>, AllocError>
-    ensures { IfOk result (λ tolds. AreSame (flat_map (told_from None) sections.entry) tolds) }
+) -> Result<Tolds<InReports<'b, 'a>>, AllocError>
+    ensures same { IfOk result (λ tolds. AreSame (flat_map (told_from None) sections.entry) tolds) }
+    ensures ordered { IfOk result AreInOrder }
 {
     let nothing = no_told();
-    let mut places = places_in(alloc, &nothing, &sections)?;
-    sort_places(&nothing, &sections, places.as_mut_slice());
-    let shared = shared_places(alloc, &nothing, &sections, places.as_slice())?;
-    Ok(Tolds {
-        sections,
-        places: shared,
-        nothing,
-    })
+    let places = places_in(alloc, &nothing, &sections)?;
+    shared_tolds(alloc, InReports { sections, nothing }, places)
 }
