@@ -16,9 +16,7 @@ use Rattle.census_errors.specs.declared.draw_error.DrawError.TheVariants as draw
 use Rattle.census_errors.specs.declared.run_error.RunError.{RunError}
 use Rattle.census_errors.specs.declared.run_error.RunError.TheVariants as run
 use Rattle.census_errors.specs.declared.error.CommandError.{CommandError}
-use Rattle.census_errors.specs.declared.error.CommandError.TheVariants.{Run, Advance, Draw, Reports, Arguments, Memory, Write}
-use Rattle.census_reports.specs.declared.error.ReportsError.{ReportsError}
-use Rattle.census_reports.specs.declared.error.ReportsError.TheVariants as reports
+use Rattle.census_errors.specs.declared.error.CommandError.TheVariants.{Run, Advance, Draw, Arguments, Memory, Write}
 
 abbrev pub code_message : CodeFault → List ℕ
 code_message code.Empty = numbered (codes "code") 1 None
@@ -81,21 +79,10 @@ draw_told (draw.Code fault) = (code_message fault, 1)
 draw_told draw.Memory = no_memory
 draw_told draw.Write = unwritten
 
-abbrev pub reports_told : ReportsError → Told
-reports_told (reports.Claims line) = (codes "claim fault at line " ++ decimal line, 1)
-reports_told (reports.Names line) = (codes "names fault at line " ++ decimal line, 1)
-reports_told (reports.Fault text line) = (codes "report fault at line " ++ decimal line, 1)
-reports_told (reports.TooMany report) = (codes "too many collections at report " ++ decimal report, 1)
-reports_told reports.TooLong = too_long
-reports_told reports.Memory = no_memory
-reports_told reports.Read = unread
-reports_told reports.Write = unwritten
-
 abbrev pub error_told : CommandError → Told
 error_told (Run error) = run_told error
 error_told (Advance error) = advance_told error
 error_told (Draw error) = draw_told error
-error_told (Reports error) = reports_told error
 error_told Arguments = (codes "bad command line", 2)
 error_told Memory = no_memory
 error_told Write = unwritten

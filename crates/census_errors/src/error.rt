@@ -5,13 +5,12 @@ ghost use Rattle.census_errors.specs.Messages.{advance_told, draw_told, run_stat
 use crate::advance_error::AdvanceError;
 use crate::draw_error::DrawError;
 use crate::run_error::RunError;
-use census_reports::ReportsError;
 use std::alloc::AllocError;
 use std::io;
 use std::io::ErrorKind;
 use thiserror::Error;
 
-/// Why the program does not do what its arguments ask for. Its text is the line on standard error, without `census: `.
+/// Why the program does not do what its arguments ask for, where that is nothing that is made of reports. Its text is the line on standard error, without `census: `.
 #[derive(Clone, Copy, Debug, PartialEq, Eq, Drop, Error)]
 pub enum CommandError {
     #[error("{0}")]
@@ -20,8 +19,6 @@ pub enum CommandError {
     Advance(AdvanceError),
     #[error("{0}")]
     Draw(DrawError),
-    #[error("{0}")]
-    Reports(ReportsError),
     /// An argument is not text.
     #[error("bad command line")]
     Arguments,
@@ -63,17 +60,6 @@ impl From<DrawError> for CommandError {
 
     fn from(error: DrawError) -> CommandError {
         CommandError::Draw(error)
-    }
-}
-
-impl From<ReportsError> for CommandError {
-    ghost use Rattle.std.specs.Prelude.{◌≡◌};
-    ghost use Rattle.census_errors.specs.declared.error.CommandError.TheVariants.{Reports};
-
-    ghost from_gives = { λ error joined. joined ≡ Reports error };
-
-    fn from(error: ReportsError) -> CommandError {
-        CommandError::Reports(error)
     }
 }
 
@@ -143,7 +129,6 @@ impl CommandError {
             CommandError::Run(error) => run_status(error),
             CommandError::Advance(error) => advance_status(error),
             CommandError::Draw(error) => draw_status(error),
-            CommandError::Reports(error) => error.status(),
             CommandError::Arguments => 2,
             CommandError::Memory => 3,
             CommandError::Write => 4,

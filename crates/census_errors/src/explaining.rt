@@ -8,13 +8,12 @@ use crate::run_error::RunError;
 use crate::saying::Saying;
 use census_bundle::AddFault;
 use census_cli::Request;
-use census_faults::{Fault, Spot, rule_fault, spot_of_bundle, spot_of_code};
-use census_reports::ReportsError;
+use census_faults::{Fault, Spot, rule_fault, sentence, spot_of_bundle, spot_of_code};
 
 // A fault at this place of what is no file, or of a file that is not known.
 fn at<'a>(fault: Fault, spot: Spot) -> Saying<'a> {
     Saying {
-        fault,
+        sentence: sentence(fault),
         name: None,
         spot,
         word: None,
@@ -25,7 +24,7 @@ fn at<'a>(fault: Fault, spot: Spot) -> Saying<'a> {
 fn of_file<'a>(fault: Fault, file: Option<&'a str>, spot: Spot) -> Saying<'a> {
     match file {
         Some(file) => Saying {
-            fault,
+            sentence: sentence(fault),
             name: Some(file.as_bytes()),
             spot,
             word: None,
@@ -67,21 +66,19 @@ fn draw_saying<'a>(code: &[u8], rule: &[u8], error: DrawError) -> Saying<'a> {
     }
 }
 
-/// What is said of an error of what is made of the reports of these files.
-pub fn reports_saying<'a>(files: &[&'a str], error: ReportsError) -> Saying<'a> {
-    match error {
-        ReportsError::Fault { text, line } => {
-            // (texts are numbered from 1)
-            let file = file_of(files.get(text.saturating_sub(1)).copied());
-            of_file(Fault::Report, file, Spot::Line(line as u64))
-        }
-        ReportsError::Claims { line } => at(Fault::Claims, Spot::Line(line as u64)),
-        ReportsError::Names { line } => at(Fault::Names, Spot::Line(line as u64)),
-        ReportsError::TooMany { .. } => at(Fault::Folder(AddFault::TooMany), Spot::Nowhere),
-        ReportsError::TooLong => at(Fault::TooLong, Spot::Nowhere),
-        ReportsError::Memory => at(Fault::Memory, Spot::Nowhere),
-        ReportsError::Read => at(Fault::Read, Spot::Nowhere),
-        ReportsError::Write => at(Fault::Write, Spot::Nowhere),
+// The file of a request for `advance`, where it names one.
+fn advanced<'r>(request: &'r Request<'_>) -> Option<&'r str> {
+    match request {
+        Request::Advance { file, .. } => file_of(*file),
+        _ => None,
+    }
+}
+
+// What is said of an error of a request for `draw`.
+fn drawing<'r>(request: &'r Request<'_>, error: DrawError) -> Saying<'r> {
+    match request {
+        Request::Draw { code, rule } => draw_saying(code.as_bytes(), rule.as_bytes(), error),
+        _ => draw_saying(b"", b"", error),
     }
 }
 
@@ -89,15 +86,8 @@ pub fn reports_saying<'a>(files: &[&'a str], error: ReportsError) -> Saying<'a> 
 pub fn saying_of<'r>(request: &'r Request<'_>, error: CommandError) -> Saying<'r> {
     match error {
         CommandError::Run(error) => run_saying(error),
-        CommandError::Advance(error) => match request {
-            Request::Advance { file, .. } => advance_saying(file_of(*file), error),
-            _ => advance_saying(None, error),
-        },
-        CommandError::Draw(error) => match request {
-            Request::Draw { code, rule } => draw_saying(code.as_bytes(), rule.as_bytes(), error),
-            _ => draw_saying(b"", b"", error),
-        },
-        CommandError::Reports(error) => reports_saying(&[], error),
+        CommandError::Advance(error) => advance_saying(advanced(request), error),
+        CommandError::Draw(error) => drawing(request, error),
         CommandError::Arguments => at(Fault::Arguments, Spot::Nowhere),
         CommandError::Memory => at(Fault::Memory, Spot::Nowhere),
         CommandError::Write => at(Fault::Write, Spot::Nowhere),

@@ -1,7 +1,7 @@
 //! The line on standard error for each error.
 ghost use Rattle.std.specs.Prelude.{◌≡◌, ◌≤◌, ◌++◌, decimal, length};
 ghost use Rattle.census_errors.specs.Messages.{advance_told, bundle_message, code_message, draw_told};
-ghost use Rattle.census_errors.specs.Messages.{error_line, error_told, folder_message, reports_told, run_told};
+ghost use Rattle.census_errors.specs.Messages.{error_line, error_told, folder_message, run_told};
 
 use crate::advance_error::AdvanceError;
 use crate::draw_error::DrawError;
@@ -10,7 +10,6 @@ use crate::run_error::RunError;
 use arrayvec::ArrayString;
 use census_bundle::{AddFault, BundleFault};
 use census_faults::{Message, fault_name, message, numbered};
-use census_reports::ReportsError;
 use itoa::Buffer;
 use life_cells::CodeFault;
 use life_text::rule_number;
@@ -18,8 +17,8 @@ use life_text::rule_number;
 /// The most bytes of a line.
 const LINE_LIMIT: usize = 80;
 
-// The message that consists of these words and a number after them.
-fn message_at(words: &str, place: usize) -> Message
+/// The message that consists of these words and a number after them.
+pub fn message_at(words: &str, place: usize) -> Message
     requires { length words.now ≤ 40 }
     ensures { result.bytes ≡ words.now ++ decimal place }
 {
@@ -102,21 +101,6 @@ fn run_message(fault: RunError) -> Message
     }
 }
 
-fn reports_message(fault: ReportsError) -> Message
-    ensures { result.bytes ≡ (reports_told fault).0 }
-{
-    match fault {
-        ReportsError::Fault { line, .. } => message_at("report fault at line ", line),
-        ReportsError::Claims { line } => message_at("claim fault at line ", line),
-        ReportsError::Names { line } => message_at("names fault at line ", line),
-        ReportsError::TooMany { report } => message_at("too many collections at report ", report),
-        ReportsError::TooLong => message("input too long"),
-        ReportsError::Memory => message("out of memory"),
-        ReportsError::Read => message("read failed"),
-        ReportsError::Write => message("write failed"),
-    }
-}
-
 fn error_message(fault: CommandError) -> Message
     ensures { result.bytes ≡ (error_told fault).0 }
 {
@@ -127,7 +111,6 @@ fn error_message(fault: CommandError) -> Message
         CommandError::Run(error) => run_message(error),
         CommandError::Advance(error) => advance_message(error),
         CommandError::Draw(error) => draw_message(error),
-        CommandError::Reports(error) => reports_message(error),
     }
 }
 

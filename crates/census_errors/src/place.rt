@@ -5,8 +5,7 @@ use crate::run_error::RunError;
 use arrayvec::ArrayString;
 use census_bundle::{Bundle, Text, Ticket};
 use census_faults::RunFault;
-use census_folders::{Cause, Shelf, ShelfFault, Unread, is_input, read_file};
-use census_reports::ReportsError;
+use census_folders::{Cause, Unread};
 use itoa::Buffer;
 use std::alloc::Global;
 
@@ -110,36 +109,4 @@ pub fn file_place(alloc: Global, error: AdvanceError) -> Place {
         },
         _ => Place::nowhere(),
     }
-}
-
-/// The place of what can't be read or is refused among the reports of these files, as far as a second look at the shelf finds it,
-/// and what the system says of it; where faults are not explained, nowhere.
-pub fn reports_place_if<S: Shelf>(
-    explain: bool,
-    shelf: &S,
-    alloc: Global,
-    files: &[&str],
-    error: ReportsError,
-) -> Place {
-    let is_of_file = error == ReportsError::Read || error == ReportsError::TooLong;
-    if !explain || !is_of_file {
-        return Place::nowhere();
-    }
-    for file in files {
-        if is_input(file) {
-            continue;
-        }
-        let Err(fault) = read_file(shelf, alloc, file.as_bytes()) else {
-            continue;
-        };
-        let path = Text::of(alloc, file.as_bytes()).ok();
-        match (error, fault) {
-            (ReportsError::Read, ShelfFault::Unread(why)) => {
-                return Place::unread(alloc, path, why);
-            }
-            (ReportsError::TooLong, ShelfFault::TooLong) => return Place::at(path),
-            _ => {}
-        }
-    }
-    Place::nowhere()
 }

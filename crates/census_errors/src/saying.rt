@@ -17,10 +17,10 @@ use watched::Output;
 // The most bytes of a line and a column: two numbers of 20 digits and two `:`.
 const SPOT_LIMIT: usize = 48;
 
-/// What is said of an error: its fault, the place of that, as far as it is known, and the system's word.
+/// What is said of an error: the sentence for its fault, the place of that, as far as it is known, and the system's word.
 #[derive(Clone, Copy)]
 pub struct Saying<'a> {
-    pub fault: Fault,
+    pub sentence: &'static str,
     /// The file or the folder that has it.
     pub name: Option<&'a [u8]>,
     /// Its place there.
@@ -32,10 +32,10 @@ pub struct Saying<'a> {
 impl<'a> Saying<'a> {
     /// What is said of the error at this place, as far as the place is known. What the place leaves open is as in `self`.
     pub fn at(self, place: &'a Place) -> Saying<'a> {
-        let fault = if place.is_file {
-            Fault::FileForFolder
+        let sentence = if place.is_file {
+            sentence(Fault::FileForFolder)
         } else {
-            self.fault
+            self.sentence
         };
         let name = match &place.path {
             Some(path) => Some(path.as_slice()),
@@ -46,7 +46,7 @@ impl<'a> Saying<'a> {
             None => self.word,
         };
         Saying {
-            fault,
+            sentence,
             name,
             spot: self.spot,
             word,
@@ -68,8 +68,8 @@ fn tell_byte<E: Write>(byte: u8, errors: &mut Output<E>)
     }
 }
 
-// Writes a name as it is shown.
-fn tell_bytes<E: Write>(name: &[u8], errors: &mut Output<E>)
+/// Writes a name as it is shown.
+pub fn tell_bytes<E: Write>(name: &[u8], errors: &mut Output<E>)
     ensures { PutsMoreBytes (printable_text name.now) errors.old.stream errors.new.stream }
 {
     for byte in name {
@@ -102,8 +102,8 @@ fn part(is_there: bool, text: &'static str) -> &'static [u8] {
     if is_there { text.as_bytes() } else { b"" }
 }
 
-// Writes bytes as they are shown.
-fn tell_shown<E: Write>(bytes: &[u8], errors: &mut Output<E>)
+/// Writes bytes as they are shown.
+pub fn tell_shown<E: Write>(bytes: &[u8], errors: &mut Output<E>)
     ensures { TellsWords errors.old.stream errors.new.stream }
 {
     tell_bytes(bytes, errors);
@@ -126,7 +126,7 @@ fn tell_fault<E: Write>(saying: &Saying<'_>, errors: &mut Output<E>)
     ensures { TellsWords errors.old.stream errors.new.stream }
 {
     let has_word = saying.word.is_some();
-    tell_shown(sentence(saying.fault).as_bytes(), errors);
+    tell_shown(saying.sentence.as_bytes(), errors);
     tell_shown(part(has_word, " ("), errors);
     tell_shown(saying.word.unwrap_or(b""), errors);
     tell_shown(part(has_word, ")"), errors);

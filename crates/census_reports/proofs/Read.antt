@@ -10,9 +10,11 @@ use Rattle.census_folders.specs.Told.{Told}
 use Rattle.census_folders.specs.Hearing.{Hears, words_or_input}
 use Rattle.watched.specs.Streams.{Reader}
 use Rattle.census_folders.specs.declared.heard.Heard.TheVariants.{Text}
-use Rattle.census_reports.specs.Texts.{FitTogether, ReadsEach, RefusesNext, RefusesWord, StopsReadingTexts, left_behind}
+use Rattle.census_reports.specs.Texts.{FitTogether, PassesLimit, ReadsEach, RefusesNext, RefusesWord, StopsReadingTexts, left_behind}
 use Rattle.census_reports.specs.declared.error.ReportsError.{ReportsError}
-use Rattle.census_reports.specs.declared.error.ReportsError.TheVariants.{Claims, Names, Fault, TooMany, TooLong, Memory, Read, Write}
+use Rattle.census_reports.specs.declared.error.ReportsError.TheVariants.{Unread}
+use Rattle.census_folders.specs.declared.unread.ShelfFault.{ShelfFault}
+use Rattle.census_folders.specs.declared.unread.ShelfFault.TheVariants.{TooLong}
 
 abbrev pub words_of : List (Bor (List ℕ)) → List (List ℕ)
 words_of words = map (λ s. s.now) words
@@ -30,18 +32,6 @@ some_text held [] [] a b read = absurd read
 some_text held [] (t ∷ texts) a b read = omega arith
 some_text held (w ∷ words) [] a b read = absurd read
 some_text held (w ∷ words) (t ∷ texts) a b read = omega arith
-
--- a text that was not read was not taken
-pub next_refused : (error : ReportsError) (limit : Option ℕ) (texts : List (List ℕ)) (held : List ℕ → Told) (word : List ℕ) (a b : Reader) → RefusesWord error held word a b
-    → RefusesNext error limit texts held word a b
-next_refused (Claims line) limit texts held word a b why = why
-next_refused (Names line) limit texts held word a b why = why
-next_refused (Fault number line) limit texts held word a b why = why
-next_refused (TooMany report) limit texts held word a b why = why
-next_refused TooLong limit texts held word a b why = inl why
-next_refused Memory limit texts held word a b why = why
-next_refused Read limit texts held word a b why = why
-next_refused Write limit texts held word a b why = why
 
 -- # Limits
 
@@ -86,8 +76,8 @@ left_none (Some most) left texts text h e fits =
     absurd (cc)
 
 pub passes_limit : (limit left : Option ℕ) (texts : List (List ℕ)) (text : List ℕ) (held : List ℕ → Told) (word : List ℕ) (a b : Reader) → Left limit texts left
-    → Hears held word (Text text) a b → b.failed ≡ false → left_behind left (length text) ≡ None → RefusesNext TooLong limit texts held word a b
-passes_limit limit left texts text held word a b h hears sound e = inr (record { text = text; hears = hears; passes = left_none limit left texts text h e; sound = sound })
+    → Hears held word (Text text) a b → b.failed ≡ false → left_behind left (length text) ≡ None → PassesLimit limit texts held word a b
+passes_limit limit left texts text held word a b h hears sound e = record { text = text; hears = hears; passes = left_none limit left texts text h e; sound = sound }
 
 -- # One more text
 
@@ -116,12 +106,13 @@ module _ (held : List ℕ → Told) (words : List (Bor (List ℕ))) (i : ℕ) (d
   }
 
   -- the text of the next word was not read
-  pub stops_word : (error : ReportsError) (limit : Option ℕ) (c : Reader) → FitTogether limit texts → RefusesWord error held (get_or words i d).now b c
-      → StopsReadingTexts error limit held (words_of words) a c
-  stops_word error limit c fits why = stops_reading error limit c fits (next_refused error limit texts held (get_or words i d).now b c why)
+  pub stops_word : (number : ℕ) (fault : ShelfFault) (limit : Option ℕ) (c : Reader) → number ≡ length texts + 1 → FitTogether limit texts
+      → RefusesWord fault held (get_or words i d).now b c → StopsReadingTexts (Unread number fault) limit held (words_of words) a c
+  stops_word number fault limit c is fits why = stops_reading (Unread number fault) limit c fits (is, inl why)
 
   -- with the next text they exceed the limit
-  pub stops_passing : (limit left : Option ℕ) (text : List ℕ) (c : Reader) → Left limit texts left → Hears held (get_or words i d).now (Text text) b c → c.failed ≡ false
-      → left_behind left (length text) ≡ None → StopsReadingTexts TooLong limit held (words_of words) a c
-  stops_passing limit left text c h hears sound e =
-      stops_reading TooLong limit c h.fits (passes_limit limit left texts text held (get_or words i d).now b c h hears sound e)
+  pub stops_passing : (number : ℕ) (limit left : Option ℕ) (text : List ℕ) (c : Reader) → number ≡ length texts + 1 → Left limit texts left
+      → Hears held (get_or words i d).now (Text text) b c → c.failed ≡ false → left_behind left (length text) ≡ None
+      → StopsReadingTexts (Unread number TooLong) limit held (words_of words) a c
+  stops_passing number limit left text c is h hears sound e =
+      stops_reading (Unread number TooLong) limit c h.fits (is, inr (refl, passes_limit limit left texts text held (get_or words i d).now b c h hears sound e))

@@ -1,5 +1,5 @@
 -- What is made of reports.
-use Rattle.std.specs.Prelude.{◌≡◌, ◌⊎◌, ◌↔◌, ℕ, Bool, false, List, [], Option, Result, Ok, Err, Some, None}
+use Rattle.std.specs.Prelude.{◌≡◌, ◌⊎◌, ℕ, Bool, false, List, Option, Result, Ok, Err, Some, None}
 use Rattle.std.specs.Borrow.{Bor}
 use Rattle.std.specs.Result.{result_map_both}
 use Rattle.watched.specs.Streams.{PutsMoreBytes, Sink}
@@ -30,14 +30,14 @@ names_given None = Ok None
 names_given (Some given) = result_map_both Some (λ line. line) (names_in given.now)
 
 -- Whether what is looked for was found, patterns that are one object or what does not agree with claims, and what is written, of
--- the rows of reports that follow one another. Of what is found this does not say how it is written.
+-- the rows of reports that follow one another. Of what does not agree this does not say how it is written.
 abbrev pub IsMade : Form → List Row → Bool → List ℕ → Type 0
 IsMade Merged rows found text = (found ≡ false) × (first_excess 1 no_sums rows ≡ None) × (text ≡ text_of (merged_rows rows))
 IsMade (Table subject format given) rows found text =
-    (found ≡ false) × (names : Named) × (listing : Listing) × (names_given given ≡ Ok names) × IsListingOf subject rows listing
+    (found ≡ false) × (names : Named) × (listing : Listing) × (names_given given ≡ Ok names) × IsListingOf subject names rows listing
     × (text ≡ listing_text format names listing)
 IsMade (Page options given) rows found text = (found ≡ false) × (names : Named) × (names_given given ≡ Ok names) × IsPageOf options names rows text
-IsMade (Same json) rows found text = FindsSame (tolds_of rows) found × ((text ≡ []) ↔ (found ≡ false))
+IsMade (Same json) rows found text = FindsSame json (tolds_of rows) found text
 IsMade (Verdict claims) rows found text =
     (taken : Taken) × (claims_in claims.now ≡ Ok taken) × IsVerdict taken.claims (entries_of rows) found text
 
@@ -66,7 +66,7 @@ IsInPieces _ = Unit {0}
 -- Why nothing is written of rows, or only a prefix of what is written piece by piece: a text of claims or of names has its first
 -- fault on this line, or with this report there are too many collections for one report.
 abbrev pub RefusesRows : ReportsError → Form → List Row → Type 0
-RefusesRows (Claims line) (Verdict claims) rows = claims_in claims.now ≡ Err line
+RefusesRows (Claims line is_named) (Verdict claims) rows = claims_in claims.now ≡ Err line
 RefusesRows (Names line) (Table subject format given) rows = names_given given ≡ Err line
 RefusesRows (Names line) (Page options given) rows = names_given given ≡ Err line
 RefusesRows (TooMany report) Merged rows = first_excess 1 no_sums rows ≡ Some report
@@ -84,10 +84,10 @@ SaysOfTexts form texts before after = OfRows texts (λ rows. SaysOfRows form row
 
 -- The same of texts: one may also have its first wrong line, and where there are too many collections each is a report, or several.
 abbrev pub RefusesTexts : ReportsError → Form → List (List ℕ) → Type 0
-RefusesTexts (Claims line) (Verdict claims) texts = claims_in claims.now ≡ Err line
+RefusesTexts (Claims line is_named) (Verdict claims) texts = claims_in claims.now ≡ Err line
 RefusesTexts (Names line) (Table subject format given) texts = names_given given ≡ Err line
 RefusesTexts (Names line) (Page options given) texts = names_given given ≡ Err line
-RefusesTexts (Fault number line) form texts = HasReportFault number line texts
+RefusesTexts (Fault number line kind) form texts = HasReportFault number line texts
 RefusesTexts (TooMany report) Merged texts = (rows : List Row) × AreRowsOf rows texts × (first_excess 1 no_sums rows ≡ Some report)
 RefusesTexts Memory form texts = Unit {0}
 RefusesTexts error form texts = ⊥

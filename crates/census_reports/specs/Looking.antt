@@ -16,7 +16,7 @@ OfLookedAt cut texts is = (looked : List (List ℕ)) × (cuts : List Cut) × Are
 
 -- why nothing is written of texts, or only a prefix of what is written piece by piece: where texts are mended, one can't be
 abbrev pub RefusesRead : ReportsError → Bool → Form → List (List ℕ) → Type 0
-RefusesRead (Fault number line) true form texts = HasBrokenText number line texts
+RefusesRead (Fault number line kind) true form texts = HasBrokenText number line texts
 RefusesRead error cut form texts = OfLookedAt cut texts (λ looked. RefusesTexts error form looked)
 
 -- what is made of the texts was written, whether what was looked for was found, and where they were cut

@@ -34,6 +34,6 @@ pub record HasBrokenText (number line : ℕ) (texts : List (List ℕ)) : Type 0 
 
 -- why texts are not mended
 abbrev pub LackMending : ReportsError → List (List ℕ) → Type 0
-LackMending (Fault number line) texts = HasBrokenText number line texts
+LackMending (Fault number line kind) texts = HasBrokenText number line texts
 LackMending Memory texts = Unit {0}
 LackMending error texts = ⊥

@@ -6,7 +6,7 @@ use Rattle.watched.specs.Streams.{Reader, Sink, Streams}
 use Rattle.census_reports.specs.Looking.{FailsRead, SaysRead, WritesRead}
 use Rattle.census_reports.specs.Texts.{FitTogether, ReadsEach, StopsReadingTexts}
 use Rattle.census_reports.specs.declared.error.ReportsError.{ReportsError}
-use Rattle.census_reports.specs.declared.error.ReportsError.TheVariants.{TooLong, Memory, Read}
+use Rattle.census_reports.specs.declared.error.ReportsError.TheVariants.{Unread, Memory}
 use Rattle.census_reports.specs.declared.form.Form.{Form}
 use Rattle.census_reports.specs.declared.reading.Reading.{Reading}
 use Rattle.census_reports.specs.declared.reading.Written.{Written}
@@ -41,8 +41,8 @@ StopsReading error reading held words before after = StopsReadingTexts error rea
 
 -- Why not all was written. Where the writer didn't fail, nothing was, or out of memory not all of what is written piece by piece.
 abbrev pub ReportsFail : ReportsError → Form → Reading → (List ℕ → Told) → List (List ℕ) → Streams → Streams → Type 0
-ReportsFail TooLong form reading held words before after = StopsReading TooLong reading held words before after × WritesNothing before after
-ReportsFail Read form reading held words before after = StopsReading Read reading held words before after × WritesNothing before after
+ReportsFail (Unread text fault) form reading held words before after =
+    StopsReading (Unread text fault) reading held words before after × WritesNothing before after
 ReportsFail Memory form reading held words before after =
     (after.input.failed ≡ false)
     × (WritesNothing before after ⊎ OfTexts reading held words before after (λ texts. FailsRead Memory reading.cut form texts before.output after.output))

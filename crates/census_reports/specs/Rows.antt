@@ -28,6 +28,6 @@ pub record HasReportFault (number line : ℕ) (texts : List (List ℕ)) : Type 0
 
 -- why texts have no rows
 abbrev pub LackRows : ReportsError → List (List ℕ) → Type 0
-LackRows (Fault number line) texts = HasReportFault number line texts
+LackRows (Fault number line kind) texts = HasReportFault number line texts
 LackRows Memory texts = Unit {0}
 LackRows error texts = ⊥

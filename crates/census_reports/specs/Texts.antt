@@ -8,8 +8,10 @@ use Rattle.census_folders.specs.Told.{Told}
 use Rattle.census_folders.specs.Hearing.{Hears}
 use Rattle.watched.specs.Streams.{Reader}
 use Rattle.census_folders.specs.declared.heard.Heard.TheVariants as heard
+use Rattle.census_folders.specs.declared.unread.ShelfFault.{ShelfFault}
+use Rattle.census_folders.specs.declared.unread.ShelfFault.TheVariants as shelf
 use Rattle.census_reports.specs.declared.error.ReportsError.{ReportsError}
-use Rattle.census_reports.specs.declared.error.ReportsError.TheVariants.{TooLong, Memory, Read}
+use Rattle.census_reports.specs.declared.error.ReportsError.TheVariants.{Unread, Memory}
 
 -- Each word has its text, which was read after that of the word before it.
 abbrev pub ReadsEach : (List ℕ → Told) → List (List ℕ) → List (List ℕ) → Reader → Reader → Type 0
@@ -20,11 +22,10 @@ ReadsEach held _ _ before after = ⊥
 
 -- Why the text of a word was not read. Out of memory, standard input may have lost at most one byte more than one text may have,
 -- and has not failed.
-abbrev pub RefusesWord : ReportsError → (List ℕ → Told) → List ℕ → Reader → Reader → Type 0
-RefusesWord Read held word before after = Hears held word (heard.Unread None) before after
-RefusesWord TooLong held word before after = Hears held word heard.TooLong before after × (after.failed ≡ false)
-RefusesWord Memory held word before after = ConsumesAtMost (input_limit + 1) before.unread after.unread × (after.failed ≡ false)
-RefusesWord error held word before after = ⊥
+abbrev pub RefusesWord : ShelfFault → (List ℕ → Told) → List ℕ → Reader → Reader → Type 0
+RefusesWord (shelf.Unread why) held word before after = Hears held word (heard.Unread None) before after
+RefusesWord shelf.TooLong held word before after = Hears held word heard.TooLong before after × (after.failed ≡ false)
+RefusesWord shelf.Memory held word before after = ConsumesAtMost (input_limit + 1) before.unread after.unread × (after.failed ≡ false)
 
 -- all together have at most `limit` bytes, where that is limited
 abbrev pub FitTogether : Option ℕ → List (List ℕ) → Type 0
@@ -44,8 +45,10 @@ pub record PassesLimit (limit : Option ℕ) (texts : List (List ℕ)) (held : Li
 
 -- why the text of a word was not taken after these texts
 abbrev pub RefusesNext : ReportsError → Option ℕ → List (List ℕ) → (List ℕ → Told) → List ℕ → Reader → Reader → Type 0
-RefusesNext TooLong limit texts held word before after = RefusesWord TooLong held word before after ⊎ PassesLimit limit texts held word before after
-RefusesNext error limit texts held word before after = RefusesWord error held word before after
+RefusesNext (Unread text fault) limit texts held word before after =
+    (text ≡ length texts + 1) × (RefusesWord fault held word before after ⊎ ((fault ≡ shelf.TooLong) × PassesLimit limit texts held word before after))
+RefusesNext Memory limit texts held word before after = RefusesWord shelf.Memory held word before after
+RefusesNext error limit texts held word before after = ⊥
 
 -- The texts of the words before some place were read. That of the word at this place was not taken, for this error.
 pub record StopsReadingTexts (error : ReportsError) (limit : Option ℕ) (held : List ℕ → Told) (words : List (List ℕ)) (before after : Reader) : Type 0 where

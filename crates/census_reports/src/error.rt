@@ -1,11 +1,12 @@
 //! Why reports are not written.
 ghost use Rattle.std.specs.Prelude.{◌≡◌};
-ghost use Rattle.census_reports.specs.Errors.{status_of};
+ghost use Rattle.census_reports.specs.Errors.{status_of, unread_status};
 
+use crate::kind::TextKind;
 use census_folders::ShelfFault;
 use std::alloc::{AllocError, AllocFailed};
 use thiserror::Error;
-use watched::{Failed, ReadFault};
+use watched::Failed;
 
 /// Why what was asked for of reports was not written whole.
 #[derive(Clone, Copy, Debug, PartialEq, Eq, Drop, Error)]
@@ -15,6 +16,8 @@ pub enum ReportsError {
     Claims {
         /// The line on which the first row that is wrong begins, from 1.
         line: usize,
+        /// Whether that is the first row, and has a column of names.
+        is_named: bool,
     },
     /// The text of the names is not one of names.
     #[error("names fault at line {line}")]
@@ -29,6 +32,8 @@ pub enum ReportsError {
         text: usize,
         /// The first of its lines that is wrong, from 1, or the line that is missing after its last.
         line: usize,
+        /// What it is instead, as far as that is known.
+        kind: TextKind,
     },
     /// There are more than 65,535 collections.
     #[error("too many collections at report {report}")]
@@ -36,14 +41,15 @@ pub enum ReportsError {
         /// The first report with which there are too many, from 1, of all the reports of all the texts.
         report: usize,
     },
-    /// A file or standard input has more bytes than one text may have.
-    #[error("input too long")]
-    TooLong,
+    /// The text of a file or of standard input was not read, or takes all texts past their limit.
+    #[error("{fault}")]
+    Unread {
+        /// The number of the text, from 1.
+        text: usize,
+        fault: ShelfFault,
+    },
     #[error("out of memory")]
     Memory,
-    /// A file can't be read, or standard input has failed.
-    #[error("read failed")]
-    Read,
     /// Standard output has failed.
     #[error("write failed")]
     Write,
@@ -71,36 +77,6 @@ impl<T: Drop> From<AllocFailed<T>> for ReportsError {
     }
 }
 
-impl From<ReadFault> for ReportsError {
-    ghost use Rattle.std.specs.Prelude.{◌≡◌};
-    ghost use Rattle.census_reports.specs.Errors.{error_of_read};
-
-    ghost from_gives = { λ fault error. error ≡ error_of_read fault };
-
-    fn from(fault: ReadFault) -> ReportsError {
-        match fault {
-            ReadFault::Read => ReportsError::Read,
-            ReadFault::TooLong => ReportsError::TooLong,
-            ReadFault::Memory => ReportsError::Memory,
-        }
-    }
-}
-
-impl From<ShelfFault> for ReportsError {
-    ghost use Rattle.std.specs.Prelude.{◌≡◌};
-    ghost use Rattle.census_reports.specs.Errors.{error_of_shelf};
-
-    ghost from_gives = { λ fault error. error ≡ error_of_shelf fault };
-
-    fn from(fault: ShelfFault) -> ReportsError {
-        match fault {
-            ShelfFault::Unread(_) => ReportsError::Read,
-            ShelfFault::TooLong => ReportsError::TooLong,
-            ShelfFault::Memory => ReportsError::Memory,
-        }
-    }
-}
-
 impl From<Failed> for ReportsError {
     ghost use Rattle.std.specs.Prelude.{◌≡◌};
     ghost use Rattle.census_reports.specs.declared.error.ReportsError.TheVariants.{Write};
@@ -113,6 +89,17 @@ impl From<Failed> for ReportsError {
     }
 }
 
+// The exit status where a text is not read.
+fn unread_status(fault: ShelfFault) -> u8
+    ensures { result ≡ unread_status fault }
+{
+    match fault {
+        ShelfFault::TooLong => 1,
+        ShelfFault::Memory => 3,
+        ShelfFault::Unread(_) => 4,
+    }
+}
+
 impl ReportsError {
     /// The exit status: 1 where what was read is refused, 3 out of memory, 4 where a file or a stream has failed.
     pub fn status(self) -> u8
@@ -122,10 +109,10 @@ impl ReportsError {
             ReportsError::Claims { .. }
             | ReportsError::Names { .. }
             | ReportsError::Fault { .. }
-            | ReportsError::TooMany { .. }
-            | ReportsError::TooLong => 1,
+            | ReportsError::TooMany { .. } => 1,
+            ReportsError::Unread { fault, .. } => unread_status(fault),
             ReportsError::Memory => 3,
-            ReportsError::Read | ReportsError::Write => 4,
+            ReportsError::Write => 4,
         }
     }
 }

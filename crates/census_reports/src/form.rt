@@ -7,6 +7,7 @@ ghost use Rattle.census_reports.specs.Forms.{MaySay, SaysOfRows, names_given};
 ghost use Rattle.census_reports.specs.Written.{FailsRows, WritesRows};
 
 use crate::error::ReportsError;
+use crate::kind::has_names;
 use census_compare::{Claims, compared_line, counted_note, put_same, put_verdict, read_claims};
 use census_facts::{Names, read_names};
 use census_page::{PageOptions, put_page};
@@ -63,7 +64,7 @@ fn write_named<O: Write>(
         (λ error. FailsRows error (Form.Table subject format text.entry) rows.now
         output.old.stream output.new.stream) }
 {
-    let table = table_of(alloc, subject, rows)?;
+    let table = table_of(alloc, subject, names, rows)?;
     let mut block = Block::new(alloc);
     let told = put_listing(alloc, format, names, &table, &mut block, output);
     match send(&mut block, output) {
@@ -230,6 +231,9 @@ pub fn write_verdict<O: Write, E: Write>(
             errors.tell(note.as_slice());
             write_disagreement(alloc, text, &claims, rows, output)
         }
-        Err(line) => Err(ReportsError::Claims { line }),
+        Err(line) => Err(ReportsError::Claims {
+            line,
+            is_named: line == 1 && has_names(text),
+        }),
     }
 }

@@ -6,6 +6,7 @@
 
 mod error;
 mod form;
+mod kind;
 mod lawful;
 mod limit;
 mod looking;
@@ -17,6 +18,7 @@ mod words;
 
 pub use error::ReportsError;
 pub use form::Form;
+pub use kind::TextKind;
 pub use lawful::merge_reports;
 pub use reading::{Reading, Written};
 pub use reports::write_reports;

@@ -4,6 +4,7 @@ ghost use Rattle.census_reports.specs.Looking.{RefusesRead};
 ghost use Rattle.census_reports.specs.Mending.{AreMended, HasBrokenText, LackMending};
 
 use crate::error::ReportsError;
+use crate::kind::kind_of;
 use census_folders::Bytes;
 use census_merge::{Cut, Mended, mend};
 use std::alloc::{AllocError, Global};
@@ -51,6 +52,7 @@ pub fn mend_each(alloc: Global, texts: &[Bytes]) -> Result<Looked, ReportsError>
                 return Err(ReportsError::Fault {
                     text: index + 1,
                     line,
+                    kind: kind_of(texts[index].as_slice()),
                 });
             }
         }

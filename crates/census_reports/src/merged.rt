@@ -12,6 +12,7 @@ ghost use Rattle.census_reports.specs.Written.{FailsTexts, WritesTexts};
 
 use crate::error::ReportsError;
 use crate::form::Form;
+use crate::kind::kind_of;
 use census_folders::Bytes;
 use census_merge::{Counted, Sums, count, put_end, put_rows};
 use census_readback::fault_of;
@@ -29,6 +30,7 @@ fn look_at(alloc: Global, texts: &[Bytes]) -> Result<(), ReportsError>
             return Err(ReportsError::Fault {
                 text: index + 1,
                 line,
+                kind: kind_of(texts[index].as_slice()),
             });
         }
     }

@@ -92,8 +92,8 @@ fn write_read<O: Write, E: Write>(
 
 /// Reads the texts of words, in their order, and writes what is made of the reports in them. The text of `-` is what standard
 /// input has left, and that of any other word is the file of this path; without a word standard input is read. Each text must be
-/// a report by itself, or several one after another; a text without a byte is not a report. A file that is not a regular file is
-/// not opened, and can't be read. Where the reading has `cut`, each text is mended first, as `mend` does, and it may be a report
+/// a report by itself, or several one after another; a text without a byte is not a report. A file may be whatever can be read.
+/// Where the reading has `cut`, each text is mended first, as `mend` does, and it may be a report
 /// that was cut, or several of which the last was; the lines of faults are those of the text as it was read, and the result says
 /// where texts were cut. Where the reading has a limit, it is the most bytes of all texts together. Also returns whether what was
 /// looked for was found: with `Same`, patterns that are one object, with `Verdict`, what does not agree with the claims;
@@ -108,8 +108,8 @@ fn write_read<O: Write, E: Write>(
 /// `Verdict` the claims, the patterns and a map of both. So nothing is written on any error but these two: on `Write` a prefix of
 /// what is made of them is, and on `Memory` one may be of all but `Merged`:
 ///
-/// - `Read`, `TooLong`: the text of a word can't be read, or has more than 67,108,864 bytes, or has more bytes than the limit
-///   together with those of the words before it. Those of the words before it were read, and none of a word after it.
+/// - `Unread`: the text of a word can't be read, or has more than 67,108,864 bytes, or has more bytes than the limit together with
+///   those of the words before it. Those of the words before it were read, and none of a word after it.
 /// - `Fault`: a text is not a report, nor one that was cut where the reading has `cut`, and those of the words before it are.
 /// - `Claims`: the text of the claims is not one of claims, and each text is a report.
 /// - `Names`: the text of the names of a table or a page is not one of names, and each text is a report.

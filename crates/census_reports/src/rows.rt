@@ -4,6 +4,7 @@ ghost use Rattle.census_readback.specs.Shapes.{AreReports};
 ghost use Rattle.census_reports.specs.Rows.{AreRowsOf, LackRows};
 
 use crate::error::ReportsError;
+use crate::kind::kind_of;
 use census_folders::Bytes;
 use census_readback::read_report;
 use census_rows::Rows;
@@ -25,6 +26,7 @@ pub fn rows_of<'a>(alloc: Global, texts: &'a [Bytes]) -> Result<Rows<'a>, Report
                 return Err(ReportsError::Fault {
                     text: index + 1,
                     line,
+                    kind: kind_of(texts[index].as_slice()),
                 });
             }
         }

@@ -8,19 +8,19 @@ ghost use Rattle.census_reports.specs.Texts.{FitTogether, ReadsEach, RefusesWord
 use crate::error::ReportsError;
 use crate::limit::left_behind;
 use census_bundle::INPUT_LIMIT;
-use census_folders::{Bytes, Shelf, is_input, read_file};
+use census_folders::{Bytes, Shelf, ShelfFault, is_input, read_file};
 use std::alloc::Global;
 use std::io::Read;
 use watched::{Input, read_all};
 
-/// The text of a word: for `-` what standard input has left, for any other word that of the file of this path. The errors are
-/// `Read`, `TooLong`, where the text has more than 67,108,864 bytes, and `Memory`.
+/// The text of a word: for `-` what standard input has left, for any other word that of the file of this path, which may be
+/// whatever can be read. It is `TooLong` where it has more than 67,108,864 bytes.
 pub fn read_text<S: Shelf, I: Read>(
     shelf: &S,
     alloc: Global,
     word: &str,
     input: &mut Input<I>,
-) -> Result<Vec<u8>, ReportsError>
+) -> Result<Vec<u8>, ShelfFault>
     requires { input.old.stream.failed ≡ false }
     ensures read { IfOk result
         (λ bytes. Hears ((S.tellings shelf.now).held []) word.now (Text bytes.items)
@@ -29,13 +29,13 @@ pub fn read_text<S: Shelf, I: Read>(
     ensures taken { ConsumesAtMost (INPUT_LIMIT + 1)
         input.old.stream.unread input.new.stream.unread }
     ensures fault { IfErr result
-        (λ error. RefusesWord error ((S.tellings shelf.now).held []) word.now
+        (λ fault. RefusesWord fault ((S.tellings shelf.now).held []) word.now
         input.old.stream input.new.stream) }
 {
     if is_input(word) {
         Ok(read_all(alloc, input, INPUT_LIMIT)?)
     } else {
-        Ok(read_file(shelf, alloc, word.as_bytes())?)
+        read_file(shelf, alloc, word.as_bytes())
     }
 }
 
@@ -61,9 +61,21 @@ pub fn read_texts<S: Shelf, I: Read>(
     let mut texts = Vec::new(alloc);
     let mut left = limit;
     for word in words {
-        let text = read_text(shelf, alloc, word, input)?;
+        let number = texts.len() + 1;
+        let text = match read_text(shelf, alloc, word, input) {
+            Ok(text) => text,
+            Err(fault) => {
+                return Err(ReportsError::Unread {
+                    text: number,
+                    fault,
+                });
+            }
+        };
         let Some(rest) = left_behind(left, text.len()) else {
-            return Err(ReportsError::TooLong);
+            return Err(ReportsError::Unread {
+                text: number,
+                fault: ShelfFault::TooLong,
+            });
         };
         left = rest;
         texts.push(Bytes::new(text))?;

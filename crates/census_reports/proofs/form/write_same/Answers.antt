@@ -2,7 +2,6 @@ use Rattle.std.proofs.Common.{List, ℕ, inr, subst, ◌∙◌}
 use Rattle.std.proofs.lemmas.Result.{err_from_is_err_and}
 use Rattle.watched.specs.Streams.{PutsMoreBytes}
 use Rattle.watched.specs.Telling.{sheet}
-use Rattle.census_compare.proofs.Agreeing.{silent_is}
 use Rattle.census_reports.proofs.Halted.{all_written}
 use Rattle.census_reports.specs.declared.form.Form.TheVariants as form
 use Rattle.census_reports.proofs.form.write_same.Goals as goal
@@ -20,10 +19,10 @@ returns-in_err-told-in-Ok-clause-says g c =
 
 pub returns-in-Ok-clause-writes : goal.returns-in-Ok-clause-writes
 returns-in-Ok-clause-writes g c =
-    let said = c.in_ok-told-in-Ok.ensures.tells in
+    let said = c.in_ok-told-in-Ok.ensures in
     all_written (sheet c.new-block.result c.args.output.now) (sheet c.put_same-told.new.block c.put_same-told.new.writer) (sheet c.send.new.block c.send.new.writer)
     c.new-block.ensures c.send.ensures.tells c.send.ensures.empty
-    (form.Same c.args.json) c.args.rows _ said.text (c.in_ok-told-in-Ok.ensures.any, silent_is _ said.text said.is) said.tells c.in-Ok.ensures.failed
+    (form.Same c.args.json) c.args.rows _ said.0 said.1 said.2 c.in-Ok.ensures.failed
 
 pub returns-in-Ok-clause-says : goal.returns-in-Ok-clause-says
 returns-in-Ok-clause-says g c =
