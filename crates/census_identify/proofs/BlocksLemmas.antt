@@ -1,4 +1,6 @@
 pub mod Joining
 pub mod Meant
 pub mod Refusing
+pub mod Returning
 pub mod Sizes
+pub mod Wholes

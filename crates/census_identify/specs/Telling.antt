@@ -30,10 +30,10 @@ abbrev pub IsToldOfText : List ℕ → Result (List ℕ) RleFault → Told → T
 IsToldOfText word (Ok block) told = told ≡ Block block
 IsToldOfText word (Err fault) told = (line : List ℕ) × IsFaultLine fault line × (told ≡ Line (message_line word line) 1)
 
--- that it can't be read, after what the system says of it
+-- what the system says of it, or that it can't be read where the system says nothing
 abbrev pub unread_message : Option (List ℕ) → List ℕ
 unread_message None = codes " read failed"
-unread_message (Some reason) = codes " " ++ reason ++ codes " (read failed)"
+unread_message (Some reason) = codes " " ++ reason
 
 -- this is told of a word, by what was got of it
 abbrev pub IsTold : Inquiry → List Entry → List ℕ → Heard → Told → Type 0

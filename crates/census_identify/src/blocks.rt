@@ -6,8 +6,11 @@ mod block_text;
 mod facts;
 mod inquiry;
 mod known;
+mod periods;
 mod size;
+mod whole;
 
 pub use block_text::{BlockText, block};
 pub use inquiry::{HORIZON_LIMIT, Inquiry};
-pub use known::known_of;
+pub use known::{Known, known_of};
+pub use whole::Whole;

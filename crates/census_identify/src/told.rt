@@ -40,17 +40,14 @@ fn message_line(alloc: Global, word: &str, message: &[u8]) -> Result<Bytes, Allo
     Ok(Bytes::new(line))
 }
 
-// That it can't be read, after what the system says of it.
+// What the system says of it, or that it can't be read where the system says nothing.
 fn unread_message(alloc: Global, reason: &Option<Text>) -> Result<Vec<u8>, AllocError>
     ensures { IfOk result (λ message. message.items ≡ unread_message reason.now) }
 {
     let mut message = Vec::new(alloc);
     message.extend_from_slice(b" ")?;
     match reason {
-        Some(reason) => {
-            message.extend_from_slice(reason.as_slice())?;
-            message.extend_from_slice(b" (read failed)")?;
-        }
+        Some(reason) => message.extend_from_slice(reason.as_slice())?,
         None => message.extend_from_slice(b"read failed")?,
     }
     Ok(message)
@@ -94,7 +91,7 @@ fn told_of_text<W: Observer>(
 /// Of a text that means a pattern it is its block, which tells the file too where the word isn't `-`. Of any other
 /// text it is the line `census: WORD:LINE:COLUMN: WORDS (rle fault N at A)`, which asks for status 1; of one that is too
 /// long the line `census: WORD: input too long`, which asks for status 1; and of what can't be read the line
-/// `census: WORD: REASON (read failed)`, or where the system gives no reason `census: WORD: read failed`, which asks for
+/// `census: WORD: REASON`, or where the system gives no reason `census: WORD: read failed`, which asks for
 /// status 4. The word is written as it is. An observer is told the generations that are looked at.
 pub fn told_of<W: Observer>(
     alloc: Global,

@@ -1,22 +1,29 @@
--- What is known of a pattern, once both questions were asked of it.
-use Rattle.std.specs.Prelude.{Some}
+-- What is known of a pattern within the bound.
+use Rattle.std.specs.Prelude.{ℕ, ◌+◌, Option, Some, None}
 use Rattle.life_text.specs.Picture.{Picture}
 use Rattle.life_answer.specs.Questions.{outcome_to}
 use Rattle.life_answer.specs.declared.finding.Outcome.{Outcome}
-use Rattle.life_answer.specs.declared.finding.Outcome.TheVariants.{Recurs}
+use Rattle.life_answer.specs.declared.finding.Outcome.TheVariants.{Ash}
 use Rattle.life_answer.specs.declared.question.Question.TheVariants.{Objects, Settles}
+use Rattle.census_identify.specs.Blocks.Periods.{common_period}
+use Rattle.census_identify.specs.Blocks.Whole.{whole_in}
 use Rattle.census_identify.specs.declared.blocks.inquiry.Inquiry.{Inquiry}
+use Rattle.census_identify.specs.declared.blocks.known.Known.{Known}
+use Rattle.census_identify.specs.declared.blocks.whole.Whole.{Whole}
 
--- when a pattern settles and as what, where it does, or else an outcome
-abbrev pub settled_or : Outcome → Outcome → Outcome
-settled_or (Recurs onset period dx dy code) outcome = Recurs onset period dx dy code
-settled_or _ outcome = outcome
+-- how a pattern recurs as a whole, after at most so many generations from its onset on
+abbrev pub recurring_within : Picture → ℕ → Option ℕ → Option Whole
+recurring_within pattern onset None = None
+recurring_within pattern onset (Some most) = whole_in (outcome_to (Settles (onset + most) None) pattern.rule pattern.cells)
 
--- What is known of a pattern within the bound: when it settles and as what, where it does; else when and into what it has
--- fallen apart, where it has; else by which engines it grows, where that is seen within the horizon; else which generation is
--- the first that has more cells than it may have, where one has. What comes near each other is one object, or its independent
--- parts are counted.
-abbrev pub known_of : Inquiry → Picture → Outcome
+-- how a pattern recurs as a whole that has become parts, where all of them have come again, by their codes, within the bound,
+-- and all of them move or none does
+abbrev pub whole_of : ℕ → Picture → Outcome → Option Whole
+whole_of bound pattern (Ash onset parts) = recurring_within pattern onset (common_period bound parts)
+whole_of bound pattern _ = None
+
+-- what is found of a pattern where its objects are asked for, and how it recurs as a whole
+abbrev pub known_of : Inquiry → Picture → Known
 known_of inquiry pattern =
-    settled_or (outcome_to (Settles inquiry.bound (Some inquiry.cells)) pattern.rule pattern.cells)
-    (outcome_to (Objects inquiry.bound (Some inquiry.cells) inquiry.near inquiry.horizon) pattern.rule pattern.cells)
+    let outcome = outcome_to (Objects inquiry.bound (Some inquiry.cells) inquiry.near inquiry.horizon) pattern.rule pattern.cells in
+    record { outcome = outcome; whole = whole_of inquiry.bound pattern outcome }

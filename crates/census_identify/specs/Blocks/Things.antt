@@ -7,6 +7,8 @@ use Rattle.life_answer.specs.Parts.{objects_in}
 use Rattle.census_facts.specs.Facts.{Thing, thing}
 use Rattle.census_facts.specs.Names.{Entry, name_in}
 use Rattle.census_facts.specs.Facts as told
+use Rattle.census_identify.specs.declared.blocks.known.Known.{Known}
+use Rattle.census_identify.specs.declared.blocks.whole.Whole.{Whole}
 
 -- the file that it is from, where it is from one
 abbrev pub file_things : Option (List ℕ) → List Thing
@@ -39,19 +41,31 @@ settled_things names onset period dx dy code =
     ∷ thing (codes "displacement") (told.moves dx dy)
     ∷ code_things names code
 
--- `onset` of the ash of a pattern that has fallen apart, `objects`, how many objects it has become, and its parts
-abbrev pub apart_things : ℕ → List Part → List Thing
-apart_things onset list =
-    thing (codes "onset") (told.number onset)
-    ∷ thing (codes "objects") (told.number (objects_in list))
-    ∷ thing (codes "parts") (told.parts list)
+-- `period` and `displacement` of a pattern that recurs as a whole
+abbrev pub whole_things : Option Whole → List Thing
+whole_things None = []
+whole_things (Some whole) =
+    thing (codes "period") (told.number whole.period)
+    ∷ thing (codes "displacement") (told.moves whole.displacement.0 whole.displacement.1)
     ∷ []
 
--- what is known within the bound: of a pattern that grows `engines`, its engines; `large`, the first generation that has more
--- cells than it may have; `unresolved`, the bound, where it neither settles nor has fallen apart, and isn't told to grow
-abbrev pub known_things : List Entry → ℕ → Outcome → List Thing
-known_things names bound (Recurs onset period dx dy code) = settled_things names onset period dx dy code
-known_things names bound (Ash onset list) = apart_things onset list
-known_things names bound (Grows list) = thing (codes "engines") (told.engines list) ∷ []
-known_things names bound (Large generation) = thing (codes "large") (told.number generation) ∷ []
-known_things names bound Unresolved = thing (codes "unresolved") (told.number bound) ∷ []
+-- `objects`, how many parts a pattern has become, and these parts
+abbrev pub parts_things : List Part → List Thing
+parts_things list = thing (codes "objects") (told.number (objects_in list)) ∷ thing (codes "parts") (told.parts list) ∷ []
+
+-- `onset` of the ash of a pattern that has fallen apart, how it recurs as a whole, and its parts
+abbrev pub apart_things : ℕ → Option Whole → List Part → List Thing
+apart_things onset whole list = thing (codes "onset") (told.number onset) ∷ (whole_things whole ++ parts_things list)
+
+-- what is found: of a pattern that grows `engines`, its engines; `large`, the first generation that has more cells than it may
+-- have; `unresolved`, the bound, where it neither recurs nor has fallen apart, and isn't found to grow
+abbrev pub outcome_things : List Entry → ℕ → Option Whole → Outcome → List Thing
+outcome_things names bound whole (Recurs onset period dx dy code) = settled_things names onset period dx dy code
+outcome_things names bound whole (Ash onset list) = apart_things onset whole list
+outcome_things names bound whole (Grows list) = thing (codes "engines") (told.engines list) ∷ []
+outcome_things names bound whole (Large generation) = thing (codes "large") (told.number generation) ∷ []
+outcome_things names bound whole Unresolved = thing (codes "unresolved") (told.number bound) ∷ []
+
+-- what is known within the bound
+abbrev pub known_things : List Entry → ℕ → Known → List Thing
+known_things names bound known = outcome_things names bound known.whole known.outcome

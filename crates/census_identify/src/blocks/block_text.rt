@@ -103,13 +103,14 @@ fn block_of_pattern<W: Observer>(
 /// What the pattern of an RLE text is, told in the form that is asked for, or the text's fault. The bound is 1 to 100,000
 /// generations, and the horizon 1 to 10,000.
 ///
-/// It tells the file, where the text is said to be that of one, and the rule, the population and the box of generation 0;
-/// then, where the pattern settles within the bound, its onset, period, displacement and apgcode, and the name of that code,
-/// where it has one; else, where it has fallen apart within the bound, the onset of its ash, how many objects it has become,
-/// or how many independent parts where what comes near each other is not one object, and how many of each code, with its
-/// name; else, where it grows within the horizon, by how many engines, and what is told of each; else, where some generation
-/// has more cells than it may have, the first such generation; else that it is unresolved within the bound. It may look at
-/// generations past the bound, up to four times the bound. An observer is told those on the way, up to three times the bound.
+/// It has the file, where the text is said to be that of one, and the rule, the population and the box of generation 0; then,
+/// where the pattern becomes one part within the bound, its onset, period, displacement and apgcode, and the name of that code,
+/// where it has one; else, where it has fallen apart within the bound, the onset of its ash, the period and the displacement of
+/// the whole, where all parts have one velocity and come again together within the bound, how many objects it has become, or how
+/// many independent parts where what comes near each other is not one object, and how many of each code, with its name; else,
+/// where it grows within the horizon, by how many engines, and what is reported of each; else, where some generation has more
+/// cells than it may have, the first such generation; else that it is unresolved within the bound. It may look at generations
+/// past the bound, up to four times the bound. Those on the way, up to three times the bound, are reported to an observer.
 pub fn block<W: Observer>(
     alloc: Global,
     observer: &W,

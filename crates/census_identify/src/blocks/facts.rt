@@ -1,10 +1,12 @@
 //! The facts of a pattern.
 ghost use Rattle.std.specs.Prelude.{◌≡◌, ◌++◌, [], ◌∷◌, OnOk};
 ghost use Rattle.std.specs.Option.{option_copied};
-ghost use Rattle.census_identify.specs.Blocks.Things.{apart_things, code_things, file_things, head_things, known_things, name_things, settled_things};
+ghost use Rattle.census_identify.specs.Blocks.Things.{apart_things, code_things, file_things, head_things, known_things, name_things, parts_things, settled_things, whole_things};
 ghost use Rattle.census_facts.specs.Names.{name_in};
 ghost use Rattle.census_facts.specs.Facts.{content_of, thing, things_in};
 
+use crate::blocks::known::Known;
+use crate::blocks::whole::Whole;
 use census_facts::{Fact, Names, Worth};
 use life_answer::{Outcome, Parts};
 use std::alloc::AllocError;
@@ -95,27 +97,56 @@ fn push_settled<'a>(
     push_code(facts, names, code)
 }
 
-// Adds what is told of a pattern that has fallen apart.
-fn push_apart<'a>(facts: &mut Vec<Fact<'a>>, onset: u32, parts: &'a Parts) -> Result<(), AllocError>
-    ensures { OnOk result (things_in facts.new.items ≡ things_in facts.old.items
-        ++ apart_things onset parts.now) }
+// Adds how a pattern recurs as a whole, where it does.
+fn push_whole<'a>(facts: &mut Vec<Fact<'a>>, whole: &Option<Whole>) -> Result<(), AllocError>
+    ensures { OnOk result (things_in facts.new.items
+        ≡ things_in facts.old.items ++ whole_things whole.now) }
 {
-    push_fact(facts, "onset", Worth::Number(onset as u64))?;
+    match whole {
+        Some(whole) => {
+            let (dx, dy) = whole.displacement;
+            push_fact(facts, "period", Worth::Number(whole.period as u64))?;
+            push_fact(facts, "displacement", Worth::Moves(dx, dy))
+        }
+        None => Ok(()),
+    }
+}
+
+// Adds the parts that a pattern has become.
+fn push_parts<'a>(facts: &mut Vec<Fact<'a>>, parts: &'a Parts) -> Result<(), AllocError>
+    ensures { OnOk result (things_in facts.new.items
+        ≡ things_in facts.old.items ++ parts_things parts.now) }
+{
     push_fact(facts, "objects", Worth::Number(parts.count()))?;
     push_fact(facts, "parts", Worth::Parts(parts))
 }
 
-/// Adds what is known of a pattern within the bound, with the name of what it settles as.
+// Adds what is reported of a pattern that has fallen apart.
+fn push_apart<'a>(
+    facts: &mut Vec<Fact<'a>>,
+    onset: u32,
+    whole: &Option<Whole>,
+    parts: &'a Parts,
+) -> Result<(), AllocError>
+    ensures { OnOk result (things_in facts.new.items ≡ things_in facts.old.items
+        ++ apart_things onset whole.now parts.now) }
+{
+    push_fact(facts, "onset", Worth::Number(onset as u64))?;
+    push_whole(facts, whole)?;
+    push_parts(facts, parts)
+}
+
+/// Adds what is known of a pattern within the bound, with the name of what it recurs as.
 pub fn push_known<'a>(
     facts: &mut Vec<Fact<'a>>,
     names: &'a Names,
-    known: &'a Outcome,
+    known: &'a Known,
     bound: u32,
 ) -> Result<(), AllocError>
     ensures { OnOk result (things_in facts.new.items ≡ things_in facts.old.items
         ++ known_things names.now bound known.now) }
 {
-    match known {
+    match &known.outcome {
         Outcome::Recurs {
             onset,
             period,
@@ -123,7 +154,7 @@ pub fn push_known<'a>(
             dy,
             code,
         } => push_settled(facts, names, *onset, *period, *dx, *dy, code.as_slice()),
-        Outcome::Ash { onset, parts } => push_apart(facts, *onset, parts),
+        Outcome::Ash { onset, parts } => push_apart(facts, *onset, &known.whole, parts),
         Outcome::Grows { engines } => push_fact(facts, "engines", Worth::Engines(engines)),
         Outcome::Large { generation } => {
             push_fact(facts, "large", Worth::Number(*generation as u64))

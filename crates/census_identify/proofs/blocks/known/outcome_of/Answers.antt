@@ -2,7 +2,7 @@ use Rattle.std.proofs.Common.{Some, ap}
 use Rattle.life_answer.specs.declared.question.Question.TheVariants.{Objects}
 use Rattle.life_answer.specs.declared.finding.Finding.{Finding}
 use Rattle.census_identify.proofs.BlocksLemmas.Meant.{found, not_refused}
-use Rattle.census_identify.proofs.blocks.known.going_on.Goals as goal
+use Rattle.census_identify.proofs.blocks.known.outcome_of.Goals as goal
 
 pub returns-in-Found : goal.returns-in-Found
 returns-in-Found g c =
