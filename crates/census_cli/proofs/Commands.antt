@@ -21,7 +21,7 @@ use Rattle.life_answer.specs.declared.question.Question.{Question}
 use Rattle.life_answer.specs.declared.question.Question.TheVariants.{Objects, Settles}
 use Rattle.census_cli.specs.Asking.{Gives, GivesQuestion, IsMatched, Uses}
 use Rattle.census_cli.specs.declared.request.Request.{Request}
-use Rattle.census_cli.specs.declared.request.Request.TheVariants.{Census, Identify, Advance, Draw, Merge, Table, Page, Same, Verify}
+use Rattle.census_cli.specs.declared.request.Request.TheVariants.{Census, Identify, Advance, Draw, Merge, Table, Page, Same, Starts, Verify}
 use Rattle.census_cli.specs.Holding.{HasAdvance, HasDraw, HasFlag, HasCells, HasIdentify, HasLimit, HasNoProgress, HasNumberIn, HasObjects, HasPage, HasReports, HasRun, HasSame, HasTable, HasText, HasVerify, IsCommand, IsLawful, AskedAreLawful}
 use Rattle.census_cli.specs.CommandLine.{census_app, command_named}
 use Rattle.census_cli.proofs.Getters.{limit_within, none_used, number_is, number_within}
@@ -98,7 +98,7 @@ AdvanceText id v = (bytes_eq id (codes "generations") ≡ true → IsUnsignedIn 
 abbrev is_flag : Text → Bool
 is_flag id =
     list_any (λ name. bytes_eq id name)
-    (codes "csv" ∷ codes "json" ∷ codes "safe" ∷ codes "parts" ∷ codes "codes" ∷ codes "links" ∷ codes "no-patterns" ∷ codes "cut" ∷ codes "explain" ∷ [])
+    (codes "csv" ∷ codes "json" ∷ codes "safe" ∷ codes "parts" ∷ codes "codes" ∷ codes "engines" ∷ codes "unnamed" ∷ codes "links" ∷ codes "no-patterns" ∷ codes "cut" ∷ codes "explain" ∷ codes "starts" ∷ codes "recursive" ∷ [])
 
 -- those of a command that reads reports
 abbrev ReportsText : Text → Text → Type 0
@@ -289,8 +289,17 @@ table_rules = (
         (
           record { own = λ v e. (λ _. flag_text v e, absent, absent); usual = inr (refl, inr true_given); plain = λ t. refl },
           (
-            record { own = λ v e. (absent, absent, absent); usual = inr (refl, inl refl); plain = λ t. refl },
-            reading_holds,
+            record { own = λ v e. (λ _. flag_text v e, absent, absent); usual = inr (refl, inr true_given); plain = λ t. refl },
+            (
+              record { own = λ v e. (absent, absent, absent); usual = inr (refl, inl refl); plain = λ t. refl },
+              (
+                record { own = λ v e. (λ _. flag_text v e, absent, absent); usual = inr (refl, inr true_given); plain = λ t. refl },
+                (
+                  record { own = λ v e. (absent, absent, absent); usual = inr (refl, inl refl); plain = λ t. refl },
+                  reading_holds,
+                ),
+              ),
+            ),
           ),
         ),
       ),
@@ -328,7 +337,13 @@ page_rules = (
 same_rules : Each (RuleHolds ReportsText) built_same.rules
 same_rules = (
   record { own = λ v e. (λ _. flag_text v e, absent, absent); usual = inr (refl, inr true_given); plain = λ t. refl },
-  reading_holds,
+  (
+    record { own = λ v e. (λ _. flag_text v e, absent, absent); usual = inr (refl, inr true_given); plain = λ t. refl },
+    (
+      record { own = λ v e. (λ _. flag_text v e, absent, absent); usual = inr (refl, inr true_given); plain = λ t. refl },
+      reading_holds,
+    ),
+  ),
 )
 
 verify_rules : Each (RuleHolds ReportsText) built_verify.rules
@@ -525,8 +540,12 @@ table_has words e = record {
   safe = flag_by_default built_table table_rules words e (codes "safe") refl (inr (inr (inl (refl, false_by_default))));
   of_parts = flag_by_default built_table table_rules words e (codes "parts") refl (inr (inr (inr (inl (refl, false_by_default)))));
   of_codes = flag_by_default built_table table_rules words e (codes "codes") refl (inr (inr (inr (inr (inl (refl, false_by_default))))));
-  reports = reads_reports built_table table_rules words e (inr (inr (inr (inr (inr (inr (inl (refl, false_by_default)))))))) (inr (inr (inr (inr (inr (inr (inr (inr (inl (refl, false_by_default))))))))))
-      (refl, (refl, (refl, (refl, (refl, (refl, (refl, (refl, (refl, (refl, (refl, tt)))))))))));
+  of_engines = flag_by_default built_table table_rules words e (codes "engines") refl (inr (inr (inr (inr (inr (inl (refl, false_by_default)))))));
+  unnamed = flag_by_default built_table table_rules words e (codes "unnamed") refl (inr (inr (inr (inr (inr (inr (inr (inl (refl, false_by_default)))))))));
+  reports = reads_reports built_table table_rules words e
+      (inr (inr (inr (inr (inr (inr (inr (inr (inr (inl (refl, false_by_default)))))))))))
+      (inr (inr (inr (inr (inr (inr (inr (inr (inr (inr (inr (inl (refl, false_by_default)))))))))))))
+      (refl, (refl, (refl, (refl, (refl, (refl, (refl, (refl, (refl, (refl, (refl, (refl, (refl, (refl, tt))))))))))))));
 }
 
 page_has : (words : List Text) → Passes built_page words → HasPage (rows_after built_page.rules [] words)
@@ -543,8 +562,10 @@ page_has words e = record {
 same_has : (words : List Text) → Passes built_same words → HasSame (rows_after built_same.rules [] words)
 same_has words e = record {
   json = flag_by_default built_same same_rules words e (codes "json") refl (inl (refl, false_by_default));
-  reports = reads_reports built_same same_rules words e (inr (inl (refl, false_by_default))) (inr (inr (inr (inl (refl, false_by_default)))))
-      (refl, (refl, (refl, (refl, (refl, (refl, tt))))));
+  starts = flag_by_default built_same same_rules words e (codes "starts") refl (inr (inl (refl, false_by_default)));
+  recursive = flag_by_default built_same same_rules words e (codes "recursive") refl (inr (inr (inl (refl, false_by_default))));
+  reports = reads_reports built_same same_rules words e (inr (inr (inr (inl (refl, false_by_default))))) (inr (inr (inr (inr (inr (inl (refl, false_by_default)))))))
+      (refl, (refl, (refl, (refl, (refl, (refl, (refl, (refl, tt))))))));
 }
 
 verify_has : (words : List Text) → Passes built_verify words → HasVerify (rows_after built_verify.rules [] words)
@@ -839,7 +860,10 @@ lawful name rows (Page page names reports) h gives =
     )
 lawful name rows (Same json reports) h gives =
     let has = same_command rows (subst (λ (n : Text). IsCommand (Some (n, rows))) gives.0 h) in
-    limit_within 9223372036854775807 (codes "input") rows reports.input has.reports.input gives.2.1
+    limit_within 9223372036854775807 (codes "input") rows reports.input has.reports.input gives.3.1
+lawful name rows (Starts json asked) h gives =
+    let has = same_command rows (subst (λ (n : Text). IsCommand (Some (n, rows))) gives.0 h) in
+    limit_within 9223372036854775807 (codes "input") rows asked.input has.reports.input gives.2.1
 lawful name rows (Verify claims reports) h gives =
     let has = verify_command rows (subst (λ (n : Text). IsCommand (Some (n, rows))) gives.0 h) in
     limit_within 9223372036854775807 (codes "input") rows reports.input has.reports.input gives.2.1

@@ -97,7 +97,7 @@ table_json : (texts : Texts) → Are texts (codes "a" ∷ codes "b" ∷ []) → 
 unfolding clap_on_literals
 table_json texts are = (refl, (refl, refl, refl, refl, (refl, refl, are)))
 
-table_codes : (texts : Texts) → Are texts (codes "a" ∷ []) → Asks (codes "table" ∷ codes "--codes" ∷ codes "a" ∷ []) (request.Table Codes (Csv false) None (reading false None texts))
+table_codes : (texts : Texts) → Are texts (codes "a" ∷ []) → Asks (codes "table" ∷ codes "--codes" ∷ codes "a" ∷ []) (request.Table (Codes false false) (Csv false) None (reading false None texts))
 unfolding clap_on_literals
 table_codes texts are = (refl, (refl, refl, refl, refl, (refl, refl, are)))
 
@@ -119,7 +119,11 @@ page_at texts are = (refl, (refl, (refl, refl, refl, refl, refl, λ e. cc, refl,
 
 same_among : (texts : Texts) → Are texts (codes "a" ∷ codes "-" ∷ []) → Asks (codes "same" ∷ codes "--json" ∷ codes "a" ∷ codes "-" ∷ []) (request.Same true (reading false None texts))
 unfolding clap_on_literals
-same_among texts are = (refl, (refl, refl, (refl, refl, are)))
+same_among texts are = (refl, (refl, refl, refl, (refl, refl, are)))
+
+same_starts : (texts : Texts) → Are texts (codes "a" ∷ []) → Asks (codes "same" ∷ codes "--starts" ∷ codes "-r" ∷ codes "a" ∷ []) (request.Starts false (record { input = None; recursive = true; keep_going = false; folders = texts }))
+unfolding clap_on_literals
+same_starts texts are = (refl, (refl, refl, (refl, refl, refl, refl, are)))
 
 verify_among : (texts : Texts) → Are texts (codes "a" ∷ codes "-" ∷ []) → Asks (codes "verify" ∷ codes "c.csv" ∷ codes "a" ∷ codes "-" ∷ []) (request.Verify (text (codes "c.csv")) (reading false None texts))
 unfolding clap_on_literals
@@ -127,11 +131,15 @@ verify_among texts are = (refl, (refl, refl, (refl, refl, are)))
 
 page_in_no_order : AreRefusedWords (codes "page" ∷ codes "--sort=size" ∷ [])
 unfolding clap_on_literals
-page_in_no_order = inr (refl, inr (refl, inl refl))
+page_in_no_order = inr (refl, inr (inl (refl, inl refl)))
 
 page_at_no_address : AreRefusedWords (codes "page" ∷ codes "--base" ∷ codes "a.b" ∷ [])
 unfolding clap_on_literals
-page_at_no_address = inr (refl, inr (refl, inr refl))
+page_at_no_address = inr (refl, inr (inl (refl, inr refl)))
+
+starts_cut : AreRefusedWords (codes "same" ∷ codes "--starts" ∷ codes "--cut" ∷ [])
+unfolding clap_on_literals
+starts_cut = inr (refl, inr (inr (refl, refl)))
 
 table_both : AreRefusedWords (codes "table" ∷ codes "--json" ∷ codes "--csv" ∷ [])
 unfolding clap_on_literals

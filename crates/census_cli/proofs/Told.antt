@@ -19,7 +19,7 @@ told : (words : List (List ℕ)) (kind : ErrorKind) (fault : WordsFault) → Tel
 told words kind (Help text) (inl help) (inl memory) = cc
 told words kind (Help text) (inr (version, same)) (inl memory) = cc
 told words kind (Help text) (inl help) (inr among) = inl (subst (λ (k : ErrorKind). IsAmong k (fault_of census_app words)) help among)
-told words kind (Help text) (inr (version, same)) (inr among) = inr (subst (λ (k : ErrorKind). IsAmong k (fault_of census_app words)) version among, same)
+told words kind (Help text) (inr (version, same)) (inr among) = inr (inl (subst (λ (k : ErrorKind). IsAmong k (fault_of census_app words)) version among, same))
 told words kind (Refused text) tells (inl memory) = absurd (tells.2 memory)
 told words kind (Refused text) tells (inr among) = inl (kind, among, tells.0, tells.1, tells.2)
 told words kind Memory tells h = tt

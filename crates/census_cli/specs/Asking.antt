@@ -1,5 +1,5 @@
 -- What the words of a command line ask for, by the matches that clap returns for them.
-use Rattle.std.specs.Prelude.{◌≡◌, ◌≢◌, ◌||◌, ℕ, List, [], ◌∷◌, Bool, false, not, Option, Some, None, IsSomeAnd, map, codes}
+use Rattle.std.specs.Prelude.{◌≡◌, ◌≢◌, ◌&&◌, ◌||◌, ℕ, List, [], ◌∷◌, Bool, false, true, not, Option, Some, None, IsSomeAnd, is_none, map, codes}
 use Rattle.std.specs.Prelude.{if◌then◌else◌, nat_eq, option_and_then, option_map, unwrap_or}
 use Rattle.std.specs.List.{find, starts_with}
 use Rattle.std.specs.Option.{option_map_or}
@@ -18,11 +18,11 @@ use Rattle.census_cli.specs.declared.request.PageSort.{PageSort}
 use Rattle.census_cli.specs.declared.request.PageSort.TheVariants.{Report, Count, Rare, Code, Period, Name}
 use Rattle.census_cli.specs.declared.request.Reports.{Reports}
 use Rattle.census_cli.specs.declared.request.Request.{Request}
-use Rattle.census_cli.specs.declared.request.Request.TheVariants.{Census, Identify, Advance, Draw, Merge, Table, Page, Same, Verify}
+use Rattle.census_cli.specs.declared.request.Request.TheVariants.{Census, Identify, Advance, Draw, Merge, Table, Page, Same, Starts, Verify}
 use Rattle.census_cli.specs.declared.request.TableFormat.{TableFormat}
 use Rattle.census_cli.specs.declared.request.TableFormat.TheVariants.{Csv, Json}
 use Rattle.census_cli.specs.declared.request.TableSubject.{TableSubject}
-use Rattle.census_cli.specs.declared.request.TableSubject.TheVariants.{Patterns, Parts, Codes}
+use Rattle.census_cli.specs.declared.request.TableSubject.TheVariants.{Patterns, Parts, Engines, Codes}
 
 -- ---- what the matches of a command say
 
@@ -44,11 +44,31 @@ format_asked rows =
     if not (is_used (codes "json") rows) then Some (Csv (is_used (codes "safe") rows))
     else (if is_used (codes "csv") rows || is_used (codes "safe") rows then None else Some Json)
 
+-- whether the rare codes come first in the order of codes that a word names, where it names one
+abbrev pub rarity : List ℕ → Option Bool
+rarity word = if bytes_eq word (codes "report") then Some false else (if bytes_eq word (codes "rare") then Some true else None)
+
+-- codes, in an order that there is; those without a name alone only where there are names
+abbrev pub codes_asked : List Row → Option TableSubject
+codes_asked rows =
+    if is_used (codes "unnamed") rows && is_none (first_of (codes "names") rows) then None
+    else option_map (λ rare. Codes rare (is_used (codes "unnamed") rows)) (option_map_or rarity (first_of (codes "sort") rows) (Some false))
+
+-- what is no code, where no option is about codes
+abbrev pub others_asked : List Row → TableSubject → Option TableSubject
+others_asked rows subject = if is_used (codes "unnamed") rows || not (is_none (first_of (codes "sort") rows)) then None else Some subject
+
+-- what the rows are about, where `parts`, `engines` and `codes` are flags: at most one of them is used
+abbrev pub subject_by : Bool → Bool → Bool → List Row → Option TableSubject
+subject_by false false true rows = codes_asked rows
+subject_by false false false rows = others_asked rows Patterns
+subject_by true false false rows = others_asked rows Parts
+subject_by false true false rows = others_asked rows Engines
+subject_by _ _ _ rows = None
+
 -- what each of its rows is about: a pattern, or what one flag names
 abbrev pub subject_asked : List Row → Option TableSubject
-subject_asked rows =
-    if is_used (codes "parts") rows then (if is_used (codes "codes") rows then None else Some Parts)
-    else Some (if is_used (codes "codes") rows then Codes else Patterns)
+subject_asked rows = subject_by (is_used (codes "parts") rows) (is_used (codes "engines") rows) (is_used (codes "codes") rows) rows
 
 -- the order that a word names, where it names one
 abbrev pub order_of : List ℕ → Option PageSort
@@ -60,6 +80,15 @@ order_of word =
 -- whether a text begins as the address of a page does
 abbrev pub is_address : List ℕ → Bool
 is_address text = starts_with nat_eq text (codes "http://") || starts_with nat_eq text (codes "https://")
+
+-- whether `same` compares patterns at the start; of them nothing was cut, and of reports there are none below others
+abbrev pub starts_by : Bool → Bool → Bool → Option Bool
+starts_by true false recursive = Some true
+starts_by false cut false = Some false
+starts_by _ _ _ = None
+
+abbrev pub starts_asked : List Row → Option Bool
+starts_asked rows = starts_by (is_used (codes "starts") rows) (is_used (codes "cut") rows) (is_used (codes "recursive") rows)
 
 -- which reports are read, and how: none for the one on standard input
 abbrev pub GivesReports : List Row → Reports → Type 0
@@ -73,6 +102,13 @@ GivesCollections rows asked =
     (argument_number (codes "input") rows ≡ asked.input) × (is_used (codes "recursive") rows ≡ asked.recursive)
     × (is_used (codes "keep-going") rows ≡ asked.keep_going)
     × (values_of (codes "folder") rows ≡ map (λ s. s.now) asked.folders.items)
+
+-- which folders are read whose patterns are compared at the start, and how: up to the first thing that can't be read
+abbrev pub GivesStarts : List Row → Collections → Type 0
+GivesStarts rows asked =
+    (starts_asked rows ≡ Some true) × (argument_number (codes "input") rows ≡ asked.input)
+    × (is_used (codes "recursive") rows ≡ asked.recursive) × (asked.keep_going ≡ false)
+    × (values_of (codes "report") rows ≡ map (λ s. s.now) asked.folders.items)
 
 -- how far objects are looked for, in which patterns, and what is one object
 abbrev pub GivesObjects : List Row → ℕ → Option ℕ → Bool → ℕ → Type 0
@@ -122,7 +158,8 @@ Gives name rows (Page page names reports) =
     (name ≡ codes "page") × GivesPage rows page × (first_of (codes "names") rows ≡ option_map (λ s. s.now) names)
     × GivesReports rows reports
 Gives name rows (Same json reports) =
-    (name ≡ codes "same") × (is_used (codes "json") rows ≡ json) × GivesReports rows reports
+    (name ≡ codes "same") × (is_used (codes "json") rows ≡ json) × (starts_asked rows ≡ Some false) × GivesReports rows reports
+Gives name rows (Starts json asked) = (name ≡ codes "same") × (is_used (codes "json") rows ≡ json) × GivesStarts rows asked
 Gives name rows (Verify claims reports) =
     (name ≡ codes "verify") × (first_of (codes "claims") rows ≡ Some claims.now) × GivesReports rows reports
 

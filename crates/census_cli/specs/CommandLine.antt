@@ -70,12 +70,12 @@ commands =
     ∷ command "draw" (record (word "code") { required = true }
     ∷ record (option "rule") { defaults = codes "B3/S23" ∷ [] } ∷ flag "explain" ∷ [])
     ∷ command "merge" reading_rules
-    ∷ command "table" (flag "csv" ∷ flag "json" ∷ flag "safe" ∷ flag "parts" ∷ flag "codes" ∷ option "names"
-    ∷ reading_rules)
+    ∷ command "table" (flag "csv" ∷ flag "json" ∷ flag "safe" ∷ flag "parts" ∷ flag "codes" ∷ flag "engines"
+    ∷ option "sort" ∷ flag "unnamed" ∷ option "names" ∷ reading_rules)
     ∷ command "page" (option "title" ∷ option "note" ∷ record (option "sort") { defaults = codes "report" ∷ [] }
     ∷ number "top" 4294967295 ∷ option "base" ∷ flag "links" ∷ flag "no-patterns" ∷ option "names"
     ∷ reading_rules)
-    ∷ command "same" (flag "json" ∷ reading_rules)
+    ∷ command "same" (flag "json" ∷ flag "starts" ∷ record (flag "recursive") { short = Some 114 } ∷ reading_rules)
     ∷ command "verify" (record (word "claims") { required = true } ∷ reading_rules)
     ∷ []
 

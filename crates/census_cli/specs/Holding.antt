@@ -12,7 +12,7 @@ use Rattle.census_cli.specs.declared.fault.WordsFault.{WordsFault}
 use Rattle.census_cli.specs.declared.fault.WordsFault.TheVariants.{Help, Refused, Memory}
 use Rattle.census_cli.specs.declared.request.Asked.{Asked}
 use Rattle.census_cli.specs.declared.request.Request.{Request}
-use Rattle.census_cli.specs.declared.request.Request.TheVariants.{Census, Identify, Advance, Draw, Merge, Table, Page, Same, Verify}
+use Rattle.census_cli.specs.declared.request.Request.TheVariants.{Census, Identify, Advance, Draw, Merge, Table, Page, Same, Starts, Verify}
 
 -- whether a flag was used, by its text
 abbrev pub IsFlag : List ℕ → List Row → Bool → Type 0
@@ -105,6 +105,8 @@ pub record HasTable (rows : List Row) : Type 0 where
   pub safe : HasFlag (codes "safe") rows
   pub of_parts : HasFlag (codes "parts") rows
   pub of_codes : HasFlag (codes "codes") rows
+  pub of_engines : HasFlag (codes "engines") rows
+  pub unnamed : HasFlag (codes "unnamed") rows
   pub reports : HasReports rows
 
 -- the matches of `page` have their text, number and flags
@@ -118,6 +120,8 @@ pub record HasPage (rows : List Row) : Type 0 where
 -- the matches of `same` have their flags
 pub record HasSame (rows : List Row) : Type 0 where
   pub json : HasFlag (codes "json") rows
+  pub starts : HasFlag (codes "starts") rows
+  pub recursive : HasFlag (codes "recursive") rows
   pub reports : HasReports rows
 
 -- the matches of `verify` have their text and flags
@@ -184,6 +188,7 @@ IsLawful (Merge reports) = IsLimit 9223372036854775807 reports.input
 IsLawful (Table subject format names reports) = IsLimit 9223372036854775807 reports.input
 IsLawful (Page page names reports) = IsLimit 4294967295 page.top × IsLimit 9223372036854775807 reports.input
 IsLawful (Same json reports) = IsLimit 9223372036854775807 reports.input
+IsLawful (Starts json collections) = IsLimit 9223372036854775807 collections.input
 IsLawful (Verify claims reports) = IsLimit 9223372036854775807 reports.input
 
 -- they are where words ask for it, as clap refuses others

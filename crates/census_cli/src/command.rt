@@ -5,8 +5,8 @@ ghost use Rattle.clap.specs.declared.builder.command.Command.TheViews.{out-Comma
 ghost use Rattle.clap.specs.declared.builder.value_parser.ValueParser.TheVariants.{Unsigned};
 ghost use Rattle.census_cli.specs.CommandLine.{bare_app, census_app, command_named, flag, number, option, search_rule, several, with_reading, word, workers_rule};
 
-use crate::fault::VERSION_TEXT;
 use crate::help;
+use census_facts::VERSION;
 use clap::error::ErrorKind;
 use clap::{Arg, ArgAction, Command, value_parser};
 use std::alloc::{AllocError, Global};
@@ -253,6 +253,42 @@ fn codes<'a>(alloc: Global) -> Arg<'a>
         .help("A row for each code and rule in place of each pattern, by falling count")
 }
 
+fn engines<'a>(alloc: Global) -> Arg<'a>
+    ensures { (rule_of result ≡ flag "engines") × (result.global ≡ false) }
+{
+    Arg::new(alloc, "engines")
+        .long("engines")
+        .action(ArgAction::SetTrue)
+        .help("A row for each thing that engines emit in place of each pattern")
+}
+
+fn code_sort<'a>(alloc: Global) -> Arg<'a>
+    ensures { (rule_of result ≡ option "sort") × (result.global ≡ false) }
+{
+    Arg::new(alloc, "sort")
+        .long("sort")
+        .value_name("ORDER")
+        .help("Order of codes: report or rare, the rarest first [default: report]")
+}
+
+fn unnamed<'a>(alloc: Global) -> Arg<'a>
+    ensures { (rule_of result ≡ flag "unnamed") × (result.global ≡ false) }
+{
+    Arg::new(alloc, "unnamed")
+        .long("unnamed")
+        .action(ArgAction::SetTrue)
+        .help("Leave out the codes that have a name")
+}
+
+fn starts<'a>(alloc: Global) -> Arg<'a>
+    ensures { (rule_of result ≡ flag "starts") × (result.global ≡ false) }
+{
+    Arg::new(alloc, "starts")
+        .long("starts")
+        .action(ArgAction::SetTrue)
+        .help(help::STARTS)
+}
+
 fn reports<'a>(alloc: Global) -> Arg<'a>
     ensures { (rule_of result ≡ several "report") × (result.global ≡ false) }
 {
@@ -477,6 +513,9 @@ fn table<'a>(alloc: Global) -> Result<Command<'a>, AllocError>
         .arg(safe(alloc))?
         .arg(parts(alloc))?
         .arg(codes(alloc))?
+        .arg(engines(alloc))?
+        .arg(code_sort(alloc))?
+        .arg(unnamed(alloc))?
         .arg(names(alloc))?;
     with_reading(alloc, table)
 }
@@ -504,7 +543,9 @@ fn same<'a>(alloc: Global) -> Result<Command<'a>, AllocError>
     let same = Command::new(alloc, "same")
         .about("List the patterns of reports that are one object")
         .after_help(help::SAME)
-        .arg(json(alloc))?;
+        .arg(json(alloc))?
+        .arg(starts(alloc))?
+        .arg(recursive(alloc))?;
     with_reading(alloc, same)
 }
 
@@ -526,7 +567,35 @@ pub(crate) const TWO_FORMATS: &str = "the argument '--csv' cannot be used with '
 pub(crate) const SAFE_JSON: &str = "the argument '--safe' cannot be used with '--json'";
 
 /// What is said of words that name two tables.
-pub(crate) const TWO_TABLES: &str = "the argument '--parts' cannot be used with '--codes'";
+pub(crate) const PARTS_AND_CODES: &str = "the argument '--parts' cannot be used with '--codes'";
+
+pub(crate) const PARTS_AND_ENGINES: &str = "the argument '--parts' cannot be used with '--engines'";
+
+pub(crate) const ENGINES_AND_CODES: &str = "the argument '--engines' cannot be used with '--codes'";
+
+/// What is said of options of codes beside another table.
+pub(crate) const SORT_OF_OTHERS: &str =
+    "the argument '--sort <ORDER>' cannot be used without '--codes'";
+
+pub(crate) const UNNAMED_OF_OTHERS: &str =
+    "the argument '--unnamed' cannot be used without '--codes'";
+
+/// What is said of codes without a name where there are no names.
+pub(crate) const UNNAMED_ONLY: &str =
+    "the argument '--unnamed' cannot be used without '--names <FILE>'";
+
+/// What is said of options of `same` that are about folders beside those that are about reports.
+pub(crate) const STARTS_AND_CUT: &str = "the argument '--starts' cannot be used with '--cut'";
+
+pub(crate) const RECURSIVE_OF_REPORTS: &str =
+    "the argument '--recursive' cannot be used without '--starts'";
+
+/// Clap's words for arguments of `same` that are in conflict.
+pub(crate) fn same_conflict(alloc: Global, words: &str) -> Result<String, AllocError> {
+    let mut command = same(alloc)?.bin_name("census same")?;
+    let error = command.error(ErrorKind::ArgumentConflict, words)?;
+    format!(in alloc; "{error}")
+}
 
 /// Clap's words for arguments of `table` that are in conflict.
 pub(crate) fn conflict(alloc: Global, words: &str) -> Result<String, AllocError> {
@@ -549,6 +618,16 @@ pub(crate) fn no_order(alloc: Global, word: &str) -> Result<String, AllocError> 
     no_value(alloc, word, "--sort <ORDER>", orders)
 }
 
+/// Clap's words for an order of a table of codes that does not exist.
+pub(crate) fn no_code_order(alloc: Global, word: &str) -> Result<String, AllocError> {
+    let words = format!(in alloc;
+        "invalid value '{word}' for '--sort <ORDER>'\n  [possible values: report, rare]"
+    )?;
+    let mut command = table(alloc)?.bin_name("census table")?;
+    let error = command.error(ErrorKind::InvalidValue, words.as_str())?;
+    format!(in alloc; "{error}")
+}
+
 /// Clap's words for a base of a page that is not an address.
 pub(crate) fn no_address(alloc: Global, text: &str) -> Result<String, AllocError> {
     let start = ": it does not begin with http:// or https://";
@@ -560,7 +639,7 @@ fn bare<'a>(alloc: Global) -> Result<Command<'a>, AllocError>
 {
     let named = Command::new(alloc, "census")
         .about("Takes a census of Life-like patterns: what each becomes on the unbounded plane")
-        .version(VERSION_TEXT)
+        .version(VERSION)
         .after_help(help::PROGRAM)
         .bin_name("census")?;
     Ok(named.no_binary_name(true).subcommand_required(true))

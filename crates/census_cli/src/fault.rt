@@ -1,8 +1,9 @@
 //! Why words ask for nothing that can be done.
 ghost use Rattle.clap.specs.Values.{kind_of};
-ghost use Rattle.clap.specs.declared.error.kind.ErrorKind.TheVariants.{DisplayVersion};
+ghost use Rattle.clap.specs.declared.error.kind.ErrorKind.TheVariants.{DisplayVersion, InvalidSubcommand};
 ghost use Rattle.census_cli.specs.Refusing.{TellsKind};
 
+use census_facts::VERSION;
 use clap::error::ErrorKind;
 use std::alloc::{AllocError, AllocFailed, Global};
 use thiserror::Error;
@@ -42,15 +43,32 @@ impl<T: Drop> From<AllocFailed<T>> for WordsFault {
     }
 }
 
-// What `--version` writes: the program's version, and the logic of the kit that proves it, as `rt version` ends.
-pub(crate) const VERSION_TEXT: &str = "census 0.2.0\nrattle logic dac8208d650f15bf\n";
+// What follows the program's version: the logic of the kit that proves it, as `rt version` ends.
+const LOGIC: &str = "\nrattle logic dac8208d650f15bf\n";
 
 // The text of the version, to be printed.
 fn version_fault(alloc: Global) -> WordsFault
     ensures { TellsKind DisplayVersion result }
 {
-    match String::from_str(alloc, VERSION_TEXT) {
-        Ok(text) => WordsFault::Help(text),
+    let Ok(mut text) = String::from_str(alloc, VERSION) else {
+        return WordsFault::Memory;
+    };
+    match text.push_str(LOGIC) {
+        Ok(()) => WordsFault::Help(text),
+        Err(_) => WordsFault::Memory,
+    }
+}
+
+// What is said where a command is not known, since the word is often that of a file.
+const FILE_TIP: &str = "\n  tip: 'census identify FILE' tells what the pattern of a file is\n";
+
+// The fault for a command that is not known.
+fn refused_command(said: String) -> WordsFault
+    ensures { TellsKind InvalidSubcommand result }
+{
+    let mut text = said;
+    match text.push_str(FILE_TIP) {
+        Ok(()) => WordsFault::Refused(text),
         Err(_) => WordsFault::Memory,
     }
 }
@@ -67,6 +85,7 @@ pub(crate) fn fault_of(alloc: Global, error: &clap::Error) -> WordsFault
         ErrorKind::OutOfMemory => WordsFault::Memory,
         ErrorKind::DisplayHelp => WordsFault::Help(text),
         ErrorKind::DisplayVersion => version_fault(alloc),
+        ErrorKind::InvalidSubcommand => refused_command(text),
         _ => WordsFault::Refused(text),
     }
 }

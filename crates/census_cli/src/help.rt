@@ -7,7 +7,8 @@ macro_rules! with_statuses {
             $($before,)*
             "\
 Exit status: 0 done, 1 input refused, 2 bad command line, 3 out of memory,
-4 reading or writing failed. Standard error says what was wrong."
+4 reading or writing failed, 5 same or verify found something. Standard error says
+what was wrong."
         )
     };
 }
@@ -18,14 +19,14 @@ macro_rules! with_report {
         with_statuses!(
             $($before,)*
             "\
-Lines of a report, of pattern I of collection C, both counted from 1:
+Lines of a report, of pattern I of collection C ('census help report'):
   open C PATTERNS NAME
   line C I ok RULE POPULATION ONSET PERIOD DX DY CODE NAME  recurs in the bound
-  line C I none RULE POPULATION NAME                        does not
+  line C I none RULE POPULATION NAME                        none of these
   line C I large RULE POPULATION GENERATION NAME            past --cells there
-  line C I bad FAULT NAME                                   RLE fault 1 to 10
-  code C RULE CODE COUNT                                    ok lines with CODE
-  close C PATTERNS OK NONE BAD                              NONE counts large
+  line C I bad FAULT NAME                                   its text is refused
+  code C RULE CODE COUNT                                    all with CODE
+  close C PATTERNS RESOLVED UNRESOLVED REFUSED              how many of each
   end COLLECTIONS PATTERNS                                  the last line
 
 "
@@ -39,19 +40,20 @@ macro_rules! with_objects {
         with_statuses!(
             $($before,)*
             "\
-Lines of a report, of pattern I of collection C, both counted from 1:
+Lines of a report, of pattern I of collection C ('census help report'):
   open C PATTERNS NAME
-  line C I ash RULE POPULATION ONSET OBJECTS NAME has fallen apart in the bound
-  part C I CODE COUNT                             its parts with CODE
-  line C I grows RULE POPULATION ENGINES NAME     grows for ever by engines
-  engine C I E PERIOD DX DY COUNT                 its engines of kind E
-  emits C I E CODE COUNT                          what each emits in a period
-  line C I none RULE POPULATION NAME              neither
-  line C I large RULE POPULATION GENERATION NAME  past --cells there
-  line C I bad FAULT NAME                         RLE fault 1 to 10
-  code C RULE CODE COUNT                          parts with CODE
-  close C PATTERNS ASH NONE BAD                   NONE counts large
-  end COLLECTIONS PATTERNS                        the last line
+  line C I ok RULE POPULATION ONSET PERIOD DX DY CODE NAME  becomes one part
+  line C I ash RULE POPULATION ONSET OBJECTS NAME           none, or several
+  part C I CODE COUNT                                       its parts with CODE
+  line C I grows RULE POPULATION ENGINES NAME               grows for ever
+  engine C I E PERIOD DX DY COUNT                           those of kind E
+  emits C I E CODE COUNT                                    each in a period
+  line C I none RULE POPULATION NAME                        none of these
+  line C I large RULE POPULATION GENERATION NAME            past --cells there
+  line C I bad FAULT NAME                                   its text is refused
+  code C RULE CODE COUNT                                    all with CODE
+  close C PATTERNS RESOLVED UNRESOLVED REFUSED              how many of each
+  end COLLECTIONS PATTERNS                                  the last line
 
 "
         )
@@ -96,6 +98,11 @@ on standard error says what was left out";
 pub const REPORT_INPUT: &str = "\
 Bytes that the REPORTs may have together, 1 to 9223372036854775807
 [default: no limit]";
+
+/// What `--starts` does.
+pub const STARTS: &str = "\
+Take each REPORT for a FOLDER of patterns, and list those that are the same at
+the start";
 
 /// What a FILE is.
 pub const FILE: &str = "An RLE text; - is standard input.\nWith no FILE standard input is read";
@@ -151,13 +158,18 @@ draw CODE [--rule R]
 merge [REPORT]...  one report of all collections ('census help merge')
   REPORT           a file with a report of run or objects, or with several after
                    one another; - or no REPORT is standard input
-table [--csv | --json] [--safe] [--parts | --codes] [--names FILE] [REPORT]...
+table [--csv | --json] [--safe] [--parts | --engines | --codes] [--sort ORDER]
+      [--unnamed] [--names FILE] [REPORT]...
                    a row for each pattern of reports ('census help table')
       --csv        comma-separated values, as without a format
       --json       JSON, one object a line
       --safe       in CSV, a ' before each text that begins as a formula
       --parts      a row for each part line in place of each pattern
+      --engines    a row for each thing that engines emit
       --codes      a row for each code and rule, by falling count
+      --sort ORDER the order of the codes: report, or rare, the rarest first
+                   [default: report]
+      --unnamed    leave out the codes that have a name
       --names FILE a column of the names of codes, as of identify
 page [--title TEXT] [--note TEXT] [--sort ORDER] [--top N] [--base URL]
      [--links] [--no-patterns] [--names FILE] [REPORT]...
@@ -175,9 +187,12 @@ page [--title TEXT] [--note TEXT] [--sort ORDER] [--top N] [--base URL]
                    leave out patterns, but for the first of each code and those
                    that are unresolved
       --names FILE the names of codes, in bold, as of identify
-same [--json] [REPORT]...
+same [--json] [--starts [-r]] [REPORT]...
                    patterns of reports that are one object ('census help same')
       --json       JSON, one object a line
+      --starts     take each REPORT for a FOLDER of patterns, and list those that
+                   are the same at the start
+  -r, --recursive  take the folders below each FOLDER too that have *.rle files
 verify CLAIMS [REPORT]...
                    where claims and reports differ ('census help verify')
   CLAIMS           a file of comma-separated values with a column name; - is
@@ -194,9 +209,76 @@ each of these
       --explain    also say on standard error where each fault is, what
                    is wrong and what would be right
 The help of each has examples: census help run
+The lines of a report are in census help report, a bundle in census help bundle
 
 "
 );
+
+/// What the lines of a report say.
+pub const REPORT_LINES: &str = "\
+A report of run or objects has fields with one blank between two. C numbers the
+collections and I the patterns of each, both from 1. NAME may have blanks.
+
+open C PATTERNS NAME
+  collection C begins; it has PATTERNS patterns
+line C I ok RULE POPULATION ONSET PERIOD DX DY CODE NAME
+  pattern I recurs: ONSET is the first generation that does, for the first time
+  after PERIOD generations, moved DX to the right and DY down; CODE is its
+  apgcode, and xs0_0 where all cells die; of objects, it becomes one object;
+  POPULATION is always that of generation 0
+line C I ash RULE POPULATION ONSET OBJECTS NAME
+  of objects: from generation ONSET on it is OBJECTS objects, none or several,
+  each of which recurs, and which never meet
+part C I CODE COUNT
+  after ash: COUNT of the objects have CODE
+line C I grows RULE POPULATION ENGINES NAME
+  of objects: it grows for ever, by ENGINES engines
+engine C I E PERIOD DX DY COUNT
+  after grows: COUNT of the engines are of kind E, from 1; each recurs after
+  PERIOD generations, moved DX to the right and DY down
+emits C I E CODE COUNT
+  after engine: each of kind E leaves COUNT objects with CODE in a period
+line C I none RULE POPULATION NAME
+  none of these in the bound
+line C I large RULE POPULATION GENERATION NAME
+  GENERATION is the first with more cells than --cells allows
+line C I bad FAULT NAME
+  its text is refused: it has RLE fault 1 to 10, or can't be read, which is 0
+code C RULE CODE COUNT
+  after all patterns: COUNT ok lines and objects of part lines have CODE
+close C PATTERNS RESOLVED UNRESOLVED REFUSED
+  collection C ends; RESOLVED patterns are ok, ash or grows, UNRESOLVED none or
+  large, and REFUSED bad
+end COLLECTIONS PATTERNS
+  the report ends; one without this line was cut
+";
+
+/// What a bundle is.
+pub const BUNDLE: &str = "\
+A bundle has collections of patterns in one text. run and objects read one from
+standard input where no FOLDER is named:
+
+  @folder demo
+  @file glider
+  x = 3, y = 3
+  bo$2bo$3o!
+  @file block
+  x = 2, y = 2
+  2o$2o!
+
+@folder NAME
+  a collection begins, with no pattern yet
+@file NAME
+  a pattern of it begins; its RLE text is all up to the next line that begins
+  with @
+
+No other line begins with @. NAME goes on to the end of its line: 1 to 255
+bytes, no control characters, and no blank at either end. A name may come again.
+There are at most 65535 collections, with at most 65535 patterns each, in at
+most 67108864 bytes.
+
+'census help run' has a command that makes a bundle of files.
+";
 
 /// After the help of `run`.
 pub const RUN: &str = with_report!(
@@ -241,13 +323,15 @@ Lines of each text, with an empty line between two texts:
   rule RULE
   population CELLS     of generation 0
   box WIDTH HEIGHT     around them
-and where the pattern recurs in the bound
+and where the pattern becomes one part in the bound
   onset GENERATION     the first that recurs,
   period GENERATIONS   after this many generations,
   displacement DX DY   moved this far to the right and down
-  apgcode CODE         of what it has become
-or else where it has fallen apart in the bound
+  apgcode CODE         of the part
+or else where it becomes none, or several, in the bound
   onset GENERATION     the first that is ash,
+  period GENERATIONS   and displacement of the whole, where all parts have one
+  displacement DX DY   velocity, and this period is at most the bound,
   objects COUNT        that it has become ('census help objects' says which)
   part CODE COUNT      those with CODE
 or else where it is found to grow for ever
@@ -308,27 +392,36 @@ The columns: collection, collection_name, pattern, name, status (ok, ash, grows,
 none, large or bad), rule, population, onset, period, dx, dy, code, fault; where a
 name is no UTF-8, its bytes in hex in collection_name_hex or name_hex; then
 objects of what is ash, generation, the first that is too large, engines of what
-grows, and fault_text, the fault in words.
+grows, and fault_text, the fault in words. Where what grows has one engine, period,
+dx and dy are that engine's.
 
 With --parts: collection, collection_name, pattern, name, rule, code, count.
 
-With --codes: rule, code, count, patterns (in how many), and of the first of them
-first_collection_name and first_name; by falling count, and then in the order of
-codes, shorter ones first. A pattern that recurs counts as one object, and each
-part of one that has fallen apart.
+With --engines, for each engine line and each thing that it emits: collection,
+collection_name, pattern, name, rule, engine (the number of the line), kind (gun,
+rake or puffer), period, dx, dy, count, emits, emits_count.
+
+With --codes: rule, code, count, patterns (in how many), of the first of them
+first_collection_name and first_name, and share, the part of all objects, rounded
+half up to six digits; by falling count, and then in the order of codes, shorter
+ones first. With --sort rare the count rises. A pattern that recurs counts as one
+object, and each part of one that has fallen apart. With --unnamed codes that FILE
+names are left out; the shares of the others stay as they are.
 
 With --safe, of CSV only, each text that begins with =, +, -, @, a tab or a
 carriage return, which a spreadsheet takes for a formula, has a ' before it.
 Numbers stay as they are.
 
-With --names a column common_name follows code. FILE has lines of a code, a tab
-and a name; a line that begins with # is passed over, and no code stands twice.
+With --names a column common_name follows code or emits. FILE has lines of a code,
+a tab and a name; a line that begins with # is passed over, and no code stands
+twice.
 
 Example: census table --csv census.txt >census.csv
          census run soups | census table --json
          census objects soups | census table --codes
          census table --safe --parts census.txt >parts.csv
          census table --codes --names names.tsv census.txt
+         census table --codes --sort rare --unnamed --names names.tsv census.txt
          census table --cut --input 1000000000 --explain stopped.txt
 
 "
@@ -369,7 +462,11 @@ and for each of these patterns a line of two blanks, the name of its collection,
 / and its own. The status is 5 where there is such a code, and else 0.
 
 Patterns with one rule and one code are one object, turned, mirrored or at another
-age, and those with two are not. What has fallen apart is left out.
+age, and those with two are not. What has no ok line is left out: where there is
+such a pattern, a line on standard error says how many were compared.
+
+With --starts patterns of FOLDERs, or of a bundle, are compared as they begin,
+moved, turned or mirrored. In place of a code there is _ and what draw takes.
 
 With --json there is an object for each of these patterns, with rule, code,
 collection_name and name; where a name is no UTF-8, its bytes in hex are in
@@ -378,6 +475,7 @@ collection_name_hex or name_hex.
 Example: census same census.txt
          census run -r collections | census same --json
          census same --explain old.txt new.txt
+         census same --starts -r collections
          census same --cut --input 1000000000 stopped.txt
 
 "
@@ -388,9 +486,10 @@ pub const VERIFY: &str = with_statuses!(
     "\
 CLAIMS has comma-separated values under a row of names, as 'census table --csv'
 writes them: name, and as many as are claimed of collection_name, status, rule,
-population, onset, period, dx, dy, code, objects and engines. An empty cell claims
-nothing, and other columns are passed over. A claim is about the one pattern of its
-name, in the collection of that name where it has one. What does not agree is written:
+population, onset, period, dx, dy, code (or apgcode), objects and engines. An empty
+cell claims nothing, and other columns are passed over: a line on standard error says
+which are compared, and which are not. A claim is about the one pattern of its name,
+in the collection of that name where it has one. What does not agree is written:
 
   wrong NAME COLUMN CLAIMED FOUND  a cell that the table has otherwise; FOUND is
                                    - where the table has nothing

@@ -1,12 +1,13 @@
 //! What words ask for.
-ghost use Rattle.std.specs.Prelude.{◌≡◌, ◌≢◌, IfNone, IfOk, IfSome, MatchResult, Some, codes, false, map, option_map};
+ghost use Rattle.std.specs.Prelude.{◌≡◌, ◌≢◌, IfNone, IfOk, IfSome, MatchResult, Some, codes, false, map, option_map, true};
 ghost use Rattle.clap.specs.Words.{first_of, found_of, rows_of, subcommand_rows_of};
-ghost use Rattle.census_cli.specs.Asking.{AsksFor, Gives, GivesCollections, GivesReports, Uses, argument_number, format_asked, is_address, is_used, order_of, subject_asked, values_of};
-ghost use Rattle.census_cli.specs.Holding.{GivesAsked, GivesRequest, HasCollections, HasFlag, HasIdentify, HasLimit, HasNumber, HasObjects, HasPage, HasReports, HasRun, HasTable, HasText, IsCommand, RefusesCommand};
-ghost use Rattle.census_cli.specs.Refusing.{RefusesWords};
+ghost use Rattle.census_cli.specs.Asking.{AsksFor, Gives, GivesCollections, GivesReports, Uses, argument_number, codes_asked, format_asked, is_address, is_used, order_of, others_asked, rarity, subject_asked, values_of, GivesStarts, starts_asked};
+ghost use Rattle.census_cli.specs.Holding.{GivesAsked, GivesRequest, HasCollections, HasFlag, HasIdentify, HasLimit, HasNumber, HasObjects, HasPage, HasReports, HasRun, HasTable, HasText, IsCommand, RefusesCommand, HasSame};
+ghost use Rattle.census_cli.specs.Refusing.{RefusesWords, is_topic};
 
 use crate::command;
 use crate::fault::{WordsFault, fault_of};
+use crate::help;
 use clap::ArgMatches;
 use life_answer::Question;
 use std::alloc::{AllocError, Global};
@@ -30,8 +31,15 @@ pub enum TableSubject {
     Patterns,
     /// A `part` line.
     Parts,
+    /// An `emits` line.
+    Engines,
     /// A rule and a code.
-    Codes,
+    Codes {
+        /// Whether the rare ones come first.
+        rare: bool,
+        /// Whether those that have a name are left out.
+        unnamed: bool,
+    },
 }
 
 /// The order of the codes on a page.
@@ -143,7 +151,7 @@ pub enum Request<'a> {
     Merge {
         reports: Reports<'a>,
     },
-    /// A row for each pattern, part or code of reports.
+    /// A row for each pattern, part or code of reports, or for what engines emit.
     Table {
         subject: TableSubject,
         format: TableFormat,
@@ -163,6 +171,13 @@ pub enum Request<'a> {
         /// Whether each of these patterns is reported as a JSON object.
         json: bool,
         reports: Reports<'a>,
+    },
+    /// The patterns of collections that are the same at the start.
+    Starts {
+        /// Whether each of these patterns is reported as a JSON object.
+        json: bool,
+        /// They are read up to the first thing that can't be read.
+        collections: Collections<'a>,
     },
     /// What does not agree between claims and reports.
     Verify {
@@ -329,17 +344,91 @@ fn format(table: &ArgMatches<'_>) -> Option<TableFormat>
     }
 }
 
-// What each row is about by the flags of `table`, where they don't name two.
+// Whether the rare codes come first in the order of codes that a word names, where it names one.
+fn rarity(word: &str) -> Option<bool>
+    ensures { result ≡ rarity word.now }
+{
+    if word == "report" {
+        Some(false)
+    } else if word == "rare" {
+        Some(true)
+    } else {
+        None
+    }
+}
+
+// The codes that the options of `table` ask for, where they can be had.
+fn codes_in(table: &ArgMatches<'_>) -> Option<TableSubject>
+    requires { HasTable (rows_of (found_of table.now)) }
+    ensures { result ≡ codes_asked (rows_of (found_of table.now)) }
+{
+    let unnamed = flag(table, "unnamed");
+    if unnamed && text_if_used(table, "names").is_none() {
+        return None;
+    }
+    let Some(word) = text_if_used(table, "sort") else {
+        return Some(TableSubject::Codes {
+            rare: false,
+            unnamed,
+        });
+    };
+    match rarity(word) {
+        Some(rare) => Some(TableSubject::Codes { rare, unnamed }),
+        None => None,
+    }
+}
+
+// What is no code, where no option of `table` is about codes.
+fn others_in(table: &ArgMatches<'_>, subject: TableSubject) -> Option<TableSubject>
+    requires { HasTable (rows_of (found_of table.now)) }
+    ensures { result ≡ others_asked (rows_of (found_of table.now)) subject }
+{
+    if flag(table, "unnamed") || text_if_used(table, "sort").is_some() {
+        None
+    } else {
+        Some(subject)
+    }
+}
+
+// What each row is about by the options of `table`, where they fit each other.
 fn subject(table: &ArgMatches<'_>) -> Option<TableSubject>
     requires { HasTable (rows_of (found_of table.now)) }
     ensures { result ≡ subject_asked (rows_of (found_of table.now)) }
 {
-    match (flag(table, "parts"), flag(table, "codes")) {
-        (true, true) => None,
-        (true, false) => Some(TableSubject::Parts),
-        (false, true) => Some(TableSubject::Codes),
-        (false, false) => Some(TableSubject::Patterns),
+    let parts = flag(table, "parts");
+    match (parts, flag(table, "engines"), flag(table, "codes")) {
+        (false, false, true) => codes_in(table),
+        (false, false, false) => others_in(table, TableSubject::Patterns),
+        (true, false, false) => others_in(table, TableSubject::Parts),
+        (false, true, false) => others_in(table, TableSubject::Engines),
+        _ => None,
     }
+}
+
+// What is said of options of `table` that do not fit each other.
+fn no_subject(alloc: Global, table: &ArgMatches<'_>) -> Result<String, AllocError>
+    requires { HasTable (rows_of (found_of table.now)) }
+{
+    let (engines, codes) = (flag(table, "engines"), flag(table, "codes"));
+    let unnamed = flag(table, "unnamed");
+    let words = if flag(table, "parts") && (engines || codes) {
+        if engines {
+            command::PARTS_AND_ENGINES
+        } else {
+            command::PARTS_AND_CODES
+        }
+    } else if engines && codes {
+        command::ENGINES_AND_CODES
+    } else if codes && unnamed && text_if_used(table, "names").is_none() {
+        command::UNNAMED_ONLY
+    } else if codes {
+        return command::no_code_order(alloc, text_if_used(table, "sort").unwrap_or(""));
+    } else if unnamed {
+        command::UNNAMED_OF_OTHERS
+    } else {
+        command::SORT_OF_OTHERS
+    };
+    command::conflict(alloc, words)
 }
 
 // What the matches of `table` ask for.
@@ -357,7 +446,7 @@ fn table_of<'a>(alloc: Global, table: &ArgMatches<'a>) -> Result<Request<'a>, Wo
         return Err(WordsFault::Refused(command::conflict(alloc, words)?));
     };
     let Some(subject) = subject(table) else {
-        return Err(WordsFault::Refused(command::conflict(alloc, command::TWO_TABLES)?));
+        return Err(WordsFault::Refused(no_subject(alloc, table)?));
     };
     Ok(Request::Table {
         subject,
@@ -438,6 +527,59 @@ fn page_of<'a>(alloc: Global, page: &ArgMatches<'a>) -> Result<Request<'a>, Word
     })
 }
 
+// The folders that the matches of `same` name, and how they are read.
+fn folders_of<'a>(alloc: Global, same: &ArgMatches<'a>) -> Result<Collections<'a>, AllocError>
+    requires holds { HasSame (rows_of (found_of same.now)) }
+    requires starts { starts_asked (rows_of (found_of same.now)) ≡ Some true }
+    ensures { IfOk result (GivesStarts (rows_of (found_of same.now))) }
+{
+    Ok(Collections {
+        input: long_limit(same, "input"),
+        recursive: flag(same, "recursive"),
+        keep_going: false,
+        folders: texts(alloc, same, "report")?,
+    })
+}
+
+// Whether `same` is to compare patterns at the start, where its flags fit each other.
+fn starts_asked(same: &ArgMatches<'_>) -> Option<bool>
+    requires { HasSame (rows_of (found_of same.now)) }
+    ensures { result ≡ starts_asked (rows_of (found_of same.now)) }
+{
+    match (flag(same, "starts"), flag(same, "cut"), flag(same, "recursive")) {
+        (true, false, _) => Some(true),
+        (false, _, false) => Some(false),
+        _ => None,
+    }
+}
+
+// What the matches of `same` ask for.
+fn same_of<'a>(alloc: Global, same: &ArgMatches<'a>) -> Result<Request<'a>, WordsFault>
+    requires { HasSame (rows_of (found_of same.now)) }
+    ensures { MatchResult result (Gives (codes "same") (rows_of (found_of same.now)))
+        (RefusesCommand (Some (codes "same", rows_of (found_of same.now)))) }
+{
+    let Some(starts) = starts_asked(same) else {
+        let words = if flag(same, "starts") {
+            command::STARTS_AND_CUT
+        } else {
+            command::RECURSIVE_OF_REPORTS
+        };
+        return Err(WordsFault::Refused(command::same_conflict(alloc, words)?));
+    };
+    let json = flag(same, "json");
+    if starts {
+        return Ok(Request::Starts {
+            json,
+            collections: folders_of(alloc, same)?,
+        });
+    }
+    Ok(Request::Same {
+        json,
+        reports: reports_of(alloc, same)?,
+    })
+}
+
 // What the matches ask for.
 fn request_of<'a>(alloc: Global, matches: &ArgMatches<'a>) -> Result<Request<'a>, WordsFault>
     requires { IsCommand (subcommand_rows_of matches.now) }
@@ -477,10 +619,7 @@ fn request_of<'a>(alloc: Global, matches: &ArgMatches<'a>) -> Result<Request<'a>
         return page_of(alloc, page);
     }
     if let Some(same) = matches.subcommand_matches("same") {
-        return Ok(Request::Same {
-            json: flag(same, "json"),
-            reports: reports_of(alloc, same)?,
-        });
+        return same_of(alloc, same);
     }
     if let Some(verify) = matches.subcommand_matches("verify") {
         return Ok(Request::Verify {
@@ -529,19 +668,43 @@ fn asked_of<'a>(alloc: Global, matches: &ArgMatches<'a>) -> Result<Asked<'a>, Wo
     })
 }
 
+// The text of the topic that words ask for help on, if they do.
+fn topic_of(words: &[&str]) -> Option<&'static str>
+    ensures { IfSome result (λ _. is_topic (map (λ s. s.now) words.now) ≡ true) }
+{
+    match words {
+        [first, topic] => {
+            if *first != "help" {
+                None
+            } else if *topic == "report" {
+                Some(help::REPORT_LINES)
+            } else if *topic == "bundle" {
+                Some(help::BUNDLE)
+            } else {
+                None
+            }
+        }
+        _ => None,
+    }
+}
+
 /// What the words after the program's own name ask for.
 ///
 /// Words mean what clap's matches for them say: their command, the value of each option or its default, whether each flag is
 /// used, and the folders, files or reports in order. Numbers are decimal, with any zeros or one `+` in front, and clap checks
 /// their ranges.
 /// A fault other than `Memory` occurs only where clap has no matches for the words: `Help` where it answers them with help or
-/// with the version, `Refused` where it refuses them. There are these exceptions: words that name both formats of `table`, safe
-/// texts of JSON, or both parts and codes, an order of a page that does not exist, or a base that does not begin with `http://`
-/// or `https://`, are `Refused` though clap has matches for them.
+/// with the version, or where they are `help report` or `help bundle`; `Refused` where it refuses them. There are these
+/// exceptions: words that name both formats of `table`, safe texts of JSON, or both parts and codes, an order of a page that does
+/// not exist, a base that does not begin with `http://` or `https://`, or `same` with both `--starts` and `--cut`, or with
+/// `--recursive` and without `--starts`, are `Refused` though clap has matches for them.
 pub fn read_words<'a>(alloc: Global, words: &'a [&'a str]) -> Result<Asked<'a>, WordsFault>
     ensures { MatchResult result (AsksFor (map (λ s. s.now) words.entry.now))
         (RefusesWords (map (λ s. s.now) words.entry.now)) }
 {
+    if let Some(topic) = topic_of(words) {
+        return Err(WordsFault::Help(String::from_str(alloc, topic)?));
+    }
     let command = command::census(alloc)?;
     match command.try_get_matches_from(words) {
         Ok(matches) => asked_of(alloc, &matches),

@@ -53,7 +53,8 @@ module _ (shelf : Tellings) (before after : Reader) (old new : Heard) where
 -- words that are answered with a text ask for help
 asks_help : (words : List (List ℕ)) (text : List ℕ) → AsksText words text → AsksHelp words
 asks_help words text (inl help) = inl help
-asks_help words text (inr (version, same)) = inr version
+asks_help words text (inr (inl (version, same))) = inr (inl version)
+asks_help words text (inr (inr topic)) = inr (inr topic)
 
 -- # What was told
 

@@ -7,3 +7,4 @@ mod Cuts
 pub mod Gates
 mod Asked
 mod Named
+pub mod Starts

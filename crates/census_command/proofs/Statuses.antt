@@ -8,7 +8,7 @@ use Rattle.census_cli.specs.declared.fault.WordsFault.{WordsFault}
 use Rattle.census_cli.specs.declared.fault.WordsFault.TheVariants as words_fault
 use Rattle.census_cli.specs.declared.request.Asked.{Asked as Wanted}
 use Rattle.census_cli.specs.declared.request.Request.{Request}
-use Rattle.census_cli.specs.declared.request.Request.TheVariants.{Census, Identify, Advance, Draw, Merge, Table, Page, Same, Verify}
+use Rattle.census_cli.specs.declared.request.Request.TheVariants.{Census, Identify, Advance, Draw, Merge, Table, Page, Same, Starts, Verify}
 use Rattle.life_answer.specs.declared.question.Question.{Question}
 use Rattle.census_command.specs.Advances.{AdvanceFromFails, AdvancesFromInPart}
 use Rattle.census_errors.specs.Explained.{TellsOf}
@@ -117,41 +117,38 @@ module _ (shelf : Tellings) (before after : Streams) where
   says (command.Run e) (Table subject format names reports) h = absurd h
   says (command.Run e) (Page page names reports) h = absurd h
   says (command.Run e) (Same json reports) h = absurd h
+  says (command.Run e) (Starts json from) h = absurd h
   says (command.Run e) (Verify claims reports) h = absurd h
   says (command.Advance e) (Merge reports) h = absurd h
   says (command.Advance e) (Table subject format names reports) h = absurd h
   says (command.Advance e) (Page page names reports) h = absurd h
   says (command.Advance e) (Same json reports) h = absurd h
+  says (command.Advance e) (Starts json from) h = absurd h
   says (command.Advance e) (Verify claims reports) h = absurd h
   says (command.Draw e) (Merge reports) h = absurd h
   says (command.Draw e) (Table subject format names reports) h = absurd h
   says (command.Draw e) (Page page names reports) h = absurd h
   says (command.Draw e) (Same json reports) h = absurd h
+  says (command.Draw e) (Starts json from) h = absurd h
   says (command.Draw e) (Verify claims reports) h = absurd h
   says command.Arguments (Merge reports) h = absurd h
   says command.Arguments (Table subject format names reports) h = absurd h
   says command.Arguments (Page page names reports) h = absurd h
   says command.Arguments (Same json reports) h = absurd h
+  says command.Arguments (Starts json from) h = absurd h
   says command.Arguments (Verify claims reports) h = absurd h
   says command.Memory (Merge reports) h = absurd h
   says command.Memory (Table subject format names reports) h = absurd h
   says command.Memory (Page page names reports) h = absurd h
   says command.Memory (Same json reports) h = absurd h
+  says command.Memory (Starts json from) h = absurd h
   says command.Memory (Verify claims reports) h = absurd h
   says command.Write (Merge reports) h = absurd h
   says command.Write (Table subject format names reports) h = absurd h
   says command.Write (Page page names reports) h = absurd h
   says command.Write (Same json reports) h = absurd h
+  says command.Write (Starts json from) h = absurd h
   says command.Write (Verify claims reports) h = absurd h
-  says (command.Reports e) (Census census) h = absurd h
-  says (command.Reports e) (Advance n file) h = absurd h
-  says (command.Reports e) (Identify bound cells near horizon json names files) h = absurd h
-  says (command.Reports e) (Draw code rule) h = absurd h
-  says (command.Reports e) (Merge reports) h = absurd h
-  says (command.Reports e) (Table subject format names reports) h = absurd h
-  says (command.Reports e) (Page page names reports) h = absurd h
-  says (command.Reports e) (Same json reports) h = absurd h
-  says (command.Reports e) (Verify claims reports) h = absurd h
 
   -- what fails is not done
   pub never_done : (error : CommandError) (request : Request) → Fails error shelf request before after → status_of error ≡ 0 → ⊥
@@ -254,7 +251,8 @@ module _ (shelf : Tellings) (words : List (List ℕ)) (at_terminal : Bool) (befo
     -- words that are answered with a text ask for help
     asks_help : (text : List ℕ) → AsksText words text → AsksHelp words
     asks_help text (inl help) = inl help
-    asks_help text (inr (version, same)) = inr version
+    asks_help text (inr (inl (version, same))) = inr (inl version)
+    asks_help text (inr (inr topic)) = inr (inr topic)
 
     -- help was written
     ends_helped : (text : List ℕ) → AsksText words text → status ≡ 0 → Shows text before after → Statuses shelf words at_terminal status before after

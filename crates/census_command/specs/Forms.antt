@@ -8,7 +8,7 @@ use Rattle.census_cli.specs.declared.request.Reports.{Reports}
 use Rattle.census_cli.specs.declared.request.TableFormat.{TableFormat}
 use Rattle.census_cli.specs.declared.request.TableFormat.TheVariants.{Csv, Json}
 use Rattle.census_cli.specs.declared.request.TableSubject.{TableSubject}
-use Rattle.census_cli.specs.declared.request.TableSubject.TheVariants.{Patterns, Parts, Codes}
+use Rattle.census_cli.specs.declared.request.TableSubject.TheVariants.{Patterns, Parts, Engines, Codes}
 use Rattle.census_page.specs.Options.{Options, default_options}
 use Rattle.census_page.specs.declared.options.Sort.{Sort}
 use Rattle.census_page.specs.declared.options.Sort.TheVariants as sort
@@ -30,7 +30,8 @@ format_of Json = format.Json
 abbrev pub subject_of : TableSubject → Subject
 subject_of Patterns = subject.Patterns
 subject_of Parts = subject.Parts
-subject_of Codes = subject.Codes
+subject_of Engines = subject.Engines
+subject_of (Codes rare unnamed) = subject.Codes (record { rare = rare; unnamed = unnamed })
 
 -- the order of the codes on a page
 abbrev pub sort_of : PageSort → Sort

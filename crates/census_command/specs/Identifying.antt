@@ -1,5 +1,5 @@
 -- What patterns are, reported with the names of codes.
-use Rattle.std.specs.Prelude.{◌≡◌, ◌⊎◌, ℕ, Bool, true, false, List, [], Option, None, Some, Ok, Err}
+use Rattle.std.specs.Prelude.{◌≡◌, ◌⊎◌, ℕ, Bool, true, false, List, [], ◌∷◌, Option, None, Some, Ok, Err}
 use Rattle.watched.specs.Streams.{Streams}
 use Rattle.census_identify.specs.declared.blocks.inquiry.Inquiry.{Inquiry}
 use Rattle.census_facts.specs.declared.form.Form.{Form}
@@ -10,12 +10,13 @@ use Rattle.census_identify.specs.Identifies.{Identifies}
 use Rattle.census_folders.specs.declared.heard.Heard.TheVariants as heard
 use Rattle.census_facts.specs.NameLines.{names_in}
 use Rattle.census_facts.specs.Names.{Entry}
-use Rattle.census_errors.specs.Explained.{TellsOf}
-use Rattle.census_errors.specs.Messages.{status_of}
-use Rattle.census_errors.specs.declared.error.CommandError.TheVariants as command
+use Rattle.census_errors.specs.Explained.{TellsFault}
+use Rattle.census_errors.specs.Files.{file_in}
+use Rattle.census_folders.specs.declared.unread.ShelfFault.{ShelfFault}
+use Rattle.census_reports.specs.Errors.{status_of}
 use Rattle.census_reports.specs.Texts.{RefusesWord}
 use Rattle.census_reports.specs.declared.error.ReportsError.{ReportsError}
-use Rattle.census_reports.specs.declared.error.ReportsError.TheVariants.{Memory, Names}
+use Rattle.census_reports.specs.declared.error.ReportsError.TheVariants.{Memory, Names, Unread}
 use Rattle.census_command.specs.Streams.{untold}
 
 -- the form of an answer
@@ -40,16 +41,16 @@ abbrev pub ReadsNames : (List ℕ → Told) → List ℕ → List Entry → Stre
 ReadsNames held word names before after =
     (text : List ℕ) × ReadsText held word text before after × (names_in text ≡ Ok names)
 
--- the text of a word was not read, for this error, and nothing was written or reported
-abbrev pub LacksText : ReportsError → (List ℕ → Told) → List ℕ → Streams → Streams → Type 0
-LacksText error held word before after =
-    RefusesWord error held word before.input after.input
+-- the text of a word was not read, for this fault, and nothing was written or reported
+abbrev pub LacksText : ShelfFault → (List ℕ → Told) → List ℕ → Streams → Streams → Type 0
+LacksText fault held word before after =
+    RefusesWord fault held word before.input after.input
     × (after.output ≡ before.output) × (after.errors ≡ before.errors)
 
 -- the text of a word was not read, or it was and has no names
 abbrev pub LacksNames : ReportsError → (List ℕ → Told) → List ℕ → Streams → Streams → Type 0
 LacksNames error held word before after =
-    LacksText error held word before after
+    ((fault : ShelfFault) × (error ≡ Unread 1 fault) × LacksText fault held word before after)
     ⊎ ((text : List ℕ) × ReadsText held word text before after × HasNoNames error text)
 
 -- The names in the text of a word were read, and then what the patterns of these files are was reported.
@@ -65,9 +66,10 @@ pub record IdentifiesWith (held : List ℕ → Told) (inquiry : Inquiry) (word :
 pub record MissesNames (held : List ℕ → Told) (word : List ℕ) (explain : Bool) (status : ℕ)
     (before after : Streams) : Type 0 where
   pub error : ReportsError
-  pub status_is : status ≡ status_of (command.Reports error)
+  pub status_is : status ≡ status_of error
   pub why : LacksNames error held word before (untold before after)
-  pub told : TellsOf (command.Reports error) explain before.errors after.errors
+  -- its line names its file
+  pub told : TellsFault (file_in (Some word) (word ∷ []) error) error explain before.errors after.errors
 
 -- what patterns are was reported, with the names in the text of a word, or with none where there is no word
 abbrev pub TellsPatterns : (List ℕ → Told) → Inquiry → Option (List ℕ) → List (List ℕ) → Bool → ℕ → Streams → Streams → Type 0

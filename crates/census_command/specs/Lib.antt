@@ -7,6 +7,7 @@ pub mod Forms
 pub mod Remakes
 pub mod Identifying
 pub mod Requests
+pub mod Starting
 pub mod Gates
 pub mod Outcomes
 pub mod Statuses

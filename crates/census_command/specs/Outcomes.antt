@@ -12,7 +12,7 @@ use Rattle.census_cli.specs.declared.request.Asked.{Asked as Wanted}
 use Rattle.census_cli.specs.declared.request.Census.{Census as CensusAsked}
 use Rattle.census_cli.specs.declared.request.Reports.{Reports}
 use Rattle.census_cli.specs.declared.request.Request.{Request}
-use Rattle.census_cli.specs.declared.request.Request.TheVariants.{Census, Identify, Advance, Draw, Merge, Table, Page, Same, Verify}
+use Rattle.census_cli.specs.declared.request.Request.TheVariants.{Census, Identify, Advance, Draw, Merge, Table, Page, Same, Starts, Verify}
 use Rattle.census_folders.specs.Sources.{Asked}
 use Rattle.census_folders.specs.Tellings.{Tellings}
 use Rattle.census_folders.specs.declared.loss.OnLoss.{OnLoss}
@@ -33,6 +33,7 @@ use Rattle.census_command.specs.Identifying.{TellsPatterns, form_told}
 use Rattle.census_command.specs.Keeps.{Keeps}
 use Rattle.census_command.specs.Remakes.{Remakes, RemakesWith}
 use Rattle.census_command.specs.Requests.{Does, Fails}
+use Rattle.census_command.specs.Starting.{EndsStarts}
 use Rattle.census_command.specs.Streams.{HasSoundStreams, IsUntouched, TellsBeside, WriteFails, untold}
 use Rattle.census_command.specs.declared.forms.Beside.{Beside}
 use Rattle.census_command.specs.declared.forms.Beside.TheVariants.{Names, NamesOnPage, Claims}
@@ -79,7 +80,7 @@ EndsCensus shelf census (Folders asked) explain status before after = EndsOnLoss
 -- of these, alone
 abbrev pub EndsForm : Tellings → Form → Reports → Bool → ℕ → Streams → Streams → Type 0
 EndsForm shelf f reports explain status before after =
-    Remakes (shelf.held []) f (reading_of reports) (map (λ s. s.now) reports.words.items) explain status before after
+    Remakes (shelf.held []) f None (reading_of reports) (map (λ s. s.now) reports.words.items) explain status before after
 
 -- with the text of a word, which is read before them
 abbrev pub EndsBeside : Tellings → Beside → List ℕ → Reports → Bool → ℕ → Streams → Streams → Type 0
@@ -108,6 +109,7 @@ Ends shelf (Page page (Some names) reports) explain status before after =
     (options : PageOptions) × (options_of options ≡ options_asked page)
     × EndsBeside shelf (NamesOnPage options) names.now reports explain status before after
 Ends shelf (Same json reports) explain status before after = EndsForm shelf (form.Same json) reports explain status before after
+Ends shelf (Starts json from) explain status before after = EndsStarts shelf (source_of from) json explain status before after
 Ends shelf (Verify claims reports) explain status before after = EndsBeside shelf Claims claims.now reports explain status before after
 
 -- # Where nothing can be done

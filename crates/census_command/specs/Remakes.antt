@@ -1,5 +1,5 @@
 -- What is made of reports that are read back, and what the exit status says of it.
-use Rattle.std.specs.Prelude.{◌≡◌, ◌⊎◌, ℕ, Bool, false, if◌then◌else◌, List, [], ◌∷◌, ◌++◌}
+use Rattle.std.specs.Prelude.{◌≡◌, ◌⊎◌, ℕ, Bool, false, if◌then◌else◌, List, [], ◌∷◌, Option, None, Some}
 use Rattle.std.specs.Borrow.{Bor}
 use Rattle.watched.specs.Streams.{PutsMoreBytes, Sink, Streams}
 use Rattle.census_folders.specs.Told.{Told}
@@ -15,14 +15,14 @@ use Rattle.census_reports.specs.declared.reading.Reading.{Reading}
 use Rattle.census_reports.specs.declared.reading.Written.{Written}
 use Rattle.census_merge.specs.declared.mending.Cut.{Cut}
 use Rattle.census_errors.specs.Cuts.{cut_line}
-use Rattle.census_errors.specs.Explained.{TellsOf}
-use Rattle.census_errors.specs.Messages.{error_line, status_of}
-use Rattle.census_errors.specs.declared.error.CommandError.{CommandError}
-use Rattle.census_faults.specs.Explanations.{IsExplanation}
+use Rattle.census_errors.specs.Explained.{TellsFault}
+use Rattle.census_errors.specs.Files.{file_in}
+use Rattle.census_folders.specs.declared.unread.ShelfFault.{ShelfFault}
+use Rattle.census_reports.specs.Errors.{status_of, unread_status}
+use Rattle.census_reports.specs.declared.error.ReportsError.TheVariants.{Unread}
 use Rattle.census_command.specs.Forms.{form_beside}
 use Rattle.census_command.specs.Streams.{untold}
 use Rattle.census_command.specs.declared.forms.Beside.{Beside}
-use Rattle.census_errors.specs.declared.error.CommandError.TheVariants as command
 
 -- One report of lawful reports of bundles, none of which was cut, is a lawful report of the bundles, one after another.
 abbrev pub KeepsLaw : Form → Reading → (List ℕ → Told) → List (List ℕ) → Streams → Streams → Type 0
@@ -52,24 +52,22 @@ pub record RemakesWhole (held : List ℕ → Told) (form : Form) (reading : Read
   pub says : SaysOfReports form reading held files before (untold before after) before.errors said
   pub told : TellsCuts written.cuts.items said after.errors
 
--- the line of an error was reported, and then what explains it; once standard error has failed they are lost
-abbrev pub TellsMoreOf : CommandError → Bool → Sink → Sink → Type 0
-TellsMoreOf error explain old new = (lines : List ℕ) × IsExplanation explain lines × PutsMoreBytes (error_line error ++ lines) old new
-
 -- An error ended it, and was reported. Before, it may have been said what is compared.
-pub record RemakesNot (held : List ℕ → Told) (form : Form) (reading : Reading) (files : List (List ℕ)) (explain : Bool) (status : ℕ)
-    (before after : Streams) : Type 0 where
+pub record RemakesNot (held : List ℕ → Told) (form : Form) (beside : Option (List ℕ)) (reading : Reading) (files : List (List ℕ)) (explain : Bool)
+    (status : ℕ) (before after : Streams) : Type 0 where
   pub error : ReportsError
-  pub status_is : status ≡ status_of (command.Reports error)
+  pub status_is : status ≡ status_of error
   pub fails : ReportsFail error form reading held files before (untold before after)
   pub said : Sink
   pub says : (said ≡ before.errors) ⊎ SaysOfReports form reading held files before (untold before after) before.errors said
-  pub told : TellsMoreOf (command.Reports error) explain said after.errors
+  -- its line names its file
+  pub told : TellsFault (file_in beside files error) error explain said after.errors
 
-abbrev pub Remakes : (List ℕ → Told) → Form → Reading → List (List ℕ) → Bool → ℕ → Streams → Streams → Type 0
-Remakes held form reading files explain status before after =
+-- `beside` is the word of the text that the form has
+abbrev pub Remakes : (List ℕ → Told) → Form → Option (List ℕ) → Reading → List (List ℕ) → Bool → ℕ → Streams → Streams → Type 0
+Remakes held form beside reading files explain status before after =
     RemakesWhole held form reading files status before after
-    ⊎ RemakesNot held form reading files explain status before after
+    ⊎ RemakesNot held form beside reading files explain status before after
 
 -- # With a text that is read before the reports
 
@@ -82,16 +80,16 @@ pub record RemakesBeside (held : List ℕ → Told) (beside : Beside) (word : Li
   pub read : Hears held word (heard.Text text.now) before.input reached.input
   pub unwritten : reached.output ≡ before.output
   pub quiet : reached.errors ≡ before.errors
-  pub remakes : Remakes held (form_beside beside text) reading files explain status reached after
+  pub remakes : Remakes held (form_beside beside text) (Some word) reading files explain status reached after
 
 -- The text was not read, for an error that was reported.
 pub record MissesBeside (held : List ℕ → Told) (word : List ℕ) (explain : Bool) (status : ℕ)
     (before after : Streams) : Type 0 where
-  pub error : ReportsError
-  pub status_is : status ≡ status_of (command.Reports error)
-  pub why : RefusesWord error held word before.input after.input
+  pub fault : ShelfFault
+  pub status_is : status ≡ unread_status fault
+  pub why : RefusesWord fault held word before.input after.input
   pub unwritten : after.output ≡ before.output
-  pub told : TellsOf (command.Reports error) explain before.errors after.errors
+  pub told : TellsFault (file_in None (word ∷ []) (Unread 1 fault)) (Unread 1 fault) explain before.errors after.errors
 
 abbrev pub RemakesWith : (List ℕ → Told) → Beside → List ℕ → Reading → List (List ℕ) → Bool → ℕ → Streams → Streams → Type 0
 RemakesWith held beside word reading files explain status before after =

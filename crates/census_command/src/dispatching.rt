@@ -19,6 +19,7 @@ use crate::identifying::{form_told, tell_patterns};
 use crate::keeping::keep_going;
 use crate::remaking::{remake, remake_with};
 use crate::running::run_command;
+use crate::starting::tell_starts;
 use census_cli::{Census, Request, WordsFault, read_words};
 use census_crew::Gate;
 use census_errors::{CommandError, Place, Stopped, file_place, saying_of, stop_saying};
@@ -243,7 +244,9 @@ fn carry_out<S: Shelf, I: Read, O: Write, E: Write, G: Gate, R: Threads + Wait +
             let ended = draw_asked(shelf, alloc, *code, *rule, streams);
             conclude(request, ended, explain, &mut streams.errors)
         }
-        Request::Merge { reports } => remake(shelf, alloc, Form::Merged, reports, explain, streams),
+        Request::Merge { reports } => {
+            remake(shelf, alloc, Form::Merged, None, reports, explain, streams)
+        },
         Request::Table {
             subject,
             format,
@@ -251,7 +254,7 @@ fn carry_out<S: Shelf, I: Read, O: Write, E: Write, G: Gate, R: Threads + Wait +
             reports,
         } => {
             let form = table_form(*subject, *format);
-            remake(shelf, alloc, form, reports, explain, streams)
+            remake(shelf, alloc, form, None, reports, explain, streams)
         }
         Request::Table {
             subject,
@@ -271,7 +274,7 @@ fn carry_out<S: Shelf, I: Read, O: Write, E: Write, G: Gate, R: Threads + Wait +
                 options: options_asked(page),
                 names: None,
             };
-            remake(shelf, alloc, form, reports, explain, streams)
+            remake(shelf, alloc, form, None, reports, explain, streams)
         }
         Request::Page {
             page,
@@ -285,7 +288,10 @@ fn carry_out<S: Shelf, I: Read, O: Write, E: Write, G: Gate, R: Threads + Wait +
         }
         Request::Same { json, reports } => {
             let form = Form::Same { json: *json };
-            remake(shelf, alloc, form, reports, explain, streams)
+            remake(shelf, alloc, form, None, reports, explain, streams)
+        }
+        Request::Starts { json, collections } => {
+            tell_starts(shelf, alloc, *json, collections, explain, streams)
         }
         Request::Verify { claims, reports } => {
             let beside = Beside::Claims;
@@ -304,14 +310,15 @@ fn carry_out<S: Shelf, I: Read, O: Write, E: Write, G: Gate, R: Threads + Wait +
 ///   input, was written: what their patterns become, or the objects in them; with `advance N` the input is an RLE text, and the
 ///   text of generation N was written; with `draw CODE [--rule R]` the text of the code's shape under the rule; with `merge` one
 ///   report of the reports that were read, with `table` a table of them, with `page` a page, with `same` those of their patterns
-///   that are one object, of which there are none, and with `verify` what does not agree between claims and them, which is
-///   nothing. With `--names` the file of names is read before the reports. Or help was asked for and written.
+///   that are one object, or with `--starts` those of folders or of a bundle that are the same at the start, of which there are
+///   none, and with `verify` what does not agree between claims and them, which is nothing. With `--names` the file of names is
+///   read before the reports. Or help was asked for and written.
 /// - 1: the collections, the pattern, the rule or the code is refused, and nothing was written.
 /// - 2: clap refuses the words, and not because memory was refused; nothing was read or written.
 /// - 3: out of memory; nothing was written, or with `run` and `objects` a prefix of the report, or with `table`, `page`, `same`
 ///   and `verify` a prefix of what they write.
-/// - 5: what was asked for was done, and what was looked for was found: with `same` patterns that are one object, and with
-///   `verify` what does not agree.
+/// - 5: what was asked for was done, and what was looked for was found: with `same` patterns that are one object, or the same at
+///   the start, and with `verify` what does not agree.
 /// - 4: standard input or standard output has failed, or a folder could not be listed, or a file of it could not be read. What
 ///   was written is a prefix of what was asked for, or nothing; after a failed read it is nothing. With `--keep-going` it is the
 ///   whole report of what could be read, after a line on standard error for each folder, file or name that was lost.

@@ -8,7 +8,7 @@ ghost use Rattle.census_command.specs.Forms.{form_beside, format_of, options_ask
 use census_cli::{PageAsked, PageSort, Reports, TableFormat, TableSubject};
 use census_page::{PageOptions, Sort};
 use census_reports::{Form, Reading};
-use census_table::{Format, Subject};
+use census_table::{Choice, Format, Subject};
 
 /// How a table is written.
 pub fn format_of(format: TableFormat) -> Format
@@ -27,7 +27,8 @@ pub fn subject_of(subject: TableSubject) -> Subject
     match subject {
         TableSubject::Patterns => Subject::Patterns,
         TableSubject::Parts => Subject::Parts,
-        TableSubject::Codes => Subject::Codes,
+        TableSubject::Engines => Subject::Engines,
+        TableSubject::Codes { rare, unnamed } => Subject::Codes(Choice { rare, unnamed }),
     }
 }
 

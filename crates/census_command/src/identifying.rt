@@ -5,8 +5,8 @@ ghost use Rattle.census_facts.specs.NameLines.{names_in};
 ghost use Rattle.census_command.specs.Identifying.{HasNoNames, LacksNames, ReadsNames, TellsPatterns, form_told};
 ghost use Rattle.census_command.specs.Streams.{HasSoundStreams};
 
-use crate::remaking::stop_of;
 use census_crew::Gate;
+use census_errors::stop_at_file;
 use census_facts::{Form, Names, read_names};
 use census_folders::Shelf;
 use census_identify::{HORIZON_LIMIT, Inquiry, Onlooker, identify};
@@ -51,7 +51,7 @@ fn names_of<S: Shelf, I: Read, O: Write, E: Write>(
 {
     match read_text(shelf, alloc, word, &mut streams.input) {
         Ok(text) => names_in(alloc, text.as_slice()),
-        Err(error) => Err(error),
+        Err(fault) => Err(ReportsError::Unread { text: 1, fault }),
     }
 }
 
@@ -120,6 +120,9 @@ pub fn tell_patterns<S: Shelf, I: Read, O: Write, E: Write, G: Gate>(
     };
     match names_of(shelf, alloc, word, streams) {
         Ok(names) => tell_named(shelf, alloc, gate, inquiry, &names, files, streams),
-        Err(error) => stop_of(shelf, alloc, &[word], error, explain, &mut streams.errors),
+        Err(error) => {
+            let errors = &mut streams.errors;
+            stop_at_file(alloc, Some(word), &[word], error, explain, errors)
+        }
     }
 }

@@ -13,7 +13,7 @@ ghost use Rattle.census_command.specs.Streams.{HasSoundStreams};
 ghost use Rattle.census_bundle.specs.Sizes.{worker_limit};
 
 use crate::collections::folders_of;
-use crate::reporting::report;
+use crate::reporting::{Origin, report};
 use census_cli::Census;
 use census_crew::Gate;
 use census_errors::{
@@ -157,7 +157,10 @@ pub fn keep_going<S: Shelf, I: Read, O: Write, E: Write, G: Gate, R: Threads + W
         shelf,
         alloc,
         &kept.bundle,
-        Some(source),
+        Some(Origin {
+            source,
+            lost: kept.lost.as_slice(),
+        }),
         census.question,
         census.workers,
         explain,

@@ -15,6 +15,7 @@ mod laws;
 mod remaking;
 mod reporting;
 mod running;
+mod starting;
 
 pub use dispatching::dispatch;
 pub use entry_point::program;

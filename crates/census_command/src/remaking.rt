@@ -1,17 +1,14 @@
 //! `census merge`, `table`, `page`, `same` and `verify`: one report, a table, a page, patterns that are one object, or
 //! what does not agree with claims, made of reports.
-ghost use Rattle.std.specs.Prelude.{◌≡◌, ◌⊎◌, [], false, map, IfErr, IfOk, MatchResult, OnOk};
-ghost use Rattle.census_errors.specs.Explained.{TellsOf};
-ghost use Rattle.census_errors.specs.Messages.{status_of};
-ghost use Rattle.census_errors.specs.declared.error.CommandError.TheVariants as command;
+ghost use Rattle.std.specs.Prelude.{◌≡◌, ◌⊎◌, [], false, map, option_map, IfErr, IfOk, MatchResult, OnOk};
 ghost use Rattle.census_reports.specs.Outcomes.{ReportsFail, SaysOfReports, WritesReports};
 ghost use Rattle.census_command.specs.Forms.{reading_of};
-ghost use Rattle.census_command.specs.Remakes.{KeepsLaw, Remakes, RemakesWith, TellsCuts, TellsMoreOf, found_status};
+ghost use Rattle.census_command.specs.Remakes.{KeepsLaw, Remakes, RemakesWith, TellsCuts, found_status};
 ghost use Rattle.census_command.specs.Streams.{HasSoundStreams};
 
 use crate::forms::{Beside, form_beside, reading_of};
 use census_cli::Reports;
-use census_errors::{CommandError, cut_line, reports_place_if, reports_saying, say_if};
+use census_errors::{cut_line, stop_at_file};
 use census_folders::Shelf;
 use census_merge::Cut;
 use census_reports::{
@@ -56,45 +53,8 @@ fn write<S: Shelf, I: Read, O: Write, E: Write>(
     }
 }
 
-// Reports an error of what is made of the reports of these files, after what was said before, and returns its exit status. A line
-// that can't be written changes nothing.
-fn stop_after<S: Shelf, E: Write>(
-    shelf: &S,
-    alloc: Global,
-    files: &[&str],
-    error: ReportsError,
-    explain: bool,
-    errors: &mut Output<E>,
-) -> u8
-    ensures status { result ≡ status_of (command.Reports error) }
-    ensures told { TellsMoreOf (command.Reports error) explain errors.old.stream errors.new.stream }
-{
-    let place = reports_place_if(explain, shelf, alloc, files, error);
-    let saying = reports_saying(files, error).at(&place);
-    let error = CommandError::Reports(error);
-    errors.tell(error.line().as_str().as_bytes());
-    say_if(explain, saying, errors);
-    error.status()
-}
-
-// Reports an error of what is made of the reports of these files, where nothing was said before, and returns its exit status.
-pub(crate) fn stop_of<S: Shelf, E: Write>(
-    shelf: &S,
-    alloc: Global,
-    files: &[&str],
-    error: ReportsError,
-    explain: bool,
-    errors: &mut Output<E>,
-) -> u8
-    requires { errors.old.stream.failed ≡ false }
-    ensures status { result ≡ status_of (command.Reports error) }
-    ensures told { TellsOf (command.Reports error) explain errors.old.stream errors.new.stream }
-{
-    stop_after(shelf, alloc, files, error, explain, errors)
-}
-
 /// The exit status where all was written: 5 where what was looked for was found.
-fn found_status(found: bool) -> u8
+pub fn found_status(found: bool) -> u8
     ensures { result ≡ found_status found }
 {
     if found { 5 } else { 0 }
@@ -110,7 +70,7 @@ fn tell_cuts<E: Write>(cuts: &[Cut], errors: &mut Output<E>)
 }
 
 /// Reads these reports, writes what this form makes of them, and returns the exit status. For `-`, and without a file, those of
-/// standard input are read.
+/// standard input are read. `beside` is the word of the text that the form has, where it has one.
 ///
 /// - 0: it was written.
 /// - 5: it was written, and what was looked for was found.
@@ -121,19 +81,20 @@ fn tell_cuts<E: Write>(cuts: &[Cut], errors: &mut Output<E>)
 ///   was.
 ///
 /// With `same` and `verify` a line says what is compared, before it is. After it, with status 0 or 5 a line was reported for each
-/// text that was cut, and nothing else. With any other status the error's line was reported, and one more where faults are
-/// explained.
+/// text that was cut, and nothing else. With any other status the error's line was reported, which names its file, and one more
+/// where faults are explained.
 pub fn remake<S: Shelf, I: Read, O: Write, E: Write>(
     shelf: &S,
     alloc: Global,
     form: Form<'_>,
+    beside: Option<&str>,
     reports: &Reports<'_>,
     explain: bool,
     streams: &mut Streams<I, O, E>,
 ) -> u8
     requires sound { HasSoundStreams streams.old }
     requires errors { streams.old.errors.failed ≡ false }
-    ensures { Remakes ((S.tellings shelf.now).held []) form.entry (reading_of reports.now)
+    ensures { Remakes ((S.tellings shelf.now).held []) form.entry (option_map (λ s. s.now) beside.entry) (reading_of reports.now)
         (map (λ s. s.now) reports.now.words.items) explain result streams.old streams.new }
 {
     let files = reports.words.as_slice();
@@ -142,7 +103,7 @@ pub fn remake<S: Shelf, I: Read, O: Write, E: Write>(
             tell_cuts(written.cuts.as_slice(), &mut streams.errors);
             found_status(written.found)
         }
-        Err(error) => stop_after(shelf, alloc, files, error, explain, &mut streams.errors),
+        Err(error) => stop_at_file(alloc, beside, files, error, explain, &mut streams.errors),
     }
 }
 
@@ -166,8 +127,11 @@ pub fn remake_with<S: Shelf, I: Read, O: Write, E: Write>(
     match read_text(shelf, alloc, word, &mut streams.input) {
         Ok(text) => {
             let form = form_beside(beside, text.as_slice());
-            remake(shelf, alloc, form, reports, explain, streams)
+            remake(shelf, alloc, form, Some(word), reports, explain, streams)
         }
-        Err(error) => stop_of(shelf, alloc, &[word], error, explain, &mut streams.errors),
+        Err(fault) => {
+            let error = ReportsError::Unread { text: 1, fault };
+            stop_at_file(alloc, None, &[word], error, explain, &mut streams.errors)
+        }
     }
 }

@@ -7,10 +7,10 @@ ghost use Rattle.census_faults.specs.Explanations.{IsExplanation};
 ghost use Rattle.census_command.specs.Gates.{HearsBundle};
 ghost use Rattle.census_bundle.specs.Sizes.{worker_limit};
 
-use census_bundle::Bundle;
+use census_bundle::{Bundle, Ticket};
 use census_crew::{Gate, Tally, run, run_untold};
 use census_faults::{Lines, RunFault, refusal_lines};
-use census_folders::{Shelf, Source, push_hints};
+use census_folders::{Cause, Loss, Shelf, Source, push_hints};
 use life_answer::Question;
 use std::alloc::{AllocError, Global};
 use std::io::Write;
@@ -18,13 +18,33 @@ use std::sync::Wait;
 use std::thread::Threads;
 use watched::Output;
 
+/// What a bundle was read from, and what was lost of it.
+#[derive(Clone, Copy)]
+pub struct Origin<'a> {
+    pub source: Source<'a, 'a>,
+    pub lost: &'a [Loss],
+}
+
+// The tickets of the patterns that are lost because they are too long, in order.
+fn too_long(alloc: Global, lost: &[Loss]) -> Result<Vec<Ticket>, AllocError> {
+    let mut tickets = Vec::new(alloc);
+    for loss in lost {
+        if loss.cause == Cause::TooLong {
+            if let Some(ticket) = loss.entry {
+                tickets.push(ticket)?;
+            }
+        }
+    }
+    Ok(tickets)
+}
+
 // What is said beside a report of a bundle, where faults are explained: the lines that explain what it reports as `bad`, and then
 // the hints at what may have been overlooked in the bundle. Otherwise there is none.
 fn lines_of<S: Shelf>(
     shelf: &S,
     alloc: Global,
     bundle: &Bundle,
-    source: Option<Source<'_, '_>>,
+    origin: Option<Origin<'_>>,
     explain: bool,
 ) -> Result<Lines, AllocError>
     ensures { IfOk result (IsExplanation explain) }
@@ -32,8 +52,14 @@ fn lines_of<S: Shelf>(
     if !explain {
         return Ok(Lines::none(alloc));
     }
-    let mut lines = refusal_lines(alloc, bundle)?;
-    push_hints(shelf, alloc, &mut lines, bundle, source)?;
+    let Some(origin) = origin else {
+        let mut lines = refusal_lines(alloc, bundle, &[])?;
+        push_hints(shelf, alloc, &mut lines, bundle, None)?;
+        return Ok(lines);
+    };
+    let tickets = too_long(alloc, origin.lost)?;
+    let mut lines = refusal_lines(alloc, bundle, tickets.as_slice())?;
+    push_hints(shelf, alloc, &mut lines, bundle, Some(origin.source))?;
     Ok(lines)
 }
 
@@ -68,14 +94,14 @@ fn run_as_asked<G: Gate, W: Write, R: Threads + Wait + Sync>(
 
 /// Writes the report of a bundle as `run` does, and returns the lines that are said beside it, where faults are explained: those
 /// that explain what it reports as `bad`, and the hints at what may have been overlooked in the bundle. The shelf is asked what
-/// folders list only where the bundle was read from them, so that their source is given. Where memory is refused for these lines,
+/// folders list only where the bundle was read from them, so that its origin is given. Where memory is refused for these lines,
 /// the whole report was written. The gate is told of the run, unless it is to be quiet.
 pub fn report<S: Shelf, G: Gate, W: Write, R: Threads + Wait + Sync>(
     rt: &R,
     shelf: &S,
     alloc: Global,
     bundle: &Bundle,
-    source: Option<Source<'_, '_>>,
+    origin: Option<Origin<'_>>,
     question: Question,
     workers: u32,
     explain: bool,
@@ -96,7 +122,7 @@ pub fn report<S: Shelf, G: Gate, W: Write, R: Threads + Wait + Sync>(
     ensures gate { HearsBundle quiet bundle.now (G.heard gate.old) (G.heard gate.new) }
 {
     run_as_asked(rt, alloc, bundle, question, workers, quiet, gate, out)?;
-    match lines_of(shelf, alloc, bundle, source, explain) {
+    match lines_of(shelf, alloc, bundle, origin, explain) {
         Ok(lines) => Ok(lines),
         Err(_) => Err(RunFault::Memory { ticket: None }),
     }

@@ -11,7 +11,7 @@ ghost use Rattle.census_command.specs.Streams.{HasSoundStreams};
 ghost use Rattle.census_bundle.specs.Sizes.{worker_limit};
 
 use crate::collections::folders_of;
-use crate::reporting::report;
+use crate::reporting::{Origin, report};
 use census_bundle::{Bundle, BundleFault, INPUT_LIMIT, read_bundle};
 use census_cli::Census;
 use census_crew::Gate;
@@ -24,8 +24,8 @@ use std::sync::Wait;
 use std::thread::Threads;
 use watched::{Input, ReadFault, Streams, read_all};
 
-// Reads a bundle up to the reader's end.
-fn read_input<I: Read>(alloc: Global, input: &mut Input<I>) -> Result<Bundle, BytesFault>
+/// Reads a bundle up to the reader's end.
+pub fn read_input<I: Read>(alloc: Global, input: &mut Input<I>) -> Result<Bundle, BytesFault>
     ensures failed { (result ≡ Err BytesFault.Read) ↔ (input.new.stream.failed ≡ true) }
     ensures read { ReadsBundle input.old.stream.unread input.new.stream.unread
         result }
@@ -125,7 +125,10 @@ fn run_folders<S: Shelf, I: Read, O: Write, E: Write, G: Gate, R: Threads + Wait
         shelf,
         alloc,
         &kept.bundle,
-        Some(source),
+        Some(Origin {
+            source,
+            lost: kept.lost.as_slice(),
+        }),
         census.question,
         census.workers,
         explain,

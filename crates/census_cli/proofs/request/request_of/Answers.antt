@@ -53,11 +53,11 @@ page_of-requires c =
     let rows = rows_of (found_of arm.page.now) in
     page_command rows (subst IsCommand (entered_as c.args.matches.now (codes "page") rows (arm.ensures.found.0 refl) arm.ensures.rows) c.requires)
 
-pub reports_of-requires-in-Some-subcommand_matches-8 : goal.reports_of-requires-in-Some-subcommand_matches-8
-reports_of-requires-in-Some-subcommand_matches-8 c =
+pub same_of-requires : goal.same_of-requires
+same_of-requires c =
     let arm = c.in-Some-subcommand_matches-8 in
     let rows = rows_of (found_of arm.same.now) in
-    (same_command rows (subst IsCommand (entered_as c.args.matches.now (codes "same") rows (arm.ensures.found.0 refl) arm.ensures.rows) c.requires)).reports
+    same_command rows (subst IsCommand (entered_as c.args.matches.now (codes "same") rows (arm.ensures.found.0 refl) arm.ensures.rows) c.requires)
 
 pub reports_of-requires-in-Some-subcommand_matches-9 : goal.reports_of-requires-in-Some-subcommand_matches-9
 reports_of-requires-in-Some-subcommand_matches-9 c =

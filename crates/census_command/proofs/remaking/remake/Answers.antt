@@ -1,13 +1,15 @@
-use Rattle.std.proofs.Common.{List, ℕ, ap, inl, inr, map, subst, sym, ◌≡◌, ◌⊎◌, []}
+use Rattle.std.proofs.Common.{List, ℕ, ap, inl, inr, map, option_map, subst, sym, ◌≡◌, ◌⊎◌, []}
 use Rattle.watched.specs.Streams.{Sink, Streams}
 use Rattle.census_reports.specs.declared.reading.Reading.{Reading}
 use Rattle.census_merge.specs.declared.mending.Cut.{Cut}
 use Rattle.census_folders.specs.Told.{Told}
 use Rattle.census_reports.specs.declared.error.ReportsError.{ReportsError}
-use Rattle.census_reports.specs.declared.error.ReportsError.TheVariants.{Claims, Names, Fault, TooMany, TooLong, Memory, Read, Write}
+use Rattle.census_reports.specs.declared.error.ReportsError.TheVariants.{Claims, Names, Fault, TooMany, Unread, Memory, Write}
 use Rattle.census_reports.specs.declared.form.Form.{Form}
 use Rattle.census_reports.specs.declared.form.Form.TheVariants.{Merged, Table, Page, Same, Verdict}
 use Rattle.census_reports.specs.Outcomes.{ReportsFail, SaysOfReports, WritesReports}
+use Rattle.census_errors.specs.Explained.{TellsFault}
+use Rattle.census_errors.specs.Files.{file_in}
 use Rattle.census_command.specs.Remakes.{KeepsLaw, TellsCuts}
 use Rattle.census_command.specs.Streams.{untold}
 use Rattle.census_command.proofs.remaking.remake.Goals as goal
@@ -16,13 +18,12 @@ use Rattle.census_command.proofs.remaking.remake.Goals as goal
 fails_untold : (error : ReportsError) (form : Form) (before reached : Streams) (told : Sink) (held : List ℕ → Told) (reading : Reading) (files : List (List ℕ))
     → ReportsFail error form reading held files before reached
     → ReportsFail error form reading held files before (untold before (record { input = reached.input; output = reached.output; errors = told }))
-fails_untold (Claims line) form before reached told held reading files h = h
+fails_untold (Claims line is_named) form before reached told held reading files h = h
 fails_untold (Names line) form before reached told held reading files h = h
-fails_untold (Fault number line) form before reached told held reading files h = h
+fails_untold (Fault number line kind) form before reached told held reading files h = h
 fails_untold (TooMany report) form before reached told held reading files h = h
-fails_untold TooLong form before reached told held reading files h = h
+fails_untold (Unread text fault) form before reached told held reading files h = h
 fails_untold Memory form before reached told held reading files h = h
-fails_untold Read form before reached told held reading files h = h
 fails_untold Write form before reached told held reading files h = h
 
 -- nor does the law of one report
@@ -78,12 +79,13 @@ returns-in-Err g c =
     c.in-Err.ensures.says in
     inr (record {
       error = error;
-      status_is = c.stop_after.ensures.status;
-      fails = fails_untold error form before reached c.stop_after.new.errors.stream held _ _
+      status_is = c.stop_at_file.ensures.status;
+      fails = fails_untold error form before reached c.stop_at_file.new.errors.stream held _ _
           (subst (λ (r : Reading). ReportsFail error form r held (map (λ s. s.now) c.args.reports.now.words.items) before reached) reading
           (subst (λ (fs : List (List ℕ)). ReportsFail error form c.reading_of.result held fs before reached) files fails));
       said = said;
       says = subst (λ (r : Reading). (said ≡ before.errors) ⊎ SaysOfReports form r held (map (λ s. s.now) c.args.reports.now.words.items) before reached before.errors said) reading
           (subst (λ (fs : List (List ℕ)). (said ≡ before.errors) ⊎ SaysOfReports form c.reading_of.result held fs before reached before.errors said) files says);
-      told = c.stop_after.ensures.told;
+      told = subst (λ (fs : List (List ℕ)). TellsFault (file_in (option_map (λ s. s.now) c.args.beside) fs error) error c.args.explain said c.stop_at_file.new.errors.stream) files
+          c.stop_at_file.ensures.told;
     })

@@ -5,9 +5,9 @@ pub returns-in-Err : goal.returns-in-Err
 returns-in-Err g c =
     rw (← c.streams.view_is)
     (inr (record {
-      error = c.in-Err.error;
-      status_is = c.stop_of.ensures.status;
+      fault = c.in-Err.fault;
+      status_is = c.stop_at_file.ensures.status;
       why = c.in-Err.ensures.fault;
       unwritten = refl;
-      told = c.stop_of.ensures.told;
+      told = c.stop_at_file.ensures.told;
     }))
