@@ -19,10 +19,13 @@ const VANISHING: &[u8] = b"x = 42, y = 22\nbo$2bo$3o37b2o$40b2o17$20b2o$20b2o!";
 // A block is left, from generation 70 on.
 fn is_a_block(outcome: &Outcome) -> bool {
     match outcome {
-        Outcome::Ash { onset, parts } => match parts.as_slice() {
-            [part] => { *onset == 70 && part.count == 1 && part.code.as_slice() == BLOCK_CODE }
-            _ => false,
-        },
+        Outcome::Recurs {
+            onset: 70,
+            period: 1,
+            dx: 0,
+            dy: 0,
+            code,
+        } => code.as_slice() == BLOCK_CODE,
         _ => false,
     }
 }

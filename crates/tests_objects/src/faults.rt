@@ -33,7 +33,7 @@ fn faults_are_explained(rt: HostRuntime) -> Result<(), Fail> {
     assert!(rt; line.as_slice().starts_with(FAULT_START));
     assert!(rt; line.as_slice().ends_with(FAULT_END));
     let bundle = read_bundle(alloc, BROKEN_BUNDLE)?;
-    assert!(rt; refusal_lines(alloc, &bundle)?.as_slice() == REFUSAL.as_bytes());
+    assert!(rt; refusal_lines(alloc, &bundle, &[])?.as_slice() == REFUSAL.as_bytes());
     // (where memory is refused, which no row shows)
     let memory = "memory ran out: what was given may be right, but more memory is needed";
     assert!(rt; sentence(Fault::Text(RleFault::Memory)) == memory);

@@ -20,6 +20,8 @@ mod identified;
 #[cfg(test)]
 mod leaps;
 #[cfg(test)]
+mod one_object;
+#[cfg(test)]
 mod onsets;
 #[cfg(test)]
 mod orbits;

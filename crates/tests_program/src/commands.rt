@@ -35,8 +35,7 @@ end 2 2
 const NEAR: &[u8] = b"open 1 2 f
 open 2 0 none
 close 2 0 0 0 0
-line 1 1 ash B3/S23 12 0 1 l
-part 1 1 xp2_s01110szw222 1
+line 1 1 ok B3/S23 12 0 2 0 0 xp2_s01110szw222 l
 line 1 2 bad 10 broken
 code 1 B3/S23 xp2_s01110szw222 1
 close 1 2 1 0 1

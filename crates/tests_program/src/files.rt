@@ -94,7 +94,7 @@ census: lost tests_tree/missing
         b"x",
         4,
         b"{\"apgcode\":\"xp2_7\",\"box\":[3,1],\"displacement\":[0,0],\"file\":\"tests_tree/b.rle\",\"name\":\"blinker\",\"onset\":0,\"period\":2,\"population\":3,\"rule\":\"B3/S23\"}\n",
-        b"census: tests_tree/missing: No such file or directory (os error 2) (read failed)
+        b"census: tests_tree/missing: No such file or directory (os error 2)
 census: -:1:1: the header line is malformed: it must have the form `x = 3, y = 3` or `x = 3, y = 3, rule = B3/S23` (rle fault 2)
 ",
     ),
@@ -124,7 +124,7 @@ census: -:1:1: the header line is malformed: it must have the form `x = 3, y = 3
         b"name\n",
         1,
         b"",
-        b"census: report fault at line 1\n  tests_tree/claims:1: a line is not one that a report has in this place: it must be as `census run` or `census objects` writes it\n",
+        b"census: tests_tree/claims: report fault at line 1\n  tests_tree/claims:1: a line is not one that a report has in this place: it must be as `census run` or `census objects` writes it\n",
     ),
     (
         &["merge", "--cut", "--input=1000"],

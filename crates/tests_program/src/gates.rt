@@ -165,3 +165,78 @@ fn one_worker_works_what_is_not_soon_done(rt: HostRuntime) -> Result<(), Fail> {
     assert!(rt; tally.resolved == 3 && tally.caught_up == 0);
     Ok(())
 }
+
+// The name of that collection.
+const MIXED: &[u8] = b"mixed";
+
+// Notes what at most two workers report of the patterns of that collection.
+#[derive(Drop)]
+struct Reports {
+    started: AtomicU64,
+    finished: AtomicU64,
+    /// The sum of the generations.
+    generations: AtomicU64,
+}
+
+impl Gate for Reports {
+    type Pass = ();
+
+    ghost admits = { λ _ _. Unit {0} };
+
+    fn begin(&mut self, _patterns: u64) {}
+
+    fn enter(&self, _ticket: Ticket) {}
+
+    fn end(&mut self) {}
+
+    fn started(&self, worker: u32, collection: &[u8], name: &[u8]) {
+        if worker < 2 && collection == MIXED && name.len() == 1 {
+            self.started.fetch_add(1, Ordering::SeqCst);
+        }
+    }
+
+    fn advanced(&self, worker: u32, generation: u32) {
+        if worker < 2 && generation % 64 == 0 {
+            self.generations
+                .fetch_add(u64::from(generation), Ordering::SeqCst);
+        }
+    }
+
+    fn finished(&self, worker: u32) {
+        if worker < 2 {
+            self.finished.fetch_add(1, Ordering::SeqCst);
+        }
+    }
+}
+
+#[test]
+fn workers_report_how_far_their_patterns_are(rt: HostRuntime) -> Result<(), Fail> {
+    let bundle = read_bundle(rt.alloc(), LONG_AMONG_SHORT)?;
+    let question = Question::Objects {
+        bound: 1_000,
+        cells: None,
+        near: false,
+        horizon: 100,
+    };
+    for workers in [1, 2] {
+        let mut gate = Reports {
+            started: AtomicU64::new(0),
+            finished: AtomicU64::new(0),
+            generations: AtomicU64::new(0),
+        };
+        let mut out = Output::new(Vec::new(rt.alloc()));
+        run(
+            &rt,
+            rt.alloc(),
+            &bundle,
+            question,
+            workers,
+            &mut gate,
+            &mut out,
+        )?;
+        assert!(rt; gate.started.load(Ordering::SeqCst) == 3);
+        assert!(rt; gate.finished.load(Ordering::SeqCst) == 3);
+        assert!(rt; gate.generations.load(Ordering::SeqCst) >= 64 + 128);
+    }
+    Ok(())
+}

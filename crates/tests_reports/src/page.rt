@@ -120,7 +120,7 @@ const CASES: &[Case] = &[
         &[
             "<dt>Kinds of objects</dt><dd>4</dd>",
             "<dt>Objects</dt><dd>5</dd>",
-            "Others <small>2</small>",
+            "Others <small>1</small>",
             "<h2><bdi>c d</bdi></h2>\n<p><bdi>a&amp;b/c d</bdi></p>\n<p>Patterns: 6.",
             "refused: 0. 4 kinds of objects, 5 objects.</p>",
             BLOCK,

@@ -1,17 +1,24 @@
 //! Reports from a file and standard input, written as one report, as tables, as what is one object, and as a verdict.
 
 use crate::ends::{FailingReader, FailingWriter};
+use census_folders::{ShelfFault, Unread};
 use census_merge::Cut;
 use census_readback::read_report;
-use census_reports::{Form, Reading, ReportsError, merge_reports, write_reports};
+use census_reports::{Form, Reading, ReportsError, TextKind, merge_reports, write_reports};
 use census_rows::Rows;
-use census_table::{Format, Subject, put_listing, table_of};
+use census_table::{Choice, Format, Subject, put_listing, table_of};
 use std::fs;
 use std::test::Fail;
 use watched::{Block, Output, Streams, send};
 
 // The file that has the first report.
 const FILE: &str = "tests_reports_first";
+
+// Why a file that is not there can't be read.
+const MISSING: Unread = Unread {
+    code: Some(2),
+    is_file: false,
+};
 
 const FIRST: &[u8] = b"open 1 2 a
 line 1 1 ok B3/S23 4 0 1 0 0 xs4_33 block
@@ -113,10 +120,51 @@ const PARTS: &[u8] = b"collection,collection_name,pattern,name,rule,code,count
 ";
 
 const NAMED_CODES: &[u8] =
-    b"{\"code\":\"xs4_33\",\"common_name\":\"block\",\"count\":2,\"first_collection_name\":\"second\",\"first_name\":\"two kinds\",\"patterns\":1,\"rule\":\"B3/S23\"}
-{\"code\":\"xp2_7\",\"common_name\":null,\"count\":1,\"first_collection_name\":\"second\",\"first_name\":\"two kinds\",\"patterns\":1,\"rule\":\"B3/S23\"}
-{\"code\":\"xq4_153\",\"common_name\":null,\"count\":1,\"first_collection_name\":\"third\",\"first_name\":\"glider\",\"patterns\":1,\"rule\":\"B3/S23\"}
+    b"{\"code\":\"xs4_33\",\"common_name\":\"block\",\"count\":2,\"first_collection_name\":\"second\",\"first_name\":\"two kinds\",\"patterns\":1,\"rule\":\"B3/S23\",\"share\":0.500000}
+{\"code\":\"xp2_7\",\"common_name\":null,\"count\":1,\"first_collection_name\":\"second\",\"first_name\":\"two kinds\",\"patterns\":1,\"rule\":\"B3/S23\",\"share\":0.250000}
+{\"code\":\"xq4_153\",\"common_name\":null,\"count\":1,\"first_collection_name\":\"third\",\"first_name\":\"glider\",\"patterns\":1,\"rule\":\"B3/S23\",\"share\":0.250000}
 ";
+
+const RARE_UNNAMED: &[u8] =
+    b"rule,code,common_name,count,patterns,first_collection_name,first_name,share
+B3/S23,xp2_7,,1,1,second,two kinds,0.250000
+B3/S23,xq4_153,,1,1,third,glider,0.250000
+";
+
+const RARE: &[u8] = b"rule,code,count,patterns,first_collection_name,first_name,share
+B3/S23,xp2_7,1,1,second,two kinds,0.250000
+B3/S23,xq4_153,1,1,third,glider,0.250000
+B3/S23,xs4_33,2,1,second,two kinds,0.500000
+";
+
+const ENGINES: &[u8] =
+    b"collection,collection_name,pattern,name,rule,engine,kind,period,dx,dy,count,emits,emits_count
+1,first,1,guns,B3/S23,1,gun,30,0,0,2,xq4_153,1
+1,first,1,guns,B3/S23,2,puffer,288,24,-24,1,xs4_33,8
+1,first,1,guns,B3/S23,2,puffer,288,24,-24,1,xq4_153,2
+";
+
+const ENGINES_JSON: &[u8] =
+    b"{\"collection\":1,\"collection_name\":\"first\",\"collection_name_hex\":null,\"count\":2,\"dx\":0,\"dy\":0,\"emits\":\"xq4_153\",\"emits_count\":1,\"engine\":1,\"kind\":\"gun\",\"name\":\"guns\",\"name_hex\":null,\"pattern\":1,\"period\":30,\"rule\":\"B3/S23\"}
+{\"collection\":1,\"collection_name\":\"first\",\"collection_name_hex\":null,\"count\":1,\"dx\":24,\"dy\":-24,\"emits\":\"xs4_33\",\"emits_count\":8,\"engine\":2,\"kind\":\"puffer\",\"name\":\"guns\",\"name_hex\":null,\"pattern\":1,\"period\":288,\"rule\":\"B3/S23\"}
+{\"collection\":1,\"collection_name\":\"first\",\"collection_name_hex\":null,\"count\":1,\"dx\":24,\"dy\":-24,\"emits\":\"xq4_153\",\"emits_count\":2,\"engine\":2,\"kind\":\"puffer\",\"name\":\"guns\",\"name_hex\":null,\"pattern\":1,\"period\":288,\"rule\":\"B3/S23\"}
+";
+
+// Codes in their two orders, and those without a name.
+const COMMON: Subject = Subject::Codes(Choice {
+    rare: false,
+    unnamed: false,
+});
+
+const RAREST: Subject = Subject::Codes(Choice {
+    rare: true,
+    unnamed: false,
+});
+
+const RAREST_UNNAMED: Subject = Subject::Codes(Choice {
+    rare: true,
+    unnamed: true,
+});
 
 const SAME: &[u8] = b"B3/S23 xs4_33
   a/block
@@ -130,16 +178,16 @@ const SAME_JSON: &[u8] =
 
 // A table with a row for each of these, in this format, with the names of a text.
 macro_rules! table {
-    ($subject:ident, $format:expr, $names:expr $(,)?) => {
+    ($subject:expr, $format:expr, $names:expr $(,)?) => {
         Form::Table {
-            subject: Subject::$subject,
+            subject: $subject,
             format: $format,
             names: $names,
         }
     };
 }
 
-const CSV_FORM: Form<'static> = table!(Patterns, Format::Csv { safe: false }, None);
+const CSV_FORM: Form<'static> = table!(Subject::Patterns, Format::Csv { safe: false }, None);
 
 // Words of the file and of standard input, or of standard input alone.
 const BOTH: &[&str] = &[FILE, "-"];
@@ -158,31 +206,31 @@ const CASES: &[Case] = &[
     (Form::Merged, BOTH, SECOND, Ok(MERGED)),
     (CSV_FORM, BOTH, SECOND, Ok(CSV)),
     (
-        table!(Patterns, Format::Csv { safe: true }, None),
+        table!(Subject::Patterns, Format::Csv { safe: true }, None),
         INPUT,
         ALL_KINDS,
         Ok(SAFE),
     ),
     (
-        table!(Patterns, Format::Json, None),
+        table!(Subject::Patterns, Format::Json, None),
         INPUT,
         ALL_KINDS,
         Ok(JSON),
     ),
     (
-        table!(Parts, Format::Csv { safe: false }, None),
+        table!(Subject::Parts, Format::Csv { safe: false }, None),
         INPUT,
         ALL_KINDS,
         Ok(PARTS),
     ),
     (
-        table!(Codes, Format::Json, Some(b"# names\nxs4_33\tblock\n")),
+        table!(COMMON, Format::Json, Some(b"# names\nxs4_33\tblock\n")),
         INPUT,
         ALL_KINDS,
         Ok(NAMED_CODES),
     ),
     (
-        table!(Codes, Format::Json, Some(b"a\tb\na\tc\n")),
+        table!(COMMON, Format::Json, Some(b"a\tb\na\tc\n")),
         INPUT,
         ALL_KINDS,
         Err(ReportsError::Names { line: 2 }),
@@ -203,15 +251,62 @@ const CASES: &[Case] = &[
         },
         INPUT,
         FIRST,
-        Err(ReportsError::Claims { line: 2 }),
+        Err(ReportsError::Claims {
+            line: 2,
+            is_named: false,
+        }),
     ),
     (
         Form::Merged,
         BOTH,
         CUT,
-        Err(ReportsError::Fault { text: 2, line: 4 }),
+        Err(ReportsError::Fault {
+            text: 2,
+            line: 4,
+            kind: TextKind::Other,
+        }),
     ),
-    (Form::Merged, &["-", "none"], FIRST, Err(ReportsError::Read)),
+    (
+        Form::Merged,
+        &["-", "none"],
+        FIRST,
+        Err(ReportsError::Unread {
+            text: 2,
+            fault: ShelfFault::Unread(MISSING),
+        }),
+    ),
+];
+
+// The same for tables of codes in their orders, and of engines.
+const TABLES: &[Case] = &[
+    (
+        table!(RAREST, Format::Csv { safe: false }, None),
+        INPUT,
+        ALL_KINDS,
+        Ok(RARE),
+    ),
+    (
+        table!(
+            RAREST_UNNAMED,
+            Format::Csv { safe: false },
+            Some(b"xs4_33\tblock\n"),
+        ),
+        INPUT,
+        ALL_KINDS,
+        Ok(RARE_UNNAMED),
+    ),
+    (
+        table!(Subject::Engines, Format::Csv { safe: false }, None),
+        INPUT,
+        ALL_KINDS,
+        Ok(ENGINES),
+    ),
+    (
+        table!(Subject::Engines, Format::Json, None),
+        INPUT,
+        ALL_KINDS,
+        Ok(ENGINES_JSON),
+    ),
 ];
 
 // Texts as they are, however long all of them are together.
@@ -220,24 +315,36 @@ const PLAIN: Reading = Reading {
     limit: None,
 };
 
-// What is made of reports, where memory is ample.
+// What is made of reports, where memory is ample, is what these cases want.
+macro_rules! makes {
+    ($rt:ident, $cases:expr $(,)?) => {
+        for (form, words, input, wanted) in $cases {
+            let mut streams = Streams::new(*input, Vec::new($rt.alloc()), Vec::new($rt.alloc()));
+            let result = write_reports(&$rt, $rt.alloc(), *form, PLAIN, words, &mut streams);
+            let (_, output, _) = streams.into_inner();
+            let (found, text) = match (result, wanted) {
+                (Ok(written), Ok(text)) => (Ok(written.found), *text),
+                (Ok(written), Err(_)) => (Ok(written.found), b"".as_slice()),
+                (Err(error), _) => (Err(error), b"".as_slice()),
+            };
+            let looks = matches!(form, Form::Same { .. } | Form::Verdict { .. });
+            assert!($rt; found == wanted.map(|_| looks), "{form:?}");
+            assert!($rt; output.as_slice() == text, "{form:?}");
+        }
+    };
+}
+
 #[test]
 fn reports_of_a_file_and_of_standard_input(rt: HostRuntime) -> Result<(), Fail> {
     fs::write(&rt, FILE, FIRST)?;
-    for (form, words, input, wanted) in CASES {
-        let mut streams = Streams::new(*input, Vec::new(rt.alloc()), Vec::new(rt.alloc()));
-        let result = write_reports(&rt, rt.alloc(), *form, PLAIN, words, &mut streams);
-        let (_, output, _) = streams.into_inner();
-        let (found, text) = match (result, wanted) {
-            (Ok(written), Ok(text)) => (Ok(written.found), *text),
-            (Ok(written), Err(_)) => (Ok(written.found), b"".as_slice()),
-            (Err(error), _) => (Err(error), b"".as_slice()),
-        };
-        let looks = matches!(form, Form::Same { .. } | Form::Verdict { .. });
-        assert!(rt; found == wanted.map(|_| looks), "{form:?}");
-        assert!(rt; output.as_slice() == text, "{form:?}");
-    }
+    makes!(rt, CASES);
     fs::remove_file(&rt, FILE)?;
+    Ok(())
+}
+
+#[test]
+fn tables_of_codes_and_of_engines(rt: HostRuntime) -> Result<(), Fail> {
+    makes!(rt, TABLES);
     Ok(())
 }
 
@@ -267,7 +374,7 @@ fn streams_that_fail(rt: HostRuntime) -> Result<(), Fail> {
     let mut streams = Streams::new(reader, Vec::new(alloc), Vec::new(alloc));
     let result = merge_reports(&rt, alloc, PLAIN, INPUT, &mut streams);
     let (_, output, _) = streams.into_inner();
-    assert!(rt; matches!(result, Err(ReportsError::Read)) && output.is_empty());
+    assert!(rt; matches!(result, Err(ReportsError::Unread { text: 1, .. })) && output.is_empty());
     for (form, whole) in [(Form::Merged, FIRST), (CSV_FORM, CSV)] {
         let writer = FailingWriter::after(alloc, 20, 20);
         let mut streams = Streams::new(FIRST, writer, Vec::new(alloc));
@@ -289,7 +396,7 @@ fn rows_are_written_as_a_table(rt: HostRuntime) -> Result<(), Fail> {
     }
     let mut block = Block::new(alloc);
     let mut writer = Output::new(Vec::new(alloc));
-    let table = table_of(alloc, Subject::Patterns, &rows)?;
+    let table = table_of(alloc, Subject::Patterns, None, &rows)?;
     put_listing(alloc, Format::Json, None, &table, &mut block, &mut writer)?;
     assert!(rt; send(&mut block, &mut writer).is_ok());
     assert!(rt; writer.into_inner().as_slice() == JSON);
