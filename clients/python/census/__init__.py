@@ -23,7 +23,7 @@ from dataclasses import dataclass, field, replace
 from typing import Any, Callable, Dict, Iterable, Iterator, List, Literal, Mapping, NoReturn, Optional, Tuple, TypeVar, Union, overload
 
 __all__ = [
-    "Census", "Code", "Disagreement", "Engine", "Pattern", "Row", "Same", "read_names", "read_report",
+    "Census", "Code", "Disagreement", "Emission", "Engine", "Pattern", "Row", "Same", "read_names", "read_report",
     "CensusError", "PatternFault", "CodeFault", "RuleFault", "FolderFault", "TooLong", "ReadFailed", "ReportFault", "ClaimFault", "NamesFault",
     "OutOfMemory", "TimedOut", "ProgramFailed",
 ]
@@ -201,9 +201,10 @@ def _place_of_text(index: Optional[int], place: Optional[str], texts: str = "rle
 class Pattern:
     """What a pattern is and becomes. Names that lifelib's patterns also have mean what they mean there.
 
-    Where the pattern recurs within the bound, there are `onset`, `period`, `displacement` and `apgcode`; else, where it has fallen apart,
-    `onset` and `objects`; else, where it is found to grow for ever, `engines`; else, where a generation has too many cells, `large`; else
-    `unresolved`. All others are None.
+    Where the pattern becomes one part within the bound, there are `onset`, `period`, `displacement`, `apgcode` and `objects`; else, where it
+    becomes none or several, `onset` and `objects`, and of `identify` also `period` and `displacement` of the whole, where all parts have one
+    velocity and this period is at most the bound; else, where it is found to grow for ever, `engines`; else, where a generation has too many
+    cells, `large`; else `unresolved`. All others are None.
     """
 
     # as `B3/S23`
@@ -212,15 +213,15 @@ class Pattern:
     population: int
     # width and height of the bounding box of generation 0, in cells
     box: Tuple[int, int]
-    # the first generation that comes again; of what has fallen apart, the first that is ash; 0 or more
+    # the first generation that comes again; of what becomes none or several parts, the first that is ash; 0 or more
     onset: Optional[int] = None
     # the number of generations after which it comes again, 1 or more
     period: Optional[int] = None
     # how many cells it has then moved to the right and down
     displacement: Optional[Tuple[int, int]] = None
-    # `xs`, `xp` or `xq`, a number, `_` and the shortest text of all phases; `xs0_0` where no cell lives on
+    # of its one part: `xs`, `xp` or `xq`, a number, `_` and the shortest text of all phases
     apgcode: Optional[str] = None
-    # how many independent parts have each code; with `near`, how many objects
+    # how many independent parts have each code, also where there is one part; with `near`, how many objects
     objects: Optional[Dict[str, int]] = field(default=None, hash=False)
     # the bound, within which nothing was found
     unresolved: Optional[int] = None
@@ -236,9 +237,9 @@ class Pattern:
 class Row:
     """What a report says of one pattern.
 
-    `status` is `ok` (recurs within the bound), `ash` (has fallen apart within it), `grows` (grows for ever), `none` (none of these),
-    `large` (has more cells than it may) or `bad` (its text has a fault). What a status has nothing to say of is None. The README has the
-    meaning of each part.
+    `status` is `ok` (recurs within the bound; of `objects`, becomes one part), `ash` (becomes none or several parts), `grows` (grows for
+    ever), `none` (none of these), `large` (has more cells than it may) or `bad` (its text has a fault). What a status has nothing to say of
+    is None. The README has the meaning of each part.
     """
 
     # the number of the collection, from 1
@@ -301,6 +302,32 @@ class Engine:
 
 
 @dataclass(frozen=True)
+class Emission:
+    """Objects of one code that engines of a pattern emit, as `census table --engines` has them."""
+
+    # the pattern, as a row has it
+    collection: int
+    collection_name: str
+    pattern: int
+    name: str
+    rule: str
+    # the number of the engines among those of the pattern, from 1
+    engine: int
+    # `gun` (stays in its place), `rake` (moves, and emits only spaceships) or `puffer` (moves, and leaves other objects)
+    kind: str
+    # the number of generations after which each of the engines comes again, and how far to the right and down it has then moved
+    period: int
+    displacement: Tuple[int, int]
+    # how many engines they are
+    count: int
+    # the code of what they emit, and how many of these objects each emits in a period
+    apgcode: str
+    emits_count: int
+    # the name of the apgcode, where names were given and there is one
+    common_name: Optional[str] = None
+
+
+@dataclass(frozen=True)
 class Code:
     """What reports say of one code under one rule. Names are decoded as UTF-8, with U+FFFD for what is none."""
 
@@ -313,6 +340,8 @@ class Code:
     # the collection and the name of the first of these
     first_collection_name: str
     first_name: str
+    # what part of all objects they are, rounded to six digits
+    share: float
     # the name of the apgcode, where names were given and there is one
     common_name: Optional[str] = None
 
@@ -324,11 +353,12 @@ class Code:
 
 @dataclass(frozen=True)
 class Same:
-    """Patterns of reports that are one object. Names are decoded as UTF-8, with U+FFFD for what is none."""
+    """Patterns of reports that are one object, or of folders that are the same at the start. Names are decoded as UTF-8, with U+FFFD for
+    what is none."""
 
     rule: str
     apgcode: str
-    # the collection and the name of each, at least two, in the order of the reports
+    # the collection and the name of each, at least two, in the order of the reports or folders
     patterns: Tuple[Tuple[str, str], ...]
 
     @property
@@ -399,13 +429,13 @@ class Census:
     def identify_many(self, rles: Iterable[Text], *, bound: Optional[int] = None, near: bool = False, cells: Optional[int] = None,
                       horizon: Optional[int] = None, workers: Optional[int] = None, return_exceptions: bool = False,
                       names: Optional[Names] = None) -> Union[List[Pattern], List[Union[Pattern, CensusError]]]:
-        """What `identify` reports of each RLE text, in order, by three calls of the program, of which two use `workers` threads, 1 to 16
-        (None: one for each processor).
+        """What `objects` reports of each RLE text, in order, as `identify` has it, but that what becomes several parts has no `period` and
+        `displacement` of the whole; by two calls of the program, of which the second uses `workers` threads, 1 to 16 (None: one for each
+        processor).
 
         The texts go to files in a temporary folder. `census identify` with a bound of 1 reads them all, for the faults and generation 0.
-        Then `census objects`, and for what may recur as a whole `census run`, report what becomes of them: `identify` answers with what
-        `run` finds within the bound, where that recurs, and else with what `objects` finds. The calls hold as many texts as the system and
-        a collection allow, some 65,000 on Linux; more texts take more calls in turn. Without a text there is no call.
+        Then `census objects` reports what becomes of them. The calls hold as many texts as the system and a collection allow, some 65,000
+        on Linux; more texts take more calls in turn. Without a text there is no call.
 
         Where texts have faults, the error of the first is raised; with `return_exceptions` the error of each stands in its place in the
         list instead: `PatternFault`, `TooLong`, `ReadFailed` where the text's file was taken away, or `CensusError` itself where a text has
@@ -449,15 +479,9 @@ class Census:
         return found
 
     def _outcomes(self, folder: str, begun: Dict[str, Union[Pattern, CensusError]], question: _Question) -> Dict[str, Pattern]:
-        """What becomes of the patterns of a folder, of which this is known of generation 0. It removes files of the folder."""
+        """What becomes of the patterns of a folder, of which this is known of generation 0."""
         patterns = {name: pattern for name, pattern in begun.items() if isinstance(pattern, Pattern)}
         rows = self._rows_in(folder, patterns, question)
-        for name, row in rows.items():
-            if not _may_recur(row):
-                _remove(folder, name)
-        again = {name: patterns[name] for name, row in rows.items() if _may_recur(row)}
-        settled = self._rows_in(folder, again, replace(question, objects=False))
-        rows.update((name, row) for name, row in settled.items() if row.status == "ok")
         return {name: _with_outcome(pattern, rows[name], question.bound) for name, pattern in patterns.items()}
 
     def _rows_in(self, folder: str, patterns: Dict[str, Pattern], question: _Question) -> Dict[str, Row]:
@@ -475,11 +499,22 @@ class Census:
             raise ProgramFailed(ran.returncode, "a report of other patterns than were asked of")
         return rows
 
+    @overload
     def table(self, folders: Union[Text, Iterable[Path]], *, objects: bool = False, near: bool = False, bound: Optional[int] = None,
-              workers: Optional[int] = None, cells: Optional[int] = None, horizon: Optional[int] = None, names: Optional[Names] = None
-              ) -> List[Row]:
+              workers: Optional[int] = None, cells: Optional[int] = None, horizon: Optional[int] = None, names: Optional[Names] = None,
+              engines: Literal[False] = False) -> List[Row]: ...
+
+    @overload
+    def table(self, folders: Union[Text, Iterable[Path]], *, objects: bool = False, near: bool = False, bound: Optional[int] = None,
+              workers: Optional[int] = None, cells: Optional[int] = None, horizon: Optional[int] = None, names: Optional[Names] = None,
+              engines: Literal[True]) -> List[Emission]: ...
+
+    def table(self, folders: Union[Text, Iterable[Path]], *, objects: bool = False, near: bool = False, bound: Optional[int] = None,
+              workers: Optional[int] = None, cells: Optional[int] = None, horizon: Optional[int] = None, names: Optional[Names] = None,
+              engines: bool = False) -> Union[List[Row], List[Emission]]:
         """What each pattern of these folders becomes, in order: the report of `census run` or of `census objects`. In place of a list of
-        folders, a text is a report, or several one after another, whose rows these are, as `read_report` gives them.
+        folders, a text is a report, or several one after another, whose rows these are, as `read_report` gives them. With `engines`, which
+        needs a report or `objects`, there is one row for each code that engines emit in place of each pattern, in their order.
 
         Each folder is a collection of its `*.rle` files, sorted bytewise. `bound` is 1 to 1,000,000 generations (None: 1,000), with
         `objects` to 100,000 (None: 10,000); `workers` 1 to 16 threads (None: 4); `cells` is how many live cells a generation may have, 1 to
@@ -493,6 +528,11 @@ class Census:
         `CensusError` itself; `OSError` where the program can't be started. Where there are several folders, further calls find which one
         is at fault.
         """
+        if engines:
+            if not objects and not isinstance(folders, (str, bytes, bytearray, memoryview)):
+                raise TypeError("engines goes with a report or with objects alone")
+            rows_of_patterns = self.table(folders, objects=objects, near=near, bound=bound, workers=workers, cells=cells, horizon=horizon)
+            return _emissions(rows_of_patterns, _names_of(names))
         if isinstance(folders, (str, bytes, bytearray, memoryview)):
             if objects or near or any(it is not None for it in (bound, workers, cells, horizon)):
                 raise TypeError("what a report says is settled: only names go with it; folders must be a list")
@@ -603,17 +643,20 @@ class Census:
             raise _fault_of_report(ran)
         return _page_of(ran)
 
-    def codes(self, report: Text, *, names: Optional[Names] = None) -> List[Code]:
+    def codes(self, report: Text, *, names: Optional[Names] = None, rare: bool = False, unnamed: bool = False) -> List[Code]:
         """The codes of a report, or of several one after another, by falling count, and then the shorter first: `census table --codes`.
-        `names` are names of codes, for `common_name`.
+        `names` are names of codes, for `common_name`. With `rare` the rarest come first; with `unnamed` those that have a name are left
+        out.
 
         Raises `ReportFault`, `NamesFault`, `TooLong`, `OutOfMemory`, `TimedOut`, `ProgramFailed`, or `CensusError` itself.
         """
         common_names = _names_of(names)
-        ran = self._run(["table", "--codes", "--json", "--explain", "-"], _bytes_of(report))
+        order = ["--sort=rare"] if rare else []
+        ran = self._run(["table", "--codes", *order, "--json", "--explain", "-"], _bytes_of(report))
         if ran.returncode == 1:
             raise _fault_of_report(ran)
-        return [_with_name(code, common_names) for code in _codes_of(ran)]
+        codes = [_with_name(code, common_names) for code in _codes_of(ran)]
+        return [code for code in codes if not unnamed or code.common_name is None]
 
     def same(self, report: Text) -> List[Same]:
         """The patterns of a report, or of several one after another, that are one object, in the order of codes: `census same`.
@@ -623,6 +666,21 @@ class Census:
         ran = self._run(["same", "--json", "--explain", "-"], _bytes_of(report))
         if ran.returncode == 1:
             raise _fault_of_report(ran)
+        return _same_of(ran)
+
+    def starts(self, folders: Iterable[Path], *, recursive: bool = False) -> List[Same]:
+        """The patterns of folders that are the same at the start under one rule, moved, turned or mirrored: `census same --starts`. In place
+        of a code, `apgcode` has `_` and what `draw` takes.
+
+        With `recursive` the folders below each are read too. Texts with faults are left out. One call is made for all folders, and none
+        without a folder. Raises `FolderFault`, `TooLong`, `ReadFailed`, `OutOfMemory`, `TimedOut` or `ProgramFailed`.
+        """
+        words = [_path_of(folder) for folder in _list_of_folders(folders)]
+        if not words:
+            return []
+        ran = self._run(["same", "--starts", "--json", *_flag("recursive", recursive), "--", *words])
+        if ran.returncode not in (0, 5):
+            self._raise_of_folders(ran, words)
         return _same_of(ran)
 
     def verify(self, claims: Text, report: Text) -> List[Disagreement]:
@@ -983,13 +1041,13 @@ def _fault_of_words(ran: subprocess.CompletedProcess[bytes]) -> CensusError:
 
 def _fault_of_report(ran: subprocess.CompletedProcess[bytes]) -> CensusError:
     """Why a report was refused."""
-    if _first_line(ran) == "census: input too long":
+    # (a file may be named before)
+    if re.fullmatch("census: (?:[0-9]+: |claims: )?input too long", _first_line(ran)):
         return TooLong()
     line, told = _told_lines(ran)
     many = re.fullmatch(r"census: too many collections at report ([0-9]+)", line)
     if many:
         return FolderFault(3, f"reports[{int(many.group(1)) - 1}]")
-    # (a file may be named before)
     fault = re.fullmatch(r"census: (?:[0-9]+: |claims: )?(report|claim) fault at line ([0-9]+)", line)
     where = re.fullmatch(r"  (?:([0-9]+):|claims:)?[0-9]+: (.*)", told)
     if not fault or not where:
@@ -1031,7 +1089,8 @@ def _codes_of(ran: subprocess.CompletedProcess[bytes]) -> List[Code]:
         raise ProgramFailed(ran.returncode, "what it wrote is no table of codes") from None
     for code in codes:
         texts = (code.rule, code.apgcode, code.first_collection_name, code.first_name)
-        if not all(isinstance(text, str) for text in texts) or type(code.count) is not int or type(code.patterns) is not int:
+        numbers = (type(code.count), type(code.patterns), type(code.share))
+        if not all(isinstance(text, str) for text in texts) or numbers != (int, int, float):
             raise ProgramFailed(ran.returncode, "what it wrote is no table of codes")
     return codes
 
@@ -1070,7 +1129,7 @@ def _same_of(ran: subprocess.CompletedProcess[bytes]) -> List[Same]:
 
 
 _FAULT = re.compile(r"census: ([0-9]+\.rle|-):([0-9]+):([0-9]+): (.*) \(rle fault ([0-9]+)(?: at ([0-9]+))?\)")
-_REFUSED = re.compile(r"census: ([0-9]+\.rle|-): (?:.* \()?(read failed|input too long)\)?")
+_REFUSED = re.compile(r"census: ([0-9]+\.rle|-): (read failed|input too long|.* \(os error [0-9]+\))")
 
 
 def _error_of(line: str) -> Optional[Tuple[str, CensusError]]:
@@ -1082,7 +1141,7 @@ def _error_of(line: str) -> Optional[Tuple[str, CensusError]]:
     refused = _REFUSED.fullmatch(line)
     if refused:
         name, words = refused.groups()
-        return name, (ReadFailed if words == "read failed" else TooLong)(None, _index_of(name))
+        return name, (TooLong if words == "input too long" else ReadFailed)(None, _index_of(name))
     return None
 
 
@@ -1134,10 +1193,9 @@ _BLOCK = re.compile(rf"""(?:file (?P<file>[0-9]+\.rle)\n)?rule (?P<rule>{_RULE})
 population (?P<population>{_COUNT})
 box (?P<width>{_COUNT}) (?P<height>{_COUNT})
 (?:onset (?P<onset>{_COUNT})
-period (?P<period>{_COUNT})
+(?:period (?P<period>{_COUNT})
 displacement (?P<dx>{_OFFSET}) (?P<dy>{_OFFSET})
-apgcode (?P<code>{_CODE})|onset (?P<first>{_COUNT})
-objects (?P<objects>{_COUNT})(?P<parts>(?:\npart {_CODE} {_COUNT})*)|engines (?P<engines>{_COUNT})(?P<tales>(?:
+)?(?:apgcode (?P<code>{_CODE})|objects (?P<objects>{_COUNT})(?P<parts>(?:\npart {_CODE} {_COUNT})*))|engines (?P<engines>{_COUNT})(?P<tales>(?:
 (?:engine|emits) .*)*)|large (?P<large>{_COUNT})|unresolved (?P<bound>{_COUNT}))""")
 _PART = re.compile(rf"part ({_CODE}) ({_COUNT})")
 
@@ -1175,16 +1233,19 @@ def _pattern_of(block: str, bound: int, longest: int) -> Tuple[str, Pattern]:
         engines = _engines_of(int(found["engines"]), found["tales"].split("\n")[1:])
         _demand(_are_within(engines, longest))
         return name, replace(pattern, engines=engines)
-    if found["objects"] is not None:
-        parts = [(code, int(count)) for code, count in _PART.findall(found["parts"])]
-        objects = dict(parts)
-        _demand(len(objects) == len(parts) and sum(objects.values()) == int(found["objects"]))
-        _demand(int(found["first"]) <= bound)
-        return name, replace(pattern, onset=int(found["first"]), objects=objects)
-    onset, period = int(found["onset"]), int(found["period"])
-    _demand(period > 0 and onset + period <= bound)
-    displacement = int(found["dx"]), int(found["dy"])
-    return name, replace(pattern, onset=onset, period=period, displacement=displacement, apgcode=found["code"])
+    pattern = replace(pattern, onset=int(found["onset"]))
+    _demand(int(found["onset"]) <= bound)
+    if found["period"] is not None:
+        _demand(1 <= int(found["period"]) <= bound)
+        pattern = replace(pattern, period=int(found["period"]), displacement=(int(found["dx"]), int(found["dy"])))
+    if found["code"] is not None:
+        _demand(found["period"] is not None)
+        return name, replace(pattern, apgcode=found["code"], objects={found["code"]: 1})
+    parts = [(code, int(count)) for code, count in _PART.findall(found["parts"])]
+    objects = dict(parts)
+    _demand(len(objects) == len(parts) and sum(objects.values()) == int(found["objects"]) != 1)
+    _demand(found["period"] is None or bool(objects))
+    return name, replace(pattern, objects=objects)
 
 
 @dataclass(frozen=True)
@@ -1223,9 +1284,11 @@ class _Asked:
         if not re.fullmatch(_RULE, row.rule or ""):
             return False
         if row.status == "ok":
-            return not objects and period > 0 and onset + period <= bound and bool(re.fullmatch(_CODE, row.apgcode or ""))
+            is_found = max(onset, period) <= bound if objects else onset + period <= bound
+            return period > 0 and is_found and bool(re.fullmatch(_CODE, row.apgcode or ""))
         if row.status == "ash":
-            return objects and onset <= bound and all(re.fullmatch(_CODE, code) for code, _ in parts)
+            is_one = sum(count for _, count in parts) == 1
+            return objects and onset <= bound and not is_one and all(re.fullmatch(_CODE, code) for code, _ in parts)
         if row.status == "grows":
             return objects and _are_within(engines, self.question.period_limit())
         if row.status == "large":
@@ -1233,24 +1296,29 @@ class _Asked:
         return True
 
 
-def _may_recur(row: Row) -> bool:
-    """Whether a pattern may recur as a whole, of which `census objects` reports this.
-
-    What grows doesn't. What has too many cells doesn't within the bound: its generations would be as large before. Nor does what leaves both
-    objects that move and objects that stay, since they go ever further apart.
-    """
-    if row.parts is not None:
-        return len({code.startswith("xq") for code, _ in row.parts}) < 2
-    return row.status == "none"
-
-
 def _with_outcome(pattern: Pattern, row: Row, bound: int) -> Pattern:
-    """What is known of generation 0 of a pattern, with what a report says becomes of it within the bound."""
+    """What is known of generation 0 of a pattern, with what a report of objects says becomes of it within the bound."""
+    parts = row.parts if row.apgcode is None else ((row.apgcode, 1),)
     return replace(
         pattern, onset=row.onset, period=row.period, displacement=row.displacement, apgcode=row.apgcode,
-        objects=None if row.parts is None else dict(row.parts), unresolved=bound if row.status == "none" else None,
+        objects=None if parts is None else dict(parts), unresolved=bound if row.status == "none" else None,
         engines=row.engines, large=row.generation,
     )
+
+
+def _emissions(rows: List[Row], common_names: Mapping[str, str]) -> List[Emission]:
+    """What the engines of these patterns emit."""
+    found: List[Emission] = []
+    for row in rows:
+        for number, engine in enumerate(row.engines or (), 1):
+            moving = "rake" if all(code.startswith("xq") for code in engine.emits) else "puffer"
+            kind = "gun" if engine.displacement == (0, 0) else moving
+            found += [
+                Emission(row.collection, row.collection_name, row.pattern, row.name, row.rule or "", number, kind, engine.period,
+                         engine.displacement, engine.count, code, count, common_names.get(code))
+                for code, count in engine.emits.items()
+            ]
+    return found
 
 
 def _rows_of(ran: subprocess.CompletedProcess[bytes], asked: _Asked) -> List[Row]:
@@ -1277,8 +1345,9 @@ def read_report(report: Text, *, names: Optional[Names] = None) -> List[Row]:
     objects in the order of codes. The `code` lines of a collection are what its lines count, in the order of first appearance.
     Right after a `grows` line its `engine` lines give all its engines, at least one, numbered from 1, in the order of period, displacement
     and what they emit, no two the same. Periods are 1 to 10,000, and an engine moves by at most one cell in a generation. Right after each
-    `engine` line its `emits` lines give what it emits, at least one object, in the order of codes. Raises `ReportFault` at the line at
-    which `census merge` finds the fault.
+    `engine` line its `emits` lines give what it emits, at least one object, in the order of codes. Nor may lines say what no run finds: more
+    cells than a pattern may have, an onset, with the period, or a generation above 1,000,000, objects without cells, or engines that stay
+    in their place and emit what does too. Raises `ReportFault` at the line at which `census merge` finds the fault.
     """
     common_names = _names_of(names)
     return [_with_name(row, common_names) for row in _read(_bytes_of(report)).rows()]
@@ -1339,6 +1408,20 @@ def _fault(word: bytes) -> int:
     return number
 
 
+def _population(word: bytes) -> int:
+    """The number of cells of a pattern."""
+    number = _count(word)
+    _demand(number <= _MOST_CELLS)
+    return number
+
+
+def _generation(word: bytes) -> int:
+    """A generation in which something was found."""
+    number = _count(word)
+    _demand(number <= _LAST_GENERATION)
+    return number
+
+
 def _offset(word: bytes) -> int:
     """A signed number of 64 bits."""
     _demand(_IS_OFFSET.fullmatch(word) is not None and -1 << 63 <= int(word) < 1 << 63)
@@ -1363,6 +1446,12 @@ def _code(word: bytes) -> str:
     return word.decode()
 
 
+def _object(word: bytes) -> str:
+    """A code of at least one cell."""
+    _demand(word.partition(b"_")[2] != b"0")
+    return _code(word)
+
+
 def _fits_code(period: int, displacement: Tuple[int, int], code: str) -> bool:
     """Whether a code begins as period and displacement say, and it moves by at most a cell in each generation."""
     if any(abs(way) > period for way in displacement):
@@ -1374,11 +1463,13 @@ def _fits_code(period: int, displacement: Tuple[int, int], code: str) -> bool:
 
 # what stands between the status and the name of a line
 _FIELDS: Dict[bytes, Dict[str, Callable[[bytes], Any]]] = {
-    b"ok": {"rule": _rule, "population": _count, "onset": _count, "period": _count, "dx": _offset, "dy": _offset, "code": _code},
-    b"ash": {"rule": _rule, "population": _count, "onset": _count, "objects": _count},
-    b"grows": {"rule": _rule, "population": _count, "engines": _count},
-    b"none": {"rule": _rule, "population": _count},
-    b"large": {"rule": _rule, "population": _count, "generation": _count},
+    b"ok": {
+        "rule": _rule, "population": _population, "onset": _generation, "period": _count, "dx": _offset, "dy": _offset, "code": _code,
+    },
+    b"ash": {"rule": _rule, "population": _population, "onset": _generation, "objects": _count},
+    b"grows": {"rule": _rule, "population": _population, "engines": _count},
+    b"none": {"rule": _rule, "population": _population},
+    b"large": {"rule": _rule, "population": _population, "generation": _generation},
     b"bad": {"fault": _fault},
 }
 
@@ -1386,6 +1477,10 @@ _FIELDS: Dict[bytes, Dict[str, Callable[[bytes], Any]]] = {
 _MOST = 65535
 # the most generations after which an engine comes again
 _LONGEST_PERIOD = 10000
+# the most live cells of a pattern
+_MOST_CELLS = 1048576
+# the last generation in which something is found of a pattern
+_LAST_GENERATION = 1000000
 
 
 class _Collection:
@@ -1474,7 +1569,9 @@ class _Engines:
         _demand(self.rises or other <= [next_one])
         self.rises = self.rises or other < [next_one]
         self.emits.append(next_one)
-        self.found[-1].emits[_code(code)] = _count(count)
+        # (what an engine that stays in its place emits moves away)
+        _demand(self.way[1:] != (0, 0) or code.startswith(b"xq"))
+        self.found[-1].emits[_object(code)] = _count(count)
 
 
 class _Told:
@@ -1567,6 +1664,7 @@ class _Reading:
             found["displacement"] = found.pop("dx"), found.pop("dy")
             found["apgcode"] = found.pop("code")
             _demand(_fits_code(found["period"], found["displacement"], found["apgcode"]))
+            _demand(found["onset"] + found["period"] <= _LAST_GENERATION)
         self.told.take_line(collection.number, status, found.pop("objects", 0), found.pop("engines", 0))
         collection.parts.append([])
         collection.engines.append(self.told.engines.found)
@@ -1587,7 +1685,7 @@ class _Reading:
         collection, rest = self._behind(b"ash", rest)
         code, count = rest.split(b" ")
         self.told.take_part(collection.number, code, _count(count))
-        collection.parts[-1].append((_code(code), _count(count)))
+        collection.parts[-1].append((_object(code), _count(count)))
         collection.count(*collection.parts[-1][-1])
 
     def _engine(self, rest: bytes) -> None:
