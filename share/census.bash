@@ -13,9 +13,9 @@ _census() {
     advance) options='--explain -h --help' kind=files ;;
     draw) options='--rule --explain -h --help' kind=neither ;;
     merge) options='--cut --input --explain -h --help' kind=files ;;
-    table) options='--csv --json --safe --parts --codes --names --cut --input --explain -h --help' kind=files ;;
+    table) options='--csv --json --safe --parts --codes --engines --sort --unnamed --names --cut --input --explain -h --help' kind=files ;;
     page) options='--title --note --sort --top --base --links --no-patterns --names --cut --input --explain -h --help' kind=files ;;
-    same) options='--json --cut --input --explain -h --help' kind=files ;;
+    same) options='--json --starts -r --recursive --cut --input --explain -h --help' kind=files ;;
     verify) options='--cut --input --explain -h --help' kind=files ;;
     esac
     case $last in

@@ -54,6 +54,9 @@ complete -c census -n '__fish_seen_subcommand_from table' -l json -d 'JSON, one 
 complete -c census -n '__fish_seen_subcommand_from table' -l safe -d 'In CSV put a '\'' before each text that a spreadsheet takes for a formula'
 complete -c census -n '__fish_seen_subcommand_from table' -l parts -d 'A row for each part line in place of each pattern'
 complete -c census -n '__fish_seen_subcommand_from table' -l codes -d 'A row for each code and rule in place of each pattern, by falling count'
+complete -c census -n '__fish_seen_subcommand_from table' -l engines -d 'A row for each thing that engines emit in place of each pattern'
+complete -c census -n '__fish_seen_subcommand_from table' -l sort -x -d 'Order of codes: report or rare, the rarest first [default: report]'
+complete -c census -n '__fish_seen_subcommand_from table' -l unnamed -d 'Leave out the codes that have a name'
 complete -c census -n '__fish_seen_subcommand_from table' -l names -rF -d 'Give the names of codes too. FILE has lines of a code, a tab and a name; - is standard input'
 complete -c census -n '__fish_seen_subcommand_from table' -l cut -d 'Take a report that was cut: collections that are whole are kept, and a line on standard error says what was left out'
 complete -c census -n '__fish_seen_subcommand_from table' -l input -x -d 'Bytes that the REPORTs may have together, 1 to 9223372036854775807 [default: no limit]'
@@ -76,6 +79,8 @@ complete -c census -n '__fish_seen_subcommand_from page' -s h -l help -d 'Print 
 complete -c census -n '__fish_seen_subcommand_from page' -F
 complete -c census -n __fish_use_subcommand -a same -d 'List the patterns of reports that are one object'
 complete -c census -n '__fish_seen_subcommand_from same' -l json -d 'JSON, one object a line'
+complete -c census -n '__fish_seen_subcommand_from same' -l starts -d 'Take each REPORT for a FOLDER of patterns, and list those that are the same at the start'
+complete -c census -n '__fish_seen_subcommand_from same' -s r -l recursive -d 'Take the folders below each FOLDER too that have *.rle files'
 complete -c census -n '__fish_seen_subcommand_from same' -l cut -d 'Take a report that was cut: collections that are whole are kept, and a line on standard error says what was left out'
 complete -c census -n '__fish_seen_subcommand_from same' -l input -x -d 'Bytes that the REPORTs may have together, 1 to 9223372036854775807 [default: no limit]'
 complete -c census -n '__fish_seen_subcommand_from same' -l explain -d 'Also say on standard error where each fault is, what is wrong and what would be right'

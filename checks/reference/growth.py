@@ -647,9 +647,14 @@ def becomes(rule, cells, bound, horizon):
 
 
 def decide(rule, cells, bound, horizon, parts_of=itself):
-    """What is reported of a set: ('ash', onset, [(code, count)]), ('grows', [(tale, count)]) or ('none',)."""
+    """What is reported of a set: ('ok', onset, period, dx, dy, code) where its ash is one part, ('ash', onset, [(code, count)]),
+    ('grows', [(tale, count)]) or ('none',)."""
     kind, *found = becomes(rule, frozenset(cells), bound, horizon)
     if kind == 'ash':
         onset, parts = found
-        return kind, onset, O.counts_of(rule, [part for P in parts for part in parts_of(rule, P)])
+        parts = [part for P in parts for part in parts_of(rule, P)]
+        if len(parts) == 1:
+            part, = parts
+            return 'ok', onset, part.period, part.dx, part.dy, O.code_of(rule, part)
+        return kind, onset, O.counts_of(rule, parts)
     return (kind, told(rule, *found, parts_of)) if kind == 'grows' else (kind,)

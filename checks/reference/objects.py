@@ -491,8 +491,8 @@ _known = {}
 
 
 def answer(text, bound, horizon, decide):
-    """('bad', n), ('none', rule, pop), ('ash', rule, pop, onset, [(code, count)]) or ('grows', rule, pop, [(tale, count)]), where a tale is
-    (period, dx, dy, [(code, count)])."""
+    """('bad', n), ('none', rule, pop), ('ok', rule, pop, onset, period, dx, dy, code), ('ash', rule, pop, onset, [(code, count)]) or
+    ('grows', rule, pop, [(tale, count)]), where a tale is (period, dx, dy, [(code, count)])."""
     tag = (hashlib.blake2b(text).digest(), bound, horizon, decide)
     if tag not in _known:
         try:
@@ -527,11 +527,12 @@ def section(c, folder, bound, horizon, decide):
         a = answer(text, bound, horizon, decide)
         kinds[a[0]] += 1
         lines += lines_of(c, i, entry, a)
-        if a[0] == 'ash':
-            for code, n in a[4]:
+        if a[0] in ('ok', 'ash'):
+            for code, n in [(a[-1], 1)] if a[0] == 'ok' else a[4]:
                 totals[a[1], code] += n
     lines += [('code %d %s %s %d' % (c, r, k, n)).encode() for (r, k), n in totals.items()]
-    lines.append(b'close %d %d %d %d %d' % (c, len(entries), kinds['ash'] + kinds['grows'], kinds['none'], kinds['bad']))
+    resolved = kinds['ok'] + kinds['ash'] + kinds['grows']
+    lines.append(b'close %d %d %d %d %d' % (c, len(entries), resolved, kinds['none'], kinds['bad']))
     return lines
 
 
@@ -547,8 +548,8 @@ def report(bundle, bound, horizon, decide):
 
 
 def dispatch(args, stdin, decide):
-    """The report of `objects`, where `decide` gives what becomes of a set: ('none',), ('ash', onset, [(code, count)]) or
-    ('grows', [(tale, count)])."""
+    """The report of `objects`, where `decide` gives what becomes of a set: ('none',), ('ok', onset, period, dx, dy, code),
+    ('ash', onset, [(code, count)]) or ('grows', [(tale, count)])."""
     opts, rest = R.words_of(args, COUNTS, 0, True)
     bound = R.number(opts.get('--bound', '10000'), 1, OBJECTS_BOUND_LIMIT)
     horizon = R.number(opts.get('--horizon', '1000'), 1, HORIZON_LIMIT)
