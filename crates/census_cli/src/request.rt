@@ -5,9 +5,8 @@ ghost use Rattle.census_cli.specs.Asking.{AsksFor, Gives, GivesCollections, Give
 ghost use Rattle.census_cli.specs.Holding.{GivesAsked, GivesRequest, HasCollections, HasFlag, HasIdentify, HasLimit, HasNumber, HasObjects, HasPage, HasReports, HasRun, HasTable, HasText, IsCommand, RefusesCommand, HasSame};
 ghost use Rattle.census_cli.specs.Refusing.{RefusesWords, is_topic};
 
-use crate::command;
 use crate::fault::{WordsFault, fault_of};
-use crate::help;
+use crate::{command, help};
 use clap::ArgMatches;
 use life_answer::Question;
 use std::alloc::{AllocError, Global};
@@ -546,7 +545,11 @@ fn starts_asked(same: &ArgMatches<'_>) -> Option<bool>
     requires { HasSame (rows_of (found_of same.now)) }
     ensures { result ≡ starts_asked (rows_of (found_of same.now)) }
 {
-    match (flag(same, "starts"), flag(same, "cut"), flag(same, "recursive")) {
+    match (
+        flag(same, "starts"),
+        flag(same, "cut"),
+        flag(same, "recursive"),
+    ) {
         (true, false, _) => Some(true),
         (false, _, false) => Some(false),
         _ => None,

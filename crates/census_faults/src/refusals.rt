@@ -75,13 +75,7 @@ fn push_folder<'a>(
             }
             None => Fault::Read,
         };
-        push_entry(
-            alloc,
-            lines,
-            folder.name.as_slice(),
-            &entries[index],
-            loss,
-        )?;
+        push_entry(alloc, lines, folder.name.as_slice(), &entries[index], loss)?;
     }
     Ok(left)
 }
