@@ -10,3 +10,4 @@ pub mod Orders
 pub mod Counting
 pub mod Fronts
 pub mod Memory
+pub mod Losses

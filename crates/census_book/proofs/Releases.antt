@@ -21,7 +21,7 @@ use Rattle.census_rows.specs.Lines.{text_of}
 use Rattle.life_answer.specs.declared.question.Question.{Question}
 
 -- cases on a number's test
-cases : (P : Type 0) (m n : ℕ) → (m ≡ n → P) → ((m ≡ n → ⊥) → P) → P
+pub cases : (P : Type 0) (m n : ℕ) → (m ≡ n → P) → ((m ≡ n → ⊥) → P) → P
 cases P m n same apart =
     elim (eqb m n) as (λ b. eqb m n ≡ b → P) [
       | true ↦ λ e. same (grind (arith, nat_tests))

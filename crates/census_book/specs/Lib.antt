@@ -7,3 +7,4 @@ pub mod Front
 pub mod Released
 pub mod Orders
 pub mod Counts
+pub mod Losses

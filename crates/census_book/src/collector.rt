@@ -5,6 +5,7 @@ ghost use Rattle.life_answer.specs.Questions.{IsAnswered};
 ghost use Rattle.census_book.specs.Collecting.{IsLeastMissing, IsResultOf, Judged, Offered};
 ghost use Rattle.census_book.specs.declared.offer.Offer.TheVariants.{Taken};
 ghost use Rattle.census_book.specs.Front.{IsFront, IsRelease};
+ghost use Rattle.census_book.specs.Losses.{Loses, over};
 ghost use Rattle.census_book.specs.Progress.{sent_of, initial_progress, taken_of};
 ghost use Rattle.census_format.specs.Reports.{text_released};
 
@@ -196,6 +197,22 @@ impl<'a> Collector<'a> {
         ensures { self.new ≡ sent_of self.old count }
     {
         self.unsent.drain(..count);
+    }
+
+    /// Continues with a bundle in which the texts of tickets that were not taken are lost. What was released of it is the same,
+    /// and so is all else. It takes no memory.
+    pub fn lose(&mut self, bundle: &'a Bundle)
+        requires { Loses self.old.bundle self.old.taken bundle.now }
+        ensures { self.new ≡ over bundle.now self.old }
+    {
+        self.results.lose(bundle);
+    }
+
+    /// Whether this ticket was taken.
+    pub fn holds(&self, ticket: Ticket) -> bool
+        ensures { result ≡ has_ticket self.now.taken ticket }
+    {
+        self.results.holds(ticket)
     }
 
     /// The least ticket that was not taken.

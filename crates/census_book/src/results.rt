@@ -2,6 +2,7 @@
 ghost use Rattle.std.specs.Prelude.{◌≡◌, ◌≢◌, ◌<◌, ◌≤◌, true, false, length, Some, IfOk, IfErr, OnOk, OnErr, IfSome, IfNone, MatchBool};
 ghost use Rattle.census_bundle.specs.Tickets.{has_ticket, no_tickets, with_ticket};
 ghost use Rattle.census_book.specs.Collecting.{HasCollection, IsResult, IsResultOf, Judged};
+ghost use Rattle.census_book.specs.Losses.{Loses};
 ghost use Rattle.census_book.specs.Progress.{taken_of};
 
 use crate::done::Done;
@@ -132,6 +133,14 @@ impl<'a> Results<'a> {
         ensures unchanged { OnErr result (self.new ≡ self.old) }
     {
         self.slots.put(done)
+    }
+
+    /// Continues with a bundle in which the texts of tickets that were not taken are lost. It takes no memory.
+    pub fn lose(&mut self, bundle: &'a Bundle)
+        requires { Loses self.old.bundle self.old.taken bundle.now }
+        ensures { self.new ≡ taken_of bundle.now self.old.question self.old.taken }
+    {
+        self.bundle = bundle;
     }
 
     /// Drops the results of a collection that has arrived whole, and frees their memory. Its tickets stay taken.

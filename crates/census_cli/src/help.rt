@@ -62,8 +62,9 @@ Lines of a report, of pattern I of collection C ('census help report'):
 
 /// What `--keep-going` does.
 pub const KEEP_GOING: &str = "\
-Go on past what can't be read, and exit with status 4 then.
-A file that can't be read has FAULT 0 in the report";
+Go on past what can't be read, and exit with status 4 then, and past
+patterns that run out of memory, with status 3. Both have FAULT 0 in
+the report";
 
 /// What `--explain` does.
 pub const EXPLAIN: &str = "\
@@ -123,8 +124,8 @@ run [--bound N] [--workers N] [--cells N] [--input N] [-r] [-k] [FOLDER]...
       --input N    bytes that the files of the FOLDERs may have together, 1 to
                    9223372036854775807 [default: no limit]
   -r, --recursive  take the folders below each FOLDER too that have *.rle files
-  -k, --keep-going go on past what can't be read, and exit with status 4 then; a
-                   file that can't be read has FAULT 0 in the report
+  -k, --keep-going go on past what can't be read, with status 4 at the end, or
+                   past patterns out of memory, with status 3: both have FAULT 0
   FOLDER           a collection: its patterns are the *.rle files in the folder;
                    with no FOLDER a bundle of collections is read from standard
                    input

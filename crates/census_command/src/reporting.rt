@@ -38,9 +38,9 @@ fn too_long(alloc: Global, lost: &[Loss]) -> Result<Vec<Ticket>, AllocError> {
     Ok(tickets)
 }
 
-// What is said beside a report of a bundle, where faults are explained: the lines that explain what it reports as `bad`, and then
-// the hints at what may have been overlooked in the bundle. Otherwise there is none.
-fn lines_of<S: Shelf>(
+/// What is said beside a report of a bundle, where faults are explained: the lines that explain what it reports as `bad`, and then
+/// the hints at what may have been overlooked in the bundle. Otherwise there is none.
+pub fn lines_of<S: Shelf>(
     shelf: &S,
     alloc: Global,
     bundle: &Bundle,

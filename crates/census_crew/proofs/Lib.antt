@@ -12,3 +12,4 @@ pub mod Closes
 pub mod Places
 pub mod Draws
 pub mod Memory
+pub mod Lost

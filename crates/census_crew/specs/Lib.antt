@@ -1,5 +1,6 @@
 pub mod Gates
 pub mod Writing
+pub mod Losing
 pub mod Faults
 pub mod Tallying
 pub mod Strangers

@@ -30,8 +30,8 @@ pub(crate) struct RunState<'a> {
     ghost sound: { IsRunState collector tally } by { IsRunState-prop collector tally },
 }
 
-// A bundle is small.
-fn is_small(bundle: &Bundle)
+/// A bundle is small.
+pub(crate) fn is_small(bundle: &Bundle)
     ensures { IsWithinCounts bundle.now }
 {
     bundle.folders();
@@ -159,6 +159,46 @@ impl<'a> RunState<'a> {
         Ok(())
     }
 
+    // Works a ticket that is missing, and writes what it releases. `false` says that memory was refused, and that the ticket is
+    // still missing.
+    pub(crate) fn try_missing<W: Write>(
+        &mut self,
+        alloc: Global,
+        ticket: Ticket,
+        out: &mut Output<W>,
+    ) -> Result<bool, Failed>
+        requires of_bundle { IsTicketOf self.old.collector.bundle ticket }
+        requires not_taken { has_ticket self.old.collector.taken ticket ≡ false }
+        requires sound { out.old.stream.failed ≡ false }
+        requires sent { self.old.collector.unsent ≡ [] }
+        ensures failed { MatchResult result (λ _. out.new.stream.failed ≡ false)
+            (λ _. out.new.stream.failed ≡ true) }
+        ensures step { MatchResult result
+            (λ _. StaysInStep out.old.stream.written self.old.collector
+            out.new.stream.written self.new.collector)
+            (λ _. StopsInStep out.old.stream.written self.old.collector
+            out.new.stream.written) }
+        ensures sent { OnOk result (self.new.collector.unsent ≡ []) }
+        ensures taken { IfOk result (λ worked. worked ≡ true →
+            self.new.collector.taken ≡ with_ticket self.old.collector.taken ticket) }
+        ensures strangers { OnOk result (self.new.tally.strangers ≡ self.old.tally.strangers) }
+    {
+        let Some(entry) = self.collector.bundle().entry(ticket) else {
+            unreachable!();
+        };
+        let Ok(done) = answering::work(alloc, ticket, entry, self.collector.question()) else {
+            return Ok(false);
+        };
+        match self.arrive(done, out)? {
+            Some(Offer::Taken) => {
+                self.tally.caught_up = self.tally.caught_up.saturating_add(1);
+                Ok(true)
+            }
+            Some(_) => unreachable!(),
+            None => Ok(false),
+        }
+    }
+
     // Works a ticket that is missing, and writes what it releases.
     fn work_missing<W: Write>(
         &mut self,
@@ -182,20 +222,11 @@ impl<'a> RunState<'a> {
             (self.new.collector.taken ≡ with_ticket self.old.collector.taken ticket) }
         ensures strangers { OnOk result (self.new.tally.strangers ≡ self.old.tally.strangers) }
     {
-        let Some(entry) = self.collector.bundle().entry(ticket) else {
-            unreachable!();
-        };
-        let Ok(done) = answering::work(alloc, ticket, entry, self.collector.question()) else {
+        let worked = self.try_missing(alloc, ticket, out)?;
+        if !worked {
             return Err(RunFault::memory_at(ticket));
-        };
-        match self.arrive(done, out)? {
-            Some(Offer::Taken) => {
-                self.tally.caught_up = self.tally.caught_up.saturating_add(1);
-                Ok(())
-            }
-            Some(_) => unreachable!(),
-            None => Err(RunFault::memory_at(ticket)),
         }
+        Ok(())
     }
 
     // Works each ticket that is missing, the least one first, and writes what they release.

@@ -22,8 +22,8 @@ use std::sync::Wait;
 use std::thread::Threads;
 use watched::Output;
 
-// How many patterns a bundle has, as far as 64 bits go.
-fn patterns_of(bundle: &Bundle) -> u64
+/// How many patterns a bundle has, as far as 64 bits go.
+pub(crate) fn patterns_of(bundle: &Bundle) -> u64
     ensures { result ≡ told_count bundle.now }
 {
     let mut patterns: u64 = 0;

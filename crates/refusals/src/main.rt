@@ -62,7 +62,9 @@ fn call_all<R: Print + Threads + Wait + Sync>(rt: &R, alloc: Global) -> Option<(
     results::call_collector(rt, alloc)?;
     runs::call_feed(rt, alloc)?;
     runs::call_runs(rt, alloc, ONE_WORKER, 1)?;
-    runs::call_runs(rt, alloc, TWO_WORKERS, 2)
+    runs::call_runs(rt, alloc, TWO_WORKERS, 2)?;
+    runs::call_keeping(rt, alloc, "run_keeping, by one worker", 1)?;
+    runs::call_keeping(rt, alloc, "run_keeping, by four workers", 4)
 }
 
 fn main(rt: HostRuntime) -> ExitCode {

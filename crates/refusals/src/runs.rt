@@ -5,8 +5,8 @@ ghost use Rattle.census_bundle.specs.Sizes.{worker_limit};
 use crate::bundles::bundle_of;
 use crate::call;
 use crate::calls::promised;
-use census_bundle::{Bundle, read_bundle};
-use census_crew::{Feed, OpenGate, Tally, run, run_bytes};
+use census_bundle::{Bundle, Ticket, read_bundle};
+use census_crew::{Feed, OpenGate, Tally, run, run_bytes, run_keeping};
 use census_faults::{BytesFault, RunFault};
 use life_answer::Question;
 use std::alloc::Global;
@@ -69,6 +69,81 @@ fn report<R: Threads + Wait + Sync>(
     tally
 }
 
+// Runs a bundle, and loses the patterns for which memory is refused. `written` becomes what it has written, and `lost` their
+// tickets.
+fn report_keeping<R: Threads + Wait + Sync>(
+    rt: &R,
+    alloc: Global,
+    bundle: &Bundle,
+    workers: u32,
+    lost: &mut Vec<Ticket>,
+    written: &mut Vec<u8>,
+) -> Result<Tally, RunFault>
+    requires { (1 ≤ workers) × (workers ≤ worker_limit) }
+{
+    let mut out = Output::new(Vec::new(alloc));
+    let tally = run_keeping(
+        rt,
+        alloc,
+        bundle,
+        SETTLES,
+        workers,
+        &mut OpenGate,
+        lost,
+        &mut out,
+    );
+    *written = out.into_inner();
+    tally
+}
+
+// A bundle of one collection in which the texts of these tickets are lost.
+fn lossy(alloc: Global, bundle: &Bundle, lost: &[Ticket]) -> Option<Bundle> {
+    let folder = bundle.folders().first()?;
+    let mut copy = Bundle::empty(alloc);
+    copy.add_folder(folder.name.as_slice()).ok()?;
+    let mut number = 0u32;
+    for entry in folder.entries.as_slice() {
+        number = number.saturating_add(1);
+        if lost.contains(&Ticket { folder: 1, number }) {
+            copy.add_lost(entry.name.as_slice()).ok()?;
+        } else {
+            copy.add_entry(entry.name.as_slice(), entry.text.as_slice())
+                .ok()?;
+        }
+    }
+    Some(copy)
+}
+
+// The report of a bundle in which the texts of these tickets are lost.
+fn report_losing<R: Threads + Wait + Sync>(
+    rt: &R,
+    alloc: Global,
+    bundle: &Bundle,
+    lost: &[Ticket],
+) -> Option<Vec<u8>> {
+    let copy = lossy(alloc, bundle, lost)?;
+    let mut written = Vec::new(alloc);
+    report(rt, alloc, &copy, 1, &mut written).ok()?;
+    Some(written)
+}
+
+// Whether this begins the report of a bundle in which the texts of these tickets are lost, or is it.
+fn begins<R: Threads + Wait + Sync>(
+    rt: &R,
+    alloc: Global,
+    bundle: &Bundle,
+    lost: &[Ticket],
+    written: &[u8],
+    is_whole: bool,
+) -> bool {
+    match report_losing(rt, alloc, bundle, lost) {
+        Some(report) => {
+            report.as_slice().starts_with(written) && (!is_whole || report.len() == written.len())
+        }
+        None => false,
+    }
+}
+
 // Runs a bundle's text. `written` becomes what it has written.
 fn report_text<R: Threads + Wait + Sync>(
     rt: &R,
@@ -110,4 +185,39 @@ pub fn call_runs<R: Print + Threads + Wait + Sync>(
         REPORT.starts_with(written.as_slice()),
     )?;
     promised(written.as_slice() == REPORT)
+}
+
+/// A call that runs a bundle by some number of workers, and loses the patterns for which memory is refused.
+pub fn call_keeping<R: Print + Threads + Wait + Sync>(
+    rt: &R,
+    alloc: Global,
+    name: &str,
+    workers: u32,
+) -> Option<()>
+    requires { (1 ≤ workers) × (workers ≤ worker_limit) }
+{
+    let bundle = read_bundle(alloc, TEXT).ok()?;
+    let mut lost = Vec::new(alloc);
+    let mut written = Vec::new(alloc);
+    call!(
+        rt,
+        name,
+        report_keeping(rt, alloc, &bundle, workers, &mut lost, &mut written),
+        begins(
+            rt,
+            alloc,
+            &bundle,
+            lost.as_slice(),
+            written.as_slice(),
+            false
+        ),
+    )?;
+    promised(begins(
+        rt,
+        alloc,
+        &bundle,
+        lost.as_slice(),
+        written.as_slice(),
+        true,
+    ))
 }

@@ -4,7 +4,9 @@ use crate::bundles::{DEMO, DEMO_REPORT, SETTLES, demo_tally};
 use crate::ends::{FailingReader, FailingWriter};
 use crate::gates::Crowd;
 use census_bundle::{Ticket, read_bundle};
-use census_crew::{Feed, OpenGate, run, run_bytes, run_on, settle, work};
+use census_crew::{
+    Feed, OpenGate, run, run_bytes, run_keeping, run_keeping_untold, run_on, settle, work,
+};
 use census_faults::{BytesFault, RunFault};
 use std::alloc::Global;
 use std::io;
@@ -76,6 +78,41 @@ fn results_are_settled_in_their_order(rt: HostRuntime) -> Result<(), Fail> {
     let tally = settle(rt.alloc(), &bundle, SETTLES, results, &mut out)?;
     assert!(rt; tally.resolved == 2 && tally.caught_up == 0);
     assert!(rt; out.into_inner().as_slice() == SECOND_FIRST);
+    Ok(())
+}
+
+#[test]
+fn with_ample_memory_nothing_is_lost(rt: HostRuntime) -> Result<(), Fail> {
+    let alloc = rt.alloc();
+    let bundle = read_bundle(alloc, DEMO)?;
+    for workers in [1, 4] {
+        let mut lost = Vec::new(alloc);
+        let mut out = Output::new(Vec::new(alloc));
+        let tally = run_keeping(
+            &rt,
+            alloc,
+            &bundle,
+            SETTLES,
+            workers,
+            &mut OpenGate,
+            &mut lost,
+            &mut out,
+        )?;
+        assert!(rt; tally == demo_tally(0) && lost.is_empty());
+        assert!(rt; out.into_inner().as_slice() == DEMO_REPORT);
+        // What was in the list before is gone.
+        lost.push(Ticket {
+            folder: 1,
+            number: 1,
+        })?;
+        let mut out = Output::new(Vec::new(alloc));
+        let gate = OpenGate;
+        let tally = run_keeping_untold(
+            &rt, alloc, &bundle, SETTLES, workers, &gate, &mut lost, &mut out,
+        )?;
+        assert!(rt; tally == demo_tally(0) && lost.is_empty());
+        assert!(rt; out.into_inner().as_slice() == DEMO_REPORT);
+    }
     Ok(())
 }
 
