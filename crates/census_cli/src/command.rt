@@ -33,7 +33,7 @@ fn bound<'a>(alloc: Global) -> Arg<'a>
         .value_name("N")
         .value_parser(value_parser!(u64).range(1..=SETTLES_BOUND_LIMIT))
         .default_value("1000")
-        .help("Generations that are searched, 1 to 1000000")
+        .help("Generations to search, 1 to 1000000")
 }
 
 fn search<'a>(alloc: Global) -> Arg<'a>
@@ -45,7 +45,7 @@ fn search<'a>(alloc: Global) -> Arg<'a>
         .value_name("N")
         .value_parser(value_parser!(u64).range(1..=OBJECTS_BOUND_LIMIT))
         .default_value("10000")
-        .help("Generations that are searched, 1 to 100000")
+        .help("Generations to search, 1 to 100000")
 }
 
 fn limit<'a>(alloc: Global) -> Arg<'a>
@@ -55,7 +55,7 @@ fn limit<'a>(alloc: Global) -> Arg<'a>
         .long("cells")
         .value_name("N")
         .value_parser(value_parser!(u64).range(1..=4_294_967_295))
-        .help("Live cells that a pattern may have, 1 to 4294967295 [default: no limit]")
+        .help("Live cells that a pattern may have, 1 to 4294967295\n[default: no limit]")
 }
 
 fn cells<'a>(alloc: Global) -> Arg<'a>
@@ -67,7 +67,7 @@ fn cells<'a>(alloc: Global) -> Arg<'a>
         .value_name("N")
         .value_parser(value_parser!(u64).range(1..=4_294_967_295))
         .default_value("200000")
-        .help("Live cells that a pattern may have, 1 to 4294967295")
+        .help("Live cells that a pattern may have,\n1 to 4294967295")
 }
 
 fn near<'a>(alloc: Global) -> Arg<'a>
@@ -88,7 +88,7 @@ fn horizon<'a>(alloc: Global) -> Arg<'a>
         .value_name("N")
         .value_parser(value_parser!(u64).range(1..=HORIZON_LIMIT))
         .default_value("1000")
-        .help("Generations within which growth is looked for, 1 to 10000")
+        .help("Generations within which growth is looked for,\n1 to 10000")
 }
 
 fn input<'a>(alloc: Global) -> Arg<'a>
@@ -120,7 +120,7 @@ fn recursive<'a>(alloc: Global) -> Arg<'a>
         .short('r')
         .long("recursive")
         .action(ArgAction::SetTrue)
-        .help("Take the folders below each FOLDER too that have *.rle files")
+        .help("Also take folders below each FOLDER that have *.rle files")
 }
 
 fn keep_going<'a>(alloc: Global) -> Arg<'a>
@@ -158,7 +158,7 @@ fn folder<'a>(alloc: Global) -> Arg<'a>
         .value_name("FOLDER")
         .num_args(1..)
         .help(
-            "A collection: its patterns are the *.rle files in the folder.\nWith no FOLDER a bundle of collections is read from standard input",
+            "A collection: its patterns are the *.rle files in the\nfolder. With no FOLDER a bundle of collections is read\nfrom standard input",
         )
 }
 
@@ -214,7 +214,7 @@ fn csv<'a>(alloc: Global) -> Arg<'a>
     Arg::new(alloc, "csv")
         .long("csv")
         .action(ArgAction::SetTrue)
-        .help("Comma-separated values under a row of names, as without a format")
+        .help("Comma-separated values under a row of names (the default)")
 }
 
 fn json<'a>(alloc: Global) -> Arg<'a>
@@ -232,7 +232,7 @@ fn safe<'a>(alloc: Global) -> Arg<'a>
     Arg::new(alloc, "safe")
         .long("safe")
         .action(ArgAction::SetTrue)
-        .help("In CSV put a ' before each text that a spreadsheet takes for a formula")
+        .help("In CSV put a ' before each text that a spreadsheet takes\nfor a formula")
 }
 
 fn parts<'a>(alloc: Global) -> Arg<'a>
@@ -250,7 +250,7 @@ fn codes<'a>(alloc: Global) -> Arg<'a>
     Arg::new(alloc, "codes")
         .long("codes")
         .action(ArgAction::SetTrue)
-        .help("A row for each code and rule in place of each pattern, by falling count")
+        .help("A row for each code and rule in place of each pattern,\nby falling count")
 }
 
 fn engines<'a>(alloc: Global) -> Arg<'a>
@@ -259,7 +259,7 @@ fn engines<'a>(alloc: Global) -> Arg<'a>
     Arg::new(alloc, "engines")
         .long("engines")
         .action(ArgAction::SetTrue)
-        .help("A row for each thing that engines emit in place of each pattern")
+        .help("A row for each thing that engines emit in place of each\npattern")
 }
 
 fn code_sort<'a>(alloc: Global) -> Arg<'a>
@@ -268,7 +268,7 @@ fn code_sort<'a>(alloc: Global) -> Arg<'a>
     Arg::new(alloc, "sort")
         .long("sort")
         .value_name("ORDER")
-        .help("Order of codes: report or rare, the rarest first [default: report]")
+        .help("Order of codes: report or rare, the rarest first\n[default: report]")
 }
 
 fn unnamed<'a>(alloc: Global) -> Arg<'a>
@@ -333,7 +333,7 @@ fn sort<'a>(alloc: Global) -> Arg<'a>
         .long("sort")
         .value_name("ORDER")
         .default_value("report")
-        .help("Order of codes: report, count, rare, code, period or name")
+        .help("Order of codes: report, count, rare, code, period or\nname")
 }
 
 fn top<'a>(alloc: Global) -> Arg<'a>
@@ -361,7 +361,7 @@ fn links<'a>(alloc: Global) -> Arg<'a>
     Arg::new(alloc, "links")
         .long("links")
         .action(ArgAction::SetTrue)
-        .help("Make each code of up to 100 letters a link to its page at Catagolue")
+        .help("Make each code of up to 100 letters a link to its page at\nCatagolue")
 }
 
 fn no_patterns<'a>(alloc: Global) -> Arg<'a>
@@ -370,7 +370,7 @@ fn no_patterns<'a>(alloc: Global) -> Arg<'a>
     Arg::new(alloc, "no-patterns")
         .long("no-patterns")
         .action(ArgAction::SetTrue)
-        .help("Leave out patterns, but for the first of each code and those unresolved")
+        .help("Leave out patterns, but for the first of each code and\nthose unresolved")
 }
 
 fn cut<'a>(alloc: Global) -> Arg<'a>
@@ -398,7 +398,7 @@ fn claims<'a>(alloc: Global) -> Arg<'a>
     Arg::new(alloc, "claims")
         .value_name("CLAIMS")
         .required(true)
-        .help("A file of comma-separated values with a column `name`; - is standard input")
+        .help("A file of comma-separated values with a column `name`;\n- is standard input")
 }
 
 fn run<'a>(alloc: Global) -> Result<Command<'a>, AllocError>

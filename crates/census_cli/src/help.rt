@@ -7,8 +7,8 @@ macro_rules! with_statuses {
             $($before,)*
             "\
 Exit status: 0 done, 1 input refused, 2 bad command line, 3 out of memory,
-4 reading or writing failed, 5 same or verify found something. Standard error says
-what was wrong."
+4 reading or writing failed, 5 same or verify found something. Standard error
+says what was wrong."
         )
     };
 }
@@ -62,14 +62,14 @@ Lines of a report, of pattern I of collection C ('census help report'):
 
 /// What `--keep-going` does.
 pub const KEEP_GOING: &str = "\
-Go on past what can't be read, and exit with status 4 then, and past
-patterns that run out of memory, with status 3. Both have FAULT 0 in
-the report";
+Go on past what can't be read, with status 4 at the end,
+and past patterns that run out of memory, with status 3.
+Both have FAULT 0 in the report";
 
 /// What `--explain` does.
 pub const EXPLAIN: &str = "\
-Also say on standard error where each fault is, what is wrong and what
-would be right";
+Also say on standard error where each fault is, what is
+wrong and what would be right";
 
 /// What `--no-progress` does.
 pub const NO_PROGRESS: &str = "\
@@ -77,41 +77,43 @@ Do not show at a terminal how far the run has come";
 
 /// What `--input` does.
 pub const INPUT: &str = "\
-Bytes that the files of the FOLDERs may have together, 1 to 9223372036854775807
-[default: no limit]";
+Bytes that the files of the FOLDERs may have together,
+1 to 9223372036854775807 [default: no limit]";
 
 /// What `--names` does.
 pub const NAMES: &str = "\
-Give the names of codes too. FILE has lines of a code, a tab and a name;
-- is standard input";
+Give the names of codes too. FILE has lines of a code, a
+tab and a name; - is standard input";
 
 /// What `--base` does.
 pub const BASE: &str = "\
-Make each name a link to URL, COLLECTION_NAME, / and NAME joined; URL begins with
-http:// or https://";
+Make each name a link to URL, COLLECTION_NAME, / and NAME
+joined; URL begins with http:// or https://";
 
 /// What `--cut` does.
 pub const CUT: &str = "\
-Take a report that was cut: collections that are whole are kept, and a line
-on standard error says what was left out";
+Take a report that was cut: collections that are whole
+are kept, and a line on standard error says what was left
+out";
 
 /// What `--input` does where reports are read.
 pub const REPORT_INPUT: &str = "\
-Bytes that the REPORTs may have together, 1 to 9223372036854775807
-[default: no limit]";
+Bytes that the REPORTs may have together,
+1 to 9223372036854775807 [default: no limit]";
 
 /// What `--starts` does.
 pub const STARTS: &str = "\
-Take each REPORT for a FOLDER of patterns, and list those that are the same at
-the start";
+Take each REPORT for a FOLDER of patterns, and list those
+that are the same at the start";
 
 /// What a FILE is.
 pub const FILE: &str = "An RLE text; - is standard input.\nWith no FILE standard input is read";
 
 /// What a REPORT is.
 pub const REPORT: &str = "\
-A file with a report of run or objects, or with several after one another;
-- is standard input. With no REPORT standard input is read";
+A file with a report of run or objects, or with several
+after one another; - is standard input. With no REPORT
+standard input is read";
 
 /// After the help of the program.
 pub const PROGRAM: &str = with_report!(
@@ -191,8 +193,8 @@ page [--title TEXT] [--note TEXT] [--sort ORDER] [--top N] [--base URL]
 same [--json] [--starts [-r]] [REPORT]...
                    patterns of reports that are one object ('census help same')
       --json       JSON, one object a line
-      --starts     take each REPORT for a FOLDER of patterns, and list those that
-                   are the same at the start
+      --starts     take each REPORT for a FOLDER of patterns, and list those
+                   that are the same at the start
   -r, --recursive  take the folders below each FOLDER too that have *.rle files
 verify CLAIMS [REPORT]...
                    where claims and reports differ ('census help verify')
@@ -301,8 +303,8 @@ To make a bundle of files, where echo ends a last line that has no line feed:
 pub const OBJECTS: &str = with_objects!(
     "\
 Independent parts are counted: each goes on as it would alone, and so a traffic
-light is four blinkers. With --near what comes within two cells is one object,
-which tells a traffic light from blinkers that are far from each other.
+light is four blinkers. With --near what comes within two cells is one object:
+a traffic light then differs from blinkers that are far from each other.
 
 Example: census objects soups gliders
          census objects --bound 50000 --workers 16 soups
@@ -347,7 +349,7 @@ or else
 
 With --names the line name NAME follows apgcode, and lines of parts and of what
 engines emit end with NAME, where CODE has one. In the file of names a line that
-begins with # is passed over, and no code stands twice.
+begins with # is skipped, and no code comes twice.
 
 With --json there is an object a line for each text.
 
@@ -390,31 +392,31 @@ Example: census merge part1.txt part2.txt >census.txt
 pub const TABLE: &str = with_statuses!(
     "\
 The columns: collection, collection_name, pattern, name, status (ok, ash, grows,
-none, large or bad), rule, population, onset, period, dx, dy, code, fault; where a
-name is no UTF-8, its bytes in hex in collection_name_hex or name_hex; then
+none, large or bad), rule, population, onset, period, dx, dy, code, fault; where
+a name is no UTF-8, its bytes in hex in collection_name_hex or name_hex; then
 objects of what is ash, generation, the first that is too large, engines of what
-grows, and fault_text, the fault in words. Where what grows has one engine, period,
-dx and dy are that engine's.
+grows, and fault_text, the fault in words. Where what grows has one engine,
+period, dx and dy are that engine's.
 
 With --parts: collection, collection_name, pattern, name, rule, code, count.
 
 With --engines, for each engine line and each thing that it emits: collection,
-collection_name, pattern, name, rule, engine (the number of the line), kind (gun,
-rake or puffer), period, dx, dy, count, emits, emits_count.
+collection_name, pattern, name, rule, engine (the number of the line), kind
+(gun, rake or puffer), period, dx, dy, count, emits, emits_count.
 
 With --codes: rule, code, count, patterns (in how many), of the first of them
-first_collection_name and first_name, and share, the part of all objects, rounded
-half up to six digits; by falling count, and then in the order of codes, shorter
-ones first. With --sort rare the count rises. A pattern that recurs counts as one
-object, and each part of one that has fallen apart. With --unnamed codes that FILE
-names are left out; the shares of the others stay as they are.
+first_collection_name and first_name, and share, the part of all objects,
+rounded half up to six digits; by falling count, and then in the order of codes,
+shorter ones first. With --sort rare the count rises. A pattern that recurs
+counts as one object, and each part of one that has fallen apart. With --unnamed
+codes that FILE names are left out; the shares of the others stay as they are.
 
 With --safe, of CSV only, each text that begins with =, +, -, @, a tab or a
 carriage return, which a spreadsheet takes for a formula, has a ' before it.
 Numbers stay as they are.
 
-With --names a column common_name follows code or emits. FILE has lines of a code,
-a tab and a name; a line that begins with # is passed over, and no code stands
+With --names a column common_name follows code or emits. FILE has lines of a
+code, a tab and a name; a line that begins with # is skipped, and no code comes
 twice.
 
 Example: census table --csv census.txt >census.csv
@@ -431,18 +433,18 @@ Example: census table --csv census.txt >census.csv
 /// After the help of `page`.
 pub const PAGE: &str = with_statuses!(
     "\
-Of each collection the page has the counts, the codes with a picture of each, how
-often each occurs and which patterns have it, and the patterns that are unresolved
-or refused. It stands alone: it has no script, and asks for nothing. Where 100 or
-more patterns recur or fall apart, it also has how long they live: how many have
-which onset, the median, and the ten patterns that live longest.
+Of each collection the page has the counts, the codes with a picture of each,
+how often each occurs and which patterns have it, and the patterns that are
+unresolved or refused. It is one file without scripts, and loads nothing. Where
+100 or more patterns recur or fall apart, it also has how long they live: how
+many have which onset, the median, and the ten patterns that live longest.
 
-The order of the codes is that of the report, or by falling count, by rising count
-with rare, by code, by falling period, or by the name of the first pattern that has
-it. With --top the page says how many codes are left out.
+The order of the codes is that of the report, or by falling count, by rising
+count with rare, by code, by falling period, or by the name of the first pattern
+that has it. With --top the page says how many codes are left out.
 
-With --names the row of a code has its name in bold. FILE has lines of a code, a tab
-and a name; a line that begins with # is passed over, and no code stands twice.
+With --names the row of a code has its name in bold. FILE has lines of a code, a
+tab and a name; a line that begins with # is skipped, and no code comes twice.
 
 Example: census page census.txt >census.html
          census page --title Soups --note 'Bound 10000' census.txt
@@ -462,9 +464,9 @@ For each rule and code that more than one pattern has there is a line with them,
 and for each of these patterns a line of two blanks, the name of its collection,
 / and its own. The status is 5 where there is such a code, and else 0.
 
-Patterns with one rule and one code are one object, turned, mirrored or at another
-age, and those with two are not. What has no ok line is left out: where there is
-such a pattern, a line on standard error says how many were compared.
+Patterns with one rule and one code are one object, turned, mirrored or at
+another age, and those with two are not. What has no ok line is left out: where
+there is such a pattern, a line on standard error says how many were compared.
 
 With --starts patterns of FOLDERs, or of a bundle, are compared as they begin,
 moved, turned or mirrored. In place of a code there is _ and what draw takes.
@@ -487,10 +489,11 @@ pub const VERIFY: &str = with_statuses!(
     "\
 CLAIMS has comma-separated values under a row of names, as 'census table --csv'
 writes them: name, and as many as are claimed of collection_name, status, rule,
-population, onset, period, dx, dy, code (or apgcode), objects and engines. An empty
-cell claims nothing, and other columns are passed over: a line on standard error says
-which are compared, and which are not. A claim is about the one pattern of its name,
-in the collection of that name where it has one. What does not agree is written:
+population, onset, period, dx, dy, code (or apgcode), objects and engines. An
+empty cell claims nothing, and other columns are skipped: a line on standard
+error says which are compared, and which are not. A claim is about the one
+pattern of its name, in the collection of that name where it has one. What does
+not agree is written:
 
   wrong NAME COLUMN CLAIMED FOUND  a cell that the table has otherwise; FOUND is
                                    - where the table has nothing
