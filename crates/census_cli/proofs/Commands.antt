@@ -92,7 +92,10 @@ IdentifyText id v =
     × ExplainText id v
 
 abbrev AdvanceText : Text → Text → Type 0
-AdvanceText id v = (bytes_eq id (codes "generations") ≡ true → IsUnsignedIn 0 generation_limit v) × ExplainText id v
+AdvanceText id v =
+    (bytes_eq id (codes "generations") ≡ true → IsUnsignedIn 0 generation_limit v)
+    × (bytes_eq id (codes "cells") ≡ true → IsUnsignedIn 1 4294967295 v)
+    × ExplainText id v
 
 -- the flags of the commands that read reports
 abbrev is_flag : Text → Bool
@@ -239,12 +242,15 @@ identify_rules = (
 
 advance_rules : Each (RuleHolds AdvanceText) built_advance.rules
 advance_rules = (
-  record { own = λ v e. (λ _. unsigned_in 0 generation_limit v e, absent); usual = inr (refl, inl refl); plain = λ t. refl },
+  record { own = λ v e. (λ _. unsigned_in 0 generation_limit v e, absent, absent); usual = inr (refl, inl refl); plain = λ t. refl },
   (
-    record { own = λ v e. (absent, λ _. flag_text v e); usual = inr (refl, inr true_given); plain = λ t. refl },
+    record { own = λ v e. (absent, λ _. unsigned_in 1 4294967295 v e, absent); usual = inr (refl, inl refl); plain = λ t. refl },
     (
-      record { own = λ v e. (absent, absent); usual = inr (refl, inl refl); plain = λ t. refl },
-      (record { own = λ v e. (absent, absent); usual = inl refl; plain = λ t. refl }, tt),
+      record { own = λ v e. (absent, absent, λ _. flag_text v e); usual = inr (refl, inr true_given); plain = λ t. refl },
+      (
+        record { own = λ v e. (absent, absent, absent); usual = inr (refl, inl refl); plain = λ t. refl },
+        (record { own = λ v e. (absent, absent, absent); usual = inl refl; plain = λ t. refl }, tt),
+      ),
     ),
   ),
 )
@@ -497,9 +503,10 @@ advance_has words e =
     record {
       generations = number_in AdvanceText 0 generation_limit (codes "generations") _
           (read_as_given AdvanceText built_advance advance_rules words e (codes "generations") given) (λ v q. q.0 refl);
+      cells = limit_in AdvanceText 4294967295 (codes "cells") _ (read_if_used AdvanceText built_advance advance_rules words e (codes "cells")) (λ v q. q.1 refl);
       explain = flag_in AdvanceText (codes "explain") _
-          (read_by_default AdvanceText built_advance advance_rules words e (codes "explain") (inr (inl (refl, false_by_default)))) (λ v q. q.1 refl);
-      no_progress = no_row AdvanceText built_advance advance_rules words e (refl, (refl, (refl, (refl, tt))));
+          (read_by_default AdvanceText built_advance advance_rules words e (codes "explain") (inr (inr (inl (refl, false_by_default))))) (λ v q. q.2 refl);
+      no_progress = no_row AdvanceText built_advance advance_rules words e (refl, (refl, (refl, (refl, (refl, tt)))));
     }
 
 draw_has : (words : List Text) → Passes built_draw words → HasDraw (rows_after built_draw.rules [] words)
@@ -694,7 +701,7 @@ identify_command rows (inr (inr (inr (inr (inr (inr (inr (inl h)))))))) = other_
 identify_command rows (inr (inr (inr (inr (inr (inr (inr (inr (inl h))))))))) = other_name _ _ h.0 refl
 identify_command rows (inr (inr (inr (inr (inr (inr (inr (inr (inr h))))))))) = other_name _ _ h.0 refl
 
--- the command `advance` has a number of generations
+-- the command `advance` has a number of generations, and a limit or none
 pub advance_command : (rows : List Row) → IsCommand (Some (codes "advance", rows)) → HasAdvance rows
 advance_command rows (inl h) = other_name _ _ h.0 refl
 advance_command rows (inr (inl h)) = other_name _ _ h.0 refl
@@ -843,9 +850,11 @@ lawful name rows (Identify bound cells near horizon json names files) h gives =
     let bound_in = number_within 1 objects_bound_limit (codes "bound") rows bound has.bound gives.1.0 in
     let horizon_in = number_within 1 horizon_limit (codes "horizon") rows horizon has.horizon gives.1.3 in
     ((bound_in.0, bound_in.1, horizon_in), number_within 1 4294967295 (codes "cells") rows cells has.cells gives.1.1)
-lawful name rows (Advance generations file) h gives =
-    let has = advance_command rows (subst (λ (n : Text). IsCommand (Some (n, rows))) gives.0 h) in
-    (number_within 0 generation_limit (codes "generations") rows generations has.generations gives.1).1
+lawful name rows (Advance generations cells file) h gives =
+    let has = advance_command rows (subst (λ (n : Text). IsCommand (Some (n, rows))) gives.0 h) in (
+      (number_within 0 generation_limit (codes "generations") rows generations has.generations gives.1).1,
+      limit_within 4294967295 (codes "cells") rows cells has.cells gives.2,
+    )
 lawful name rows (Draw code rule) h gives = tt
 lawful name rows (Merge reports) h gives =
     let has = merge_command rows (subst (λ (n : Text). IsCommand (Some (n, rows))) gives.0 h) in

@@ -77,9 +77,13 @@ identify_named : (texts : Texts) → Are texts (codes "a" ∷ []) → Asks (code
 unfolding clap_on_literals
 identify_named texts are = (refl, (refl, (refl, refl, refl, refl), refl, refl, are))
 
-advance_file : Asks (codes "advance" ∷ codes "4" ∷ codes "a" ∷ []) (request.Advance 4 (Some (text (codes "a"))))
+advance_file : Asks (codes "advance" ∷ codes "4" ∷ codes "a" ∷ []) (request.Advance 4 None (Some (text (codes "a"))))
 unfolding clap_on_literals
-advance_file = (refl, (refl, refl, refl))
+advance_file = (refl, (refl, refl, refl, refl))
+
+advance_small : Asks (codes "advance" ∷ codes "4" ∷ codes "--cells" ∷ codes "7" ∷ []) (request.Advance 4 (Some 7) None)
+unfolding clap_on_literals
+advance_small = (refl, (refl, refl, refl, refl))
 
 draw_glider : Asks (codes "draw" ∷ codes "xq4_153" ∷ []) (request.Draw (text (codes "xq4_153")) (text (codes "B3/S23")))
 unfolding clap_on_literals

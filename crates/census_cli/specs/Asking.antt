@@ -144,9 +144,9 @@ Gives name rows (Identify bound cells near horizon json names files) =
     (name ≡ codes "identify") × GivesObjects rows bound (Some cells) near horizon × (is_used (codes "json") rows ≡ json)
     × (first_of (codes "names") rows ≡ option_map (λ s. s.now) names)
     × (values_of (codes "file") rows ≡ map (λ s. s.now) files.items)
-Gives name rows (Advance generations file) =
+Gives name rows (Advance generations cells file) =
     (name ≡ codes "advance") × (argument_number (codes "generations") rows ≡ Some generations)
-    × (first_of (codes "file") rows ≡ option_map (λ s. s.now) file)
+    × (argument_number (codes "cells") rows ≡ cells) × (first_of (codes "file") rows ≡ option_map (λ s. s.now) file)
 Gives name rows (Draw code rule) =
     (name ≡ codes "draw") × (first_of (codes "code") rows ≡ Some code.now)
     × (first_of (codes "rule") rows ≡ Some rule.now)

@@ -66,7 +66,7 @@ commands =
     ∷ command "identify" (search_rule
     ∷ with_objects (flag "json" ∷ option "names" ∷ flag "explain" ∷ several "file" ∷ []))
     ∷ command "advance" (record (word "generations") { required = true; parser = Some (Unsigned 0 4194304) }
-    ∷ flag "explain" ∷ word "file" ∷ [])
+    ∷ number "cells" 4294967295 ∷ flag "explain" ∷ word "file" ∷ [])
     ∷ command "draw" (record (word "code") { required = true }
     ∷ record (option "rule") { defaults = codes "B3/S23" ∷ [] } ∷ flag "explain" ∷ [])
     ∷ command "merge" reading_rules

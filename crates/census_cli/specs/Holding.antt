@@ -78,9 +78,10 @@ pub record HasIdentify (rows : List Row) : Type 0 where
   pub explain : HasFlag (codes "explain") rows
   pub no_progress : HasNoProgress rows
 
--- the matches of `advance` have their number and flag
+-- the matches of `advance` have their numbers and flag
 pub record HasAdvance (rows : List Row) : Type 0 where
   pub generations : HasNumberIn 0 generation_limit (codes "generations") rows
+  pub cells : HasLimit 4294967295 (codes "cells") rows
   pub explain : HasFlag (codes "explain") rows
   pub no_progress : HasNoProgress rows
 
@@ -182,7 +183,7 @@ IsLawful (Census census) =
     × IsLimit 9223372036854775807 census.collections.input
 IsLawful (Identify bound cells near horizon json names files) =
     IsAnswered (Objects bound (Some cells) near horizon) × IsLimit 4294967295 (Some cells)
-IsLawful (Advance generations file) = generations ≤ generation_limit
+IsLawful (Advance generations cells file) = (generations ≤ generation_limit) × IsLimit 4294967295 cells
 IsLawful (Draw code rule) = Unit {0}
 IsLawful (Merge reports) = IsLimit 9223372036854775807 reports.input
 IsLawful (Table subject format names reports) = IsLimit 9223372036854775807 reports.input

@@ -463,6 +463,7 @@ fn advance<'a>(alloc: Global) -> Result<Command<'a>, AllocError>
         .about("Read an RLE text and write that of its generation N")
         .after_help(help::ADVANCE)
         .arg(generations(alloc))?
+        .arg(limit(alloc))?
         .arg(explain(alloc))?
         .arg(file(alloc))
 }

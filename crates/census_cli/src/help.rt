@@ -152,8 +152,10 @@ identify [--bound N] [--cells N] [--near] [--horizon N] [--json] [--names FILE]
                    and a name
   FILE             an RLE text; - is standard input; with no FILE standard input
                    is read
-advance N [FILE]
+advance N [--cells N] [FILE]
   N                generations, 0 to 4194304
+      --cells N    live cells that each may have, 1 to 4294967295
+                   [default: no limit]
   FILE             the RLE text; - or no FILE is standard input
 draw CODE [--rule R]
   CODE             an apgcode, or the part of one after its first _
@@ -365,8 +367,11 @@ Example: census identify --bound 50000 glider.rle gun.rle
 /// After the help of `advance`.
 pub const ADVANCE: &str = with_statuses!(
     "\
+With --cells each generation from 0 to N is made in turn. The first one that has
+more cells ends it: nothing is written, and the error says which it is.
+
 Example: census advance 1103 r_pentomino.rle
-         census advance 4 --explain <glider.rle
+         census advance 5000 --cells 100000 --explain <soup.rle
 
 "
 );

@@ -138,6 +138,8 @@ pub enum Request<'a> {
     /// The RLE text of a pattern after `generations` generations, 0 to 4,194,304.
     Advance {
         generations: u32,
+        /// The largest number of live cells of each generation up to that one, 1 to 4,294,967,295, where there is such a limit.
+        cells: Option<u32>,
         /// The file that has the pattern; `-`, and no file, is standard input.
         file: Option<&'a str>,
     },
@@ -601,6 +603,7 @@ fn request_of<'a>(alloc: Global, matches: &ArgMatches<'a>) -> Result<Request<'a>
     if let Some(advance) = matches.subcommand_matches("advance") {
         return Ok(Request::Advance {
             generations: number(advance, "generations"),
+            cells: limit(advance, "cells"),
             file: text_if_used(advance, "file"),
         });
     }

@@ -15,13 +15,20 @@ number-requires c =
     let has = advance_command rows (subst IsCommand (entered_as c.args.matches.now (codes "advance") rows (arm.ensures.found.0 refl) arm.ensures.rows) c.requires) in
     number_fits 0 generation_limit (codes "generations") rows (lit≤ tt) has.generations
 
+pub limit-requires : goal.limit-requires
+limit-requires c =
+    let arm = c.in-Some-subcommand_matches-3 in
+    let rows = rows_of (found_of arm.advance.now) in
+    let has = advance_command rows (subst IsCommand (entered_as c.args.matches.now (codes "advance") rows (arm.ensures.found.0 refl) arm.ensures.rows) c.requires) in
+    has.cells
+
 pub returns-in-Some-subcommand_matches-3 : goal.returns-in-Some-subcommand_matches-3
 returns-in-Some-subcommand_matches-3 c =
     let arm = c.in-Some-subcommand_matches-3 in
     let rows = rows_of (found_of arm.advance.now) in
-    subst (λ o. GivesRequest o (request.Advance c.number.result c.text_if_used.result))
+    subst (λ o. GivesRequest o (request.Advance c.number.result c.limit.result c.text_if_used.result))
     (sym (entered_as c.args.matches.now (codes "advance") rows (arm.ensures.found.0 refl) arm.ensures.rows))
-    (refl, c.number.ensures, c.text_if_used.ensures)
+    (refl, c.number.ensures, c.limit.ensures, c.text_if_used.ensures)
 
 pub run_of-requires : goal.run_of-requires
 run_of-requires c =
