@@ -68,6 +68,7 @@ run_told run.Write = unwritten
 
 abbrev pub advance_told : AdvanceError → Told
 advance_told (advance.Text fault told spot) = (fault_name fault, 1)
+advance_told (advance.TooManyCells most at) = (codes "more than " ++ decimal most ++ codes " cells at generation " ++ decimal at, 1)
 advance_told advance.TooLong = too_long
 advance_told advance.Memory = no_memory
 advance_told (advance.Read why) = unread

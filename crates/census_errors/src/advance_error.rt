@@ -19,6 +19,12 @@ pub enum AdvanceError {
         /// Its place in the text.
         spot: Spot,
     },
+    /// This generation is the first that has more cells than the limit.
+    #[error("more than {most} cells at generation {generation}")]
+    TooManyCells {
+        most: u32,
+        generation: u32,
+    },
     /// There are more bytes than one text may have.
     #[error("input too long")]
     TooLong,

@@ -103,7 +103,7 @@ fn advance_status(error: AdvanceError) -> u8
     ensures { result ≡ (advance_told error).1 }
 {
     match error {
-        AdvanceError::Text { .. } | AdvanceError::TooLong => 1,
+        AdvanceError::Text { .. } | AdvanceError::TooManyCells { .. } | AdvanceError::TooLong => 1,
         AdvanceError::Memory => 3,
         AdvanceError::Read(_) | AdvanceError::Write => 4,
     }

@@ -10,27 +10,32 @@ use census_bundle::AddFault;
 use census_cli::Request;
 use census_faults::{Fault, Spot, rule_fault, sentence, spot_of_bundle, spot_of_code};
 
-// A fault at this place of what is no file, or of a file that is not known.
-fn at<'a>(fault: Fault, spot: Spot) -> Saying<'a> {
+// What is said of a pattern that has too many cells.
+const TOO_MANY_CELLS: &str =
+    "the pattern outgrows the limit on its cells: each generation must have at most as many as `--cells` allows";
+
+// A sentence about this place of a file, or of standard input where there is none.
+fn said<'a>(sentence: &'static str, file: Option<&'a str>, spot: Spot) -> Saying<'a> {
+    let name = match file {
+        Some(file) => Some(file.as_bytes()),
+        None => None,
+    };
     Saying {
-        sentence: sentence(fault),
-        name: None,
+        sentence,
+        name,
         spot,
         word: None,
     }
 }
 
+// A fault at this place of what is no file, or of a file that is not known.
+fn at<'a>(fault: Fault, spot: Spot) -> Saying<'a> {
+    said(sentence(fault), None, spot)
+}
+
 // A fault at this place of a file, or of standard input where there is none.
 fn of_file<'a>(fault: Fault, file: Option<&'a str>, spot: Spot) -> Saying<'a> {
-    match file {
-        Some(file) => Saying {
-            sentence: sentence(fault),
-            name: Some(file.as_bytes()),
-            spot,
-            word: None,
-        },
-        None => at(fault, spot),
-    }
+    said(sentence(fault), file, spot)
 }
 
 /// What is said of an error of `run` or of `objects`.
@@ -49,6 +54,7 @@ pub fn run_saying<'a>(error: RunError) -> Saying<'a> {
 fn advance_saying<'a>(file: Option<&'a str>, error: AdvanceError) -> Saying<'a> {
     match error {
         AdvanceError::Text { told, spot, .. } => of_file(told, file, spot),
+        AdvanceError::TooManyCells { .. } => said(TOO_MANY_CELLS, file, Spot::Nowhere),
         AdvanceError::TooLong => of_file(Fault::TooLong, file, Spot::Nowhere),
         AdvanceError::Memory => at(Fault::Memory, Spot::Nowhere),
         AdvanceError::Read(_) => of_file(Fault::Read, file, Spot::Nowhere),

@@ -1,5 +1,5 @@
 //! The line on standard error for each error.
-ghost use Rattle.std.specs.Prelude.{◌≡◌, ◌≤◌, ◌++◌, decimal, length};
+ghost use Rattle.std.specs.Prelude.{◌≡◌, ◌≤◌, ◌++◌, codes, decimal, length};
 ghost use Rattle.census_errors.specs.Messages.{advance_told, bundle_message, code_message, draw_told};
 ghost use Rattle.census_errors.specs.Messages.{error_line, error_told, folder_message, run_told};
 
@@ -65,6 +65,18 @@ fn folder_message(fault: AddFault) -> Message
     }
 }
 
+fn cells_message(most: u32, generation: u32) -> Message
+    ensures { result.bytes ≡ codes "more than " ++ decimal most ++ codes " cells at generation " ++ decimal generation }
+{
+    let mut buffer = Buffer::new();
+    let mut message = ArrayString::new();
+    message.push_str("more than ");
+    message.push_str(buffer.format(most));
+    message.push_str(" cells at generation ");
+    message.push_str(buffer.format(generation));
+    message
+}
+
 fn advance_message(fault: AdvanceError) -> Message
     ensures { result.bytes ≡ (advance_told fault).0 }
 {
@@ -74,6 +86,7 @@ fn advance_message(fault: AdvanceError) -> Message
         AdvanceError::Read(_) => message("read failed"),
         AdvanceError::Write => message("write failed"),
         AdvanceError::Text { fault, .. } => fault_name(fault),
+        AdvanceError::TooManyCells { most, generation } => cells_message(most, generation),
     }
 }
 
