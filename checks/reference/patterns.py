@@ -1,7 +1,7 @@
 #!/usr/bin/env python3
 """What `advance`, `draw` and `run` answer, worked out by a program that shares nothing with `census`.
 
-    checks/reference/patterns.py advance N <TEXT
+    checks/reference/patterns.py advance N [--cells N] <TEXT
     checks/reference/patterns.py draw CODE [--rule R]
     checks/reference/patterns.py run [--bound N] [--workers N] [FOLDER..]
 
@@ -23,6 +23,7 @@ WORKER_LIMIT = 16
 LIST_LIMIT = 65_535            # folders, and entries of one folder
 NAME_LIMIT = 255
 INPUT_LIMIT = 67_108_864
+MOST_CELLS = 4_294_967_295     # the greatest N of --cells
 
 
 class Fault(Exception):
@@ -728,6 +729,15 @@ def folders_of(words):
     return bundle
 
 
+def refuse_large(rule, cells, n, most):
+    """Stops at the first generation from 0 to n that has more than `most` cells."""
+    now = set(cells)
+    for age in range(n + 1):
+        if len(now) > most:
+            raise Stop(1, 'census: more than %d cells at generation %d' % (most, age))
+        now = next_literal(rule, now)
+
+
 def dispatch(args, stdin):
     """The bytes for standard output; raises Usage, Help, Fault or Stop."""
     if not args:
@@ -735,9 +745,12 @@ def dispatch(args, stdin):
     if args[0] in ('-h', '--help', 'help'):
         raise Help()
     if args[0] == 'advance':
-        _, rest = words_of(args[1:], {}, 1, False)
+        opts, rest = words_of(args[1:], {'--cells': '--cells'}, 1, False)
         n = number(rest[0], 0, AGE_LIMIT)
+        most = number(opts['--cells'], 1, MOST_CELLS) if '--cells' in opts else None
         rule, cells = read_rle(read_limited(stdin))
+        if most is not None:
+            refuse_large(rule, cells, n, most)
         return write_rle(rule, evolve(rule, cells, n)).encode()
     if args[0] == 'draw':
         opts, rest = words_of(args[1:], {'--rule': '--rule'}, 1, False)

@@ -30,7 +30,7 @@ import build_wheel
 import census
 from census import (
     Census, CensusError, ClaimFault, Code, CodeFault, Disagreement, Emission, Engine, FolderFault, NamesFault, OutOfMemory, Pattern, PatternFault,
-    ProgramFailed, ReadFailed, ReportFault, RuleFault, Same, TimedOut, TooLong, read_names, read_report,
+    ProgramFailed, ReadFailed, ReportFault, RuleFault, Same, TimedOut, TooLong, TooManyCells, read_names, read_report,
 )
 
 PROGRAM = os.path.realpath(os.environ.get("CENSUS", f"{ROOT}/release/census"))
@@ -484,7 +484,7 @@ class Faults(Room):
         errors = [
             CensusError("words", 3, "place"), PatternFault("words", 5, 2, 9, 21, 7), PatternFault("words", 1, 1, 1), TooLong("folder"),
             TooLong(None, 3), ReadFailed("folder"), FolderFault(1, "folder"), FolderFault(3), ReportFault("words", 4), ReportFault("words", 4, 2),
-            ClaimFault("words", 2), NamesFault("words", 2), OutOfMemory(),
+            ClaimFault("words", 2), NamesFault("words", 2), TooManyCells(3, 7), OutOfMemory(),
             TimedOut(0.5), ProgramFailed(-9, "words"),
         ]
         for error in errors:
@@ -1578,6 +1578,16 @@ class LaterAndDrawn(Room):
             self.assertEqual(str(raised.exception), f"generations must be 0 to 4194304, not {generations}")
         with self.assertRaises(TypeError):
             self.census.advance(BLINKER, 1.0)
+
+    def test_too_many_cells(self):
+        self.assertEqual(self.census.advance(BLINKER, 1, cells=3), "x = 1, y = 3, rule = B3/S23\no$o$o!\n")
+        for cells, generation in ((4, 0), (5, 1), (318, 821)):
+            with self.subTest(cells), self.assertRaises(TooManyCells) as raised:
+                self.census.advance(R_PENTOMINO, 1000, cells=cells)
+            self.assertEqual((raised.exception.cells, raised.exception.generation), (cells, generation))
+            self.assertEqual(str(raised.exception), f"generation {generation}: there are more than {cells} cells")
+        with self.assertRaises(ValueError):
+            self.census.advance(BLINKER, 1, cells=0)
 
     def test_a_code_is_drawn(self):
         self.assertEqual(self.census.draw("xq4_153"), "x = 3, y = 3, rule = B3/S23\n3o$2bo$bo!\n")

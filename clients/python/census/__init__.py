@@ -25,7 +25,7 @@ from typing import Any, Callable, Dict, Iterable, Iterator, List, Literal, Mappi
 __all__ = [
     "Census", "Code", "Disagreement", "Emission", "Engine", "Pattern", "Row", "Same", "read_names", "read_report",
     "CensusError", "PatternFault", "CodeFault", "RuleFault", "FolderFault", "TooLong", "ReadFailed", "ReportFault", "ClaimFault", "NamesFault",
-    "OutOfMemory", "TimedOut", "ProgramFailed",
+    "TooManyCells", "OutOfMemory", "TimedOut", "ProgramFailed",
 ]
 
 # an RLE text, a report, claims or names
@@ -153,6 +153,16 @@ class NamesFault(CensusError):
         super().__init__(sentence, None, f"line {line}")
         self.args = (sentence, line)
         self.line = line
+
+
+class TooManyCells(CensusError):
+    """A pattern has more cells than `advance` was to allow: `generation` is the first that has more than `cells`."""
+
+    def __init__(self, cells: int, generation: int) -> None:
+        super().__init__(f"there are more than {cells} cells", None, f"generation {generation}")
+        self.args = (cells, generation)
+        self.cells = cells
+        self.generation = generation
 
 
 class OutOfMemory(CensusError):
@@ -697,13 +707,15 @@ class Census:
             raise _fault_of_report(ran)
         return _disagreements_of(ran)
 
-    def advance(self, rle: Text, generations: int) -> str:
+    def advance(self, rle: Text, generations: int, *, cells: Optional[int] = None) -> str:
         """The RLE text of a later generation of an RLE text's pattern, `generations` 0 to 4,194,304.
 
-        Raises what `identify` raises.
+        `cells` is how many live cells each generation up to that one may have, 1 to 4,294,967,295 (None: any number).
+
+        Raises `TooManyCells`, and what `identify` raises.
         """
         number = _number("generations", generations, 0, _MOST_GENERATIONS)
-        ran = self._run(["advance", "--explain", "--", str(number), "-"], _bytes_of(rle))
+        ran = self._run(["advance", "--explain", *_option("cells", cells, _MOST_CELLS), "--", str(number), "-"], _bytes_of(rle))
         if ran.returncode == 1:
             raise _fault_of_text(ran)
         return _text_of(ran)
@@ -1017,6 +1029,9 @@ def _fault_of_text(ran: subprocess.CompletedProcess[bytes]) -> CensusError:
     """Why an RLE text was refused."""
     if _first_line(ran) == "census: input too long":
         return TooLong()
+    large = re.fullmatch("census: more than ([0-9]+) cells at generation ([0-9]+)", _first_line(ran))
+    if large:
+        return TooManyCells(int(large.group(1)), int(large.group(2)))
     line, told = _told_lines(ran)
     fault = re.fullmatch(r"census: rle fault ([0-9]+)(?: at ([0-9]+))?", line)
     where = re.fullmatch(r"  ([0-9]+):([0-9]+): (.*)", told)
