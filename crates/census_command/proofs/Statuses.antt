@@ -1,6 +1,7 @@
 -- What each exit status says of what ends at the first thing that goes wrong.
 use Rattle.std.proofs.Common.{◌≡◌, ◌⊎◌, ℕ, Bool, List, ◌++◌, Option, None, Some, option_map, true, false, inl, inr, ⊎_elim, refl, sym, ◌∙◌, arith, true≢false, string_bytes, ◌||◌}
 use Rattle.watched.specs.Streams.{PutsBytes, Streams}
+use Rattle.watched.specs.Watching.{AppendsFront}
 use Rattle.census_folders.specs.Sources.{Asked}
 use Rattle.census_cli.specs.Asking.{Asks, AsksFor, AsksToExplain}
 use Rattle.census_cli.specs.Refusing.{AreRefusedWords, AsksHelp, AsksText, RefusesWords}
@@ -10,13 +11,13 @@ use Rattle.census_cli.specs.declared.request.Asked.{Asked as Wanted}
 use Rattle.census_cli.specs.declared.request.Request.{Request}
 use Rattle.census_cli.specs.declared.request.Request.TheVariants.{Census, Identify, Advance, Draw, Merge, Table, Page, Same, Starts, Verify}
 use Rattle.life_answer.specs.declared.question.Question.{Question}
-use Rattle.census_command.specs.Advances.{AdvanceFromFails, AdvancesFromInPart}
+use Rattle.census_command.specs.Advances.{AdvanceFails, AdvancesBy}
 use Rattle.census_errors.specs.Explained.{TellsOf}
 use Rattle.census_errors.specs.Messages.{advance_told, error_line, run_status, status_of}
 use Rattle.census_command.specs.Outcomes.{Answers, EndsAtFirst, Shows, ShowsInPart}
 use Rattle.census_command.specs.Statuses.{AreExplained, EndsPlainly, HelpsInPart, Statuses, StatusesSay}
 use Rattle.census_errors.specs.Files.{file_of}
-use Rattle.census_command.specs.Statuses.{MissesFile, RefusesText}
+use Rattle.census_command.specs.Statuses.{MissesFile, RefusesGiven}
 use Rattle.census_command.specs.Statuses.{MissesSource, RefusesCollections, RefusesInput, ReportsInPart}
 use Rattle.census_command.specs.Statuses.{StopsAtFolder, TellsError, TellsRefusal}
 use Rattle.census_command.proofs.Outcomes.{neither, sound_told}
@@ -47,18 +48,16 @@ module _ (shelf : Tellings) (before after : Streams) where
   unread_flag : {A : Type 0} → after.input.failed ≡ false → after.input.failed ≡ true → A
   unread_flag down up = absurd (true≢false (sym up ∙ down))
 
-  advance_says : (e : AdvanceError) (file : Option (List ℕ)) (n : ℕ) → AdvanceFromFails e shelf file n before after
-      → Says before after ((advance_told e).1) (RefusesText shelf file before after) ⊥ (AdvancesFromInPart shelf file n before after) (MissesFile shelf file)
-  advance_says (advance.Text fault told spot) None n h = inl (refl, inl (fault, h.0), h.1)
-  advance_says advance.TooLong None n h = inl (refl, inr h.0, h.1)
-  advance_says advance.Memory None n h = inr (inl (refl, inl h.written, h.sound))
-  advance_says (advance.Read why) None n h = inr (inr (refl, inl (inl h.read), inl h.written, λ up. h.written))
-  advance_says advance.Write None n h = inr (inr (refl, inl (inr h.1.write), inr h.0, unread_flag h.1.read))
-  advance_says (advance.Text fault told spot) (Some path) n h = inl (refl, inl (fault, h.0), record { written = h.1.written; sound = h.1.sound })
-  advance_says advance.TooLong (Some path) n h = inl (refl, inr h.0, record { written = h.1.written; sound = h.1.sound })
-  advance_says advance.Memory (Some path) n h = inr (inl (refl, inl h.written, h.sound))
-  advance_says (advance.Read why) (Some path) n h = inr (inr (refl, inr (why, h.0), inl h.1.written, λ up. h.1.written))
-  advance_says advance.Write (Some path) n h = inr (inr (refl, inl (inr h.1.write), inr h.0, unread_flag h.1.read))
+  advance_says : (e : AdvanceError) (file : Option (List ℕ)) (n : ℕ) (limit : Option ℕ) → AdvanceFails e shelf file n limit before after
+      → Says before after ((advance_told e).1) (RefusesGiven shelf file n limit before after) ⊥ (AdvancesBy AppendsFront shelf file n limit before after) (MissesFile shelf file)
+  advance_says (advance.Text fault told spot) file n limit h = inl (refl, inl (advance.Text fault told spot, h.0, h.1, h.2), h.3)
+  advance_says (advance.TooManyCells most at) file n limit h = inl (refl, inl (advance.TooManyCells most at, h.0, h.1, h.2), h.3)
+  advance_says advance.TooLong None n limit h = inl (refl, inr h.0, h.1)
+  advance_says advance.TooLong (Some path) n limit h = inl (refl, inr h.0, record { written = h.1.written; sound = h.1.sound })
+  advance_says advance.Memory file n limit h = inr (inl (refl, inl h.1.written, h.1.sound))
+  advance_says (advance.Read why) None n limit h = inr (inr (refl, inl (inl h.read), inl h.written, λ up. h.written))
+  advance_says (advance.Read why) (Some path) n limit h = inr (inr (refl, inr (why, h.0), inl h.1.written, λ up. h.1.written))
+  advance_says advance.Write file n limit h = inr (inr (refl, inl (inr h.1.write), inr h.0, unread_flag h.1.read))
 
   folders_say : (e : RunError) (asked : Asked) (question : Question) → FoldersFail e shelf asked question before after
       → Says before after (run_status e) ((error : RunError) × FailsInFolders shelf asked error × (run_status error ≡ 1)) (ReportsFoldersInPart shelf asked question before after)
@@ -87,30 +86,30 @@ module _ (shelf : Tellings) (before after : Streams) where
       → Says before after (status_of error) (RefusesInput shelf request before after) (ReportsInPart shelf request before after) (DoesInPart shelf request before after)
       (StopsAtFolder shelf request)
   says (command.Run e) (Census census) h = run_says shelf before after e (source_of census.collections) census.question h
-  says (command.Advance e) (Advance n file) h = advance_says shelf before after e (file_of (option_map (λ s. s.now) file)) n h
+  says (command.Advance e) (Advance n limit file) h = advance_says shelf before after e (file_of (option_map (λ s. s.now) file)) n limit h
   says (command.Draw (draw.Rule fault)) (Draw code rule) h = inl (refl, inl (fault, h.0), record { written = h.1.written; sound = h.1.sound })
   says (command.Draw (draw.Code fault)) (Draw code rule) h = inl (refl, inr (fault, h.0.1), record { written = h.1.written; sound = h.1.sound })
   says (command.Draw draw.Memory) (Draw code rule) h = inr (inl (refl, inl h.1.written, h.1.sound))
   says (command.Draw draw.Write) (Draw code rule) h = inr (inr (refl, inl (inr h.1.write), inr h.0, unread_flag shelf before after h.1.read))
-  says (command.Run e) (Advance n file) h = absurd h
+  says (command.Run e) (Advance n limit file) h = absurd h
   says (command.Run e) (Identify bound cells near horizon json names files) h = absurd h
   says (command.Run e) (Draw code rule) h = absurd h
   says (command.Advance e) (Identify bound cells near horizon json names files) h = absurd h
   says (command.Advance e) (Census census) h = absurd h
   says (command.Advance e) (Draw code rule) h = absurd h
   says (command.Draw e) (Census census) h = absurd h
-  says (command.Draw e) (Advance n file) h = absurd h
+  says (command.Draw e) (Advance n limit file) h = absurd h
   says (command.Draw e) (Identify bound cells near horizon json names files) h = absurd h
   says command.Arguments (Census census) h = absurd h
-  says command.Arguments (Advance n file) h = absurd h
+  says command.Arguments (Advance n limit file) h = absurd h
   says command.Arguments (Identify bound cells near horizon json names files) h = absurd h
   says command.Arguments (Draw code rule) h = absurd h
   says command.Memory (Census census) h = absurd h
-  says command.Memory (Advance n file) h = absurd h
+  says command.Memory (Advance n limit file) h = absurd h
   says command.Memory (Identify bound cells near horizon json names files) h = absurd h
   says command.Memory (Draw code rule) h = absurd h
   says command.Write (Census census) h = absurd h
-  says command.Write (Advance n file) h = absurd h
+  says command.Write (Advance n limit file) h = absurd h
   says command.Write (Identify bound cells near horizon json names files) h = absurd h
   says command.Write (Draw code rule) h = absurd h
   says (command.Run e) (Merge reports) h = absurd h

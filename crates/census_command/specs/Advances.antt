@@ -1,128 +1,84 @@
 -- What `advance` reads and writes, and what each of its errors says.
-use Rattle.std.specs.Prelude.{◌≡◌, ℕ, ◌≤◌, List, length, Ok, Option, None, Some, []}
-use Rattle.std.specs.Io.KnownBytes.{Appends}
+use Rattle.std.specs.Prelude.{◌≡◌, ℕ, ◌≤◌, List, length, Ok, Option, None, Some, IfSome, []}
 use Rattle.watched.specs.Streams.{Streams}
 use Rattle.watched.specs.Watching.{AppendsFront, ConsumesMoreThan}
 use Rattle.census_bundle.specs.Sizes.{input_limit}
 use Rattle.census_crew.specs.Bytes.{ReadsText}
+use Rattle.life_answer.specs.Limited.{first_past}
+use Rattle.life_model.specs.Rule.{Rule}
+use Rattle.life_model.specs.Generation.{Generation}
 use Rattle.life_model.specs.Evolution.{generation}
 use Rattle.life_text.specs.Picture.{Picture, picture_of}
 use Rattle.life_text.specs.Rle.{reading, refusal}
 use Rattle.life_text.specs.RleText.{rle_text}
-use Rattle.life_text.specs.declared.rle.RleFault.{RleFault}
 use Rattle.census_folders.specs.Told.{GivesTold, MayExceed, MayFail}
 use Rattle.census_folders.specs.Tellings.{Tellings}
 use Rattle.census_command.specs.Streams.{IsUntouched, ReadFails, WriteFails, WritesNothing}
 use Rattle.census_errors.specs.declared.advance_error.AdvanceError.{AdvanceError}
-use Rattle.census_errors.specs.declared.advance_error.AdvanceError.TheVariants.{Text, TooLong, Memory, Read, Write}
+use Rattle.census_errors.specs.declared.advance_error.AdvanceError.TheVariants.{Text, TooManyCells, TooLong, Memory, Read, Write}
 
--- the text of generation n of a rule and a set
-abbrev pub advanced_text : Picture → ℕ → List ℕ
-advanced_text pattern n = rle_text pattern.rule (generation pattern.rule pattern.cells n)
+-- # A text
 
--- a text, and how many generations its pattern is to be advanced
-pub record TextToAdvance : Type 0 where
-  pub text : List ℕ
-  pub generations : ℕ
-
--- the text written is that of generation `generations` of the pattern that the given text means
-pub record IsAdvanced (given : TextToAdvance) (written : List ℕ) : Type 0 where
+-- A text means a pattern, none of whose generations from 0 to n has more cells than the limit, where there is one. What is
+-- written is the text of generation n.
+pub record IsAdvanced (text : List ℕ) (n : ℕ) (limit : Option ℕ) (written : List ℕ) : Type 0 where
   pub pattern : Picture
-  pub means : picture_of (reading given.text) ≡ Ok pattern
-  pub is : written ≡ advanced_text pattern given.generations
-
--- why there is no text of a generation of this text
-abbrev pub RefusesText : AdvanceError → List ℕ → Type 0
-RefusesText (Text fault told spot) text = refusal text ≡ Some fault
-RefusesText Memory text = Unit {0}
-RefusesText error text = ⊥
-
--- # Standard input
-
--- Standard input is a text that means a pattern, and the text of generation n of that pattern was written, or only a prefix, as
--- `Puts` says: as much as the writer took.
-pub record AdvancesBy (Puts : Option (List ℕ) → Option (List ℕ) → List ℕ → Type 0) (n : ℕ)
-    (before after : Streams) : Type 0 where
-  pub text : List ℕ
-  pub pattern : Picture
-  pub read : ReadsText before.input.unread after.input.unread text
   pub means : picture_of (reading text) ≡ Ok pattern
-  pub written : Puts before.output.written after.output.written (advanced_text pattern n)
+  pub small : first_past limit pattern.rule pattern.cells n ≡ None
+  pub is : written ≡ rle_text pattern.rule (generation pattern.rule pattern.cells n)
 
--- standard input, read to its end, has this fault
-pub record HasRleFault (fault : RleFault) (before after : Streams) : Type 0 where
+-- why it is refused: for its fault, or for the first generation that has more cells than the limit
+abbrev pub RefusesText : AdvanceError → List ℕ → ℕ → Option ℕ → Type 0
+RefusesText (Text fault told spot) text n limit = refusal text ≡ Some fault
+RefusesText (TooManyCells most at) text n limit =
+    (limit ≡ Some most)
+    × ((pattern : Picture) × (picture_of (reading text) ≡ Ok pattern) × (first_past limit pattern.rule pattern.cells n ≡ Some at))
+RefusesText error text n limit = ⊥
+
+-- # The streams
+
+-- The text is that of standard input, read to its end. Or there is a file: according to the shelf it is the text of that, and
+-- nothing was read from standard input.
+abbrev pub Takes : Tellings → Option (List ℕ) → List ℕ → Streams → Streams → Type 0
+Takes shelf None text before after = ReadsText before.input.unread after.input.unread text
+Takes shelf (Some path) text before after =
+    GivesTold (shelf.held [] path) text × (length text ≤ input_limit) × (after.input.unread ≡ before.input.unread)
+
+-- The text of generation n of what was taken was written, or only a prefix, as `Puts` says: as much as the writer took.
+pub record AdvancesBy (Puts : Option (List ℕ) → Option (List ℕ) → List ℕ → Type 0) (shelf : Tellings) (file : Option (List ℕ))
+    (n : ℕ) (limit : Option ℕ) (before after : Streams) : Type 0 where
   pub text : List ℕ
-  pub read : ReadsText before.input.unread after.input.unread text
-  pub refused : refusal text ≡ Some fault
+  pub later : List ℕ
+  pub taken : Takes shelf file text before after
+  pub advanced : IsAdvanced text n limit later
+  pub written : Puts before.output.written after.output.written later
 
 -- more was read than one text may have
 abbrev pub ReadsTooMuch : Streams → Streams → Type 0
 ReadsTooMuch before after = ConsumesMoreThan input_limit before.input.unread after.input.unread
 
 -- Why generation n was not written. Where the writer didn't fail, nothing was.
-abbrev pub AdvanceFails : AdvanceError → ℕ → Streams → Streams → Type 0
-AdvanceFails (Text fault told spot) n before after = HasRleFault fault before after × WritesNothing before after
-AdvanceFails TooLong n before after = ReadsTooMuch before after × WritesNothing before after
-AdvanceFails Memory n before after = WritesNothing before after
-AdvanceFails (Read why) n before after = ReadFails before after
-AdvanceFails Write n before after = AdvancesBy AppendsFront n before after × WriteFails after
-
--- # A file
-
--- According to the shelf the file is a text that means a pattern, and the text of generation n of that pattern was written, or
--- only a prefix, as `Puts` says. Nothing was read from standard input.
-pub record AdvancesFileBy (Puts : Option (List ℕ) → Option (List ℕ) → List ℕ → Type 0) (shelf : Tellings) (path : List ℕ)
-    (n : ℕ) (before after : Streams) : Type 0 where
-  pub text : List ℕ
-  pub pattern : Picture
-  pub told : GivesTold (shelf.held [] path) text
-  pub within : length text ≤ input_limit
-  pub means : picture_of (reading text) ≡ Ok pattern
-  pub written : Puts before.output.written after.output.written (advanced_text pattern n)
-  pub unread : after.input.unread ≡ before.input.unread
-
--- according to the shelf the file has this fault
-pub record HasFileFault (fault : RleFault) (shelf : Tellings) (path : List ℕ) : Type 0 where
-  pub text : List ℕ
-  pub gives : GivesTold (shelf.held [] path) text
-  pub refused : refusal text ≡ Some fault
-
--- Why generation n was not written. Where the writer didn't fail, nothing was.
-abbrev pub AdvanceFileFails : AdvanceError → Tellings → List ℕ → ℕ → Streams → Streams → Type 0
-AdvanceFileFails (Text fault told spot) shelf path n before after = HasFileFault fault shelf path × IsUntouched before after
-AdvanceFileFails TooLong shelf path n before after = MayExceed input_limit (shelf.held [] path) × IsUntouched before after
-AdvanceFileFails Memory shelf path n before after = IsUntouched before after
-AdvanceFileFails (Read why) shelf path n before after = MayFail (shelf.held [] path) why × IsUntouched before after
-AdvanceFileFails Write shelf path n before after = AdvancesFileBy AppendsFront shelf path n before after × WriteFails after
-
--- # Either
-
-abbrev pub AdvancesFrom : Tellings → Option (List ℕ) → ℕ → Streams → Streams → Type 0
-AdvancesFrom shelf None n before after = AdvancesBy Appends n before after
-AdvancesFrom shelf (Some path) n before after = AdvancesFileBy Appends shelf path n before after
-
-abbrev pub AdvancesFromInPart : Tellings → Option (List ℕ) → ℕ → Streams → Streams → Type 0
-AdvancesFromInPart shelf None n before after = AdvancesBy AppendsFront n before after
-AdvancesFromInPart shelf (Some path) n before after = AdvancesFileBy AppendsFront shelf path n before after
-
-abbrev pub AdvanceFromFails : AdvanceError → Tellings → Option (List ℕ) → ℕ → Streams → Streams → Type 0
-AdvanceFromFails error shelf None n before after = AdvanceFails error n before after
-AdvanceFromFails error shelf (Some path) n before after = AdvanceFileFails error shelf path n before after
+abbrev pub AdvanceFails : AdvanceError → Tellings → Option (List ℕ) → ℕ → Option ℕ → Streams → Streams → Type 0
+AdvanceFails TooLong shelf None n limit before after = ReadsTooMuch before after × WritesNothing before after
+AdvanceFails TooLong shelf (Some path) n limit before after =
+    MayExceed input_limit (shelf.held [] path) × IsUntouched before after
+AdvanceFails Memory shelf file n limit before after =
+    IfSome file (λ path. after.input.unread ≡ before.input.unread) × WritesNothing before after
+AdvanceFails (Read why) shelf None n limit before after = ReadFails before after
+AdvanceFails (Read why) shelf (Some path) n limit before after = MayFail (shelf.held [] path) why × IsUntouched before after
+AdvanceFails Write shelf file n limit before after = AdvancesBy AppendsFront shelf file n limit before after × WriteFails after
+AdvanceFails error shelf file n limit before after =
+    (text : List ℕ) × Takes shelf file text before after × RefusesText error text n limit × WritesNothing before after
 
 -- # What the parts that advance return
 
--- all was written, of standard input
-abbrev pub Advances : ℕ → Streams → Streams → Type 0
-Advances n before after = AdvancesBy Appends n before after
+-- there is no generation n of a set: memory was refused, or one up to it has more cells than the limit
+abbrev pub Outgrows : AdvanceError → Rule → Generation → ℕ → Option ℕ → Type 0
+Outgrows (TooManyCells most at) R G n limit = (limit ≡ Some most) × (first_past limit R G n ≡ Some at)
+Outgrows Memory R G n limit = Unit {0}
+Outgrows error R G n limit = ⊥
 
--- or a prefix
-abbrev pub AdvancesInPart : ℕ → Streams → Streams → Type 0
-AdvancesInPart n before after = AdvancesBy AppendsFront n before after
-
--- all was written, of a file
-abbrev pub AdvancesFile : Tellings → List ℕ → ℕ → Streams → Streams → Type 0
-AdvancesFile shelf path n before after = AdvancesFileBy Appends shelf path n before after
-
--- or a prefix
-abbrev pub AdvancesFileInPart : Tellings → List ℕ → ℕ → Streams → Streams → Type 0
-AdvancesFileInPart shelf path n before after = AdvancesFileBy AppendsFront shelf path n before after
+-- there is no text: memory was refused, or the given one is refused
+abbrev pub LacksText : AdvanceError → List ℕ → ℕ → Option ℕ → Type 0
+LacksText Memory text n limit = Unit {0}
+LacksText error text n limit = RefusesText error text n limit

@@ -95,7 +95,7 @@ Ends shelf (Census census) explain status before after = EndsCensus shelf census
 Ends shelf (Identify bound cells near horizon json names files) explain status before after =
     TellsPatterns (shelf.held []) (record { bound = bound; cells = cells; near = near; horizon = horizon; form = form_told json })
     (option_map (λ s. s.now) names) (map (λ s. s.now) files.items) explain status before after
-Ends shelf (Advance generations file) explain status before after = EndsAtFirst shelf (Advance generations file) explain status before after
+Ends shelf (Advance n limit file) explain status before after = EndsAtFirst shelf (Advance n limit file) explain status before after
 Ends shelf (Draw code rule) explain status before after = EndsAtFirst shelf (Draw code rule) explain status before after
 Ends shelf (Merge reports) explain status before after = EndsForm shelf form.Merged reports explain status before after
 Ends shelf (Table subject format None reports) explain status before after =

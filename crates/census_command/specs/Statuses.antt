@@ -8,7 +8,6 @@ use Rattle.life_cells.specs.declared.rule.RuleFault.{RuleFault}
 use Rattle.life_cells.specs.CodeReading as wechsler
 use Rattle.life_cells.specs.TextOrder.{body_of}
 use Rattle.life_cells.specs.declared.reader.CodeFault.{CodeFault}
-use Rattle.life_text.specs.declared.rle.RleFault.{RleFault}
 use Rattle.census_bundle.specs.declared.fault.BundleFault.{BundleFault}
 use Rattle.census_bundle.specs.Sizes.{input_limit}
 use Rattle.census_crew.specs.Bytes.{ReadsFault}
@@ -21,7 +20,7 @@ use Rattle.census_cli.specs.declared.request.Request.{Request}
 use Rattle.census_cli.specs.declared.request.Request.TheVariants.{Census, Advance, Draw}
 use Rattle.census_folders.specs.Told.{MayExceed, MayFail}
 use Rattle.census_folders.specs.declared.unread.Unread.{Unread}
-use Rattle.census_command.specs.Advances.{HasFileFault, HasRleFault, ReadsTooMuch}
+use Rattle.census_command.specs.Advances.{ReadsTooMuch, RefusesText, Takes}
 use Rattle.census_errors.specs.Files.{file_of}
 use Rattle.census_errors.specs.Explained.{TellsOf}
 use Rattle.census_errors.specs.Messages.{error_line, run_status, status_of}
@@ -30,6 +29,7 @@ use Rattle.census_command.specs.Runs.{FailsInFolders, RunsInPart}
 use Rattle.census_folders.specs.Tellings.{Tellings}
 use Rattle.census_errors.specs.Sources.{Source, Input, Folders, source_of}
 use Rattle.census_command.specs.Streams.{HasFailed, HasSoundStreams, IsUntouched, TellsBeside, WriteFails, WritesNothing, untold}
+use Rattle.census_errors.specs.declared.advance_error.AdvanceError.{AdvanceError}
 use Rattle.census_errors.specs.declared.error.CommandError.{CommandError}
 use Rattle.census_errors.specs.declared.run_error.RunError.{RunError}
 use Rattle.census_errors.specs.declared.run_error.RunError.TheVariants as run
@@ -83,17 +83,22 @@ RefusesCollections shelf Input before after =
     ((fault : BundleFault) × ReadsFault before.input.unread after.input.unread fault) ⊎ ReadsTooMuch before after
 RefusesCollections shelf (Folders asked) before after = (error : RunError) × FailsInFolders shelf asked error × (run_status error ≡ 1)
 
--- a file, or standard input where there is none, has a fault or is too long
-abbrev pub RefusesText : Tellings → Option (List ℕ) → Streams → Streams → Type 0
-RefusesText shelf None before after =
-    ((fault : RleFault) × HasRleFault fault before after) ⊎ ReadsTooMuch before after
-RefusesText shelf (Some path) before after =
-    ((fault : RleFault) × HasFileFault fault shelf path) ⊎ MayExceed input_limit (shelf.held [] path)
+-- a file, or standard input where there is none, is too long
+abbrev pub IsTooLong : Tellings → Option (List ℕ) → Streams → Streams → Type 0
+IsTooLong shelf None before after = ReadsTooMuch before after
+IsTooLong shelf (Some path) before after = MayExceed input_limit (shelf.held [] path)
+
+-- or it has a fault, or a generation up to n with more cells than the limit
+abbrev pub RefusesGiven : Tellings → Option (List ℕ) → ℕ → Option ℕ → Streams → Streams → Type 0
+RefusesGiven shelf file n limit before after =
+    ((error : AdvanceError) × (text : List ℕ) × Takes shelf file text before after × RefusesText error text n limit)
+    ⊎ IsTooLong shelf file before after
 
 -- the input of a request is refused
 abbrev pub RefusesInput : Tellings → Request → Streams → Streams → Type 0
 RefusesInput shelf (Census census) before after = RefusesCollections shelf (source_of census.collections) before after
-RefusesInput shelf (Advance generations file) before after = RefusesText shelf (file_of (option_map (λ s. s.now) file)) before after
+RefusesInput shelf (Advance n limit file) before after =
+    RefusesGiven shelf (file_of (option_map (λ s. s.now) file)) n limit before after
 RefusesInput shelf (Draw code rule) before after =
     ((fault : RuleFault) × (rule_of rule.now ≡ Err fault))
     ⊎ ((fault : CodeFault) × (wechsler.refusal (body_of code.now) ≡ Some fault))
@@ -142,7 +147,7 @@ MissesSource shelf (Folders asked) = FailsInFolders shelf asked run.Read
 
 abbrev pub StopsAtFolder : Tellings → Request → Type 0
 StopsAtFolder shelf (Census census) = MissesSource shelf (source_of census.collections)
-StopsAtFolder shelf (Advance generations file) = MissesFile shelf (file_of (option_map (λ s. s.now) file))
+StopsAtFolder shelf (Advance n limit file) = MissesFile shelf (file_of (option_map (λ s. s.now) file))
 StopsAtFolder shelf _ = ⊥
 
 -- The words ask for a census of folders, one of which could not be listed or has a file that could not be read, or for a

@@ -72,20 +72,21 @@ fn advance_asked<S: Shelf, I: Read, O: Write, E: Write>(
     shelf: &S,
     alloc: Global,
     generations: u32,
+    cells: Option<u32>,
     file: Option<&str>,
     streams: &mut Streams<I, O, E>,
 ) -> Result<Lines, Stopped>
-    requires lawful { IsLawful (request.Advance generations file) }
+    requires lawful { IsLawful (request.Advance generations cells file) }
     requires sound { HasSoundStreams streams.old }
     ensures done { OnOk result
-        (Does (S.tellings shelf.now) (request.Advance generations file.entry) streams.old streams.new) }
+        (Does (S.tellings shelf.now) (request.Advance generations cells file.entry) streams.old streams.new) }
     ensures sound { OnOk result (HasSoundStreams streams.new) }
     ensures fails { IfErr result
-        (λ stopped. Fails stopped.error (S.tellings shelf.now) (request.Advance generations file.entry)
+        (λ stopped. Fails stopped.error (S.tellings shelf.now) (request.Advance generations cells file.entry)
         streams.old streams.new) }
     ensures quiet { streams.new.errors ≡ streams.old.errors }
 {
-    match advance(shelf, alloc, generations, file, streams) {
+    match advance(shelf, alloc, generations, cells, file, streams) {
         Ok(()) => Ok(Lines::none(alloc)),
         Err(error) => Err(Stopped {
             error: CommandError::Advance(error),
@@ -236,8 +237,12 @@ fn carry_out<S: Shelf, I: Read, O: Write, E: Write, G: Gate, R: Threads + Wait +
                 shelf, alloc, &*gate, inquiry, *names, files, explain, streams,
             )
         }
-        Request::Advance { generations, file } => {
-            let ended = advance_asked(shelf, alloc, *generations, *file, streams);
+        Request::Advance {
+            generations,
+            cells,
+            file,
+        } => {
+            let ended = advance_asked(shelf, alloc, *generations, *cells, *file, streams);
             conclude(request, ended, explain, &mut streams.errors)
         }
         Request::Draw { code, rule } => {
@@ -308,11 +313,11 @@ fn carry_out<S: Shelf, I: Read, O: Write, E: Write, G: Gate, R: Threads + Wait +
 ///
 /// - 0: what was asked for was done. With `run` and `objects` the report of the folders, or without any of the bundle on standard
 ///   input, was written: what their patterns become, or the objects in them; with `advance N` the input is an RLE text, and the
-///   text of generation N was written; with `draw CODE [--rule R]` the text of the code's shape under the rule; with `merge` one
-///   report of the reports that were read, with `table` a table of them, with `page` a page, with `same` those of their patterns
-///   that are one object, or with `--starts` those of folders or of a bundle that are the same at the start, of which there are
-///   none, and with `verify` what does not agree between claims and them, which is nothing. With `--names` the file of names is
-///   read before the reports. Or help was asked for and written.
+///   text of generation N was written, and with `--cells` no generation up to N has more cells; with `draw CODE [--rule R]` the
+///   text of the code's shape under the rule; with `merge` one report of the reports that were read, with `table` a table of
+///   them, with `page` a page, with `same` those of their patterns that are one object, or with `--starts` those of folders or of
+///   a bundle that are the same at the start, of which there are none, and with `verify` what does not agree between claims and
+///   them, which is nothing. With `--names` the file of names is read before the reports. Or help was asked for and written.
 /// - 1: the collections, the pattern, the rule or the code is refused, and nothing was written.
 /// - 2: clap refuses the words, and not because memory was refused; nothing was read or written.
 /// - 3: out of memory; nothing was written, or with `run` and `objects` a prefix of the report, or with `table`, `page`, `same`

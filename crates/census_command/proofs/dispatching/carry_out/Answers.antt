@@ -32,7 +32,7 @@ pub returns-in-Advance-clause-ends : goal.returns-in-Advance-clause-ends
 returns-in-Advance-clause-ends g c =
     let shelf = g.S.Shelf.tellings c.args.shelf.now in
     let before = c.args.streams.now in
-    let asked = request.Advance c.in-Advance.generations c.in-Advance.file in
+    let asked = request.Advance c.in-Advance.generations c.in-Advance.cells c.in-Advance.file in
     let ended = c.advance_asked-ended.result in
     let inside = c.streams-in-Advance.inside in
     let reached : Streams = record { input = inside.input.stream; output = inside.output.stream; errors = inside.errors.stream } in
