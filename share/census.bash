@@ -10,7 +10,7 @@ _census() {
     run) options='-b --bound -w --workers --cells --input -r --recursive -k --keep-going --explain --no-progress -h --help' kind=folders ;;
     objects) options='-b --bound -w --workers --cells --near --horizon --input -r --recursive -k --keep-going --explain --no-progress -h --help' kind=folders ;;
     identify) options='-b --bound --cells --near --horizon --json --names --explain -h --help' kind=files ;;
-    advance) options='--explain -h --help' kind=files ;;
+    advance) options='--cells --explain -h --help' kind=files ;;
     draw) options='--rule --explain -h --help' kind=neither ;;
     merge) options='--cut --input --explain -h --help' kind=files ;;
     table) options='--csv --json --safe --parts --codes --engines --sort --unnamed --names --cut --input --explain -h --help' kind=files ;;
