@@ -100,19 +100,24 @@ fn with_ample_memory_nothing_is_lost(rt: HostRuntime) -> Result<(), Fail> {
         )?;
         assert!(rt; tally == demo_tally(0) && lost.is_empty());
         assert!(rt; out.into_inner().as_slice() == DEMO_REPORT);
-        // What was in the list before is gone.
-        lost.push(Ticket {
-            folder: 1,
-            number: 1,
-        })?;
-        let mut out = Output::new(Vec::new(alloc));
-        let gate = OpenGate;
-        let tally = run_keeping_untold(
-            &rt, alloc, &bundle, SETTLES, workers, &gate, &mut lost, &mut out,
-        )?;
-        assert!(rt; tally == demo_tally(0) && lost.is_empty());
-        assert!(rt; out.into_inner().as_slice() == DEMO_REPORT);
     }
+    Ok(())
+}
+
+#[test]
+fn the_tickets_of_an_earlier_run_are_dropped(rt: HostRuntime) -> Result<(), Fail> {
+    let alloc = rt.alloc();
+    let bundle = read_bundle(alloc, DEMO)?;
+    let mut lost = Vec::new(alloc);
+    lost.push(Ticket {
+        folder: 1,
+        number: 1,
+    })?;
+    let mut out = Output::new(Vec::new(alloc));
+    let gate = OpenGate;
+    let tally = run_keeping_untold(&rt, alloc, &bundle, SETTLES, 2, &gate, &mut lost, &mut out)?;
+    assert!(rt; tally == demo_tally(0) && lost.is_empty());
+    assert!(rt; out.into_inner().as_slice() == DEMO_REPORT);
     Ok(())
 }
 
