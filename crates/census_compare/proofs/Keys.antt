@@ -1,136 +1,124 @@
--- Keys of claims, and the patterns that they are about.
-use Rattle.std.proofs.Common.{◌≡◌, ℕ, zero, suc, arith, ◌+◌, ◌<◌, Bool, true, false, ◌&&◌, ◌||◌, get_or, length, take, List, [], ◌∷◌, ◌++◌, refl, sym, ap, ap₂, append_assoc, ◌∙◌, if◌then◌else◌}
-use Rattle.std.specs.Prelude.{cond, filter, is_some, nat_eq, Option, Some, None as Nowhere}
-use Rattle.std.specs.BTreeMap.{BTreeMap, get, get_by, Updates}
-use Rattle.std.specs.Borrow.{Bor}
-use Rattle.std.specs.Cmp.Lexicographic.{nat_list_eq_equiv, on_texts, options_equiv, options_total, pointwise, slice_cmp, texts_ties}
-use Rattle.std.specs.Cmp.{both_tied, IsTotalOrder, on_total}
-use Rattle.std.specs.Option.{option_cmp, option_eq, option_map}
-use Rattle.std.specs.Ordering.{is_eq, nat_cmp}
+-- Keys, and the names that they are about.
+use Rattle.std.proofs.Common.{◌≡◌, ℕ, zero, suc, arith, ◌+◌, ◌<◌, ◌≤◌, Bool, true, false, ◌&&◌, ◌||◌, length, refl, sym, ap, ap₂, ◌∙◌, subst, List, [], ◌∷◌, true≢false}
+use Rattle.std.specs.Prelude.{Option, Some, None as Nowhere, nat_eq}
+use Rattle.std.specs.Cmp.Lexicographic.{bytes_decides, nat_list_cmp_total, nat_list_eq_equiv, options_equiv, pointwise, slice_cmp, texts_ties}
+use Rattle.std.specs.Cmp.{both_tied, IsTotalOrder}
+use Rattle.std.specs.Option.{option_eq}
+use Rattle.std.specs.Ordering.{is_eq, is_gt, is_lt, nat_cmp, ordering_reverse, ordering_then}
 use Rattle.std.specs.declared.cmp.Ordering.{Ordering}
 use Rattle.std.specs.declared.cmp.Ordering.TheVariants.{Less, Equal, Greater}
-use Rattle.std.proofs.Math.Bool.{or-true}
-use Rattle.std.proofs.lemmas.Cmp.{then_total}
-use Rattle.std.proofs.lemmas.List.{append-nil, map-append, take_more}
-use Rattle.std.proofs.lemmas.List.Elements.{filter-append}
-use Rattle.std.proofs.lemmas.List.Folds.{list_any-append}
-use Rattle.census_table.specs.declared.entry.Entry.{Entry}
-use Rattle.census_compare.specs.Claims.{Claim, claim_read, claims_read}
-use Rattle.census_compare.specs.Found.{KeyLent, has_key, key_cmp, key_lent, match_at, name_key, same_key, whole_key, with_pattern}
-use Rattle.census_compare.specs.Patterns.{Key, is_claimed, is_of, key_of, matched, patterns_of}
-use Rattle.census_compare.specs.declared.claim.Claim.{Claim as ClaimRead}
-use Rattle.census_compare.specs.declared.matching.Match.{Match}
-use Rattle.census_compare.specs.declared.matching.Match.TheVariants.{Nothing}
+use Rattle.std.proofs.lemmas.Bool.{and_parts}
+use Rattle.std.proofs.lemmas.Cmp.{alike_right}
+use Rattle.census_compare.specs.Claims.{Claim}
+use Rattle.census_compare.specs.Index.{Names, has_key, has_names, key_order, names_claimed, rank, same_key}
+use Rattle.census_compare.specs.KeyLaws.{key_total}
+use Rattle.census_compare.specs.Order.{key_cmp}
+use Rattle.census_compare.specs.Patterns.{Key, key_of}
 
--- # The order
+-- # The order of keys and names
 
-option-tied : (o p : Option (Bor (List ℕ)))
-    → option_eq (pointwise nat_eq) (option_map (λ bytes. bytes.now) o) (option_map (λ bytes. bytes.now) p) ≡ is_eq (option_cmp (λ a b. slice_cmp nat_cmp a.now b.now) o p)
-option-tied Nowhere Nowhere = refl
-option-tied Nowhere (Some b) = refl
-option-tied (Some a) Nowhere = refl
-option-tied (Some a) (Some b) = texts_ties a.now b.now
+pub names-tied : (key : Key) (names : Names) → has_names key names ≡ is_eq (key_order key names)
+names-tied (name, Nowhere) names = both_tied (pointwise nat_eq name names.0) true (slice_cmp nat_cmp name names.0) Equal (texts_ties name names.0) refl
+names-tied (name, Some meant) names =
+    both_tied (pointwise nat_eq name names.0) (pointwise nat_eq meant names.1) (slice_cmp nat_cmp name names.0) (slice_cmp nat_cmp meant names.1)
+    (texts_ties name names.0) (texts_ties meant names.1)
 
-pub key-tied : (k q : KeyLent) → same_key (key_lent k) (key_lent q) ≡ is_eq (key_cmp k q)
-key-tied k q =
-    both_tied (pointwise nat_eq k.0.now q.0.now) (option_eq (pointwise nat_eq) (key_lent k).1 (key_lent q).1) (slice_cmp nat_cmp k.0.now q.0.now)
-    (option_cmp (λ a b. slice_cmp nat_cmp a.now b.now) k.1 q.1) (texts_ties k.0.now q.0.now) (option-tied k.1 q.1)
+module _ {K : Type 0} (c : K → K → Ordering) (total : IsTotalOrder c) where
+  turned : (a b : K) (s : Ordering) → c b a ≡ s → c a b ≡ ordering_reverse s
+  turned a b s e = total.antisymm a b ∙ ap ordering_reverse e
 
-pub key_total : IsTotalOrder key_cmp
-key_total = then_total (on_texts (λ (k : KeyLent). k.0.now)) (on_total (λ (k : KeyLent). k.1) (options_total (on_texts (λ (b : Bor (List ℕ)). b.now))))
+  level-rank : (k a b : K) (s : Ordering) → c k a ≡ Equal → c b a ≡ s → is_lt s ≡ false → 1 ≤ rank (c k b)
+  level-rank k a b Less e f h = absurd (true≢false h)
+  level-rank k a b Equal e f h = subst (λ r. 1 ≤ rank r) (sym (total.congr k a b e ∙ turned a b Equal f)) (omega arith)
+  level-rank k a b Greater e f h = subst (λ r. 1 ≤ rank r) (sym (total.congr k a b e ∙ turned a b Greater f)) (omega arith)
 
-tied-equal : (r : Ordering) → is_eq r ≡ true → r ≡ Equal
-tied-equal r e = elim r as (λ r. is_eq r ≡ true → r ≡ Equal) [ Less ↦ λ e. absurd (cc) | Equal ↦ λ e. refl | Greater ↦ λ e. absurd (cc) ] e
+  below-rank : (k a b : K) (s : Ordering) → c k a ≡ Less → c b a ≡ s → is_lt s ≡ false → 2 ≤ rank (c k b)
+  below-rank k a b Less e f h = absurd (true≢false h)
+  below-rank k a b Equal e f h = subst (λ r. 2 ≤ rank r) (sym (alike_right total b a k f ∙ e)) (omega arith)
+  below-rank k a b Greater e f h = subst (λ r. 2 ≤ rank r) (sym (total.trans k a b e (turned a b Greater f))) (omega arith)
 
--- what is at equal keys
-get-same : {X : Type 0} (m : BTreeMap KeyLent X) (k q : KeyLent) → same_key (key_lent k) (key_lent q) ≡ true → get key_cmp m k ≡ get key_cmp m q
-get-same m k q same =
-    let tied : key_cmp k q ≡ Equal = tied-equal (key_cmp k q) (sym (key-tied k q) ∙ same) in
-    let level : (λ (z : KeyLent). key_cmp k z) ≡ (λ z. key_cmp q z) = λ i z. key_total.congr k q z tied i in
-    ap (λ (f : KeyLent → Ordering). get_by f m) level
+  -- what is not before something is not before a key where that is not
+  rises : (k a b : K) (r : Ordering) → c k a ≡ r → is_lt (c b a) ≡ false → rank r ≤ rank (c k b)
+  rises k a b Greater e up = omega arith
+  rises k a b Equal e up = level-rank k a b (c b a) e refl up
+  rises k a b Less e up = below-rank k a b (c b a) e refl up
 
--- # One more pattern at a key
+then-equal : (r : Ordering) → ordering_then r Equal ≡ r
+then-equal Less = refl
+then-equal Equal = refl
+then-equal Greater = refl
 
-put-by : (b : Bool) (f : Match → Match) (new old here : Option Match) (found : Match) → new ≡ cond b (Some (f found)) old → (b ≡ true → here ≡ old) → here ≡ Some found
-    → new ≡ (if b then option_map f old else old)
-put-by true f new old here found e same is = e ∙ ap (option_map f) (sym is ∙ same refl)
-put-by false f new old here found e same is = e
+first-not-less : (r s : Ordering) → is_lt (ordering_then r s) ≡ false → is_lt r ≡ false
+first-not-less Less s e = e
+first-not-less Equal s e = refl
+first-not-less Greater s e = e
 
-pub added-at : (m n : BTreeMap KeyLent Match) (k : KeyLent) (pattern : Entry) (found : Match) → get key_cmp m k ≡ Some found
-    → Updates key_cmp m n k (Some (with_pattern pattern found)) → (q : KeyLent)
-    → get key_cmp n q ≡ (if same_key (key_lent k) (key_lent q) then option_map (with_pattern pattern) (get key_cmp m q) else get key_cmp m q)
-added-at m n k pattern found is updates q =
-    put-by (same_key (key_lent k) (key_lent q)) (with_pattern pattern) (get key_cmp n q) (get key_cmp m q) (get key_cmp m k) found
-    (updates.0 q ∙ ap (λ b. cond b (Some (with_pattern pattern found)) (get key_cmp m q)) (sym (key-tied k q))) (get-same m k q) is
+pub rank-rises : (key : Key) (a b : Names) → is_lt (key_cmp b a) ≡ false → rank (key_order key a) ≤ rank (key_order key b)
+rank-rises (name, Some meant) a b up = rises key_cmp key_total (name, meant) a b (key_cmp (name, meant) a) refl up
+rank-rises (name, Nowhere) a b up =
+    let low : rank (ordering_then (slice_cmp nat_cmp name a.0) Equal) ≡ rank (slice_cmp nat_cmp name a.0) = ap rank (then-equal (slice_cmp nat_cmp name a.0)) in
+    let high : rank (ordering_then (slice_cmp nat_cmp name b.0) Equal) ≡ rank (slice_cmp nat_cmp name b.0) = ap rank (then-equal (slice_cmp nat_cmp name b.0)) in
+    let base = rises (slice_cmp nat_cmp) nat_list_cmp_total name a.0 b.0 (slice_cmp nat_cmp name a.0) refl
+    (first-not-less (slice_cmp nat_cmp b.0 a.0) (slice_cmp nat_cmp b.1 a.1) up) in
+    omega (arith, low, high, base)
 
--- # One more pattern at each key
+pub rank-most : (r : Ordering) → rank r ≤ 2
+rank-most Less = omega arith
+rank-most Equal = omega arith
+rank-most Greater = omega arith
 
-matched-more : (patterns : List Entry) (pattern : Entry) → matched (patterns ++ pattern ∷ []) ≡ with_pattern pattern (matched patterns)
-matched-more [] pattern = refl
-matched-more (one ∷ []) pattern = refl
-matched-more (one ∷ (two ∷ others)) pattern = refl
+pub before-rank : (r : Ordering) → is_gt r ≡ true → rank r ≡ 0
+before-rank Less e = absurd (true≢false (sym e))
+before-rank Equal e = absurd (true≢false (sym e))
+before-rank Greater e = refl
 
-match-by : (a b : Bool) (patterns : List Entry) (pattern : Entry)
-    → (if b then option_map (with_pattern pattern) (if a then Some (matched patterns) else Nowhere) else (if a then Some (matched patterns) else Nowhere))
-    ≡ (if a then Some (matched (patterns ++ cond b (pattern ∷ []) [])) else Nowhere)
-match-by true true patterns pattern = ap Some (sym (matched-more patterns pattern))
-match-by false true patterns pattern = refl
-match-by true false patterns pattern = ap (λ (w : List Entry). Some (matched w)) (sym (append-nil patterns))
-match-by false false patterns pattern = refl
+pub rank-before : (r : Ordering) → rank r ≤ 0 → is_gt r ≡ true
+rank-before Less e = absurd (omega arith)
+rank-before Equal e = absurd (omega arith)
+rank-before Greater e = refl
 
--- the matches with one more pattern
-pub match-more : (claims : List Claim) (patterns : List Entry) (pattern : Entry) (key : Key)
-    → (if is_of key pattern then option_map (with_pattern pattern) (match_at claims patterns key) else match_at claims patterns key)
-    ≡ match_at claims (patterns ++ pattern ∷ []) key
-match-more claims patterns pattern key =
-    match-by (has_key claims key) (is_of key pattern) (filter (is_of key) patterns) pattern
-    ∙ ap (λ (w : List Entry). if has_key claims key then Some (matched w) else Nowhere) (sym (filter-append (is_of key) patterns (pattern ∷ [])))
+pub level-is : (r : Ordering) → is_eq r ≡ true → rank r ≡ 1
+level-is Less e = absurd (true≢false (sym e))
+level-is Equal e = refl
+level-is Greater e = absurd (true≢false (sym e))
 
--- # One more claim
+pub other-rank : (r : Ordering) → is_eq r ≡ false → 1 ≤ rank r → 2 ≤ rank r
+other-rank Less e h = omega arith
+other-rank Equal e h = absurd (true≢false e)
+other-rank Greater e h = absurd (omega arith)
 
-claim-by : (a b : Bool) → cond b (Some Nothing) (if a then Some Nothing else Nowhere) ≡ (if a || (b || false) then Some Nothing else Nowhere)
-claim-by true true = refl
-claim-by true false = refl
-claim-by false true = refl
-claim-by false false = refl
+pub not-level : (r : Ordering) → 2 ≤ rank r → is_eq r ≡ false
+not-level Less h = refl
+not-level Equal h = absurd (omega arith)
+not-level Greater h = refl
 
-pub claim-more : (claims : List Claim) (claim : Claim) (m n : BTreeMap KeyLent Match) (k q : KeyLent) → key_lent k ≡ key_of claim → Updates key_cmp m n k (Some Nothing)
-    → get key_cmp m q ≡ match_at claims [] (key_lent q) → get key_cmp n q ≡ match_at (claims ++ claim ∷ []) [] (key_lent q)
-claim-more claims claim m n k q is updates before =
-    updates.0 q
-    ∙ ap₂ (λ (b : Bool) (o : Option Match). cond b (Some Nothing) o) (sym (key-tied k q) ∙ ap (λ (j : Key). same_key j (key_lent q)) is) before
-    ∙ claim-by (has_key claims (key_lent q)) (same_key (key_of claim) (key_lent q))
-    ∙ ap (λ (b : Bool). if b then Some Nothing else Nowhere) (sym (list_any-append (λ c. same_key (key_of c) (key_lent q)) claims (claim ∷ [])))
+pub before-other : (r : Ordering) → is_gt r ≡ true → is_eq r ≡ false
+before-other Less e = refl
+before-other Equal e = absurd (true≢false (sym e))
+before-other Greater e = refl
 
-pub claims-take : (claims : List ClaimRead) (i : ℕ) (d : ClaimRead) → i < length claims
-    → claims_read (take (i + 1) claims) ≡ claims_read (take i claims) ++ claim_read (get_or claims i d) ∷ []
-claims-take claims i d less = ap claims_read (take_more claims i d less) ∙ map-append claim_read (take i claims) (get_or claims i d ∷ [])
+pub not-before : (r : Ordering) → is_gt r ≡ false → 1 ≤ rank r
+not-before Less e = omega arith
+not-before Equal e = omega arith
+not-before Greater e = absurd (true≢false e)
 
-pub match-taken : (claims : List Claim) (before all : List Entry) (i : ℕ) (d : Entry) (key : Key) (old new : Option Match) → i < length all
-    → old ≡ match_at claims (before ++ take i all) key
-    → new ≡ (if is_of key (get_or all i d) then option_map (with_pattern (get_or all i d)) old else old) → new ≡ match_at claims (before ++ take (i + 1) all) key
-match-taken claims before all i d key old new less first step =
-    let one = get_or all i d in
-    step
-    ∙ ap (λ (o : Option Match). if is_of key one then option_map (with_pattern one) o else o) first
-    ∙ match-more claims (before ++ take i all) one key
-    ∙ ap (λ (patterns : List Entry). match_at claims patterns key) (append_assoc before (take i all) (one ∷ []) ∙ ap (λ (more : List Entry). before ++ more) (sym (take_more all i d less)))
+-- # Keys that are the same
 
--- # What is found at a key
+meant-is : (one other : Option (List ℕ)) → option_eq (pointwise nat_eq) one other ≡ true → one ≡ other
+meant-is Nowhere Nowhere e = refl
+meant-is Nowhere (Some b) e = absurd (true≢false (sym e))
+meant-is (Some a) Nowhere e = absurd (true≢false (sym e))
+meant-is (Some a) (Some b) e = ap Some ((bytes_decides a b).0 e)
 
-pub one-match : (claims : List Claim) (patterns : List Entry) (claim : Claim) (key : Key) (here : Option Match) → key ≡ key_of claim → has_key claims (key_of claim) ≡ true
-    → here ≡ match_at claims patterns key → here ≡ Some (matched (patterns_of claim patterns))
-one-match claims patterns claim key here is own at =
-    at
-    ∙ ap (match_at claims patterns) is
-    ∙ ap (λ (b : Bool). if b then Some (matched (patterns_of claim patterns)) else Nowhere) own
+pub key-is : (one other : Key) → same_key one other ≡ true → one ≡ other
+key-is one other e =
+    let both = and_parts (pointwise nat_eq one.0 other.0) (option_eq (pointwise nat_eq) one.1 other.1) e in
+    ap₂ (λ (a : List ℕ) (b : Option (List ℕ)). (a, b)) ((bytes_decides one.0 other.0).0 both.0) (meant-is one.1 other.1 both.1)
 
-some-if : {X : Type 0} (b : Bool) (x : X) → is_some (if b then Some x else Nowhere) ≡ b
-some-if true x = refl
-some-if false x = refl
+pub key-itself : (key : Key) → same_key key key ≡ true
+key-itself (name, meant) = ap₂ (λ a b. a && b) (nat_list_eq_equiv.refl name) ((options_equiv nat_list_eq_equiv).refl meant)
 
-pub some-match : (claims : List Claim) (patterns : List Entry) (key : Key) → is_some (match_at claims patterns key) ≡ has_key claims key
-some-match claims patterns key = some-if (has_key claims key) (matched (filter (is_of key) patterns))
+-- # Claims by their keys
 
 name-or : (a : Bool) → (a && true) ≡ ((a && true) || (a && false))
 name-or true = refl
@@ -140,9 +128,9 @@ both-or : (a b : Bool) → (a && b) ≡ ((a && false) || (a && b))
 both-or true b = refl
 both-or false b = refl
 
-of-either : (key : Key) (pattern : Entry) → is_of key pattern ≡ (same_key key (name_key pattern) || same_key key (whole_key pattern))
-of-either (name, Nowhere) pattern = name-or (pointwise nat_eq name pattern.name.now)
-of-either (name, Some collection) pattern = both-or (pointwise nat_eq name pattern.name.now) (pointwise nat_eq collection pattern.collection_name.now)
+of-either : (key : Key) (names : Names) → has_names key names ≡ (same_key key (names.0, Nowhere) || same_key key (names.0, Some names.1))
+of-either (name, Nowhere) names = name-or (pointwise nat_eq name names.0)
+of-either (name, Some meant) names = both-or (pointwise nat_eq name names.0) (pointwise nat_eq meant names.1)
 
 or-apart : (a b c d : Bool) → ((a || b) || (c || d)) ≡ ((a || c) || (b || d))
 or-apart true b c d = refl
@@ -150,19 +138,15 @@ or-apart false true true d = refl
 or-apart false true false d = refl
 or-apart false false c d = refl
 
-pub claimed-by : (claims : List Claim) (pattern : Entry) → is_claimed claims pattern ≡ (has_key claims (name_key pattern) || has_key claims (whole_key pattern))
-claimed-by [] pattern = refl
-claimed-by (claim ∷ claims) pattern =
-    ap₂ (λ a b. a || b) (of-either (key_of claim) pattern) (claimed-by claims pattern)
-    ∙ or-apart (same_key (key_of claim) (name_key pattern)) (same_key (key_of claim) (whole_key pattern)) (has_key claims (name_key pattern)) (has_key claims (whole_key pattern))
+pub claimed-by : (claims : List Claim) (names : Names) → names_claimed claims names ≡ (has_key claims (names.0, Nowhere) || has_key claims (names.0, Some names.1))
+claimed-by [] names = refl
+claimed-by (claim ∷ claims) names =
+    ap₂ (λ a b. a || b) (of-either (key_of claim) names) (claimed-by claims names)
+    ∙ or-apart (same_key (key_of claim) (names.0, Nowhere)) (same_key (key_of claim) (names.0, Some names.1)) (has_key claims (names.0, Nowhere)) (has_key claims (names.0, Some names.1))
 
-key-itself : (key : Key) → same_key key key ≡ true
-key-itself (name, meant) = ap₂ (λ a b. a && b) (nat_list_eq_equiv.refl name) ((options_equiv nat_list_eq_equiv).refl meant)
+-- each pattern has its own names
+pub own-name : (names : Names) → has_names (names.0, Nowhere) names ≡ true
+own-name names = ap (λ a. a && true) (nat_list_eq_equiv.refl names.0)
 
--- a claim among others has its key
-pub has-own : (claims : List ClaimRead) (i : ℕ) (d : ClaimRead) → i < length claims → has_key (claims_read claims) (key_of (claim_read (get_or claims i d))) ≡ true
-has-own [] i d less = absurd (omega arith)
-has-own (claim ∷ claims) zero d less = ap (λ b. b || has_key (claims_read claims) (key_of (claim_read claim))) (key-itself (key_of (claim_read claim)))
-has-own (claim ∷ claims) (suc i) d less =
-    let key = key_of (claim_read (get_or claims i d)) in
-    ap (λ b. same_key (key_of (claim_read claim)) key || b) (has-own claims i d (omega arith)) ∙ or-true (same_key (key_of (claim_read claim)) key)
+pub own-names : (names : Names) → has_names (names.0, Some names.1) names ≡ true
+own-names names = ap₂ (λ a b. a && b) (nat_list_eq_equiv.refl names.0) (nat_list_eq_equiv.refl names.1)

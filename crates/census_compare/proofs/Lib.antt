@@ -1,6 +1,9 @@
 pub mod Agreeing
 pub mod Claiming
 pub mod Keys
+pub mod Spotted
+pub mod Known
+pub mod Noting
 pub mod Noted
 pub mod Numbers
 pub mod Silent

@@ -1,11 +1,11 @@
 -- What the rows of a text claim.
-use Rattle.std.specs.Prelude.{ℕ, Bool, ◌&&◌, if◌then◌else◌, Option, Some, None, Result, Ok, Err, List, [], ◌∷◌, ◌++◌, map}
-use Rattle.std.specs.List.{list_any}
+use Rattle.std.specs.Prelude.{ℕ, Bool, ◌&&◌, if◌then◌else◌, Option, Some, None, Result, Ok, Err, List, [], ◌∷◌, ◌++◌, drop, map}
+use Rattle.std.specs.List.{cons_option, list_any}
 use Rattle.std.specs.Option.{option_map}
 use Rattle.census_table.specs.declared.column.Column.{Column}
 use Rattle.census_table.specs.declared.column.Column.TheVariants as column
 use Rattle.census_compare.specs.Columns.{Title, fits, is_compared, is_name, title_of}
-use Rattle.census_compare.specs.Rows.{Row, whole, broken, rows_of}
+use Rattle.census_compare.specs.Rows.{Row, whole, broken, line_of, rows_of}
 use Rattle.census_compare.specs.declared.claim.Claim.{Claim as ClaimRead}
 use Rattle.census_compare.specs.declared.claim.Cell.{Cell as CellRead}
 use Rattle.census_compare.specs.declared.columns.Title.{Title as TitleRead}
@@ -27,9 +27,6 @@ cell_read cell = record { column = cell.column; value = cell.value.items }
 
 abbrev pub claim_read : ClaimRead → Claim
 claim_read claim = record { name = claim.name.items; collection = claim.collection.items; cells = map cell_read claim.cells.items }
-
-abbrev pub claims_read : List ClaimRead → List Claim
-claims_read claims = map claim_read claims
 
 abbrev pub no_claim : Claim
 no_claim = record { name = []; collection = []; cells = [] }
@@ -65,9 +62,6 @@ nothing_taken = record { titles = []; claims = [] }
 abbrev pub title_read : TitleRead → Title
 title_read title = record { text = title.text.items; column = title.column }
 
-abbrev pub all_read : ClaimsRead → Taken
-all_read claims = record { titles = map title_read claims.titles.items; claims = claims_read claims.items.items }
-
 -- these titles have a column of names, and one that is compared
 abbrev pub are_titles : List Title → Bool
 are_titles titles = list_any (λ title. is_name title.column) titles && list_any (λ title. is_compared title.column) titles
@@ -93,3 +87,33 @@ claims_from taken (broken line ∷ rows) = Err line
 -- The titles and the claims of a text, or the line from 1 on which its first fault is.
 abbrev pub claims_in : List ℕ → Result Taken ℕ
 claims_in text = claims_from nothing_taken (rows_of text)
+
+-- # A text row by row
+
+-- what a row claims; a faulty one claims nothing
+abbrev pub claim_in : List Title → Row → Option Claim
+claim_in titles (whole line cells) = claim_from no_claim titles cells
+claim_in titles (broken line) = None
+
+-- what these rows claim
+abbrev pub claims_left : List Title → List Row → List Claim
+claims_left titles [] = []
+claims_left titles (row ∷ rows) = cons_option (claim_in titles row) (claims_left titles rows)
+
+-- the line of the first row that is no claim
+abbrev pub first_fault : List Title → List Row → Option ℕ
+first_fault titles [] = None
+first_fault titles (row ∷ rows) = elim (claim_in titles row) [ None ↦ Some (line_of row) | Some claim ↦ first_fault titles rows ]
+
+-- the titles of the first row, or the line of a faulty one
+abbrev pub header_in : List Row → Result (List Title) ℕ
+header_in [] = Err 1
+header_in (whole line cells ∷ rows) = if are_titles (map title_of cells) then Ok (map title_of cells) else Err line
+header_in (broken line ∷ rows) = Err line
+
+-- the claims that are read again from a text
+abbrev pub claims_read : ClaimsRead → List Claim
+claims_read claims = claims_left (map title_read claims.titles.items) (drop 1 (rows_of claims.text.now))
+
+abbrev pub all_read : ClaimsRead → Taken
+all_read claims = record { titles = map title_read claims.titles.items; claims = claims_read claims }

@@ -1,7 +1,7 @@
 pub mod Agreement
 pub mod Claims
 pub mod Columns
-pub mod Found
+pub mod Index
 pub mod Numbers
 pub mod Patterns
 pub mod Read

@@ -5,8 +5,8 @@ use Rattle.std.specs.List.{list_any}
 use Rattle.std.specs.Option.{option_map_or}
 use Rattle.census_table.specs.declared.entry.Entry.{Entry}
 use Rattle.census_compare.specs.Claims.{Claim}
-use Rattle.census_compare.specs.declared.matching.Match.{Match}
-use Rattle.census_compare.specs.declared.matching.Match.TheVariants.{Nothing, One, Several}
+use Rattle.census_compare.specs.declared.index.Match.{Match}
+use Rattle.census_compare.specs.declared.index.Match.TheVariants.{Nothing, One, Several}
 
 -- the name of a pattern, and that of its collection if one is given
 abbrev pub Key : Type 0

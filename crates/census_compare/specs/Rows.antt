@@ -49,6 +49,10 @@ pub data Row : Type 0 where
   whole : ℕ → List (List ℕ) → Row
   broken : ℕ → Row
 
+abbrev pub line_of : Row → ℕ
+line_of (whole line cells) = line
+line_of (broken line) = line
+
 -- the row that the end of a text makes: none where it follows the last row
 abbrev pub ended : Place → List (List ℕ) → ℕ → List (List ℕ) → List Row
 ended Start [] line cells = []

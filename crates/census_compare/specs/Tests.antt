@@ -6,8 +6,8 @@ use Rattle.census_table.specs.declared.entry.Entry.{Entry}
 use Rattle.census_compare.specs.Agreement.{told}
 use Rattle.census_compare.specs.Claims.{Cell, Claim}
 use Rattle.census_compare.specs.Patterns.{is_claimed, matched, patterns_of}
-use Rattle.census_compare.specs.declared.matching.Match.{Match}
-use Rattle.census_compare.specs.declared.matching.Match.TheVariants.{One}
+use Rattle.census_compare.specs.declared.index.Match.{Match}
+use Rattle.census_compare.specs.declared.index.Match.TheVariants.{One}
 
 abbrev pub cell_agrees : Entry → Cell → Bool
 cell_agrees pattern cell = pointwise nat_eq cell.value (told cell.column pattern)

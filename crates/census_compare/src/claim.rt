@@ -1,8 +1,10 @@
 //! What a row claims.
 ghost use Rattle.std.specs.Prelude.{◌≡◌, IfOk, OnOk, map, option_map};
-ghost use Rattle.census_compare.specs.Claims.{claim_from, claim_read, no_claim, title_read, with_cell, with_value};
+ghost use Rattle.census_compare.specs.Claims.{claim_from, claim_in, claim_read, no_claim, title_read, with_cell, with_value};
+ghost use Rattle.census_compare.specs.Read.{row_read};
 
 use crate::columns::{Title, fits};
+use crate::rows::TextRow;
 use census_table::Column;
 use std::alloc::{AllocError, Global};
 
@@ -66,13 +68,9 @@ fn add_cell(
     Ok(())
 }
 
-/// What a row with these cells claims. `None`: it has more or fewer cells than there are titles, or a cell in a column of
-/// numbers is no number. The only error is out of memory.
-pub fn claim_of(
-    alloc: Global,
-    titles: &[Title],
-    cells: &[Vec<u8>],
-) -> Result<Option<Claim>, AllocError>
+// What a row with these cells claims. `None`: it has more or fewer cells than there are titles, or a cell in a column of
+// numbers is no number.
+fn claim_of(alloc: Global, titles: &[Title], cells: &[Vec<u8>]) -> Result<Option<Claim>, AllocError>
     ensures { IfOk result (λ claim. option_map claim_read claim
         ≡ claim_from no_claim (map title_read titles.now) (map (λ cell. cell.items) cells.now)) }
 {
@@ -93,4 +91,15 @@ pub fn claim_of(
         add_cell(alloc, &mut claim, &column, cell)?;
     }
     Ok(Some(claim))
+}
+
+/// What a row claims. `None`: it is faulty, has more or fewer cells than there are titles, or a cell in a column of numbers is no
+/// number. The only error is out of memory.
+pub fn claim_in(alloc: Global, titles: &[Title], row: TextRow) -> Result<Option<Claim>, AllocError>
+    ensures { IfOk result (λ claim. option_map claim_read claim ≡ claim_in (map title_read titles.now) (row_read row)) }
+{
+    match row {
+        TextRow::Whole(_, cells) => claim_of(alloc, titles, cells.as_slice()),
+        TextRow::Broken(_) => Ok(None),
+    }
 }

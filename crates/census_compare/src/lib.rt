@@ -4,21 +4,20 @@
 
 mod claim;
 mod columns;
-mod found;
+mod index;
 mod lines;
 mod listing;
-mod matching;
 mod notes;
 mod place;
 mod reading;
+mod rows;
 mod same;
 mod starts;
-mod taken;
+mod titles;
 mod told;
 mod tolds;
 mod verdict;
 
-pub use claim::{Cell, Claim};
 pub use columns::{Title, numbers_may_be_claimed};
 pub use notes::{compared_line, counted_note};
 pub use reading::{Claims, read_claims};

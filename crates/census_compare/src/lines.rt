@@ -7,7 +7,7 @@ ghost use Rattle.census_compare.specs.Columns.{is_empty};
 ghost use Rattle.census_compare.specs.Tests.{cell_agrees, match_agrees};
 
 use crate::claim::{Cell, Claim};
-use crate::matching::Match;
+use crate::index::Match;
 use census_faults::printable_text;
 use census_table::{Column, Entry};
 use std::alloc::{AllocError, Global};
@@ -112,15 +112,15 @@ pub fn claim_lines(alloc: Global, claim: &Claim, found: &Match) -> Result<Vec<u8
     Ok(text)
 }
 
-/// The line of a pattern that no claim is about.
-pub fn unclaimed_line(alloc: Global, pattern: &Entry) -> Result<Vec<u8>, AllocError>
+/// The line of a pattern that no claim is about, by the names of its collection and its own.
+pub fn unclaimed_line(alloc: Global, collection: &[u8], name: &[u8]) -> Result<Vec<u8>, AllocError>
     ensures { IfOk result (λ text. is_empty text.items ≡ false) }
 {
     let mut text = Vec::new(alloc);
     text.extend_from_slice(b"unclaimed ")?;
-    push_shown(&mut text, pattern.collection_name)?;
+    push_shown(&mut text, collection)?;
     text.extend_from_slice(b"/")?;
-    push_shown(&mut text, pattern.name)?;
+    push_shown(&mut text, name)?;
     push_end(&mut text)?;
     Ok(text)
 }

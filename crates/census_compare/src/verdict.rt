@@ -1,23 +1,23 @@
 //! What is reported about claims.
-ghost use Rattle.std.specs.Prelude.{◌≡◌, ◌&&◌, List, ℕ, IfOk};
+ghost use Rattle.std.specs.Prelude.{◌≡◌, ◌&&◌, ◌++◌, [], List, ℕ, IfOk, OnOk, option_map};
 ghost use Rattle.std.specs.List.{list_all};
+ghost use Rattle.std.specs.Option.{option_to_list};
 ghost use Rattle.watched.specs.Telling.{TellsAfter, sheet};
 ghost use Rattle.census_readback.specs.Shapes.{AreReports};
 ghost use Rattle.census_table.specs.Entries.{entries_of};
 ghost use Rattle.census_compare.specs.Agreement.{IsVerdict};
-ghost use Rattle.census_compare.specs.Claims.{claims_read};
+ghost use Rattle.census_compare.specs.Claims.{Claim as ClaimRead, claim_read, claims_read};
 ghost use Rattle.census_compare.specs.Columns.{is_empty};
-ghost use Rattle.census_compare.specs.Found.{IsFound, patterns_in};
+ghost use Rattle.census_compare.specs.Index.{AreNoted, IsIndex, patterns_in};
 ghost use Rattle.census_compare.specs.Patterns.{is_claimed};
 ghost use Rattle.census_compare.specs.Reporting.{Reports};
 ghost use Rattle.census_compare.specs.Tests.{claim_agrees};
 
-use crate::found::{Found, find};
+use crate::claim::{Claim, claim_in};
+use crate::index::Index;
 use crate::lines::{claim_lines, unclaimed_line};
-use crate::matching::section_patterns;
 use crate::reading::Claims;
-use census_rows::{Rows, Section};
-use census_table::Entry;
+use census_rows::Rows;
 use std::alloc::{AllocError, Global};
 use std::io::Write;
 use watched::{Block, Output, put};
@@ -29,62 +29,46 @@ fn agree_after(before: bool, text: &[u8]) -> bool
     before && text.is_empty()
 }
 
-// Writes what does not agree, claim by claim. Returns whether all agree, and nothing was written.
+// The lines about a claim, which is noted; none where there is no claim.
+fn lines_of(alloc: Global, index: &mut Index, claim: Option<Claim>) -> Result<Vec<u8>, AllocError>
+    requires { IsIndex index.old }
+    ensures is { OnOk result (IsIndex index.new) }
+    ensures patterns { OnOk result (patterns_in index.new ≡ patterns_in index.old) }
+    ensures noted { OnOk result ((claims : List ClaimRead) → AreNoted claims index.old
+        → AreNoted (claims ++ option_to_list (option_map claim_read claim)) index.new) }
+    ensures agree { IfOk result (λ text. is_empty text.items
+        ≡ list_all (claim_agrees (patterns_in index.old)) (option_to_list (option_map claim_read claim))) }
+{
+    let Some(claim) = claim else {
+        return Ok(Vec::new(alloc));
+    };
+    let found = index.match_of(alloc, &claim)?;
+    index.note(&claim);
+    claim_lines(alloc, &claim, &found)
+}
+
+// Writes what does not agree, claim by claim, and notes the claims. Returns whether all agree, and nothing was written.
 fn put_claims<W: Write>(
     alloc: Global,
-    found: &Found,
+    claims: &Claims,
+    index: &mut Index,
     block: &mut Block,
     writer: &mut Output<W>,
 ) -> Result<bool, AllocError>
-    requires { IsFound found.now }
+    requires is { IsIndex index.old }
+    requires none { AreNoted [] index.old }
     ensures tells { IfOk result (λ agree. Reports agree (sheet block.old writer.old) (sheet block.new writer.new)) }
     ensures agree { IfOk result (λ agree. agree
-        ≡ list_all (claim_agrees (patterns_in found.now)) (claims_read found.now.claims.now)) }
+        ≡ list_all (claim_agrees (patterns_in index.old)) (claims_read claims.now)) }
+    ensures is_new { OnOk result (IsIndex index.new) }
+    ensures patterns { OnOk result (patterns_in index.new ≡ patterns_in index.old) }
+    ensures noted { OnOk result (AreNoted (claims_read claims.now) index.new) }
 {
     let mut agree = true;
-    for index in 0..found.claims.len() {
-        let claim = &found.claims[index];
-        let text = claim_lines(alloc, claim, &found.match_of(claim))?;
-        let bytes = text.as_slice();
-        agree = agree_after(agree, bytes);
-        put(bytes, block, writer);
-    }
-    Ok(agree)
-}
-
-// The line of a pattern, unless a claim is about it.
-fn unclaimed_text<'a>(
-    alloc: Global,
-    found: &Found<'_, 'a>,
-    pattern: &Entry<'a>,
-) -> Result<Vec<u8>, AllocError>
-    requires { IsFound found.now }
-    ensures { IfOk result (λ text. is_empty text.items
-        ≡ is_claimed (claims_read found.now.claims.now) pattern.now) }
-{
-    if found.is_claimed(pattern) {
-        Ok(Vec::new(alloc))
-    } else {
-        unclaimed_line(alloc, pattern)
-    }
-}
-
-// Writes a line for each of these patterns that no claim is about. Returns whether there is none, and nothing was written.
-fn put_unclaimed<'a, W: Write>(
-    alloc: Global,
-    found: &Found<'_, 'a>,
-    patterns: &[Entry<'a>],
-    block: &mut Block,
-    writer: &mut Output<W>,
-) -> Result<bool, AllocError>
-    requires { IsFound found.now }
-    ensures tells { IfOk result (λ agree. Reports agree (sheet block.old writer.old) (sheet block.new writer.new)) }
-    ensures agree { IfOk result (λ agree. agree
-        ≡ list_all (is_claimed (claims_read found.now.claims.now)) patterns.now) }
-{
-    let mut agree = true;
-    for pattern in patterns {
-        let text = unclaimed_text(alloc, found, pattern)?;
+    let mut rows = claims.rows(alloc)?;
+    while let Some(row) = rows.next(alloc)? {
+        let claim = claim_in(alloc, claims.titles.as_slice(), row)?;
+        let text = lines_of(alloc, index, claim)?;
         let bytes = text.as_slice();
         agree = agree_after(agree, bytes);
         put(bytes, block, writer);
@@ -93,24 +77,24 @@ fn put_unclaimed<'a, W: Write>(
 }
 
 // Writes a line for each pattern that no claim is about. Returns whether there is none, and nothing was written.
-fn put_sections<W: Write>(
+fn put_unclaimed<W: Write>(
     alloc: Global,
-    found: &Found,
+    index: &Index,
     block: &mut Block,
     writer: &mut Output<W>,
 ) -> Result<bool, AllocError>
-    requires { IsFound found.now }
+    requires { IsIndex index.now }
     ensures tells { IfOk result (λ agree. Reports agree (sheet block.old writer.old) (sheet block.new writer.new)) }
-    ensures agree { IfOk result (λ agree. agree
-        ≡ list_all (is_claimed (claims_read found.now.claims.now)) (patterns_in found.now)) }
+    ensures agree { (claims : List ClaimRead) → AreNoted claims index.now → IfOk result (λ agree. agree
+        ≡ list_all (is_claimed claims) (patterns_in index.now)) }
 {
     let mut agree = true;
-    for index in 0..found.sections.len() {
-        let number = (index + 1) as u64;
-        let rows = found.sections.section(index);
-        let patterns = section_patterns(alloc, number, &rows)?;
-        let claimed = put_unclaimed(alloc, found, patterns.as_slice(), block, writer)?;
-        agree &= claimed;
+    let left = index.unclaimed(alloc)?;
+    for spot in left.as_slice() {
+        let text = unclaimed_line(alloc, spot.collection, spot.name)?;
+        let bytes = text.as_slice();
+        agree = agree_after(agree, bytes);
+        put(bytes, block, writer);
     }
     Ok(agree)
 }
@@ -134,12 +118,12 @@ pub fn put_verdict<W: Write>(
 ) -> Result<bool, AllocError>
     requires { AreReports rows.now }
     ensures { IfOk result (λ any. (text : List ℕ)
-        × IsVerdict (claims_read claims.now.items.items) (entries_of rows.now) any text
+        × IsVerdict (claims_read claims.now) (entries_of rows.now) any text
         × TellsAfter text (sheet block.old writer.old) (sheet block.new writer.new)) }
 {
-    let found = find(alloc, claims.items.as_slice(), rows)?;
-    let mut agree = put_claims(alloc, &found, block, writer)?;
-    let claimed = put_sections(alloc, &found, block, writer)?;
+    let mut index = Index::of(alloc, rows)?;
+    let mut agree = put_claims(alloc, claims, &mut index, block, writer)?;
+    let claimed = put_unclaimed(alloc, &index, block, writer)?;
     agree &= claimed;
     Ok(!agree)
 }
