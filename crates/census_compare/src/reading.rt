@@ -56,7 +56,7 @@ fn read_header(alloc: Global, rows: &mut Reader) -> Result<Result<Vec<Title>, us
 // The line of the first row that is no claim, if there is one.
 fn first_fault(alloc: Global, titles: &[Title], rows: Reader) -> Result<Option<usize>, AllocError>
     requires { HasLines rows }
-    ensures { IfOk result (λ line. line ≡ first_fault (map title_read titles.now) (rows_left rows)) }
+    ensures { IfOk result (λ line. line ≡ first_fault (map title_read titles.now) (rows_left rows.entry)) }
 {
     let mut rows = rows;
     while let Some(row) = rows.next(alloc)? {

@@ -104,9 +104,9 @@ fn write_read<O: Write, E: Write>(
 ///
 /// All texts are read before the first is looked at, and all reports before the first byte is written. From then on no memory is
 /// asked for but the block that is written; for a table the text of some rows at a time and its names; for a page its names, the
-/// codes and the life spans of one collection and the text of one picture or name at a time; for `Same` a list of the patterns that are objects; and for
-/// `Verdict` a list of the patterns, in 50 bytes each, and one claim at a time. So nothing is written on any error but these two: on
-/// `Write` a prefix of what is made of them is, and on `Memory` one may be of all but `Merged`:
+/// codes and the life spans of one collection and the text of one picture or name at a time; for `Same` a list of the patterns
+/// that are objects; and for `Verdict` a list of the patterns, in 50 bytes each, and one claim at a time. So nothing is written
+/// on any error but these two: on `Write` a prefix of what is made of them is, and on `Memory` one may be of all but `Merged`:
 ///
 /// - `Unread`: the text of a word can't be read, or has more than 67,108,864 bytes, or has more bytes than the limit together with
 ///   those of the words before it. Those of the words before it were read, and none of a word after it.
