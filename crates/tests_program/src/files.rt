@@ -109,7 +109,7 @@ census: -:1:1: the header line is malformed: it must have the form `x = 3, y = 3
         &["table", "--codes", "--names", "tests_tree/names"],
         REPORT,
         0,
-        b"rule,code,common_name,count,patterns,first_collection_name,first_name\nB3/S23,xp2_7,blinker,2,2,r,p\n",
+        b"rule,code,common_name,count,patterns,first_collection_name,first_name,share\nB3/S23,xp2_7,blinker,2,2,r,p,1.000000\n",
         b"",
     ),
     (
