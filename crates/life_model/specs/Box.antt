@@ -1,4 +1,4 @@
--- The bounding box of a set: how wide and how high it is.
+-- The bounding box of a set: its width and its height.
 use Rattle.std.specs.Prelude.{ℕ, ◌+◌, max, List, [], ◌∷◌, map, nat_abs}
 use Rattle.life_model.specs.Generation.{Generation, cells}
 use Rattle.life_model.specs.Symmetry.{normal}

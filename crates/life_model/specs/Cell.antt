@@ -6,11 +6,11 @@ use Rattle.std.specs.declared.cmp.Ordering.{Ordering}
 abbrev pub Cell : Type 0
 Cell = ℤ × ℤ
 
--- by y, and then by x
+-- by y, then by x
 abbrev pub cell_cmp : Cell → Cell → Ordering
 cell_cmp a b = ordering_then (int_cmp a.1 b.1) (int_cmp a.0 b.0)
 
--- whether two cells are one
+-- true where two cells are the same
 abbrev pub same_cell : Cell → Cell → Bool
 same_cell a b = eq_by_cmp cell_cmp a b
 

@@ -1,4 +1,4 @@
--- How rules and generations are kept as values that contracts see.
+-- Rules and generations as values that contracts see.
 use Rattle.std.specs.Prelude.{ℕ, refl}
 use Rattle.std.specs.FinMap as finmap
 use Rattle.std.specs.Coded.{Coded, code_by, coded×, coded_ℕ, coded_ℤ}
@@ -6,7 +6,7 @@ use base.Stored.{coded_unit}
 use Rattle.life_model.specs.Generation.{Generation}
 use Rattle.life_model.specs.Rule.{Rule}
 
--- as a pair of numbers
+-- a rule, as a pair of numbers
 abbrev pub coded_rule : Coded Rule
 coded_rule = code_by (ℕ × ℕ) (coded× coded_ℕ coded_ℕ) (λ r. (r.birth, r.survival)) (λ p. record { birth = p.0; survival = p.1 }) (λ _. refl)
 

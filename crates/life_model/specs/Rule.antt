@@ -6,15 +6,15 @@ pub record Rule : Type 0 where
   pub birth : ℕ
   pub survival : ℕ
 
--- whether bit n is set
+-- true where bit n is set
 abbrev pub has_bit : ℕ → ℕ → Bool
 has_bit bits n = ((bits / 2 ^ n) % 2) == 1
 
--- whether a dead cell with n live neighbours is born
+-- true where a dead cell with n live neighbours is born
 unfoldable pub born : Rule → ℕ → Bool
 born R zero = false
 born R (suc n) = has_bit R.birth (suc n)
 
--- whether a live cell with n live neighbours stays
+-- true where a live cell with n live neighbours stays
 unfoldable pub stays : Rule → ℕ → Bool
 stays R n = has_bit R.survival n

@@ -21,12 +21,13 @@ pub fn cells_are_ordered()
     ensures exact { IsAntisymmetric cell_cmp }
 {}
 
-/// A generation is what its members are.
+/// Generations with the same members are equal.
 pub fn members_tell_generations()
     ensures { (G H : Generation) → ((c : Cell) → contains G c ≡ contains H c) → G ≡ H }
 {}
 
-/// The members are in one order, each once, and any list in that order is the members of a generation.
+/// A generation lists its members in order, each once. `from_list` makes a generation of any list; that of a list in order
+/// lists the same cells.
 pub fn members_in_order()
     ensures listed { (G : Generation) (c : Cell) → contains G c ≡ list_any (same_cell c) (cells G) }
     ensures rising { (G : Generation) → T (is_rising (cells G)) }
@@ -35,8 +36,8 @@ pub fn members_in_order()
     ensures again { (cs : List Cell) → T (is_rising cs) → cells (from_list cs) ≡ cs }
 {}
 
-/// A cell of the plane is live next if its count of live neighbours says so: a live one stays, a dead one is born. None is born
-/// without a neighbour.
+/// A live cell is live in the next generation if it stays with its number of live neighbours, and a dead one if it is born with
+/// that number. None is born without a live neighbour.
 pub fn next_by_members()
     ensures next { (R : Rule) (G : Generation) (c : Cell) →
         contains (next R G) c ≡ cond (contains G c) (stays R (count G c)) (born R (count G c)) }
@@ -57,7 +58,7 @@ pub fn next_commutes()
         next R (image_under G m) ≡ image_under (next R G) m }
 {}
 
-/// A set with a cell comes to one place by one move alone.
+/// Only one move takes a set with a cell to a given place.
 pub fn a_move_is_unique()
     ensures { (G : Generation) (c d e : Cell) → contains G c ≡ true →
         translate_of G d ≡ translate_of G e → d ≡ e }
@@ -76,7 +77,7 @@ pub fn normal_form_stands_at_the_origin()
     ensures empty { normal empty ≡ empty }
 {}
 
-/// Two sets have one normal form exactly if one is the other, moved.
+/// Two sets have the same normal form exactly if one is the other, moved.
 pub fn normal_forms_tell_moves()
     ensures { (G H : Generation) → (normal G ≡ normal H) ↔ ((d : Cell) × (H ≡ translate_of G d)) }
 {}
@@ -87,7 +88,7 @@ pub fn one_settling()
         Settles R G b r → Settles R G c s → r ≡ s }
 {}
 
-/// A set settles within exactly those bounds that are not less than its onset and its period together.
+/// A set settles within exactly those bounds that are at least the sum of its onset and its period.
 pub fn settles_within()
     ensures within { (R : Rule) (G : Generation) (b : ℕ) (r : Recurrence) →
         Settles R G b r → r.onset + r.period ≤ b }
