@@ -1,4 +1,4 @@
--- When two sets stand so far from each other that neither has a say in what becomes of the other.
+-- Sets so far from each other that neither influences what becomes of the other.
 use Rattle.std.specs.Prelude.{◌≡◌, ℕ, ◌<◌, ◌≤◌, true, pos, ◌+ℤ◌, ◌-ℤ◌, ◌≤ℤ◌}
 use Rattle.life_model.specs.Cell.{Cell}
 use Rattle.life_model.specs.Generation.{Generation, contains}
@@ -20,14 +20,14 @@ AreDisjoint P Q = (c : Cell) → contains P c ≡ true → contains Q c ≡ true
 abbrev pub AreApart : Generation → Generation → Type 0
 AreApart P Q = (c d : Cell) → contains P c ≡ true → contains Q d ≡ true → AreNear c d → ⊥
 
--- now, and in each of the next b generations
+-- the sets are apart now, and in each of the next b generations
 abbrev pub AreApartFor : Rule → ℕ → Generation → Generation → Type 0
 AreApartFor R b P Q = (n : ℕ) → n ≤ b → AreApart (generation R P n) (generation R Q n)
 
--- in each of the first n generations, from now on
+-- the sets are apart in each of the first n generations, from now on
 abbrev pub AreApartBefore : Rule → ℕ → Generation → Generation → Type 0
 AreApartBefore R n P Q = (m : ℕ) → m < n → AreApart (generation R P m) (generation R Q m)
 
--- now, and in each later generation
+-- the sets are apart now, and in each later generation
 abbrev pub AreApartForEver : Rule → Generation → Generation → Type 0
 AreApartForEver R P Q = (n : ℕ) → AreApart (generation R P n) (generation R Q n)

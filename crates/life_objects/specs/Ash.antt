@@ -1,4 +1,4 @@
--- A pattern is ash where it is made of objects that stay apart for ever, each in one piece that comes again and again.
+-- Ash: objects that stay apart for ever, each in one piece that recurs.
 use Rattle.std.specs.Prelude.{◌≡◌, ◌≢◌, ℕ, ◌≤◌, List}
 use Rattle.std.specs.List.{All, AllPairs}
 use Rattle.life_model.specs.Cell.{Cell}
@@ -10,14 +10,14 @@ use Rattle.life_objects.specs.Apart.{AreApartForEver}
 use Rattle.life_objects.specs.Piece.{IsOnePiece}
 use Rattle.life_objects.specs.Union.{union_of}
 
--- P comes again, moved as a whole, after at least one generation and at most b
+-- P recurs, moved as a whole, after at least one generation and at most b
 pub record RecursWithin (R : Rule) (b : ℕ) (P : Generation) : Type 0 where
   pub steps : ℕ
   pub by : Cell
   pub within : steps ≤ b
   pub recurs : RecursBy R P steps by
 
--- some cells that come again within b, in one piece
+-- P has cells, recurs within b, and is in one piece
 pub record IsObject (R : Rule) (b : ℕ) (P : Generation) : Type 0 where
   pub nonempty : P ≢ empty
   pub recurs : RecursWithin R b P

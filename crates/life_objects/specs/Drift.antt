@@ -1,4 +1,4 @@
--- Moves made again and again, and sets with a gap between them.
+-- Repeated moves, and sets with a gap between them.
 use Rattle.std.specs.Prelude.{◌≡◌, true, ℕ, zero, suc, pos, ◌+ℤ◌, ◌≤ℤ◌}
 use Rattle.life_model.specs.Cell.{Cell, origin, plus}
 use Rattle.life_model.specs.Generation.{Generation, contains}

@@ -5,11 +5,12 @@ use Rattle.life_model.specs.Generation.{Generation}
 use Rattle.life_model.specs.Rule.{Rule}
 use Rattle.life_model.specs.Recurrence.{AreOneObject, RecursBy}
 
--- whether sets that recur are of this kind depends only on which object they are, as where the kind is to have some code
+-- sets that recur and are one object are either all of this kind or none of them is; the sets with some code are such a
+-- kind
 abbrev pub IsKind : Rule → (Generation → Bool) → Type 0
 IsKind R kind =
     (P Q : Generation) (m n : ℕ) (d e : Cell) → RecursBy R P m d → RecursBy R Q n e → AreOneObject R P Q → kind P ≡ kind Q
 
--- of each kind there are as many in the one list as in the other
+-- for each kind, both lists have the same number of sets of it
 abbrev pub AreAlike : Rule → List Generation → List Generation → Type 0
 AreAlike R Ps Qs = (kind : Generation → Bool) → IsKind R kind → count_by kind Ps ≡ count_by kind Qs

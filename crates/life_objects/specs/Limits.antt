@@ -1,4 +1,4 @@
--- Within how many generations objects are looked for.
+-- The limit on the bound within which objects are looked for.
 use Rattle.std.specs.Prelude.{ℕ}
 
 -- the greatest bound within which a set is taken apart into objects

@@ -1,4 +1,4 @@
--- From which generation on a pattern is ash.
+-- The first generation of a pattern that is ash.
 use Rattle.std.specs.Prelude.{◌≡◌, ℕ, ◌≤◌, List}
 use Rattle.std.specs.List.{All, AllPairs}
 use Rattle.life_model.specs.Cell.{Cell}
@@ -19,13 +19,13 @@ pub record IsAshOnset (R : Rule) (b : ℕ) (G : Generation) (t : ℕ) : Type 0 w
   pub ash : HasAsh R b (generation R G t)
   pub first : (n : ℕ) → HasAsh R b (generation R G n) → t ≤ n
 
--- P comes again, moved as a whole, after some generations
+-- P recurs, moved as a whole, after some number of generations
 pub record Recurs (R : Rule) (P : Generation) : Type 0 where
   pub steps : ℕ
   pub by : Cell
   pub recurs : RecursBy R P steps by
 
--- The sets come again and again, and n generations later they are these.
+-- The sets recur, and n generations later they are `laters`.
 pub record AreBefore (R : Rule) (n : ℕ) (laters sets : List Generation) : Type 0 where
   pub recur : All (Recurs R) sets
   pub become : generations R sets n ≡ laters

@@ -1,4 +1,4 @@
--- When a set is in one piece: whatever falls off it dies out.
+-- Sets in one piece: whatever falls off such a set dies out.
 use Rattle.std.specs.Prelude.{◌≡◌, ◌≢◌, ℕ}
 use Rattle.life_model.specs.Generation.{Generation, empty}
 use Rattle.life_model.specs.Rule.{Rule}
@@ -15,7 +15,7 @@ pub record IsSplit (R : Rule) (b : ℕ) (P A B : Generation) : Type 0 where
   pub together : union A B ≡ P
   pub apart : AreApartFor R b A B
 
--- of no two sets into which P splits do both live through b generations
+-- P doesn't split into two sets that both live through b generations
 abbrev pub IsUndivided : Rule → ℕ → Generation → Type 0
 IsUndivided R b P = (A B : Generation) → IsSplit R b P A B → LivesThrough R b A → LivesThrough R b B → ⊥
 

@@ -1,4 +1,4 @@
--- The cells of two sets together, and of a list of sets.
+-- The union of two sets, and that of a list of sets.
 use Rattle.std.specs.Prelude.{◌≡◌, ℕ, true, List, [], ◌∷◌, ◌++◌, map}
 use Rattle.life_model.specs.Cell.{Cell}
 use Rattle.life_model.specs.Generation.{Generation, cells, contains, empty, from_list}
@@ -12,7 +12,7 @@ abbrev pub union_of : List Generation → Generation
 union_of [] = empty
 union_of (P ∷ Ps) = union P (union_of Ps)
 
--- each cell of P is one of A's
+-- each cell of P is a cell of A
 abbrev pub IsSubsetOf : Generation → Generation → Type 0
 IsSubsetOf P A = (c : Cell) → contains P c ≡ true → contains A c ≡ true
 

@@ -1,4 +1,4 @@
--- What no split tears, and what of a set lives on.
+-- Sets that no split tears, and what lives on of a set.
 use Rattle.std.specs.Prelude.{◌≡◌, ◌⊎◌, ℕ, ◌≤◌}
 use Rattle.life_model.specs.Generation.{Generation}
 use Rattle.life_model.specs.Rule.{Rule}
@@ -10,7 +10,7 @@ use Rattle.life_objects.specs.Union.{IsSubsetOf}
 abbrev pub StaysWhole : Rule → ℕ → Generation → Generation → Type 0
 StaysWhole R b G P = (A B : Generation) → IsSplit R b G A B → IsSubsetOf P A ⊎ IsSubsetOf P B
 
--- L lies in P and lives on, and after b generations nothing else is left of P
+-- L is part of P and lives on, and after b generations nothing else is left of P
 pub record IsCore (R : Rule) (b : ℕ) (L P : Generation) : Type 0 where
   pub within : IsSubsetOf L P
   pub lives : LivesThrough R b L

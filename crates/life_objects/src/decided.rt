@@ -1,5 +1,5 @@
-//! Whether a set is ash within a bound, and of which parts: a definition that computes, in `specs/`, and its laws as the
-//! contracts of functions that do nothing. They say that the definition decides this, and that what it finds lasts.
+//! Deciding whether a set is ash within a bound, and of which parts: a definition that computes it, in `specs/`, and its
+//! laws as the contracts of functions that do nothing. They say that the definition is right, and that what it finds lasts.
 //!
 //! Tested in `tests_objects`, by `life_census`.
 
@@ -12,7 +12,7 @@ ghost use Rattle.life_objects.specs.Ash.{IsAsh};
 ghost use Rattle.life_objects.specs.Union.{generations};
 ghost use Rattle.life_objects.specs.Decided.Decided.{ash_of};
 
-/// The parts that are found make the set ash, and where none are found it is no ash, of whatever parts.
+/// If parts are found, the set is ash of these parts. If none are found, it is not ash of any parts.
 pub fn ash_is_decided()
     ensures some { (R : Rule) (b : ℕ) (G : Generation) (parts : List Generation) →
         ash_of R b G ≡ Some parts →
@@ -22,7 +22,8 @@ pub fn ash_is_decided()
         IsAsh R b G parts → ⊥ }
 {}
 
-/// For ash its parts are found, in some order. For what is no ash nothing is found, and for the empty set the empty list.
+/// The parts of ash are found, in some order. For a set that is not ash nothing is found, and for the empty set the empty
+/// list.
 pub fn parts_are_found()
     ensures parts { (R : Rule) (b : ℕ) (G : Generation) (parts : List Generation) →
         IsAsh R b G parts →
@@ -33,8 +34,8 @@ pub fn parts_are_found()
     ensures nothing { (R : Rule) (b : ℕ) → ash_of R b empty ≡ Some [] }
 {}
 
-/// What was found is found of each later generation too, within each bound that is no smaller: what the parts have become by
-/// then, in some order. Within a smaller bound nothing else is found.
+/// If parts are found, then for each later generation, and within each bound at least as great, what these parts have become
+/// by then is found, in some order. Within a smaller bound nothing else is found.
 pub fn what_was_found_lasts()
     ensures later { (R : Rule) (b c n : ℕ) (G : Generation) (parts : List Generation) → b ≤ c →
         ash_of R b G ≡ Some parts → (found : List Generation) ×

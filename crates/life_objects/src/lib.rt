@@ -25,7 +25,8 @@ ghost use Rattle.life_objects.specs.Whole.{IsCore, StaysWhole};
 
 pub use decided::{ash_is_decided, parts_are_found, what_was_found_lasts};
 
-/// A cell is in the union of two sets where it is in one of them, and in that of a list where it is in one of its sets.
+/// A cell is in the union of two sets exactly if it is in one of them, and in that of a list exactly if it is in one of its
+/// sets.
 pub fn unions_by_members()
     ensures two { (P Q : Generation) (c : Cell) →
         contains (union P Q) c ≡ (contains P c || contains Q c) }
@@ -46,7 +47,7 @@ pub fn what_is_apart_evolves_alone()
         × AreDisjoint (generation R P n) (generation R Q n) }
 {}
 
-/// The sets of a list of which any two are apart evolve as if each were alone, just as two sets do.
+/// Sets in a list, any two of which are apart, evolve as if each were alone, just as two sets do.
 pub fn a_list_of_what_is_apart_evolves_alone()
     ensures one_step { (R : Rule) (Ps : List Generation) → AllPairs AreApart Ps →
         (next R (union_of Ps) ≡ union_of (map (next R) Ps)) ×
@@ -60,7 +61,7 @@ pub fn a_list_of_what_is_apart_evolves_alone()
         AllPairs AreDisjoint (generations R Ps n) }
 {}
 
-/// Each later generation of ash is that generation of its parts, which stay apart.
+/// Each later generation of ash is the union of that generation of its parts, which stay apart.
 pub fn ash_goes_on_as_its_parts()
     ensures future { (R : Rule) (b n : ℕ) (G : Generation) (parts : List Generation) →
         IsAsh R b G parts →
@@ -70,7 +71,7 @@ pub fn ash_goes_on_as_its_parts()
         AllPairs AreApart (generations R parts n) }
 {}
 
-/// Ash has one list of parts but for their order, whatever the bounds, and each part is there once.
+/// Ash has only one list of parts, up to order, whatever the bounds, and each part is in it once.
 pub fn ash_has_one_list_of_parts()
     ensures one { (R : Rule) (b c : ℕ) (G : Generation) (parts others : List Generation) →
         IsAsh R b G parts → IsAsh R c G others → IsPermutation parts others }
@@ -95,15 +96,15 @@ pub fn ash_lasts()
         IsAsh R c (generation R G n) others → IsPermutation (generations R parts n) others }
 {}
 
-/// A part of ash comes again after n generations, moved by d, exactly where each of its later generations does.
+/// A part of ash recurs after n generations, moved by d, exactly if each of its later generations does.
 pub fn parts_keep_their_periods()
     ensures { (R : Rule) (b k n : ℕ) (G P : Generation) (d : Cell) (parts : List Generation) →
         IsAsh R b G parts →
         Contains parts P → RecursBy R (generation R P k) n d ↔ RecursBy R P n d }
 {}
 
-/// What is ash at a generation no later than b has fallen apart within b, and what has fallen apart within b has within
-/// each greater bound, into what its parts have become and into nothing else.
+/// A pattern of which generation g is ash, within a bound b no less than g, has fallen apart within b. A pattern that has fallen
+/// apart within b has also done so within each greater bound, into what its parts have become and into nothing else.
 pub fn what_has_fallen_apart_stays_so()
     ensures sooner { (R : Rule) (b g : ℕ) (G : Generation) (parts : List Generation) → g ≤ b →
         IsAsh R b (generation R G g) parts → HasFallenApart R b G (generations R parts (b - g)) }
@@ -114,29 +115,29 @@ pub fn what_has_fallen_apart_stays_so()
         IsPermutation (generations R parts (c - b)) others }
 {}
 
-/// The empty set is ash of no part, and of no list but the empty one.
+/// The empty set is ash of no parts: of the empty list, and of no other.
 pub fn the_empty_set_has_no_parts()
     ensures none { (R : Rule) (b : ℕ) → IsAsh R b empty [] }
     ensures only { (R : Rule) (b : ℕ) (parts : List Generation) → IsAsh R b empty parts →
         parts ≡ [] }
 {}
 
-/// A set that comes again after some generations comes again after each multiple of them, moved as often.
+/// A set that recurs after n generations, moved by d, recurs after each multiple of n, moved by the same multiple of d.
 pub fn recurrences_go_on()
     ensures { (R : Rule) (k n : ℕ) (P : Generation) (d : Cell) → 1 ≤ k → RecursBy R P n d →
         RecursBy R P (k * n) (multiple_of k d) }
 {}
 
-/// Two sets that come again after the same number of generations, moved by the same step, are apart for ever where they
-/// are apart until then.
+/// Two sets that recur after the same number of generations, moved by the same step, are apart for ever if they are apart until
+/// then.
 pub fn sets_of_one_velocity_stay_apart()
     ensures { (R : Rule) (n : ℕ) (P Q : Generation) (d : Cell) → RecursBy R P n d →
         RecursBy R Q n d →
         AreApartBefore R n P Q → AreApartForEver R P Q }
 {}
 
-/// Two sets that come again after the same number of generations are apart for ever where they are apart until a time
-/// from which on, for that number of generations, there is a gap between them, and they don't move towards each other.
+/// Two sets that recur after the same number of generations are apart for ever if they are apart up to some time, and from then
+/// on, for that number of generations, there is a gap between them and they don't move towards each other.
 pub fn sets_that_drift_apart_stay_apart()
     ensures right { (R : Rule) (g n : ℕ) (P Q : Generation) (d e : Cell) → RecursBy R P n d →
         RecursBy R Q n e →
@@ -150,14 +151,14 @@ pub fn sets_that_drift_apart_stay_apart()
         AreApartForEver R P Q }
 {}
 
-/// A set that comes again is in one piece where none of its generations until then is divided.
+/// A set that recurs is in one piece if none of its generations until then is divided.
 pub fn one_period_decides_one_piece()
     ensures { (R : Rule) (b n : ℕ) (P : Generation) (d : Cell) → RecursBy R P n d →
         ((m : ℕ) → m < n → IsUndivided R b (generation R P m)) → IsOnePiece R b P }
 {}
 
-/// No split tears a single cell. Of a list of sets that make up a pattern and that no split tears, two that are the
-/// first to be no longer apart are on one side of each split.
+/// No split tears a single cell. Of the sets of a list that make up a pattern and that no split tears, the first two that are no
+/// longer apart are on one side of each split.
 pub fn what_meets_stays_whole()
     ensures cell { (R : Rule) (b : ℕ) (G : Generation) (c : Cell) → contains G c ≡ true →
         StaysWhole R b G (from_list (c ∷ [])) }
@@ -168,15 +169,15 @@ pub fn what_meets_stays_whole()
         ¬ AreApart (generation R P n) (generation R Q n) → StaysWhole R b G (union P Q) }
 {}
 
-/// A pattern made up of sets that no split tears and that stay apart is undivided exactly where no two of them live on.
+/// A pattern made up of sets that no split tears and that stay apart is undivided exactly if no two of them live on.
 pub fn parts_decide_what_is_undivided()
     ensures { (R : Rule) (b : ℕ) (G : Generation) (Ps : List Generation) → union_of Ps ≡ G →
         All (StaysWhole R b G) Ps → AllPairs (AreApartFor R b) Ps →
         IsUndivided R b G ↔ AllPairs (λ P Q. LivesThrough R b P → LivesThrough R b Q → ⊥) Ps }
 {}
 
-/// Where ash is made up of sets that no split tears and that stay apart for its bound, what lives on of each part is
-/// one of these sets, and each of them that lives on is what lives on of a part.
+/// If ash is made up of sets that no split tears and that stay apart for its bound, what lives on of each part is one of these
+/// sets, and each of them that lives on is what lives on of a part.
 pub fn what_lives_on_tells_the_parts()
     ensures of_parts { (R : Rule) (b : ℕ) (G P : Generation) (parts Ls : List Generation) →
         IsAsh R b G parts →
@@ -190,8 +191,8 @@ pub fn what_lives_on_tells_the_parts()
         LivesThrough R b L → (P : Generation) × Contains parts P × IsCore R b L P }
 {}
 
-/// What recurs has always been there: for each number of generations there are sets that recur and become these after that many,
-/// and each set that recurs is determined by what it becomes.
+/// A set that recurs has a past: for each n, sets that recur are generation n of sets that recur, and a set that recurs is
+/// determined by its generation n.
 pub fn what_recurs_has_a_past()
     ensures some { (R : Rule) (n : ℕ) (laters : List Generation) → All (Recurs R) laters →
         (sets : List Generation) × AreBefore R n laters sets }
@@ -199,7 +200,7 @@ pub fn what_recurs_has_a_past()
         generation R P n ≡ generation R Q n → P ≡ Q }
 {}
 
-/// Where a later generation g is ash, generation t is ash exactly where it is what the parts were then, and these stay
+/// If generation g is ash, an earlier generation t is ash exactly if it is made of what the parts were then, and these stay
 /// apart from t on.
 pub fn parts_tell_when_ash_began()
     ensures { (R : Rule) (b g t : ℕ) (G : Generation) (parts sets : List Generation) → t ≤ g →
@@ -207,8 +208,8 @@ pub fn parts_tell_when_ash_began()
         HasAsh R b (generation R G t) ↔ IsMadeOf R (generation R G t) sets }
 {}
 
-/// From the onset of its ash on each generation of a pattern is ash, and what has fallen apart within b has its onset by
-/// then.
+/// From the onset of its ash on, each generation of a pattern is ash. If a pattern has fallen apart within b, its onset is at
+/// most b.
 pub fn ash_goes_on_from_its_onset()
     ensures later { (R : Rule) (b t n : ℕ) (G : Generation) → IsAshOnset R b G t → t ≤ n →
         HasAsh R b (generation R G n) }
@@ -224,7 +225,7 @@ pub fn ash_has_one_onset()
         IsAshOnset R c G t }
 {}
 
-/// Where a pattern settles and has fallen apart, the first generation that recurs is the first that is ash.
+/// If a pattern settles and has fallen apart, the first generation that recurs is the first that is ash.
 pub fn settling_and_ash_have_one_onset()
     ensures { (R : Rule) (b c t : ℕ) (G : Generation) (r : Recurrence) → Settles R G b r →
         IsAshOnset R c G t → r.onset ≡ t }
