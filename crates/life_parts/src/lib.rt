@@ -33,7 +33,7 @@ pub use independent::{
     what_is_found_lasts,
 };
 
-/// The independent parts of a set evolve as if each were alone: each generation of the set is that generation of its
+/// The independent parts of a set evolve as if each were alone: each generation of the set is the union of that generation of its
 /// parts, no two of which share a cell, and a part's generation has just the cells that are tied to the part.
 pub fn each_part_evolves_alone()
     ensures together { (R : Rule) (P : Generation) (Qs : List Generation) (n : ℕ) →
@@ -53,14 +53,14 @@ pub fn each_part_comes_again()
         (k : ℕ) × (1 ≤ k) × (k ≤ length Qs) × RecursBy R Q (k * p) (multiple_of k d) }
 {}
 
-/// A set has one list of independent parts but for their order.
+/// A set has only one list of independent parts, up to order.
 pub fn a_set_has_one_list_of_independent_parts()
     ensures { (R : Rule) (P : Generation) (Qs others : List Generation) →
         AreIndependentParts R P Qs → AreIndependentParts R P others → IsPermutation Qs others }
 {}
 
-/// The independent parts of each later generation of a set that comes again are what its parts have become, and those of
-/// a set that is moved or turned are its parts, so moved or turned.
+/// The independent parts of each later generation of a set that recurs are what its parts have become, and those of a set that is
+/// moved or turned are its parts, moved or turned likewise.
 pub fn phase_and_place_do_not_matter()
     ensures later { (R : Rule) (P : Generation) (Qs : List Generation) (p k : ℕ) (d : Cell) →
         RecursBy R P p d → AreIndependentParts R P Qs →
@@ -73,14 +73,14 @@ pub fn phase_and_place_do_not_matter()
         AreIndependentParts R (image_under P m) (map (λ Q. image_under Q m) Qs) }
 {}
 
-/// An independent part of a set that comes again has one independent part, itself.
+/// An independent part of a set that recurs has one independent part, itself.
 pub fn a_part_is_one_by_itself()
     ensures { (R : Rule) (P Q : Generation) (Qs : List Generation) (p : ℕ) (d : Cell) →
         RecursBy R P p d → AreIndependentParts R P Qs → Contains Qs Q →
         AreIndependentParts R Q (Q ∷ []) }
 {}
 
-/// A set with a cell whose cells are all tied has one independent part, itself, and the empty set has none.
+/// A set with cells, all of which are tied, has one independent part, itself, and the empty set has none.
 pub fn what_is_tied_is_one_part()
     ensures one { (R : Rule) (P : Generation) → P ≢ empty →
         ((c e : Cell) → contains P c ≡ true → contains P e ≡ true → AreTied R P 0 c 0 e) →
@@ -88,8 +88,8 @@ pub fn what_is_tied_is_one_part()
     ensures none { (R : Rule) → AreIndependentParts R empty [] }
 {}
 
-/// Disjoint sets that make up a set which comes again are its independent parts where each is tied within itself, they
-/// are held apart in each generation of its first period, and what is one of them a period later was one at first.
+/// Disjoint sets with cells, which make up a set that recurs, are its independent parts if each is tied within itself, they are
+/// held apart in each generation of its first period, and cells in one of them a period later were in one at first.
 pub fn one_period_decides_the_parts()
     ensures { (R : Rule) (P : Generation) (Qs : List Generation) (p : ℕ) (d : Cell) →
         RecursBy R P p d → ((n : ℕ) (e : Cell) → RecursBy R P n e → p ≤ n) →
@@ -101,8 +101,7 @@ pub fn one_period_decides_the_parts()
         HaveBoth Qs c e) → AreIndependentParts R P Qs }
 {}
 
-/// The independent parts of two sets that keep apart for ever, each of which comes again, as their union does, are
-/// those of both.
+/// If two sets that stay apart for ever and their union all recur, the independent parts of the union are those of both.
 pub fn parts_of_what_keeps_apart_are_those_of_both()
     ensures { (R : Rule) (P Q : Generation) (Ps Qs : List Generation) →
         Recurs R P → Recurs R Q → Recurs R (union P Q) → AreApartForEver R P Q →
@@ -110,8 +109,8 @@ pub fn parts_of_what_keeps_apart_are_those_of_both()
         AreIndependentParts R (union P Q) (Ps ++ Qs) }
 {}
 
-/// The independent parts of the union of a list of sets that keep apart for ever, each of which comes again, as their
-/// union does, are those of each set, in their order; so those of ash that comes again are those of its objects.
+/// If the sets of a list, any two of which stay apart for ever, and their union all recur, the independent parts of the union are
+/// those of each set, in their order. So those of ash that recurs are those of its objects.
 pub fn parts_of_many_that_keep_apart_are_those_of_each()
     ensures sets { (R : Rule) (Ps : List Generation) (lists : List (List Generation)) →
         All (Recurs R) Ps → Recurs R (union_of Ps) → AllPairs (AreApartForEver R) Ps →
@@ -120,8 +119,8 @@ pub fn parts_of_many_that_keep_apart_are_those_of_each()
         IsAsh R b G objects → Recurs R G → ArePartsOfEach R objects lists → AreIndependentParts R G (joined lists) }
 {}
 
-/// The independent parts of the objects of ash last: in each later generation they are what they have become, and are
-/// those of its objects, but for their order, whatever the bounds.
+/// The independent parts of the objects of ash last: in each later generation, what they have become is, up to order, the
+/// independent parts of its objects, whatever the bounds.
 pub fn parts_of_ash_last()
     ensures later { (R : Rule) (b n : ℕ) (G : Generation) (objects : List Generation)
         (lists : List (List Generation)) →
@@ -134,8 +133,8 @@ pub fn parts_of_ash_last()
         IsPermutation (generations R (joined lists) n) (joined laters) }
 {}
 
-/// Each independent part of a set that recurs is one object with each of its phases. So the ash of a later generation has as many
-/// parts of each kind, whatever the bounds.
+/// Each independent part of a set that recurs is one object with each of its phases. So the ash of a later generation has the
+/// same number of parts of each kind, whatever the bounds.
 pub fn phases_of_parts_are_of_one_kind()
     ensures phase { (R : Rule) (P Q : Generation) (Qs : List Generation) (p n : ℕ) (d : Cell) →
         RecursBy R P p d → AreIndependentParts R P Qs → Contains Qs Q →
@@ -147,8 +146,8 @@ pub fn phases_of_parts_are_of_one_kind()
         AreAlike R (joined lists) (joined laters) }
 {}
 
-/// Sets split no independent part, but are made of whole ones, where they are held apart in each generation of a set's first
-/// period and what is one of them a period later was one at first.
+/// Disjoint sets with cells, which make up a set that recurs, split none of its independent parts if they are held apart in each
+/// generation of its first period and cells in one of them a period later were in one at first.
 pub fn what_is_held_apart_splits_no_part()
     ensures { (R : Rule) (P Q : Generation) (Qs others : List Generation) (p : ℕ) (d c e : Cell) →
         RecursBy R P p d → ((n : ℕ) (f : Cell) → RecursBy R P n f → p ≤ n) →
@@ -160,12 +159,12 @@ pub fn what_is_held_apart_splits_no_part()
         contains Q c ≡ true → contains Q e ≡ true → HaveBoth others c e }
 {}
 
-/// Where 3 alone is among the births, each splitting of a set that recurs into sets that evolve alone and never touch is made of
-/// whole independent parts, if the set has no fork in any generation, or if each fork's islands are tied without it: what is tied
-/// is of one set of the splitting. It must be a splitting of the earlier generations too, through which the set has been before.
-/// It is one where each of its sets recurs. Otherwise a spark that dies at once, as a lightweight spaceship has one, could be
-/// split off, though a part throws it in each period. For a splitting only from now on, this holds after a time: what is tied,
-/// that much later, is of one set. (Bit 3 of a rule's births, whose value is 8, stands for 3.)
+/// Under a rule with births at 3 alone, take a splitting of a set that recurs into sets that evolve alone and never touch. It is
+/// made of whole independent parts, and cells that are tied are in one set of it, if the set has no fork in any generation, or if
+/// each fork's islands are tied without it. The splitting must be one of earlier generations too, through which the set has
+/// passed, as it is where each of its sets recurs. Otherwise a spark that dies at once, like that of a lightweight spaceship,
+/// could be split off, though a part throws it in each period. For a splitting only from now on, this holds after some time:
+/// cells that are tied are, that much later, in one set. (Bit 3 of a rule's births, whose value is 8, means 3.)
 pub fn no_splitting_is_finer()
     ensures ties { (R : Rule) (P A : Generation) (others : List Generation) (p n m : ℕ) (d c e : Cell) →
         HasBirthsAtThreeAlone R → RecursBy R P p d → AreForksTied R P →

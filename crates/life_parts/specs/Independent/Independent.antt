@@ -1,4 +1,4 @@
--- The independent parts of a set that comes again, as a function of the set.
+-- The independent parts of a set that recurs, as a function of the set.
 use Rattle.std.specs.Prelude.{ℕ, nat_le, List, [], ◌∷◌, length, if◌then◌else◌}
 use Rattle.std.specs.List.{filter}
 use Rattle.life_model.specs.Rule.{Rule}
@@ -12,7 +12,7 @@ abbrev pub longest : {X : Type 0} → List (List X) → List X
 longest [] = []
 longest (xs ∷ rest) = if nat_le (length (longest rest)) (length xs) then xs else longest rest
 
--- The first with the most sets, of all ways to split P into sets that are held apart through its period. P recurs within b.
+-- Of all ways to split P into sets that are held apart through its period, the first with the most sets. P recurs within b.
 unfoldable pub independent_parts_of : Rule → ℕ → Generation → List Generation
 independent_parts_of R b P =
     let p = period R b P in

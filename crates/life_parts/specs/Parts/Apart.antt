@@ -1,4 +1,4 @@
--- When sets that make up a generation are held apart in it.
+-- Sets that make up a generation and are held apart in it.
 use Rattle.std.specs.Prelude.{◌≡◌, ◌⊎◌, ℕ, true, false, List}
 use Rattle.std.specs.List.{Contains}
 use Rattle.life_model.specs.Cell.{Cell, IsNear}
@@ -11,12 +11,12 @@ use Rattle.life_parts.specs.Parts.Groups.{ColoursIslands, IsAround, IsFair, bear
 abbrev pub HaveBoth : List Generation → Cell → Cell → Type 0
 HaveBoth Hs c d = (H : Generation) → Contains Hs H → contains H c ≡ true → contains H d ≡ true
 
--- all that is around the place is of one set
+-- all live cells around the place are of one set
 abbrev pub AreOfOneSet : Generation → List Generation → Cell → Type 0
 AreOfOneSet G Hs x = (c d : Cell) → IsAround G x c → IsAround G x d → HaveBoth Hs c d
 
--- However the islands around the place are put into groups, each of them of one set, it is fair, and what is born is
--- born of the set of the group that bears it.
+-- However the islands around the place are put into groups, each of them within one set, the groups are fair there,
+-- and what a group bears its set bears too.
 abbrev pub IsEachFair : Rule → Generation → List Generation → Cell → Type 0
 IsEachFair R G Hs x =
     (colour : Cell → ℕ) → ColoursIslands G colour →
@@ -24,7 +24,8 @@ IsEachFair R G Hs x =
     IsFair R G colour x × ((c : Cell) → IsAround G x c → bears R G colour (colour c) x ≡ true → (H : Generation) →
     Contains Hs H → contains H c ≡ true → contains (next R H) x ≡ true)
 
--- The sets have whole islands of G, and around each place they are one or fair.
+-- Each island of G is within one set, and around each dead place the live cells are of one set or each grouping is
+-- fair.
 pub record AreHeldApart (R : Rule) (G : Generation) (Hs : List Generation) : Type 0 where
   pub islands : (c d : Cell) → contains G c ≡ true → contains G d ≡ true → IsNear c d → HaveBoth Hs c d
   pub places : (x : Cell) → contains G x ≡ false → AreOfOneSet G Hs x ⊎ IsEachFair R G Hs x

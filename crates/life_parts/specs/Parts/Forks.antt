@@ -1,4 +1,4 @@
--- Places where either of two islands may hold back the birth that a third would make.
+-- Places where either of two islands may prevent the birth that a third would make.
 use Rattle.std.specs.Prelude.{◌≡◌, ◌≢◌, ◌==◌, ◌≤◌, ℕ, pos, neg_ℤ, Bool, true, false, List, [], ◌∷◌, map}
 use Rattle.life_model.specs.Cell.{Cell, plus, steps}
 use Rattle.life_model.specs.Rule.{Rule, born}
@@ -8,22 +8,22 @@ use Rattle.life_model.specs.Symmetry.{Orientation, turn}
 use Rattle.life_parts.specs.Parts.Groups.{ColoursIslands, IsAround}
 use Rattle.life_parts.specs.Parts.Without.{AreTiedWithout}
 
--- of the numbers of neighbours, 3 alone is among the births
+-- a dead cell with at most 8 live neighbours is born with exactly 3
 abbrev pub HasBirthsAtThreeAlone : Rule → Type 0
 HasBirthsAtThreeAlone R = (n : ℕ) → n ≤ 8 → born R n ≡ (n == 3)
 
--- what is live around a fork, row by row: three cells in a row on its right, and the two corners on its left
+-- the live cells around a fork, row by row: three cells in a row on its right, and the two corners on its left
 abbrev pub fork : List Bool
 fork =
     true ∷ false ∷ true
     ∷ false ∷ true
     ∷ true ∷ false ∷ true ∷ []
 
--- the cell that one of the eight maps makes of the step from x
+-- the cell that is the step away from x, the step mapped by one of the eight maps
 abbrev pub beside : Cell → Orientation → Cell → Cell
 beside x m step = plus x (turn m step)
 
--- x is dead, and around it, but for one of the eight maps, a fork is live: three cells in a row and two single cells, which
+-- x is dead, and around it is a fork, mapped by one of the eight maps: three live cells in a row and two single ones, which
 -- have three colours.
 pub record IsForkOf (G : Generation) (colour : Cell → ℕ) (x : Cell) : Type 0 where
   pub turned : Orientation
@@ -40,7 +40,7 @@ pub record IsFork (G : Generation) (x : Cell) : Type 0 where
   pub is : IsForkOf G colour x
 
 -- The islands around each fork, in any generation, are tied even where a fork's row and single cells, as three groups, join
--- nothing. (Where there is no fork, nothing is asked.)
+-- nothing. (Where there is no fork, this demands nothing.)
 abbrev pub AreForksTied : Rule → Generation → Type 0
 AreForksTied R P =
     (n : ℕ) (x : Cell) → IsFork (generation R P n) x → (c d : Cell) → IsAround (generation R P n) x c →

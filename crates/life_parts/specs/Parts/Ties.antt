@@ -1,4 +1,4 @@
--- Which cells of the generations of a set belong together.
+-- Cells of the generations of a set that belong together.
 use Rattle.std.specs.Prelude.{◌≡◌, ℕ, suc, ◌+◌, true, false}
 use Rattle.life_model.specs.Cell.{Cell, IsNear, plus}
 use Rattle.life_model.specs.Rule.{Rule}
@@ -11,9 +11,10 @@ use Rattle.life_parts.specs.Parts.Groups.{ColoursIslands, IsAround, IsFair, bear
 abbrev pub IsIn : Rule → Generation → ℕ → Cell → Type 0
 IsIn R P n c = contains (generation R P n) c ≡ true
 
--- Cell c of generation n and cell e of generation m belong together. This is the least equivalence by which islands stay
--- together, what is born belongs to who bears it, and groups of islands that would each alone make of a place something
--- else than is made of it are joined. What comes again is tied as it was before.
+-- Cell c of generation n and cell e of generation m belong together. This is the least equivalence that keeps islands
+-- together, ties what is born to what bears it, and joins groups of islands around a place that are not fair there: each
+-- alone would make of it something other than what all make. What is tied after a period, when the set recurs, was tied
+-- before.
 pub data AreTied (R : Rule) (P : Generation) : ℕ → Cell → ℕ → Cell → Type 0 where
   itself : (n : ℕ) (c : Cell) → IsIn R P n c → AreTied R P n c n c
   swapped : (n m : ℕ) (c e : Cell) → AreTied R P n c m e → AreTied R P m e n c
@@ -43,6 +44,6 @@ pub data AreTied (R : Rule) (P : Generation) : ℕ → Cell → ℕ → Cell →
       AreTied R P n c n d) →
       (IsFair R (generation R P n) colour x → ⊥) →
       (c : Cell) → IsAround (generation R P n) x c → IsIn R P (suc n) x → AreTied R P n c (suc n) x
-  -- what is tied a whole period later, after which P stands again, moved by d
+  -- what is tied a whole period later, after which P recurs, moved by d
   before : (p : ℕ) (d : Cell) → RecursBy R P p d → (n m : ℕ) (c e : Cell) →
       AreTied R P (n + p) (plus c d) (m + p) (plus e d) → AreTied R P n c m e

@@ -1,4 +1,4 @@
--- Which cells of the generations of a set belong together where some ways to put the islands around a place into groups are
+-- Cells of the generations of a set that belong together if some ways to put the islands around a place into groups are
 -- passed over.
 use Rattle.std.specs.Prelude.{◌≡◌, ℕ, suc, ◌+◌, true, false}
 use Rattle.life_model.specs.Cell.{Cell, IsNear, plus}
@@ -9,7 +9,7 @@ use Rattle.life_model.specs.Recurrence.{RecursBy}
 use Rattle.life_parts.specs.Parts.Groups.{ColoursIslands, IsAround, IsFair, bears}
 use Rattle.life_parts.specs.Parts.Ties.{IsIn}
 
--- Like `AreTied`, except that groups which are passed over join nothing, though they are not fair.
+-- Like `AreTied`, except that groups that are passed over join nothing, though they are not fair.
 pub data AreTiedWithout (R : Rule) (P : Generation) (Passed : Generation → (Cell → ℕ) → Cell → Type 0) :
     ℕ → Cell → ℕ → Cell → Type 0 where
   itself : (n : ℕ) (c : Cell) → IsIn R P n c → AreTiedWithout R P Passed n c n c
@@ -41,6 +41,6 @@ pub data AreTiedWithout (R : Rule) (P : Generation) (Passed : Generation → (Ce
       AreTiedWithout R P Passed n c n d) →
       (IsFair R (generation R P n) colour x → ⊥) → (Passed (generation R P n) colour x → ⊥) →
       (c : Cell) → IsAround (generation R P n) x c → IsIn R P (suc n) x → AreTiedWithout R P Passed n c (suc n) x
-  -- what is tied a whole period later, after which P stands again, moved by d
+  -- what is tied a whole period later, after which P recurs, moved by d
   before : (p : ℕ) (d : Cell) → RecursBy R P p d → (n m : ℕ) (c e : Cell) →
       AreTiedWithout R P Passed (n + p) (plus c d) (m + p) (plus e d) → AreTiedWithout R P Passed n c m e
