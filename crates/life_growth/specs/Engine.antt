@@ -1,4 +1,4 @@
--- An engine recurs, moved or not, and has left something behind that stays for ever.
+-- An engine recurs, moved or not, and has left something behind that lasts for ever.
 use Rattle.std.specs.Prelude.{◌≡◌, ℕ, zero, suc, ◌<◌, ◌≤◌, List, [], ◌++◌}
 use Rattle.life_model.specs.Cell.{Cell}
 use Rattle.life_model.specs.Generation.{Generation}
@@ -12,15 +12,15 @@ use Rattle.life_growth.specs.Unsplit.{IsUnsplit, Leaves}
 abbrev pub FallsApart : Rule → ℕ → Generation → Type 0
 FallsApart R b P = (parts : List Generation) × HasFallenApart R b P parts
 
--- What becomes of an engine: its core after n steps, and what leaves that core in the step after.
+-- The way of an engine: its core after n steps, and what leaves that core in the next step.
 pub record Way : Type 0 where
   pub period : ℕ
   pub displacement : Cell
   pub core : ℕ → Generation
   pub left : ℕ → Generation
 
--- E goes this way within b. After a period, and not sooner, its core is E again, moved. What leaves falls apart, and at least
--- once something of it stays.
+-- E goes this way within b. After a period, and not before, its core is E again, moved. What leaves falls apart, and at least
+-- once something of it lasts.
 pub record IsEngine (R : Rule) (b : ℕ) (E : Generation) (way : Way) : Type 0 where
   pub start : way.core 0 ≡ E
   pub later : 1 ≤ way.period

@@ -1,4 +1,4 @@
--- Classes that are found backwards, from one generation to the one before.
+-- Classes found backwards, from one generation to the one before.
 use Rattle.std.specs.Prelude.{◌≡◌, ◌≢◌, true, List}
 use Rattle.std.specs.List.{All, AllPairs, Contains}
 use Rattle.life_model.specs.Cell.{Cell}

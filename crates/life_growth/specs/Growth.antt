@@ -1,4 +1,4 @@
--- A pattern grows where it is made of engines and of what falls apart.
+-- Growth: a pattern made of engines and of debris that falls apart.
 use Rattle.std.specs.Prelude.{◌≡◌, ◌≢◌, ℕ, List, [], ◌∷◌}
 use Rattle.std.specs.List.{All, AllPairs}
 use Rattle.life_model.specs.Generation.{Generation}

@@ -1,4 +1,4 @@
--- An engine's way goes on after its first period, for ever.
+-- An engine's way beyond its first period, for ever.
 use Rattle.std.specs.Prelude.{◌≡◌, ℕ, zero, suc, ◌+◌, ◌/◌, ◌%◌, ◌<◌, ◌≤◌}
 use Rattle.life_model.specs.Generation.{Generation, empty}
 use Rattle.life_model.specs.Rule.{Rule}
@@ -9,11 +9,11 @@ use Rattle.life_objects.specs.Drift.{multiple_of}
 use Rattle.life_objects.specs.Union.{union}
 use Rattle.life_growth.specs.Engine.{IsEngine, Way}
 
--- the set at step n, where those of one period recur again and again, each time moved once more
+-- the set at step n, where those of one period recur, each time moved once more
 abbrev pub at_step : Way → (ℕ → Generation) → ℕ → Generation
 at_step way sets n = translate_of (sets (n % way.period)) (multiple_of (n / way.period) way.displacement)
 
--- the way for ever: in each period what is in the first, moved
+-- the endless way: each period is the first one, moved
 abbrev pub endless : Way → Way
 endless way = record {
   period = way.period;
@@ -31,7 +31,7 @@ onward way n = record {
   left = λ m. (endless way).left (n + m);
 }
 
--- what the sets that were added, one in each step, have become in n steps
+-- the union of what the sets that were added, one in each step, have become in n steps
 unfoldable pub accumulated : Rule → (ℕ → Generation) → ℕ → Generation
 accumulated R added zero = empty
 accumulated R added (suc n) = union (next R (accumulated R added n)) (added n)

@@ -1,4 +1,4 @@
--- All that a growth has for ever is a finite number of things in space and time.
+-- Things in space and time, finitely many of which make up a growth for ever.
 use Rattle.std.specs.Prelude.{◌≡◌, ℕ, suc, ◌+◌, ◌*◌, ◌<◌, ◌≤◌, ◌⊎◌, true, List, [], ◌∷◌}
 use Rattle.std.specs.List.{Contains}
 use Rattle.life_model.specs.Cell.{Cell, origin, plus}
@@ -12,14 +12,14 @@ use Rattle.life_objects.specs.Drift.{multiple_of}
 use Rattle.life_objects.specs.Union.{IsSubsetOf}
 use Rattle.life_growth.specs.Engine.{Way}
 
--- A set that is there at a time, and again after each of its ways, made any number of times. A way takes some generations and
--- is a move.
+-- A set that is there at a time, and again after its ways, each taken any number of times. A way is a number of generations
+-- and a move.
 pub record Thing : Type 0 where
   pub time : ℕ
   pub set : Generation
   pub ways : List (ℕ × Cell)
 
--- how many generations the ways take, and how far they go, each made the number of times in `often`
+-- the generations that the ways take, and the move that they make, each taken the number of times in `often`
 abbrev pub time_of : List (ℕ × Cell) → List ℕ → ℕ
 time_of [] often = 0
 time_of (w ∷ ways) [] = 0
@@ -30,14 +30,14 @@ move_of [] often = origin
 move_of (w ∷ ways) [] = origin
 move_of (w ∷ ways) (k ∷ often) = plus (multiple_of k w.1) (move_of ways often)
 
--- when and where a thing is, if its ways are made `often` times each
+-- the time of a thing, and its set then, if its ways are taken `often` times each
 abbrev pub time_then : Thing → List ℕ → ℕ
 time_then thing often = thing.time + time_of thing.ways often
 
 abbrev pub set_then : Thing → List ℕ → Generation
 set_then thing often = translate_of thing.set (move_of thing.ways often)
 
--- at no time at which both are there is one near the other
+-- the two are not near each other at any time at which both are there
 abbrev pub NeverMeet : Thing → Thing → Type 0
 NeverMeet A B = (k l : List ℕ) → time_then A k ≡ time_then B l → AreApart (set_then A k) (set_then B l)
 

@@ -1,4 +1,5 @@
--- What is reported about an engine: period, displacement, and how many objects of each kind it emits.
+-- The facts reported of an engine: its period, its displacement, and the number of objects of each kind that it
+-- emits.
 use Rattle.std.specs.Prelude.{◌≡◌, ℕ, ◌*◌, Bool, List, count_by, sum_by}
 use Rattle.life_model.specs.Generation.{Generation}
 use Rattle.life_model.specs.Rule.{Rule}
@@ -19,6 +20,6 @@ pub record AreToldAlike (R : Rule) (b c : ℕ) (E F : Generation) : Type 0 where
 abbrev pub EmitsOver : Rule → ℕ → ℕ → Generation → ℕ × List Generation → Type 0
 EmitsOver R b m E row = (way : Way) × IsEngine R b E way × (m ≡ row.0 * way.period) × Emits R b way row.1
 
--- how many objects of a kind the engines emit, each in its number of periods
+-- the number of objects of a kind that the engines emit, each in its number of periods
 abbrev pub emitted_by : (Generation → Bool) → List (ℕ × List Generation) → ℕ
 emitted_by kind rows = sum_by (λ row. row.0 * count_by kind row.1) rows

@@ -1,4 +1,4 @@
--- Sets from which nothing can be parted, and what has left for ever.
+-- Sets that can't be split, and sets that have left others for ever.
 use Rattle.std.specs.Prelude.{◌≡◌, ◌≢◌, ℕ, List}
 use Rattle.std.specs.List.{All, AllPairs}
 use Rattle.life_model.specs.Generation.{Generation, empty}

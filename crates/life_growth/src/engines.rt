@@ -1,6 +1,6 @@
-//! Which ways a set may go as an engine within a bound: a finite search, as a definition that computes, in `specs/`. Its laws
-//! are the contracts of functions that do nothing: each engine's way is found, and each way that is found is an engine's if
-//! what leaves never comes near again.
+//! The ways that a set may go as an engine within a bound: a finite search, as a definition that computes them, in `specs/`.
+//! Its laws are the contracts of functions that do nothing: each engine's way is found, and each way that is found is an
+//! engine's if what leaves never comes near again.
 
 ghost use Rattle.std.specs.Prelude.{◌≡◌, ℕ, suc, ◌<◌, ◌≤◌, ◌↔◌, true, List, ◌∷◌, All, AllPairs, Contains};
 ghost use Rattle.std.specs.List.Sorted.{IsPermutation};
@@ -17,7 +17,7 @@ ghost use Rattle.life_growth.specs.Engines.Tests.{falls_apart, is_unsplit};
 ghost use Rattle.life_growth.specs.Engines.Tracks.{Step, engine_tracks, way_along};
 
 /// The classes that are computed for a set are those that determine its engines, and the tests of falling apart and of being
-/// unsplit are right.
+/// unsplit are correct.
 pub fn tests_are_right()
     ensures classes { (R : Rule) (b : ℕ) (P : Generation) → AreClasses R b P (classes R P (suc b)) }
     ensures falls_apart { (R : Rule) (b : ℕ) (P : Generation) →

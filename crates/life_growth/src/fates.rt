@@ -1,5 +1,5 @@
-//! What becomes of a pattern within a bound: whether it is ash, grows, or neither, as a definition that computes, in
-//! `specs/`. Its laws are the contracts of functions that do nothing: it is right, and it lasts.
+//! The fate of a pattern within a bound: ash, growth or neither, as a definition that computes it, in `specs/`. Its laws are
+//! the contracts of functions that do nothing: it is right, and it lasts.
 
 ghost use Rattle.std.specs.Prelude.{◌≡◌, ℕ, ◌-◌, ◌*◌, ◌≤◌, List, None, Some};
 ghost use Rattle.std.specs.List.{AllZip};
@@ -19,8 +19,8 @@ ghost use Rattle.life_growth.specs.Fates.Fates.{Ash, Grows, Unresolved, fate_of}
 ghost use Rattle.life_growth.specs.Fates.Picked.{ArePicked};
 ghost use Rattle.life_growth.specs.Fates.Tracks.{emitted_along, track_of};
 
-/// The track that is found for a set is an engine's way, and what is listed along it is what the engine emits. If none is
-/// found, the set is no engine, whatever way it were to go.
+/// The track that is found for a set is an engine's way, and the objects listed along it are those that the engine emits. If
+/// none is found, the set is not an engine, whatever its way.
 pub fn tracks_are_right()
     ensures engine { (R : Rule) (b : ℕ) (E : Generation) (track : List Step) → track_of R b E ≡ Some track →
         IsEngine R b E (way_along E track) }
@@ -47,8 +47,8 @@ pub fn growths_are_found()
         growth_of R b G ≡ None }
 {}
 
-/// What was found is found within each greater bound: the same engines, in some order, and the same debris. For a later
-/// generation a growth is found too, and its engines are alike (`AreToldAlike`), whatever the bounds.
+/// A growth that is found is found within each greater bound too: the same engines, in some order, and the same debris. For a
+/// later generation a growth is found too, and its engines are alike (`AreToldAlike`), whatever the bounds.
 pub fn what_was_found_grows_on()
     ensures bound { (R : Rule) (b c : ℕ) (G S : Generation) (Es : List Generation) → b ≤ c →
         growth_of R b G ≡ Some (Es, S) → (found : List Generation) ×
@@ -61,8 +61,8 @@ pub fn what_was_found_grows_on()
         (Fs : List Generation) × AllZip (AreToldAlike R b c) Es Fs × IsPermutation Fs found }
 {}
 
-/// The fate that is found for a pattern is its fate. If it is ash it has fallen apart into these parts, if it grows it has
-/// come to this growth, and if it is neither it has done neither.
+/// The fate that is found for a pattern is its fate: ash has fallen apart into these parts, what grows has come to this
+/// growth, and an unresolved pattern has done neither.
 pub fn fates_are_right()
     ensures ash { (R : Rule) (b : ℕ) (G : Generation) (parts : List Generation) →
         fate_of R b G ≡ Ash parts →
@@ -79,7 +79,7 @@ pub fn fates_are_right()
 {}
 
 /// Each fate is found: for what has fallen apart its parts, in some order; for what has come to growth its engines, in some
-/// order, and its debris; and for what has done neither, that it has not.
+/// order, and its debris; and `Unresolved` for what has done neither.
 pub fn each_fate_is_found()
     ensures ash { (R : Rule) (b : ℕ) (G : Generation) (parts : List Generation) →
         HasFallenApart R b G parts →
@@ -93,7 +93,7 @@ pub fn each_fate_is_found()
         fate_of R b G ≡ Unresolved }
 {}
 
-/// No pattern both is ash and grows, whatever the bounds and from whichever of its generations it is looked at.
+/// No pattern is found both to be ash and to grow, whatever the bounds and the generations with which the search begins.
 pub fn ash_never_grows()
     ensures { (R : Rule) (b c m n : ℕ) (G S : Generation) (parts Es : List Generation) →
         fate_of R b (generation R G m) ≡ Ash parts →
@@ -101,7 +101,7 @@ pub fn ash_never_grows()
 {}
 
 /// A fate lasts. What is ash within a bound is ash within each greater one, of what its parts become, in some order. What
-/// grows does so too, and its engines are alike.
+/// grows within a bound grows within each greater one, and its engines are alike.
 pub fn fates_last()
     ensures ash { (R : Rule) (b c : ℕ) (G : Generation) (parts : List Generation) → b ≤ c →
         fate_of R b G ≡ Ash parts → (found : List Generation) × (fate_of R c G ≡ Ash found)

@@ -12,7 +12,7 @@ ghost use Rattle.life_objects.specs.Union.{union};
 ghost use Rattle.life_growth.specs.Unsplit.{AreClasses};
 ghost use Rattle.life_growth.specs.Film.{AreJoined};
 
-/// A set splits into two for one more generation exactly where they are apart now, and the next generation splits into their
+/// A set splits into two for one more generation exactly if they are apart now, and the next generation splits into their
 /// next generations.
 pub fn splits_are_told_backwards()
     ensures { (R : Rule) (b : ℕ) (G A B : Generation) → IsSplit R (suc b) G A B ↔

@@ -49,15 +49,16 @@ pub use relations::{
     what_singles_a_step_out_tells_its_number,
 };
 
-/// What is unsplit within a bound is so within each greater one, and no two sets that stay apart for ever make it up.
+/// What is unsplit within a bound is so within each greater one, and is not made of two sets with cells that stay apart for
+/// ever.
 pub fn what_is_unsplit_stays_so()
     ensures wider { (R : Rule) (b c : ℕ) (P : Generation) → b ≤ c → IsUnsplit R b P → IsUnsplit R c P }
     ensures ever { (R : Rule) (b : ℕ) (P A B : Generation) → IsUnsplit R b P → union A B ≡ P →
         AreApartForEver R A B → A ≢ empty → B ≢ empty → ⊥ }
 {}
 
-/// Two sets that stay apart for ever and fall apart do so together, into the parts of both. What falls apart does so one
-/// generation later too, into what its parts become.
+/// If two sets that stay apart for ever fall apart, so does their union, into the parts of both. What falls apart does so one
+/// generation later too, into what its parts become. The empty set falls apart into no parts.
 pub fn what_falls_apart_does_so_together()
     ensures together { (R : Rule) (b : ℕ) (P Q : Generation) (Ps Qs : List Generation) →
         AreApartForEver R P Q → HasFallenApart R b P Ps →
@@ -68,7 +69,7 @@ pub fn what_falls_apart_does_so_together()
     ensures nothing { (R : Rule) (b : ℕ) → HasFallenApart R b empty [] }
 {}
 
-/// What falls apart has alike parts within each bound, in each later generation, and wherever it is.
+/// A set falls apart into alike parts within each bound, in each later generation, and wherever it is.
 pub fn what_falls_apart_is_told_alike()
     ensures bounds { (R : Rule) (b c : ℕ) (P : Generation) (Ps Qs : List Generation) →
         HasFallenApart R b P Ps →
@@ -120,14 +121,14 @@ pub fn an_engine_becomes_its_core_and_debris()
         FallsApart R b (debris_after R way n) }
 {}
 
-/// The populations of an engine have no bound. Those of what falls apart have one.
+/// The population of an engine is unbounded. That of what falls apart is bounded.
 pub fn engines_grow_beyond_every_bound()
     ensures engine { (R : Rule) (b : ℕ) (E : Generation) (way : Way) → IsEngine R b E way →
         HasNoBound R E }
     ensures otherwise { (R : Rule) (b : ℕ) (P : Generation) → FallsApart R b P → HasBound R P }
 {}
 
-/// An engine has more cells a period later, whichever generation is looked at.
+/// Each generation of an engine has fewer cells than the one a period later.
 pub fn engines_outgrow_themselves()
     ensures { (R : Rule) (b n : ℕ) (E : Generation) (way : Way) → IsEngine R b E way →
         size (generation R E n) < size (generation R E (n + way.period)) }
@@ -160,7 +161,7 @@ pub fn each_phase_is_the_engine()
         AreToldAlike R b b E ((endless way).core n) }
 {}
 
-/// A pattern has one growth, whatever the bounds: the same engines but for their order, and the same debris.
+/// A pattern has one growth, whatever the bounds: the same engines, up to order, and the same debris.
 pub fn a_pattern_has_one_growth()
     ensures engines { (R : Rule) (b c : ℕ) (G : Generation) (Es Fs : List Generation) (S T : Generation) →
         IsGrowth R b G Es S → IsGrowth R c G Fs T → IsPermutation Es Fs }
@@ -193,7 +194,7 @@ pub fn what_grows_never_falls_apart()
         HasFallenApart R b G parts → HasComeToGrowth R c G Es S → ⊥ }
 {}
 
-/// No object that an engine emits has the engine's velocity. So what a gun emits are spaceships.
+/// No object that an engine emits has the engine's velocity. So a gun emits only spaceships.
 pub fn nothing_emitted_moves_with_the_engine()
     ensures velocity { (R : Rule) (b c n q : ℕ) (E P : Generation) (way : Way) (e : Cell) (parts : List Generation) →
         IsEngine R b E way → n < way.period → HasFallenApart R c (way.left n) parts →
@@ -204,9 +205,9 @@ pub fn nothing_emitted_moves_with_the_engine()
         Contains parts P → RecursBy R P q e → way.displacement ≡ origin → e ≢ origin }
 {}
 
-/// What has fallen apart of a growing pattern's debris rises steadily. Take a number of generations that is a whole number of
-/// periods of each engine. Over these the number of objects of a kind rises by exactly what the engines emit of that kind in
-/// these periods.
+/// The debris of a growing pattern, once it has fallen apart, grows steadily: over a number of generations that is a whole
+/// number of periods of each engine, the number of objects of a kind rises by exactly the number of that kind that the
+/// engines emit in these periods.
 pub fn debris_rises_steadily()
     ensures { (R : Rule) (b m n : ℕ) (G S T U : Generation) (Es Fs Hs : List Generation) (parts others : List Generation)
         (rows : List (ℕ × List Generation)) (kind : Generation → Bool) → IsGrowth R b G Es S →
@@ -216,9 +217,8 @@ pub fn debris_rises_steadily()
         count_by kind others ≡ count_by kind parts + emitted_by kind rows }
 {}
 
-/// The sets that no split tears and that stay apart for a bound determine what is unsplit: that is what has only one such
-/// set. The core of the next generation is one of the sets of that generation, and the others have left. Each engine of a
-/// growth is one of the sets of the pattern.
+/// A set is unsplit exactly if it has only one class (`AreClasses`). The next core of an engine is one of the classes of the
+/// next generation, and the others have left. Each engine of a growth is one of the classes of the pattern.
 pub fn classes_tell_cores_and_engines()
     ensures unsplit { (R : Rule) (b : ℕ) (P : Generation) (Ps : List Generation) → AreClasses R b P Ps →
         IsUnsplit R b P ↔ (Ps ≡ P ∷ []) }
@@ -232,16 +232,15 @@ pub fn classes_tell_cores_and_engines()
         AreClasses R b G Ps → Contains Es E → Contains Ps E }
 {}
 
-/// An engine, within whichever bound, that stays apart for ever from the rest of a pattern that grows is one of the pattern's
-/// engines.
+/// An engine, within any bound, that stays apart for ever from the rest of a growing pattern is one of the pattern's engines.
 pub fn what_runs_apart_is_an_engine_of_the_growth()
     ensures { (R : Rule) (b c : ℕ) (G E S others : Generation) (Es : List Generation) (way : Way) →
         IsGrowth R b G Es S →
         IsEngine R c E way → AreApartForEver R E others → union E others ≡ G → Contains Es E }
 {}
 
-/// Whether what leaves does so for ever is determined by what it and the cores become, each alone. It leaves for ever if what
-/// left at a step of the first period is never near a later core or what leaves later. For an engine it never is.
+/// What it and the cores become, each alone, determines whether what leaves does so for ever. It leaves for ever if what left
+/// at a step of the first period is never near a later core or what leaves later. For an engine it never is.
 pub fn what_never_comes_near_leaves_for_ever()
     ensures leaves { (R : Rule) (way : Way) → 1 ≤ way.period →
         way.core way.period ≡ translate_of (way.core 0) way.displacement →
@@ -252,9 +251,9 @@ pub fn what_never_comes_near_leaves_for_ever()
         LeavesCores R way × LeavesLefts R way }
 {}
 
-/// An engine stays apart for ever from a set exactly where neither its core nor what has left it is ever near what the set
-/// becomes. It stays apart for ever from another engine exactly where neither is ever near that one's core or what has left
-/// that one.
+/// An engine stays apart for ever from a set exactly if neither its core nor what has left it is ever near what the set
+/// becomes. It stays apart for ever from another engine exactly if neither its core nor what has left it is ever near the
+/// other's core or what has left the other.
 pub fn what_never_comes_near_an_engine_stays_apart()
     ensures set { (R : Rule) (b : ℕ) (E X : Generation) (way : Way) → IsEngine R b E way →
         AreApartForEver R E X ↔ IsNeverNear R way X }
@@ -262,9 +261,9 @@ pub fn what_never_comes_near_an_engine_stays_apart()
         IsEngine R c F other → AreApartForEver R E F ↔ AreNeverNear R way other }
 {}
 
-/// What becomes ash, and an engine, is at each time the union of its things at that time. The things of what becomes ash are
-/// its generations before that, and the phases of its parts, which recur again and again. The things of an engine are its
-/// cores and the things of what leaves, which recur after each period too. This also holds if what leaves is made of other
+/// A pattern that becomes ash, or an engine, is at each time the union of its things at that time. The things of a pattern
+/// that becomes ash are its generations before that, and the phases of its parts, which recur. The things of an engine are
+/// its cores and the things of what leaves, which recur after each period. This also holds if what leaves is made of other
 /// things, as listed.
 pub fn a_growth_is_made_of_things()
     ensures settled { (R : Rule) (a b : ℕ) (P : Generation) (parts : List Generation) →
@@ -277,7 +276,7 @@ pub fn a_growth_is_made_of_things()
         IsEngine R b E way → AreThingsOfLefts R way (listed lists) → IsMadeOf R E (IsEngineThing way (listed lists)) }
 {}
 
-/// Two engines, or an engine and what falls apart, stay apart for ever exactly where the things of one and the things of the
+/// Two engines, or an engine and what falls apart, stay apart for ever exactly if the things of one and the things of the
 /// other never meet.
 pub fn things_tell_what_stays_apart()
     ensures engines { (R : Rule) (b c : ℕ) (E F : Generation) (way other : Way) (ashes others : ℕ → List Generation) →
@@ -293,8 +292,8 @@ pub fn things_tell_what_stays_apart()
         IsEngineThing way (lefts_within R b way ashes) B → NeverMeet A B) }
 {}
 
-/// Take a way that comes back. What leaves its cores never comes near them, or near what leaves later, exactly where its
-/// things never meet them again, nor the things of what leaves later.
+/// Take a way with a period of at least 1. What leaves its cores never comes near them, or near what leaves later, exactly if
+/// the things of what leaves never meet the cores again, nor the things of what leaves later.
 pub fn things_tell_what_leaves_for_ever()
     ensures settled { (R : Rule) (b : ℕ) (way : Way) (ashes : ℕ → List Generation) → 1 ≤ way.period →
         ((n : ℕ) → n < way.period → HasFallenApart R b (way.left n) (ashes n)) →
@@ -304,8 +303,7 @@ pub fn things_tell_what_leaves_for_ever()
         (LeavesCores R way × LeavesLefts R way) ↔ NeverMeetAgain way (listed lists) }
 {}
 
-/// Whether two things meet is determined by how far the moves of one go beyond those of the other, at the times at which both
-/// are there.
+/// The difference of the moves of two things, at the times at which both are there, alone determines whether they meet.
 pub fn only_the_way_between_two_things_counts()
     ensures { (A B : Thing) → NeverMeet A B ↔ ((k l : List ℕ) →
         time_then A k ≡ time_then B l →

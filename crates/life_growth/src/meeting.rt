@@ -1,5 +1,5 @@
-//! Whether two things in space and time ever meet. A finite search decides it, as a definition that computes, in `specs/`.
-//! The laws that the search is right are the contracts of functions that do nothing.
+//! Deciding whether two things in space and time ever meet: a finite search, as a definition that computes it, in
+//! `specs/`. The laws that the search is right are the contracts of functions that do nothing.
 
 ghost use Rattle.std.specs.Prelude.{◌≡◌, ℕ, ◌↔◌, true, List, Contains, ◌<◌};
 ghost use Rattle.life_model.specs.Generation.{Generation};
@@ -30,7 +30,7 @@ pub fn listed_things_tell_what_stays_apart()
         IsMadeOf R Q (Contains Bs) → (all_never_meet As Bs ≡ true) ↔ AreApartForEver R P Q }
 {}
 
-/// What falls apart, and an engine, is made of finitely many things, which are listed.
+/// What falls apart is made of finitely many things, which are listed, and so is an engine.
 pub fn things_are_listed()
     ensures settled { (R : Rule) (b : ℕ) (P : Generation) (parts : List Generation) → HasFallenApart R b P parts →
         IsMadeOf R P (Contains (settled_things R b P parts)) }
@@ -39,7 +39,7 @@ pub fn things_are_listed()
         IsMadeOf R E (Contains (engine_things R c way ashes)) }
 {}
 
-/// A search decides whether what leaves an engine never meets a core again, nor what leaves later.
+/// A search decides whether what leaves an engine ever meets a core again, or what leaves later.
 pub fn what_meets_again_is_found()
     ensures { (R : Rule) (b : ℕ) (way : Way) (ashes : ℕ → List Generation) →
         ((n : ℕ) → n < way.period → HasFallenApart R b (way.left n) (ashes n)) →

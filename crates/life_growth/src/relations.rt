@@ -1,19 +1,20 @@
-//! What relations between steps say about their sums. Whether a step is a sum of given ones, each made any number of times,
-//! is decided with few tries by relations between these, and by functions that are 0 for all of them but one. Definitions are
-//! in `specs/`; the laws are the contracts of functions that do nothing.
+//! Relations between steps, and what they imply for sums. By relations between given steps, and by functions that are 0 for
+//! all of them but one, it takes few tries to decide whether a step is a sum of these, each made any number of times.
+//! Definitions are in `specs/`; the laws are the contracts of functions that do nothing.
 
 ghost use Rattle.std.specs.Prelude.{◌≡◌, ◌≢◌, ◌↔◌, ℕ, ◌<◌, ◌≤◌, length, map, ℤ, pos, ◌*ℤ◌, List, [], ◌∷◌};
 ghost use Rattle.life_growth.specs.Meeting.Sums.{Step, and_then, stay, times};
 ghost use Rattle.life_growth.specs.Relations.Relations.{IsRelation, IsSquare, IsSumOf, SinglesOut, above, below, combination, cross, left_out, number_at, product, rest_of, scaled, spanned, step_at};
 
-/// If there is a relation between steps, then in some sum that makes c one of them is made less often than the relation has
-/// it. So there are no more numbers to try than the relation adds up to, each with one step fewer.
+/// If there is a relation between steps, then a sum c of them is also one in which some step is made less often than the
+/// relation has it. So there are no more numbers to try than the relation adds up to, each with one step fewer.
 pub fn relations_leave_few_numbers()
     ensures { (us : List Step) (ups downs : List ℕ) (c : Step) → IsRelation us ups downs → IsSumOf us c ↔
         ((i : ℕ) × (often : ℕ) × (often < number_at ups i) × IsSumOf (left_out us i) (rest_of us i c often)) }
 {}
 
-/// A function that is 0 for all other steps determines how often a step is made: no other number has to be tried.
+/// A function that is 0 for all other steps determines the number of times that a step is made: no other number has to be
+/// tried.
 pub fn what_singles_a_step_out_tells_its_number()
     ensures sum { (f : Step → ℤ) (us : List Step) (i : ℕ) (c : Step) → SinglesOut f us i → IsSumOf us c ↔
         ((often : ℕ) × (f (times often (step_at us i)) ≡ f c) × IsSumOf (left_out us i) (rest_of us i c often)) }
@@ -21,8 +22,8 @@ pub fn what_singles_a_step_out_tells_its_number()
         f (times m (step_at us i)) ≡ f (times n (step_at us i)) → m ≡ n }
 {}
 
-/// A product with a step that is orthogonal to all steps but one singles that one out. How often it is made in a sum is the
-/// product with the sum, divided by the product with the step.
+/// A product with a step that is orthogonal to all steps but one singles that one out. The number of times that it is made in
+/// a sum is the product with the sum, divided by the product with the step.
 pub fn products_single_a_step_out()
     ensures out { (n : Step) (us : List Step) (i : ℕ) → IsSquare n us i → SinglesOut (product n) us i }
     ensures times { (n u : Step) (often : ℕ) → product n (times often u) ≡ pos often *ℤ product n u }
@@ -43,14 +44,14 @@ pub fn four_steps_are_related()
         and_then (scaled (spanned z v w) u) (and_then (scaled (spanned u z w) v) (scaled (spanned u v z) w)) }
 {}
 
-/// Numbers with which the steps add up to staying are a relation, if some number is above 0: those above 0 are one side, and
-/// those below the other.
+/// Numbers for which the steps add up to the one that stays are a relation, if some number is above 0: those above 0 are one
+/// side, and those below it the other.
 pub fn numbers_are_a_relation()
     ensures { (us : List Step) (numbers : List ℤ) (i : ℕ) → combination us numbers ≡ stay → i < length us →
         1 ≤ number_at (map above numbers) i → IsRelation us (map above numbers) (map below numbers) }
 {}
 
-/// With no steps, staying is the only sum.
+/// The only sum of no steps is the one that stays.
 pub fn no_steps_stay()
     ensures { (c : Step) → IsSumOf [] c ↔ (c ≡ stay) }
 {}

@@ -1,4 +1,4 @@
--- How a pattern may be engines and debris.
+-- Divisions of a pattern into possible engines and debris.
 use Rattle.std.specs.Prelude.{ℕ, suc, Bool, true, false, not, ◌&&◌, List, [], ◌∷◌, ◌++◌, map, filter}
 use Rattle.std.specs.List.{list_all}
 use Rattle.life_model.specs.Rule.{Rule}
@@ -9,7 +9,7 @@ use Rattle.life_objects.specs.Decided.Tests.{each_below}
 use Rattle.life_growth.specs.Engines.Tests.{falls_apart}
 use Rattle.life_growth.specs.Engines.Tracks.{engine_tracks}
 
--- each choice of some of the elements, with the others
+-- each choice of some of the elements, with the rest
 abbrev pub divisions : List Generation → List (List Generation × List Generation)
 divisions [] = ([], []) ∷ []
 divisions (P ∷ Ps) = map (λ d. (P ∷ d.0, d.1)) (divisions Ps) ++ map (λ d. (d.0, P ∷ d.1)) (divisions Ps)
@@ -18,11 +18,11 @@ abbrev pub is_empty_list : {X : Type 0} → List X → Bool
 is_empty_list [] = true
 is_empty_list (x ∷ xs) = false
 
--- whether E comes back along some track of 1 to b steps
+-- true where E comes back along some track of 1 to b steps
 abbrev pub may_be_engine : Rule → ℕ → Generation → Bool
 may_be_engine R b E = not (each_below (λ n. is_empty_list (engine_tracks R b (suc n) E)) b)
 
--- whether there is a first set, each first one may be an engine, and the others fall apart together
+-- true where some sets are chosen, each of them may be an engine, and the others fall apart together
 abbrev pub may_be_growth : Rule → ℕ → List Generation × List Generation → Bool
 may_be_growth R b d =
     not (is_empty_list d.0) && (list_all (may_be_engine R b) d.0 && falls_apart R b (union_of d.1))

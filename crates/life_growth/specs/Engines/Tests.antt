@@ -1,4 +1,4 @@
--- Whether a set falls apart within b, and whether it is unsplit.
+-- Tests of whether a set falls apart within b, and of whether it is unsplit.
 use Rattle.std.specs.Prelude.{ℕ, suc, Bool, nat_eq, is_some, length}
 use Rattle.life_model.specs.Rule.{Rule}
 use Rattle.life_model.specs.Generation.{Generation}
@@ -6,10 +6,10 @@ use Rattle.life_model.specs.Evolution.{generation}
 use Rattle.life_objects.specs.Decided.Classes.{classes}
 use Rattle.life_objects.specs.Decided.Decided.{ash_of}
 
--- whether generation b of P is ash within b
+-- true where generation b of P is ash within b
 abbrev pub falls_apart : Rule → ℕ → Generation → Bool
 falls_apart R b P = is_some (ash_of R b (generation R P b))
 
--- whether P has one class, as they are after generation b
+-- true where P has one class, after generation b
 abbrev pub is_unsplit : Rule → ℕ → Generation → Bool
 is_unsplit R b P = nat_eq (length (classes R P (suc b))) 1

@@ -50,12 +50,12 @@ way_along E track = record {
   left = left_along track;
 }
 
--- whether P is Q, moved
+-- true where P is Q, moved
 abbrev pub is_moved : Generation → Generation → Bool
 is_moved P Q = same_set (normal P) (normal Q)
 
--- Whether a track comes back to E at its end, moved, and not before, all its cores are unsplit, and something that left
--- lives on.
+-- True where a track comes back to E at its end, moved, and not before, all its cores are unsplit, and something that
+-- left lives on.
 abbrev pub comes_back : Rule → ℕ → Generation → List Step → Bool
 comes_back R b E track =
     let way = way_along E track in

@@ -30,7 +30,7 @@ things_of_debris R b S = settled_things R b S (candidate_parts R b (generation R
 abbrev pub things_of_each : Rule → ℕ → List Generation × Generation → List (List Thing)
 things_of_each R b g = things_of_debris R b g.1 ∷ map (things_of_engine R b) g.0
 
--- whether the engines are engines, and neither two of them nor one and the debris ever meet
+-- true where all the engines are engines, and no two of them, nor one of them and the debris, ever meet
 abbrev pub goes_on : Rule → ℕ → List Generation × Generation → Bool
 goes_on R b g = list_all (is_engine R b) g.0 && each_pair all_never_meet (things_of_each R b g)
 

@@ -1,4 +1,4 @@
--- What becomes of a pattern.
+-- The fate of a pattern.
 use Rattle.std.specs.Prelude.{ℕ, List, Option, Some, None}
 use Rattle.life_model.specs.Rule.{Rule}
 use Rattle.life_model.specs.Generation.{Generation}
@@ -6,7 +6,7 @@ use Rattle.life_model.specs.Evolution.{generation}
 use Rattle.life_objects.specs.Decided.Decided.{ash_of}
 use Rattle.life_growth.specs.Fates.Decided.{growth_of}
 
--- It is ash of these parts, grows by these engines beside this debris, or neither.
+-- Ash of these parts, growth by these engines beside this debris, or neither.
 pub data Fate : Type 0 where
   Ash : List Generation → Fate
   Grows : List Generation → Generation → Fate

@@ -1,4 +1,4 @@
--- Whether what leaves an engine never meets it again, by a search.
+-- A search that decides whether what leaves an engine ever meets it again.
 use Rattle.std.specs.Prelude.{ℕ, suc, Bool, ◌&&◌, List, [], ◌∷◌, map}
 use Rattle.life_model.specs.Rule.{Rule}
 use Rattle.life_model.specs.Generation.{Generation}
@@ -18,7 +18,7 @@ things_left R b way ashes n = map (left_thing way n) (settled_things R b (way.le
 abbrev pub things_later : Rule → ℕ → Way → (ℕ → List Generation) → ℕ → List Thing
 things_later R b way ashes n = map (a_period_later way) (things_left R b way ashes n)
 
--- whether what leaves at each step never meets a core, nor what leaves later in the period, nor in a later one
+-- true where what leaves at each step never meets a core, nor what leaves later in the period or in a later one
 unfoldable pub never_meet_again : Rule → ℕ → Way → (ℕ → List Generation) → Bool
 never_meet_again R b way ashes =
     each_below (λ n.

@@ -11,7 +11,7 @@ abbrev pub numbers_below : ℕ → List ℕ
 numbers_below zero = []
 numbers_below (suc n) = n ∷ numbers_below n
 
--- the first generations of P, which occur once
+-- generation m of P, which occurs once
 abbrev pub first_thing : Rule → Generation → ℕ → Thing
 first_thing R P m = record { time = m; set = generation R P m; ways = [] }
 

@@ -1,4 +1,4 @@
--- Whether a step is a sum of given steps, each made any number of times, by a search.
+-- A search that decides whether a step is a sum of given steps, each made any number of times.
 use Rattle.std.specs.Prelude.{ℕ, zero, suc, ℤ, pos, negsuc, ◌+ℤ◌, ◌-ℤ◌, ◌+◌, ◌*◌, Bool, nat_eq, unsigned_abs, List, [], ◌∷◌, map, flat_map, filter, length}
 use Rattle.std.specs.List.{list_any}
 use Rattle.life_model.specs.Cell.{Cell, origin, plus}
@@ -13,7 +13,7 @@ stay = (pos 0, origin)
 abbrev pub and_then : Step → Step → Step
 and_then u v = (u.0 +ℤ v.0, plus u.1 v.1)
 
--- what is left to go after v
+-- the step that is left of u after v
 abbrev pub rest_after : Step → Step → Step
 rest_after u v = (u.0 -ℤ v.0, (u.1.0 -ℤ v.1.0, u.1.1 -ℤ v.1.1))
 
@@ -56,7 +56,7 @@ abbrev pub enough_steps : (Step → ℤ) → List Step → Step → ℕ
 enough_steps f us c =
     length us * common f us + (unsigned_abs (f c) + length us * common f us * sizes f us) * common f us
 
--- what is left to go after at most `enough_steps` steps
+-- the steps that are left of c after at most `enough_steps` steps
 abbrev pub rests : (Step → ℤ) → List Step → Step → List Step
 rests f us c = map (rest_after c) (sums_within us (enough_steps f us c))
 
@@ -72,7 +72,8 @@ along u = u.1.1
 abbrev pub is_stay : Step → Bool
 is_stay u = nat_eq (unsigned_abs u.0 + unsigned_abs u.1.0 + unsigned_abs u.1.1) 0
 
--- Whether c is a sum of the steps: a few of them, then a few that take no time, then a few that go neither across.
+-- True where c is a sum of the steps: of a few of them, then a few sums that take no time, then a few that don't go
+-- across either.
 unfoldable pub is_sum : List Step → Step → Bool
 is_sum us c =
     let timeless = returning time us in

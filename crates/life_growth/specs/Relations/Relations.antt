@@ -1,4 +1,4 @@
--- Relations between steps, and how often each step is made in a sum of them.
+-- Relations between steps, and the numbers of times that each step is made in a sum of them.
 use Rattle.std.specs.Prelude.{◌≡◌, ◌≢◌, ℕ, zero, suc, ◌<◌, ◌≤◌, ℤ, pos, negsuc, ◌+ℤ◌, ◌-ℤ◌, ◌*ℤ◌, List, [], ◌∷◌, length}
 use Rattle.life_growth.specs.Meeting.Sums.{Step, and_then, rest_after, stay, sum_of, times}
 
@@ -37,7 +37,7 @@ pub record IsRelation (us : List Step) (ups downs : List ℕ) : Type 0 where
   pub some : 1 ≤ number_at ups place
   pub apart : (i : ℕ) → 1 ≤ number_at ups i → number_at downs i ≡ 0
 
--- f of a sum of two steps is the sum of what f is of each
+-- f of a sum of two steps is the sum of f of each
 pub record IsAdditive (f : Step → ℤ) : Type 0 where
   pub adds : (u v : Step) → f (and_then u v) ≡ (f u +ℤ f v)
   pub stays : f stay ≡ pos 0
@@ -78,7 +78,7 @@ combination [] numbers = stay
 combination (u ∷ us) [] = stay
 combination (u ∷ us) (a ∷ numbers) = and_then (scaled a u) (combination us numbers)
 
--- how far a number is above 0, and how far below
+-- the amount by which a number is above 0, and that by which it is below
 abbrev pub above : ℤ → ℕ
 above (pos n) = n
 above (negsuc n) = 0
