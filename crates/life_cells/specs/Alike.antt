@@ -1,4 +1,4 @@
--- Whether two sets are equal, as a test, and what the test means.
+-- The test of whether two sets are equal, and its meaning.
 use Rattle.std.specs.Prelude.{◌≡◌, Bool, ◌&&◌}
 use Rattle.std.specs.Bool.{Decides}
 use Rattle.std.specs.Ordering.{int_eq}

@@ -13,23 +13,23 @@ use Rattle.life_cells.specs.Readings.{cell_of_pair}
 abbrev pub is_base_36_digit : ℕ → Bool
 is_base_36_digit c = (nat_le 48 c && nat_le c 57) || (nat_le 97 c && nat_le c 122)
 
--- the number of such a byte
+-- the value of such a byte
 abbrev pub digit_value : ℕ → ℕ
 digit_value c = if nat_le c 57 then c - 48 else c - 87
 
--- what a byte, or `y` and the byte after it, stands for: a column of a value, columns of 0, the next strip, or a fault
+-- the meaning of a byte, or of `y` and the byte after it: a column of a value, columns of 0, the next strip, or a fault
 pub data Mark : Type 0 where
   Column : (at value : ℕ) → Mark
   Zeros : (count : ℕ) → Mark
   NextStrip : Mark
   Offence : CodeFault → Mark
 
--- what a byte other than `y` stands for
+-- the meaning of a byte other than `y`
 abbrev pub mark_of_byte : ℕ → ℕ → Mark
 mark_of_byte at c =
     if is_base_36_digit c then (if c == 122 then NextStrip else (if c == 119 then Zeros 2 else (if c == 120 then Zeros 3 else Column at (digit_value c)))) else Offence (BadChar at)
 
--- what `y` and the byte after it stand for
+-- the meaning of `y` and the byte after it
 abbrev pub mark_of_run : ℕ → ℕ → Mark
 mark_of_run at c = if is_base_36_digit c then Zeros (4 + digit_value c) else Offence (CutRun at)
 
@@ -113,17 +113,17 @@ abbrev pub until_offence : List Mark → List Mark
 until_offence [] = []
 until_offence (m ∷ ms) = if is_offence m then [] else m ∷ until_offence ms
 
--- there is a first cell, and it is not too far
+-- true where there is a first cell, and it is not too far
 abbrev pub begins_near : List (ℕ × ℕ) → Bool
 begins_near [] = false
 begins_near (c ∷ cells) = not (is_far c)
 
--- whether a live cell is kept before the first fault: there is one before the first byte that offends, and the first of
--- these is not too far
+-- true where a live cell is kept before the first fault: there is one before the first byte that offends, and the first
+-- of these is not too far
 unfoldable pub keeps_a_cell : List ℕ → Bool
 keeps_a_cell text = begins_near (cells_after [] (until_offence (marks_of text)))
 
--- why a text is refused
+-- the fault for which a text is refused, if there is one
 unfoldable pub refusal : List ℕ → Option CodeFault
 refusal [] = Some Empty
 refusal (c ∷ rest) = first_fault [] (marks_of (c ∷ rest))

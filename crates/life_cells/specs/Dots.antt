@@ -1,4 +1,4 @@
--- What the writer keeps of the cells of a strip: a dot for each, its column and what it weighs there.
+-- The dots that the writer keeps of a strip: for each cell, its column and its weight there.
 use Rattle.std.specs.Prelude.{ℕ, ◌+◌, ◌-◌, ◌*◌, ◌^◌, List, [], ◌∷◌, map, pos, nat_abs, ◌≤ℤ◌, ◌<ℤ◌, ◌==◌, if◌then◌else◌}
 use Rattle.std.specs.List.{range_with_len, sum_by}
 use Rattle.life_model.specs.Cell.{Cell, same_cell}
@@ -9,7 +9,7 @@ use Rattle.life_cells.specs.Limits.{last_place}
 abbrev pub strip_limit : ℕ
 strip_limit = 3355444
 
--- what a cell weighs in column x of strip k
+-- the weight of a cell in column x of strip k
 abbrev pub weight : ℕ → ℕ → Cell → ℕ
 weight k x c = sum_by (λ j. if same_cell (pos x, pos (5 * k + j)) c then 2 ^ j else 0) (range_with_len 0 5)
 
@@ -20,7 +20,7 @@ weights k cs x = sum_by (weight k x) cs
 abbrev pub dot : ℕ → Cell → ℕ × ℕ
 dot k c = (nat_abs c.0, 2 ^ (nat_abs c.1 - 5 * k))
 
--- what dots weigh together in column x
+-- the sum of the weights of dots in column x
 abbrev pub dots_value : List (ℕ × ℕ) → ℕ → ℕ
 dots_value dots x = sum_by (λ d. if d.0 == x then d.1 else 0) dots
 
@@ -35,7 +35,7 @@ pub record IsInStrip (k : ℕ) (c : Cell) : Type 0 where
   pub above : pos (5 * k) ≤ℤ c.1
   pub below : c.1 <ℤ pos (5 * k + 5)
 
--- the coordinates of a cell of a shape
+-- the coordinates of the cell are in the range of those of a shape
 pub record IsInField (c : Cell) : Type 0 where
   pub left : pos 0 ≤ℤ c.0
   pub right : c.0 ≤ℤ pos last_place

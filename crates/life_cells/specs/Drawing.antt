@@ -1,4 +1,4 @@
--- What the reader keeps: the place in the text, the strip and the column, and what follows from there.
+-- The state of the reader (the place in the text, the strip and the column), and what it reads from there on.
 use Rattle.std.specs.Prelude.{◌≡◌, ℕ, ◌+◌, ◌-◌, ◌*◌, ◌<◌, ◌≤◌, ◌==◌, Bool, List, [], ◌∷◌, ◌++◌, Option, None, Result, drop, map}
 use Rattle.std.specs.List.{filter, range_with_len}
 use Rattle.std.specs.Int.{bit_at}
@@ -39,7 +39,7 @@ cells_unless fault cells = unless_refused fault (map cell_of_pair cells)
 abbrev pub cells_drawn : ℕ → ℕ → List Mark → Result (List Cell) CodeFault
 cells_drawn k x ms = cells_unless (fault_from k x ms) (cells_from k x ms)
 
--- whether a live cell is kept of the marks from strip k and column x on
+-- true where a live cell is kept of the marks from strip k and column x on
 abbrev pub keeps_from : ℕ → ℕ → List Mark → Bool
 keeps_from k x ms = begins_near (cells_from k x (until_offence ms))
 
@@ -51,13 +51,13 @@ marks_at text at = marks None at (drop at text)
 abbrev pub BeginsWithMark : Mark → List Mark → Type 0
 BeginsWithMark m ms = (rest : List Mark) × (ms ≡ m ∷ rest)
 
--- what a sign at this place means
+-- the meaning of a sign at this place
 abbrev pub mark_of_sign : ℕ → Sign → Mark
 mark_of_sign at (Value v) = Column at v
 mark_of_sign at (Skip n) = Zeros n
 mark_of_sign at Down = NextStrip
 
--- the number of a sign is as small as the text's digits make it
+-- the number of a sign is in the range that the text's digits allow
 abbrev pub IsWithinDigits : Sign → Type 0
 IsWithinDigits (Value v) = v < 32
 IsWithinDigits (Skip n) = n ≤ 39

@@ -9,7 +9,7 @@ use Rattle.life_cells.specs.Limits.{last_place}
 abbrev pub IsNormal : Generation → Type 0
 IsNormal G = normal G ≡ G
 
--- how far the cell is from the corner, in both directions, is 0 to 16,777,215
+-- the cell is 0 to 16,777,215 places to the right of the corner, and 0 to 16,777,215 below it
 pub record IsAhead (corner c : Cell) : Type 0 where
   pub left : corner.0 ≤ℤ c.0
   pub right : c.0 ≤ℤ (corner.0 +ℤ pos last_place)

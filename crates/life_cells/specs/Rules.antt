@@ -32,15 +32,15 @@ abbrev pub runs_with : List ℕ → Option (List ℕ) → Option (List ℕ × Li
 runs_with text None = None
 runs_with text (Some second) = if list_all is_count second then Some (digits_of text, second) else None
 
--- `/` after the digits, and no letter
+-- the runs of digits on both sides of `/`, without a letter
 abbrev pub digits_by_slash : List ℕ → Option (List ℕ × List ℕ)
 digits_by_slash text = runs_with text (after_one_of (codes "/") (after_digits text))
 
--- one of these letters, with or without `/` before it
+-- the text after one of these letters, with or without `/` before it
 abbrev pub after_slash_and : List ℕ → List ℕ → Option (List ℕ)
 after_slash_and letters text = option_or (after_one_of (codes "/") text >>= after_one_of letters) (after_one_of letters text)
 
--- after a first letter the digits, `/` or nothing, and a second letter
+-- the runs of digits after a first letter and, with or without `/` before it, after a second letter
 abbrev pub digits_by_letters : List ℕ → List ℕ → List ℕ → Option (List ℕ × List ℕ)
 digits_by_letters first second text = do
   rest ← after_one_of first text
@@ -60,11 +60,11 @@ abbrev pub rule_of_digits : Option (List ℕ × List ℕ) → Result Rule RuleFa
 rule_of_digits None = Err NotLifeLike
 rule_of_digits (Some (birth, survival)) = if is_in birth 48 then Err HasB0 else Ok (record { birth = members birth; survival = members survival })
 
--- what a rule text means
+-- the meaning of a rule text
 abbrev pub rule_of : List ℕ → Result Rule RuleFault
 rule_of text = rule_of_digits (digits_by_form text)
 
--- the digits of a set, rising
+-- the digits of a set, in ascending order
 abbrev pub set_text : ℕ → List ℕ
 set_text set = map (λ n. 48 + n) (filter (λ n. bit_at set n == 1) (range_with_len 0 9))
 

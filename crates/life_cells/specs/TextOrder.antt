@@ -5,7 +5,7 @@ use Rattle.std.specs.Ordering.{nat_cmp, ordering_then, is_gt}
 use Rattle.std.specs.declared.cmp.Ordering.{Ordering}
 use Rattle.std.specs.Cmp.Lexicographic.{slice_cmp}
 
--- what comes after a place, or the whole text if there is none
+-- the text after a place, or the whole text if there is none
 abbrev pub text_after : Option ℕ → List ℕ → List ℕ
 text_after None code = code
 text_after (Some at) code = drop (at + 1) code
@@ -14,7 +14,7 @@ text_after (Some at) code = drop (at + 1) code
 abbrev pub body_of : List ℕ → List ℕ
 body_of code = text_after (position (λ c. c == 95) code) code
 
--- by length, and then by bytes
+-- by length, then by bytes
 abbrev pub shorter_cmp : List ℕ → List ℕ → Ordering
 shorter_cmp a b = ordering_then (nat_cmp (length a) (length b)) (slice_cmp nat_cmp a b)
 
@@ -22,7 +22,7 @@ shorter_cmp a b = ordering_then (nat_cmp (length a) (length b)) (slice_cmp nat_c
 abbrev pub lesser_text : List ℕ → List ℕ → List ℕ
 lesser_text a b = if is_gt (shorter_cmp a b) then b else a
 
--- the least of some texts, by length and then by bytes
+-- the least of some texts, by length, then by bytes
 abbrev pub least_text : List (List ℕ) → List ℕ
 least_text [] = []
 least_text (text ∷ others) = fold lesser_text text others

@@ -11,7 +11,7 @@ use std::alloc::{AllocError, Global};
 use std::marker::Model;
 use thiserror::Error;
 
-/// Why cells are no list of cells.
+/// The reason why cells don't make a list of cells.
 #[derive(Clone, Copy, Debug, PartialEq, Eq, Drop, Error)]
 pub enum CellFault {
     /// A coordinate below -16,777,216 or above 16,777,215.
@@ -33,8 +33,7 @@ impl From<AllocError> for CellFault {
     }
 }
 
-/// A finite set of cells `(x, y)`, listed by rising y and then x, each once. Every coordinate is from -16,777,216 to
-/// 16,777,215.
+/// A finite set of cells `(x, y)`, sorted by y, then by x, each once. Every coordinate is from -16,777,216 to 16,777,215.
 #[derive(Drop)]
 pub struct CellList {
     items: Vec<(i32, i32)>,
@@ -55,7 +54,7 @@ impl Model for CellList {
     ghost invariant = { λ l. T (is_rising l.items.items) × All IsPlace l.items.items };
 }
 
-/// Whether a cell is within the range of a list of cells.
+/// True where a cell is within the range of a list of cells.
 fn is_place(cell: (i32, i32)) -> bool
     ensures { IsTrue result ↔ IsPlace cell }
 {
@@ -65,7 +64,7 @@ fn is_place(cell: (i32, i32)) -> bool
         && cell.1 < COORDINATE_LIMIT
 }
 
-/// Whether a coordinate is from -`age` to 1,048,575 + `age`.
+/// True where a coordinate is from -`age` to 1,048,575 + `age`.
 fn is_between(place: i32, age: u32) -> bool
     requires { age ≤ age_limit }
     ensures { IsTrue result ↔ (neg_ℤ (pos age) ≤ℤ place × place ≤ℤ pos (last_pattern_place + age)) }
@@ -77,7 +76,7 @@ fn is_between(place: i32, age: u32) -> bool
     -(age as i32) <= place
 }
 
-/// Whether both coordinates of a cell are from -`age` to 1,048,575 + `age`.
+/// True where both coordinates of a cell are from -`age` to 1,048,575 + `age`.
 fn is_in_field(cell: (i32, i32), age: u32) -> bool
     requires { age ≤ age_limit }
     ensures { IsTrue result ↔ IsWithin age cell }
@@ -85,7 +84,7 @@ fn is_in_field(cell: (i32, i32), age: u32) -> bool
     is_between(cell.0, age) && is_between(cell.1, age)
 }
 
-/// Whether all cells are within the range of a list of cells.
+/// True where all cells are within the range of a list of cells.
 fn are_places(cells: &[(i32, i32)]) -> bool
     ensures { IsTrue result ↔ All IsPlace cells.now }
 {
@@ -97,7 +96,7 @@ fn are_places(cells: &[(i32, i32)]) -> bool
     true
 }
 
-/// Whether all coordinates of the cells are from -`age` to 1,048,575 + `age`.
+/// True where all coordinates of the cells are from -`age` to 1,048,575 + `age`.
 fn are_in_field(cells: &[(i32, i32)], age: u32) -> bool
     requires { age ≤ age_limit }
     ensures { IsTrue result ↔ All (IsWithin age) cells.now }
@@ -129,7 +128,7 @@ impl CellList {
         Ok(CellList { items })
     }
 
-    /// The set without a cell, in memory for `capacity` cells.
+    /// The empty set, with memory for `capacity` cells.
     pub fn with_capacity(alloc: Global, capacity: usize) -> Result<CellList, AllocError>
         ensures { IfOk result (λ list. list ≡ empty) }
     {
@@ -138,7 +137,7 @@ impl CellList {
         })
     }
 
-    /// The set of cells that rise by y and then by x, each once.
+    /// The set of these cells, which are sorted by y, then by x, each once.
     pub fn from_ordered(items: Vec<(i32, i32)>) -> CellList
         requires rising { T (is_rising items.items) }
         requires placed { All IsPlace items.items }
@@ -147,7 +146,7 @@ impl CellList {
         CellList { items }
     }
 
-    /// The cells, rising by y and then by x, each once, in the memory of the list.
+    /// The cells, sorted by y, then by x, each once, in the memory of the list.
     pub fn into_vec(self) -> Vec<(i32, i32)>
         ensures cells { result.items ≡ generation.cells self }
         ensures rising { T (is_rising result.items) }
@@ -156,7 +155,7 @@ impl CellList {
         self.items
     }
 
-    /// The cells, rising by y and then by x, each once.
+    /// The cells, sorted by y, then by x, each once.
     pub fn as_slice(&self) -> &[(i32, i32)]
         ensures cells { result.now ≡ generation.cells self.now }
         ensures rising { T (is_rising result.now) }
@@ -172,22 +171,22 @@ impl CellList {
         self.items.len()
     }
 
-    /// Whether there is no cell.
+    /// True where there is no cell.
     pub fn is_empty(&self) -> bool
         ensures { IsTrue result ↔ (self.now ≡ empty) }
     {
         self.as_slice().is_empty()
     }
 
-    /// Whether every coordinate is from 0 to 1,048,575.
+    /// True where every coordinate is from 0 to 1,048,575.
     pub fn fits(&self) -> bool
         ensures { IsTrue result ↔ All (IsWithin 0) (generation.cells self.now) }
     {
         self.fits_at(0)
     }
 
-    /// Whether every coordinate is from -`age` to 1,048,575 + `age`: where a pattern's cells may be in that generation. The age is at
-    /// most 4,194,304.
+    /// True where every coordinate is from -`age` to 1,048,575 + `age`, the range of a pattern's cells in that generation. The
+    /// age is at most 4,194,304.
     pub fn fits_at(&self, age: u32) -> bool
         requires { age ≤ age_limit }
         ensures { IsTrue result ↔ All (IsWithin age) (generation.cells self.now) }

@@ -1,10 +1,10 @@
-//! Codes as texts: where the body begins, and which of two comes first.
+//! Codes as texts: their bodies and their order.
 ghost use Rattle.std.specs.Prelude.{◌≡◌, ◌<◌, ◌==◌, IfSome, length, position};
 ghost use Rattle.life_cells.specs.TextOrder.{body_of, shorter_cmp};
 
 use std::cmp::Ordering;
 
-// Where the first `_` is.
+// The place of the first `_`.
 fn mark(code: &[u8]) -> Option<usize>
     ensures value { result ≡ position (λ c. c == 95) code.now }
     ensures within { IfSome result (λ at. at < length code.now) }
@@ -22,7 +22,7 @@ pub fn body_of(code: &[u8]) -> &[u8]
     }
 }
 
-/// The order of codes: by length, and then by bytes.
+/// The order of codes: by length, then by bytes.
 pub fn shorter(one: &[u8], other: &[u8]) -> Ordering
     ensures { result ≡ shorter_cmp one.now other.now }
 {

@@ -1,4 +1,4 @@
-//! Where cells may be.
+//! Limits on the coordinates of cells.
 
 /// The coordinates of a pattern's cells at generation 0 are below this.
 pub const PLACE_LIMIT: u32 = 1_048_576;

@@ -5,14 +5,14 @@ ghost use Rattle.life_model.specs.Cell.{cell_cmp};
 ghost use Rattle.life_model.specs.Generation.{from_list, is_rising};
 ghost use Rattle.life_cells.specs.Limits.{IsPlace, IsWithin};
 
-/// Whether a cell comes before another, by y and then by x.
+/// True where a cell comes before another, by y, then by x.
 fn is_before(cell: (i32, i32), other: (i32, i32)) -> bool
     ensures { IsTrue result → cell_cmp cell other ≡ Less }
 {
     cell.1 < other.1 || (cell.1 == other.1 && cell.0 < other.0)
 }
 
-/// Whether cells are in order, by y and then by x, each once.
+/// True where cells are sorted by y, then by x, each once.
 fn are_rising(cells: &[(i32, i32)]) -> bool
     ensures { IsTrue result → T (is_rising cells.now) }
 {
@@ -24,7 +24,7 @@ fn are_rising(cells: &[(i32, i32)]) -> bool
     true
 }
 
-/// Puts cells in order, by y and then by x, each once.
+/// Sorts cells by y, then by x, and drops repeats.
 pub fn put_in_order(items: &mut Vec<(i32, i32)>)
     ensures rising { T (is_rising items.new.items) }
     ensures same { from_list items.new.items ≡ from_list items.old.items }
@@ -34,7 +34,7 @@ pub fn put_in_order(items: &mut Vec<(i32, i32)>)
     if are_rising(items) {
         return;
     }
-    // (a stable sort keeps the runs of its input; without memory for it the other sort gives the same result)
+    // (a stable sort makes use of the runs of its input; without memory for it the other sort gives the same result)
     if items.sort_by_key(|c| (c.1, c.0)).is_err() {
         items.sort_unstable_by_key(|c| (c.1, c.0));
     }

@@ -5,8 +5,8 @@ ghost use Rattle.std.specs.List.{Contains};
 ghost use Rattle.life_cells.specs.Limits.{IsPlace};
 ghost use Rattle.life_cells.specs.Orients.{orientation};
 
-/// One of the eight maps of the plane that take each cell's neighbours to those of its image. Beside each is the image
-/// of a cell `(x, y)`.
+/// One of the eight maps of the plane that take each cell's neighbours to those of its image. The comment of each is
+/// the image of a cell `(x, y)`.
 #[derive(Clone, Copy, Debug, PartialEq, Eq)]
 pub enum Orient {
     /// (x, y)
@@ -40,7 +40,7 @@ impl Orient {
         Orient::SwapHalf,
     ];
 
-    /// Where the map takes a cell.
+    /// The image of a cell.
     pub fn turn(self, cell: (i32, i32)) -> (i32, i32)
         requires { IsPlace cell }
         ensures { result ≡ turn (orientation self) cell }
@@ -59,7 +59,7 @@ impl Orient {
     }
 }
 
-/// `Orient::ALL` has each of the eight maps, and none twice.
+/// `Orient::ALL` has each of the eight maps exactly once.
 pub fn eight_maps()
     ensures each { (m : Orientation) → Contains (map orientation Orient.ALL) m }
     ensures all { length Orient.ALL ≡ 8 }

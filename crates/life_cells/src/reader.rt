@@ -15,16 +15,16 @@ use crate::shape::Shape;
 use std::alloc::{AllocError, Global};
 use thiserror::Error;
 
-/// Why a text is no Wechsler text that can be read, and at which byte, counted from 0.
+/// The reason why a text can't be read as a Wechsler text. `at` is the byte at fault, counted from 0.
 #[derive(Clone, Copy, Debug, PartialEq, Eq, Drop, Error)]
 pub enum CodeFault {
     /// There is no byte at all.
     #[error("code fault 1")]
     Empty,
-    /// A byte is none of `0` to `9` and `a` to `z`.
+    /// A byte is not one of `0` to `9` and `a` to `z`.
     #[error("code fault 2 at {at}")]
     BadChar { at: usize },
-    /// `y` is the last byte, or comes before a byte that is none of these. `at` is the `y`.
+    /// `y` is the last byte, or comes before a byte that is not one of these. `at` is the `y`.
     #[error("code fault 3 at {at}")]
     CutRun { at: usize },
     /// A live cell's x or y is above 1,048,575. `at` is its column's byte.
@@ -45,7 +45,7 @@ impl From<AllocError> for CodeFault {
     }
 }
 
-// What a byte, or `y` and the byte after it, stands for.
+// The meaning of a byte, or of `y` and the byte after it.
 #[derive(Clone, Copy, Drop)]
 enum Sign {
     // a column of this value
@@ -56,7 +56,7 @@ enum Sign {
     Down,
 }
 
-// The number of a byte from `0` to `9` or `a` to `z`.
+// The value of a byte from `0` to `9` or `a` to `z`.
 fn digit_value(byte: u8) -> Option<u8>
     ensures { result ≡ (if is_base_36_digit byte then Some (digit_value byte) else None) }
 {
@@ -100,7 +100,6 @@ fn next_sign(text: &[u8], at: usize) -> Result<(Sign, usize), CodeFault>
     Ok((sign, at + 1))
 }
 
-// Adds a cell.
 fn push_cell(cells: &mut Vec<(i32, i32)>, x: u32, y: u32) -> Result<(), AllocError>
     requires column { x < PLACE_LIMIT }
     requires row { y < PLACE_LIMIT }
@@ -176,8 +175,8 @@ fn read_cells(alloc: Global, text: &[u8]) -> Result<Vec<(i32, i32)>, CodeFault>
     Ok(cells)
 }
 
-/// The shape that a Wechsler text spells, in any spelling: zeros may be anywhere. It runs out of memory only if a live
-/// cell is kept before the first fault.
+/// The shape that a Wechsler text spells, in any spelling: zeros may be anywhere. This runs out of memory only if a
+/// live cell is kept before the first fault.
 pub fn read_wechsler(alloc: Global, text: &[u8]) -> Result<Shape, CodeFault>
     ensures shape { IfOk result (λ shape. shape ≡ normal (cells_spelled text.now)) }
     ensures lawful { OnOk result (refusal text.now ≡ None) }

@@ -39,7 +39,7 @@ impl Model for Rule {
     ghost inverse = { λ s. record { birth = s.birth; survival = s.survival } };
 }
 
-/// Why a text names no rule.
+/// The reason why a text names no rule.
 #[derive(Clone, Copy, Debug, PartialEq, Eq, Drop, Error)]
 pub enum RuleFault {
     /// It has none of the three forms.
@@ -50,7 +50,7 @@ pub enum RuleFault {
     HasB0,
 }
 
-/// What follows a first byte that is one of two.
+/// The rest of a text whose first byte is one of two.
 pub fn after_either<'a>(text: &'a [u8], one: u8, other: u8) -> Option<&'a [u8]>
     ensures { option_copied result ≡ after_one_of (one ∷ other ∷ []) text.now }
 {
@@ -66,7 +66,7 @@ pub fn after_either<'a>(text: &'a [u8], one: u8, other: u8) -> Option<&'a [u8]>
     }
 }
 
-/// What follows a first byte.
+/// The rest of a text whose first byte is this one.
 pub fn after_byte<'a>(text: &'a [u8], byte: u8) -> Option<&'a [u8]>
     ensures { option_copied result ≡ after_one_of (byte ∷ []) text.now }
 {
@@ -76,7 +76,7 @@ pub fn after_byte<'a>(text: &'a [u8], byte: u8) -> Option<&'a [u8]>
     }
 }
 
-// How many digits from 0 to 8 are at the start of a text.
+// The number of digits from 0 to 8 at the start of a text.
 fn count_digits(text: &[u8]) -> usize
     ensures value { result ≡ prefix_len is_count text.now }
     ensures within { result ≤ length text.now }
@@ -89,7 +89,7 @@ fn count_digits(text: &[u8]) -> usize
     text.len()
 }
 
-// Whether a text is digits from 0 to 8 and nothing else.
+// True where a text is digits from 0 to 8 and nothing else.
 fn is_digits(text: &[u8]) -> bool
     ensures { result ≡ list_all is_count text.now }
 {
@@ -110,7 +110,7 @@ fn with_second<'a>(text: &'a [u8], second: Option<&'a [u8]>) -> Option<(&'a [u8]
     Some((&text[..count_digits(text)], second))
 }
 
-// The set of the digits, each of which is one from 0 to 8.
+// The set of these digits, each of which is from 0 to 8.
 fn members_of(digits: &[u8]) -> u16
     requires { IsTrue (list_all is_count digits.now) }
     ensures value { result ≡ members digits.now }
@@ -124,7 +124,7 @@ fn members_of(digits: &[u8]) -> u16
     set
 }
 
-// The text after a first letter: its digits, `/` or nothing, a second letter, digits.
+// The two runs of digits in a text after its first letter: digits, `/` or nothing, a second letter, digits.
 fn behind_letter<'a>(text: &'a [u8], one: u8, other: u8) -> Option<(&'a [u8], &'a [u8])>
     ensures digits { IfSome result
         (λ p. IsTrue (list_all is_count p.0.now) × IsTrue (list_all is_count p.1.now)) }
@@ -193,7 +193,8 @@ impl Rule {
 }
 
 impl Rule {
-    /// Whether a dead cell with this many live neighbours is alive in the next generation. 0 is never among the births.
+    /// True where a dead cell with this many live neighbours is alive in the next generation. 0 is never among the
+    /// births.
     pub fn born(&self, neighbours: u32) -> bool
         requires { neighbours ≤ 8 }
         ensures { result ≡ born self.now neighbours }
@@ -201,7 +202,7 @@ impl Rule {
         neighbours != 0 && (self.birth >> neighbours) % 2 == 1
     }
 
-    /// Whether a live cell with this many live neighbours stays alive in the next generation.
+    /// True where a live cell with this many live neighbours stays alive in the next generation.
     pub fn stays(&self, neighbours: u32) -> bool
         requires { neighbours ≤ 8 }
         ensures { result ≡ stays self.now neighbours }
@@ -210,7 +211,7 @@ impl Rule {
     }
 }
 
-// Appends the digits of a set, rising.
+// Appends the digits of a set, in ascending order.
 fn push_set(text: &mut Vec<u8>, set: u16) -> Result<(), AllocError>
     ensures { OnOk result (text.new.items ≡ text.old.items ++ set_text set) }
 {
@@ -223,8 +224,8 @@ fn push_set(text: &mut Vec<u8>, set: u16) -> Result<(), AllocError>
 }
 
 impl Rule {
-    /// Appends the printed rule: `B`, the numbers of births rising, `/S`, the numbers of survivals rising. If memory runs
-    /// out, the text is unchanged.
+    /// Appends the printed rule: `B`, the numbers of births in ascending order, `/S`, the numbers of survivals in
+    /// ascending order. If memory runs out, the text is unchanged.
     pub fn text_into(&self, text: &mut Vec<u8>) -> Result<(), AllocError>
         ensures printed { OnOk result (text.new.items ≡ text.old.items ++ rule_text self.now) }
         ensures refused { OnErr result (text.new.items ≡ text.old.items) }
@@ -248,7 +249,7 @@ pub fn members_are_digits()
         has_bit (members digits) n ≡ is_in digits (48 + n) }
 {}
 
-/// A printed rule means the rule.
+/// A printed rule names that rule.
 pub fn printed_rules_are_read()
     ensures { (rule : model.Rule) → rule.birth < 512 → rule.survival < 512 → rule.birth % 2 ≡ 0 →
         rule_of (rule_text rule) ≡ Ok rule }

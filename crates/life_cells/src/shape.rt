@@ -62,7 +62,7 @@ impl Eq for Shape {
     ghost laws = { same_cells_equiv };
 }
 
-// The cell, moved as the corner is moved to the origin.
+// The cell after the move that takes the corner to the origin.
 fn back(cell: (i32, i32), corner: (i32, i32)) -> (i32, i32)
     requires { IsAhead corner cell }
     ensures { result ≡ plus cell (opposite corner) }
@@ -70,7 +70,7 @@ fn back(cell: (i32, i32), corner: (i32, i32)) -> (i32, i32)
     (cell.0 - corner.0, cell.1 - corner.1)
 }
 
-// The cells, moved as the corner is moved to the origin.
+// The cells after the move that takes the corner to the origin.
 fn moved_back(
     alloc: Global,
     cells: &[(i32, i32)],
@@ -88,7 +88,7 @@ fn moved_back(
     Ok(moved)
 }
 
-// Where the map takes each cell.
+// The images of the cells.
 fn turned_cells(
     alloc: Global,
     cells: &[(i32, i32)],
@@ -151,7 +151,7 @@ impl Shape {
         height
     }
 
-    /// The shape of the cells that the map takes its cells to.
+    /// The shape of the images of its cells.
     pub fn turned(&self, orient: Orient) -> Result<Shape, AllocError>
         ensures { IfOk result
             (λ shape. shape ≡ normal (image_under self.now (orientation orient))) }

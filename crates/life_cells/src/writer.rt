@@ -8,7 +8,7 @@ ghost use Rattle.life_cells.specs.Wechsler.{digit, short_zeros, strips_text, zer
 
 use std::alloc::{AllocError, Global};
 
-// `0` to `9` and then `a` to `z`.
+// The digit of a number: `0` to `9`, then `a` to `z`.
 fn digit(n: u8) -> u8
     requires { n < 36 }
     ensures { result ≡ digit n }
@@ -47,7 +47,7 @@ fn push_short(text: &mut Vec<u8>, count: u32) -> Result<(), AllocError>
     Ok(())
 }
 
-// The value of the column of the first dot, and the number of its dots. The dots come by rising columns.
+// The value of the column of the first dot, and the number of its dots. The dots are sorted by column.
 fn first_column(dots: &[(u32, u8)]) -> (u8, usize)
     requires some { 0 < length dots.now }
     requires sorted { IsNonDecreasingBy (λ d. d.0) dots.now }
@@ -71,7 +71,7 @@ fn first_column(dots: &[(u32, u8)]) -> (u8, usize)
     (value, dots.len())
 }
 
-// Adds the text of a strip with these dots, by rising columns.
+// Adds the text of a strip with these dots, which are sorted by column.
 fn push_columns(text: &mut Vec<u8>, dots: &[(u32, u8)]) -> Result<(), AllocError>
     requires sorted { IsNonDecreasingBy (λ d. d.0) dots.now }
     requires live { All (λ d. 0 < d.1) dots.now }
@@ -137,7 +137,7 @@ fn push_strip(
     Ok(())
 }
 
-// Whether a cell is below a strip.
+// True where a cell is below a strip.
 fn is_below(cell: (i32, i32), strip: u32) -> bool
     requires { strip ≤ strip_limit }
     ensures { IsTrue result ↔ (pos (5 * strip + 5) ≤ℤ cell.1) }
@@ -145,7 +145,7 @@ fn is_below(cell: (i32, i32), strip: u32) -> bool
     cell.1 >= 5 * strip as i32 + 5
 }
 
-// How many cells at the start are not below a strip.
+// The number of cells at the start that are not below a strip.
 fn count_within(cells: &[(i32, i32)], strip: u32) -> usize
     requires rising { T (is_rising cells.now) }
     requires strips { strip ≤ strip_limit }
@@ -161,7 +161,7 @@ fn count_within(cells: &[(i32, i32)], strip: u32) -> usize
     cells.len()
 }
 
-// Adds what comes before a strip.
+// Adds the `z` that comes before a strip, but for the first.
 fn begin_strip(text: &mut Vec<u8>, strip: u32) -> Result<(), AllocError>
     ensures { OnOk result (text.new.items ≡ text.old.items ++ strip_mark strip) }
 {
