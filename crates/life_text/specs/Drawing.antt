@@ -1,4 +1,4 @@
--- What a text means, in the numbers of a list of cells.
+-- The meaning of a text, with cells as pairs of integers.
 use Rattle.std.specs.Prelude.{List, ℕ, ℤ, map, Result, Ok, Err}
 use Rattle.life_text.specs.declared.rle.RleFault.{RleFault}
 use Rattle.life_text.specs.declared.rle.Plot.{Plot}
@@ -26,6 +26,6 @@ drawing_with (Err fault) cells = Err fault
 drawing_with (Ok r) (Ok cells) = Ok (record { rule = r; cells = cells })
 drawing_with (Ok r) (Err fault) = Err fault
 
--- what the tokens of a text from a place on draw, or their first fault, starting from this pen
+-- the cells that the tokens of a text from a place on draw, starting from this pen, or their first fault
 abbrev pub drawn_from : List ℕ → Pen → ℕ → Result (List (ℤ × ℤ)) RleFault
 drawn_from text pen at = placed_all (cells_drawn pen (tokens_at text at))

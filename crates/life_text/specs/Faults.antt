@@ -6,12 +6,12 @@ use Rattle.life_cells.specs.declared.rule.RuleFault.TheVariants.{NotLifeLike, Ha
 use Rattle.life_text.specs.declared.rle.RleFault.{RleFault}
 use Rattle.life_text.specs.declared.rle.RleFault.TheVariants.{NoHeader, BadHeader, Rule, ManyStates, BadChar, BadRun, TooFar, TooMany, NoEnd, Memory}
 
--- the number of a fault of a rule text that is given by itself
+-- the number of a fault of a rule text by itself
 abbrev pub rule_number : RuleFault → ℕ
 rule_number NotLifeLike = 1
 rule_number HasB0 = 2
 
--- the number of a fault of an RLE text, as used by reports and the program's lines
+-- the number of a fault of an RLE text, in reports and in the program's lines
 abbrev pub fault_number : RleFault → ℕ
 fault_number NoHeader = 1
 fault_number BadHeader = 2

@@ -1,4 +1,4 @@
--- Where the cells of a normal form are.
+-- The places of the cells of a normal form.
 use Rattle.std.specs.Prelude.{ℕ, List, map, nat_abs}
 use Rattle.life_model.specs.Cell.{Cell}
 use Rattle.life_model.specs.Generation.{Generation, cells}

@@ -1,4 +1,4 @@
--- What the reader keeps: the text from a place on, the tokens there, and a pen that draws them.
+-- The state of the reader: the text from a place on, the tokens there, and a pen that draws them.
 use Rattle.std.specs.Prelude.{◌≡◌, ℕ, zero, suc, ◌+◌, min, Bool, false, List, [], ◌∷◌, ◌++◌, drop, Option, Some, None, Result, Ok, Err, slice_index, ◌==◌, ℤ, map, if◌then◌else◌}
 use Rattle.std.specs.Option.{option_map}
 use Rattle.texts.specs.Bytes.{is_space}
@@ -12,7 +12,7 @@ abbrev pub byte_before : List ℕ → ℕ → ℕ
 byte_before text zero = 10
 byte_before text (suc at) = slice_index text at
 
--- whether a byte is in a comment line
+-- true where a byte is in a comment line, where `comment` says so of the byte before it
 abbrev pub is_in_comment : Bool → ℕ → ℕ → Bool
 is_in_comment comment before c = if before == 10 then c == 35 else comment
 
@@ -46,7 +46,7 @@ cells_drawn pen (t ∷ ts) = cells_or_fault (token_fault pen.y pen.x pen.live t)
 abbrev pub pen_behind : List Token → Pen
 pen_behind before = record { y = row before; x = column before; live = live_cells before }
 
--- more than any place and any number of live cells
+-- a number greater than any place and any number of live cells
 abbrev pub count_cap : ℕ
 count_cap = 2097152
 
@@ -58,7 +58,7 @@ with_capped_count t = record t { count = option_map (λ n. min n count_cap) t.co
 abbrev pub capped_pen : Pen → Pen
 capped_pen pen = record pen { y = min pen.y count_cap; x = min pen.x count_cap }
 
--- no blank or byte of a comment is there
+-- the byte there is no blank and in no comment
 abbrev pub IsPlain : List ℕ → ℕ → Type 0
 IsPlain text at = (is_space (slice_index text at) ≡ false) × (plain_at text at ≡ slice_index text at ∷ plain_at text (at + 1))
 

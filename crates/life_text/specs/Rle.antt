@@ -1,4 +1,4 @@
--- Reading RLE texts: the header, the tokens of the body, what they mean, and the first fault.
+-- Reading RLE texts: the header, the tokens of the body, their meaning, and the first fault.
 use Rattle.std.specs.Prelude.{ℕ, ◌+◌, ◌-◌, Bool, false, not, ◌&&◌, ◌||◌, List, [], ◌∷◌, ◌++◌, length, Option, Some, None, Result, Ok, Err, codes, map, sum_by, nat_lt, ◌==◌, if◌then◌else◌, is_some, is_none, unwrap_or}
 use Rattle.std.specs.List.{list_all, prefix_len, take_while, before_first, after_first, after_last, range_with_len}
 use Rattle.std.specs.Option.{option_or, option_map_or}
@@ -12,7 +12,7 @@ use Rattle.life_model.specs.Rule.{Rule}
 use Rattle.life_cells.specs.Rules.{rule_of, life}
 use Rattle.life_cells.specs.Limits.{place_limit}
 
--- the most live cells
+-- the greatest number of live cells
 abbrev pub cell_limit : ℕ
 cell_limit = 1048576
 
@@ -38,15 +38,15 @@ from_header text = without_front is_space (without_comments text)
 abbrev pub header_line : List ℕ → List ℕ
 header_line text = before_first (λ c. c == 10) (from_header text)
 
--- what follows one of these bytes, which may have blanks before it
+-- the text after one of these bytes, which may have blanks before it
 abbrev pub part : List ℕ → List ℕ → Option (List ℕ)
 part bytes text = after_one_of bytes (without_front is_blank text)
 
--- what follows one or more digits, which may have blanks before them
+-- the text after one or more digits, which may have blanks before them
 abbrev pub after_size : List ℕ → Option (List ℕ)
 after_size text = let digits = without_front is_blank text in if prefix_len is_digit digits == 0 then None else Some (without_front is_digit digits)
 
--- what follows `x = W, y = H` at the start of a line
+-- the text after `x = W, y = H` at the start of a line
 abbrev pub after_sizes : List ℕ → Option (List ℕ)
 after_sizes line = do
   width_name ← part (codes "xX") line
@@ -57,7 +57,7 @@ after_sizes line = do
   height_equals ← part (codes "=") height_name
   after_size height_equals
 
--- what follows `, rule =`
+-- the text after `, rule =`
 abbrev pub after_rule_name : List ℕ → Option (List ℕ)
 after_rule_name text = do
   comma ← part (codes ",") text
@@ -76,7 +76,7 @@ abbrev pub named_rule : Option (List ℕ) → Result Rule RleFault
 named_rule None = Err BadHeader
 named_rule (Some text) = rule_or_fault (rule_of (without_ends is_blank text))
 
--- the rule, given what follows the sizes: if that is only blanks, it is Life
+-- the rule, given the text after the sizes: if that is only blanks, it is Life
 abbrev pub rule_behind : Option (List ℕ) → Result Rule RleFault
 rule_behind None = Err BadHeader
 rule_behind (Some text) = if list_all is_blank text then Ok life else named_rule (after_rule_name text)
@@ -91,7 +91,7 @@ header_rule text = line_rule (header_line text)
 
 -- # The tokens of the body
 
--- what follows the header line, and the place of its first byte
+-- the text after the header line, and the place of its first byte
 abbrev pub body : List ℕ → List ℕ
 body text = after_first (λ c. c == 10) (from_header text)
 
@@ -103,7 +103,7 @@ pub data Lexeme : Type 0 where
   Count : (at value : ℕ) → Lexeme
   Tag : (at byte : ℕ) → Lexeme
 
--- what begins at the start of the text: nothing at a blank and within a count
+-- the lexeme that begins at the start of the text: none at a blank or within a count
 abbrev pub lexeme_at : Bool → ℕ → ℕ → List ℕ → List Lexeme
 lexeme_at within_count at c rest =
     if is_space c then [] else
@@ -134,12 +134,12 @@ tokens (Count at n ∷ Tag next c ∷ rest) = record { at = at; count = Some n; 
 abbrev pub body_tokens : List ℕ → List Token
 body_tokens text = tokens (lexemes false (body_place text) (body text))
 
--- # What the tokens mean
+-- # The meaning of the tokens
 
 abbrev pub has_tag : List ℕ → Token → Bool
 has_tag bytes t = option_map_or (is_in bytes) t.tag false
 
--- how many cells or row ends a token stands for
+-- the number of cells or row ends that a token has
 abbrev pub run_length : Token → ℕ
 run_length t = unwrap_or t.count 1
 
@@ -156,7 +156,7 @@ is_row_end t = has_tag (codes "$") t
 abbrev pub times_of : (Token → Bool) → List Token → ℕ
 times_of test ts = sum_by (λ t. if test t then run_length t else 0) ts
 
--- the row and the column of a token that comes after these, and how many live cells these have
+-- the row and the column of a token that comes after these, and the number of live cells that these have
 abbrev pub row : List Token → ℕ
 row before = times_of is_row_end before
 
@@ -177,27 +177,27 @@ cells_after before (t ∷ ts) = run_cells (row before) (column before) t ++ cell
 
 -- # The first fault
 
--- a letter that names a third state
+-- true for a letter in the place of the tag that names a third state
 abbrev pub is_other_state : Token → Bool
 is_other_state t = option_map_or is_letter t.tag false && not (is_cells t)
 
--- a byte that is no tag
+-- true for a byte in the place of the tag that is no tag
 abbrev pub is_no_tag : Token → Bool
 is_no_tag t = is_some t.tag && not (has_tag (codes "b.oA$!") t)
 
--- a count of 0, or one before `!`, another count or the end of the text
+-- true for a count of 0, or one before `!`, another count or the end of the text
 abbrev pub is_bad_run : Token → Bool
 is_bad_run t = is_some t.count && ((run_length t == 0) || (is_none t.tag || has_tag (codes "!") t))
 
--- a live cell beyond the limit of places
+-- true for a live cell beyond the limit of places
 abbrev pub is_too_far : ℕ → ℕ → Token → Bool
 is_too_far y x t = is_live t && (nat_lt place_limit (y + 1) || nat_lt place_limit (x + run_length t))
 
--- more live cells than the limit allows, counting this token's
+-- true for more live cells than the limit allows, counting this token's
 abbrev pub is_too_many : ℕ → Token → Bool
 is_too_many live t = is_live t && nat_lt cell_limit (live + run_length t)
 
--- the end of the text, where a token would begin
+-- true for the end of the text, where a token would begin
 abbrev pub is_missing : Token → Bool
 is_missing t = is_none t.count && is_none t.tag
 
@@ -239,6 +239,6 @@ abbrev pub fault_of : Result Meaning RleFault → Option RleFault
 fault_of (Ok meaning) = None
 fault_of (Err fault) = Some fault
 
--- only the fault
+-- the fault of a text
 abbrev pub refusal : List ℕ → Option RleFault
 refusal text = fault_of (reading text)

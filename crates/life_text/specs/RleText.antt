@@ -25,7 +25,7 @@ abbrev pub drawn_rows : List (ℕ × ℕ) → List (ℕ × List ℕ)
 drawn_rows [] = []
 drawn_rows (c ∷ cells) = onto_rows c (drawn_rows cells)
 
--- the cells of a row from column 0 up to its last live cell: whether each is live
+-- the cells of a row from column 0 up to its last live cell: true for a live one
 abbrev pub row_values : List ℕ → List Bool
 row_values columns = map (λ x. is_in columns x) (range_with_len 0 (extent columns))
 
@@ -50,7 +50,7 @@ run_token (n, false) = (n, 98)
 abbrev pub row_tokens : List ℕ → List (ℕ × ℕ)
 row_tokens columns = map run_token (runs_of (row_values columns))
 
--- the tokens of these rows: `$` between two, with a count of how far they are apart, and `!` after the last
+-- the tokens of these rows: `$` between two, with the distance between them as its count, and `!` after the last
 abbrev pub tokens_of_rows : List (ℕ × List ℕ) → List (ℕ × ℕ)
 tokens_of_rows [] = (1, 33) ∷ []
 tokens_of_rows ((y, columns) ∷ []) = row_tokens columns ++ (1, 33) ∷ []

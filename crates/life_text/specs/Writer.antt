@@ -1,4 +1,4 @@
--- What the writer keeps: the cells from a place on, as the tokens still to be written.
+-- The state of the writer: the cells from a place on, as the tokens still to be written.
 use Rattle.std.specs.Prelude.{ℕ, ◌+◌, ◌-◌, List, [], ◌∷◌, map, ◌==◌, if◌then◌else◌}
 use Rattle.life_model.specs.Cell.{Cell, opposite, plus}
 use Rattle.life_text.specs.declared.write.Nib.{Nib}

@@ -59,7 +59,7 @@ pub fn draw_found(
     Ok(None)
 }
 
-// Passes over the tags `b` from a place on, which has one, and returns the pen and the place after them.
+// Passes over the tags `b` from a place on where there is one, and returns the pen and the place after them.
 #[inline(always)]
 fn pass_dead(text: &[u8], from: usize, start: Pen) -> (Pen, usize)
     requires within { from < length text.now }
@@ -85,8 +85,8 @@ fn pass_dead(text: &[u8], from: usize, start: Pen) -> (Pen, usize)
     (behind, at)
 }
 
-/// Draws tokens from a place on, and returns the pen and the place after them. It stops before the first token that has
-/// a fault, that is the end, or that has a comment before it, if not earlier.
+/// Draws tokens from a place on, and returns the pen and the place after them. It stops at the latest before the first
+/// token that has a fault, that is the end, or that has a comment before it.
 #[inline(never)]
 pub fn draw_tokens(
     cells: &mut Vec<(i32, i32)>,

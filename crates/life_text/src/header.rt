@@ -10,7 +10,7 @@ use crate::bytes::{is_blank, is_digit};
 use crate::rle::RleFault;
 use life_cells::{Rule, after_byte, after_either};
 
-/// The text from its first byte on that is no blank, tab or CR.
+/// The text without the blanks, tabs and CRs at its start.
 pub fn skip_blanks(text: &[u8]) -> &[u8]
     ensures { result.now ≡ without_front is_blank text.now }
 {
@@ -22,7 +22,7 @@ pub fn skip_blanks(text: &[u8]) -> &[u8]
     &text[text.len()..]
 }
 
-/// The text up to its last byte that is no blank, tab or CR.
+/// The text without the blanks, tabs and CRs at its end.
 pub fn drop_blanks(text: &[u8]) -> &[u8]
     ensures { result.now ≡ without_back is_blank text.now }
 {
@@ -33,7 +33,7 @@ pub fn drop_blanks(text: &[u8]) -> &[u8]
     &text[..end]
 }
 
-// How many digits are at the start of a text.
+// The number of digits at the start of a text.
 fn count_digits(text: &[u8]) -> usize
     ensures value { result ≡ prefix_len is_digit text.now }
     ensures within { result ≤ length text.now }
@@ -46,21 +46,21 @@ fn count_digits(text: &[u8]) -> usize
     text.len()
 }
 
-// What follows one of two bytes, which may have blanks before it.
+// The text after one of two bytes, which may have blanks before it.
 fn part_either<'a>(text: &'a [u8], one: u8, other: u8) -> Option<&'a [u8]>
     ensures { option_copied result ≡ part (one ∷ other ∷ []) text.now }
 {
     after_either(skip_blanks(text), one, other)
 }
 
-// What follows a byte, which may have blanks before it.
+// The text after a byte, which may have blanks before it.
 fn part_byte<'a>(text: &'a [u8], byte: u8) -> Option<&'a [u8]>
     ensures { option_copied result ≡ part (byte ∷ []) text.now }
 {
     after_byte(skip_blanks(text), byte)
 }
 
-// What follows one or more digits.
+// The text after one or more digits.
 fn after_number(text: &[u8]) -> Option<&[u8]>
     ensures { option_copied result ≡ after_number text.now }
 {
@@ -71,14 +71,14 @@ fn after_number(text: &[u8]) -> Option<&[u8]>
     Some(&text[count..])
 }
 
-// What follows one or more digits, which may have blanks before them.
+// The text after one or more digits, which may have blanks before them.
 fn after_size(text: &[u8]) -> Option<&[u8]>
     ensures { option_copied result ≡ after_size text.now }
 {
     after_number(skip_blanks(text))
 }
 
-// What follows sizes in the form that this program writes.
+// The text after sizes in the form that this program writes.
 fn after_written_sizes(line: &[u8]) -> Option<&[u8]>
     ensures { IfSome result (λ rest. after_sizes line.now ≡ Some rest.now) }
 {
@@ -88,7 +88,7 @@ fn after_written_sizes(line: &[u8]) -> Option<&[u8]>
     after_number(height)
 }
 
-/// What follows `x = W, y = H` at the start of a line. `None` if the line has no such start.
+/// The text after `x = W, y = H` at the start of a line. `None` if the line has no such start.
 pub fn after_sizes(line: &[u8]) -> Option<&[u8]>
     ensures { option_copied result ≡ after_sizes line.now }
 {
@@ -104,7 +104,7 @@ pub fn after_sizes(line: &[u8]) -> Option<&[u8]>
     after_size(height_equals)
 }
 
-/// What follows `, rule =` at the start of what follows the sizes. `None` if there is no such start.
+/// The text after `, rule =` at the start of what follows the sizes. `None` if there is no such start.
 pub fn after_rule_name(text: &[u8]) -> Option<&[u8]>
     ensures { option_copied result ≡ after_rule_name text.now }
 {
@@ -126,14 +126,14 @@ fn named_rule(text: &[u8]) -> Result<Rule, RleFault>
     }
 }
 
-// Whether a text is only blanks.
+// True where a text is only blanks.
 fn is_blanks(text: &[u8]) -> bool
     ensures { result ≡ list_all is_blank text.now }
 {
     text.iter().all(|byte| is_blank(*byte))
 }
 
-// Whether what follows the sizes is what this program writes for Life.
+// True only where the text after the sizes is what this program writes for Life.
 fn is_written_life(rest: &[u8]) -> bool
     ensures { IsTrue result → rest.now ≡ codes ", rule = B3/S23" }
 {

@@ -7,8 +7,8 @@ ghost use Rattle.life_text.specs.Writer.{with_token};
 use itoa::Buffer;
 use std::alloc::AllocError;
 
-// Puts digits and a tag on the line, which has `used` characters, or on a new one. Returns how many characters the line
-// of the tag then has.
+// Puts digits and a tag on the line, which has `used` characters, or on a new one. Returns the number of characters
+// that the tag's line then has.
 fn put_piece(out: &mut Vec<u8>, used: usize, digits: &[u8], tag: u8) -> Result<usize, AllocError>
     requires used { used ≤ 70 }
     requires short { length digits.now ≤ 40 }
@@ -30,8 +30,8 @@ fn put_piece(out: &mut Vec<u8>, used: usize, digits: &[u8], tag: u8) -> Result<u
     }
 }
 
-/// Puts a token on the line, which has `used` characters, or on a new one. Returns how many characters the token's line
-/// then has. A count of 0 is no token, and a count of 1 isn't written.
+/// Puts a token on the line, which has `used` characters, or on a new one. Returns the number of characters that the
+/// token's line then has. With a count of 0 there is no token, and a count of 1 isn't written.
 pub fn put_token(out: &mut Vec<u8>, used: usize, count: u32, tag: u8) -> Result<usize, AllocError>
     requires { used ≤ 70 }
     ensures written { IfOk result (λ now. (tokens : List (ℕ × ℕ)) →

@@ -30,7 +30,7 @@ impl Model for Pattern {
 
 impl Pattern {
     /// The pattern of a rule and cells. A list that doesn't fit, because a coordinate is below 0 or above 1,048,575, is
-    /// handed back.
+    /// returned.
     pub fn new(rule: Rule, cells: CellList) -> Result<Pattern, CellList>
         ensures pattern { IfOk result (λ pattern. pattern ≡ record { rule = rule; cells = cells }) }
         ensures fits { OnOk result (All (IsWithin 0) (generation.cells cells)) }

@@ -1,4 +1,4 @@
-//! What tokens draw.
+//! The pen that draws tokens.
 ghost use Rattle.std.specs.Prelude.{◌++◌, ◌+◌, ◌<◌, ◌≡◌, ◌≤◌, ◌||◌, OnOk, false, map, nat_lt, pos, true};
 ghost use Rattle.life_cells.specs.Limits.{place_limit};
 ghost use Rattle.life_cells.specs.Readings.{cell_of_pair};
@@ -18,10 +18,10 @@ pub struct Pen {
     pub live: u32,
 }
 
-// The most live cells.
+// The greatest number of live cells.
 const CELL_LIMIT: u32 = 1_048_576;
 
-/// Whether the last of `times` live cells is beyond the limit of places.
+/// True where the last of `times` live cells is beyond the limit of places.
 #[inline(always)]
 pub fn is_past_places(pen: Pen, times: u32) -> bool
     requires few { times ≤ count_cap }
@@ -32,7 +32,7 @@ pub fn is_past_places(pen: Pen, times: u32) -> bool
     pen.y + 1 > PLACE_LIMIT || pen.x + times > PLACE_LIMIT
 }
 
-/// Whether `times` more live cells exceed the limit of cells.
+/// True where `times` more live cells exceed the limit of cells.
 #[inline(always)]
 pub fn is_past_cells(pen: Pen, times: u32) -> bool
     requires few { times ≤ count_cap }
@@ -42,7 +42,7 @@ pub fn is_past_cells(pen: Pen, times: u32) -> bool
     pen.live + times > CELL_LIMIT
 }
 
-/// Whether a token that was found draws a live cell beyond the limit of places.
+/// True where a token draws a live cell beyond the limit of places.
 pub fn is_too_far(found: &Found, pen: Pen) -> bool
     requires once { found.now.counted ≡ false → found.now.times ≡ 1 }
     requires few { found.now.times ≤ count_cap }
@@ -53,7 +53,7 @@ pub fn is_too_far(found: &Found, pen: Pen) -> bool
     is_live(found) && is_past_places(pen, found.times)
 }
 
-/// Whether a token that was found draws more live cells than the limit allows, counting those before it.
+/// True where a token draws more live cells than the limit allows, counting those before it.
 pub fn is_too_many(found: &Found, pen: Pen) -> bool
     requires once { found.now.counted ≡ false → found.now.times ≡ 1 }
     requires few { found.now.times ≤ count_cap }
@@ -63,7 +63,6 @@ pub fn is_too_many(found: &Found, pen: Pen) -> bool
     is_live(found) && is_past_cells(pen, found.times)
 }
 
-// A cell.
 fn cell(x: u32, y: u32) -> (i32, i32)
     requires x { x < place_limit }
     requires y { y < place_limit }
@@ -72,7 +71,7 @@ fn cell(x: u32, y: u32) -> (i32, i32)
     (x as i32, y as i32)
 }
 
-/// Draws the live cells of a token that was found, which has some, at this column and row.
+/// Draws the live cells of a token, which has some, at this column and row.
 pub fn push_span(
     cells: &mut Vec<(i32, i32)>,
     x: u32,

@@ -24,7 +24,7 @@ use std::alloc::{AllocError, Global};
 use std::fmt;
 use thiserror::Error;
 
-/// Why a text is no pattern, and at which byte, counted from 0.
+/// The reason why a text is no pattern. `at` is the place of a byte, counted from 0.
 #[derive(Clone, Copy, Debug, PartialEq, Eq, Drop, Error)]
 pub enum RleFault {
     /// There is no header line, or it doesn't begin with `x`.
@@ -49,7 +49,7 @@ pub enum RleFault {
     Memory,
 }
 
-/// The number of a fault of a rule text that is given by itself, not in a header.
+/// The number of a fault of a rule text by itself, not in a header.
 pub fn rule_number(fault: RuleFault) -> u8
     ensures { result ≡ rule_number fault }
 {
@@ -60,7 +60,7 @@ pub fn rule_number(fault: RuleFault) -> u8
 }
 
 impl RleFault {
-    /// Each fault that a text can have. If it names a byte, that is the first one.
+    /// Each fault that a text can have. A fault that names a byte names byte 0.
     const ALL: [RleFault; 10] = [
         RleFault::NoHeader,
         RleFault::BadHeader,
@@ -74,7 +74,7 @@ impl RleFault {
         RleFault::NoEnd,
     ];
 
-    /// The number that reports and the program's lines use for it.
+    /// The number of the fault in reports and in the program's lines.
     pub fn number(self) -> u8
         ensures value { result ≡ fault_number self }
         // The number determines the fault, except for its byte.
@@ -95,7 +95,7 @@ impl RleFault {
         }
     }
 
-    /// The byte of the text that it names, if any.
+    /// The place of the byte that the fault names, if any.
     pub fn at(self) -> Option<usize>
         ensures { result ≡ fault_place self }
     {
@@ -113,8 +113,7 @@ impl RleFault {
         }
     }
 
-    /// The fault of a text that has this number. If it names a byte, that is the text's first one. Out of memory has no
-    /// number here.
+    /// The fault of a text that has this number. If it names a byte, that is byte 0. Out of memory has no number here.
     pub fn of_number(number: u64) -> Option<RleFault>
         ensures { result ≡ fault_of_number number }
     {
@@ -138,7 +137,7 @@ impl fmt::Display for RleFault {
     }
 }
 
-// The fault of the token that was found, with the pen in this place.
+// The fault of the token that was found, with the pen at this place.
 fn found_fault(found: &Found, pen: Pen) -> Option<RleFault>
     requires once { found.now.counted ≡ false → found.now.times ≡ 1 }
     requires few { found.now.times ≤ count_cap }
@@ -179,7 +178,7 @@ impl From<AllocError> for RleFault {
     }
 }
 
-// There is room for `FIRST_CELLS` live cells from the start.
+// The number of live cells for which there is room from the start.
 const FIRST_CELLS: usize = 64;
 
 // The cells of the body that begins at a place, or its first fault.
@@ -216,15 +215,15 @@ fn read_body(alloc: Global, text: &[u8], from: usize) -> Result<Vec<(i32, i32)>,
     }
 }
 
-// A rule and cells, rising by row and then column.
+// A rule and cells, sorted by row, then by column.
 #[derive(Drop)]
 struct Plot {
     rule: Rule,
     cells: Vec<(i32, i32)>,
 }
 
-/// The place of the LF that ends the line from a place on, or the text's length. Unless the place is the text's end,
-/// its byte is no blank and not in a comment.
+/// The place of the LF that ends the line from a place on, or the text's length. The byte at the place, if there is
+/// one, must not be blank or in a comment.
 pub fn line_end(text: &[u8], start: usize) -> usize
     requires within { start ≤ length text.now }
     requires plain { start < length text.now → IsPlain text.now start }
@@ -261,7 +260,8 @@ fn read_text(alloc: Global, text: &[u8]) -> Result<Plot, RleFault>
     }
 }
 
-/// If no fault is reported, what a text means rises by row and then column, with each cell once and within the limits.
+/// If tokens have no fault, the cells that they mean are sorted by row, then by column, each once, and within the
+/// limits.
 pub fn rises()
     ensures { (ts : List Token) → first_fault [] ts ≡ None → RisesFrom 0 0 (cells_after [] ts) }
 {}
@@ -269,13 +269,13 @@ pub fn rises()
 /// Reads an RLE text: the pattern that it means, or its first fault.
 ///
 /// The rules are those of Golly's help on the extended RLE format, in a lenient profile for two states. Each fault says
-/// which rule is broken, and at which byte. `Memory` may occur at any growth before the place of the fault, but never
-/// if the header has a fault.
+/// which rule is broken, and at which byte. `Memory` may be the result wherever memory is needed before the place of
+/// the fault, but never if the header has a fault.
 pub fn read_rle(alloc: Global, text: &[u8]) -> Result<Pattern, RleFault>
     // What is read is what the text means, and the text has no fault.
     ensures found { IfOk result (λ pattern. picture_of (reading text.now) ≡ Ok pattern) }
     ensures lawful { OnOk result (refusal text.now ≡ None) }
-    // A fault is the text's.
+    // A fault other than `Memory` is the text's.
     ensures refused { IfErr result (λ fault. fault ≢ Memory → refusal text.now ≡ Some fault) }
     // Only a text with a lawful header can run out of memory.
     ensures memory { IfErr result (λ fault. fault ≡ Memory → IsOk (header_rule text.now)) }

@@ -9,8 +9,8 @@ ghost use Rattle.life_text.specs.Rle.{is_bad_run, is_cells, is_live, is_missing,
 
 use crate::bytes::{is_digit, is_letter, is_space};
 
-/// What is found of a token: where it begins; whether it has a count; that count, capped, or 1; the byte in the place
-/// of its tag, if there is one; and where that byte is.
+/// A token as it is found: where it begins, whether it has a count, that count, capped, or 1, and the place and the
+/// byte of its tag. Without a tag, `tag` is `None`.
 #[derive(Clone, Copy)]
 pub struct Found {
     pub at: usize,
@@ -20,10 +20,10 @@ pub struct Found {
     pub tag: Option<u8>,
 }
 
-/// More than any place and any number of live cells.
+/// A number greater than any place and any number of live cells.
 pub const CAP: u32 = 2_097_152;
 
-// Whether a byte is in a comment line, given whether the byte before it is.
+// True where a byte is in a comment line, given whether the byte before it is.
 fn is_inside(comment: bool, before: u8, byte: u8) -> bool
     ensures { result ≡ is_in_comment comment before byte }
 {
@@ -34,14 +34,14 @@ fn is_inside(comment: bool, before: u8, byte: u8) -> bool
     }
 }
 
-// Whether a byte is not to be passed over.
+// True where a byte is not passed over.
 fn stops(inside: bool, byte: u8) -> bool
     ensures { result ≡ (not inside && not (is_space byte)) }
 {
     !inside && !is_space(byte)
 }
 
-// Whether a byte is neither blank nor LF and starts no comment.
+// True where a byte is neither blank nor LF and starts no comment.
 #[inline(always)]
 fn is_word(byte: u8) -> bool
     ensures { result ≡ (not (is_space byte) && not (byte == 35)) }
@@ -49,8 +49,8 @@ fn is_word(byte: u8) -> bool
     !is_space(byte) && byte != b'#'
 }
 
-/// The place of the first byte, from a place on that is in no comment line, that is neither blank nor LF nor in such a
-/// line.
+/// The place of the first byte that is neither blank nor LF nor in a comment line, from a place on that is in no
+/// comment line.
 pub fn skip_spaces(text: &[u8], from: usize) -> usize
     requires { from ≤ length text.now }
     ensures from { from ≤ result }
@@ -175,7 +175,7 @@ pub fn next_token(text: &[u8], from: usize) -> Found
     tag_alone(at, text[at])
 }
 
-/// Whether its tag is that of live cells.
+/// True where the token's tag is that of live cells.
 pub fn is_live(found: &Found) -> bool
     ensures { result ≡ is_live (token_found found.now) }
 {
@@ -185,7 +185,7 @@ pub fn is_live(found: &Found) -> bool
     }
 }
 
-/// Whether its tag is that of cells, live or dead.
+/// True where the token's tag is that of cells, live or dead.
 pub fn is_cells(found: &Found) -> bool
     ensures { result ≡ is_cells (token_found found.now) }
 {
@@ -195,7 +195,7 @@ pub fn is_cells(found: &Found) -> bool
     }
 }
 
-/// Whether its tag is that of row ends.
+/// True where the token's tag is that of row ends.
 pub fn is_row_end(found: &Found) -> bool
     ensures { result ≡ is_row_end (token_found found.now) }
 {
@@ -205,7 +205,7 @@ pub fn is_row_end(found: &Found) -> bool
     }
 }
 
-/// Whether a letter of a third state is in the place of its tag.
+/// True where a letter of a third state is in the place of the token's tag.
 pub fn is_other_state(found: &Found) -> bool
     ensures { result ≡ is_other_state (token_found found.now) }
 {
@@ -215,7 +215,7 @@ pub fn is_other_state(found: &Found) -> bool
     }
 }
 
-/// Whether a byte that is no tag is in the place of its tag.
+/// True where a byte that is no tag is in the place of the token's tag.
 pub fn is_no_tag(found: &Found) -> bool
     ensures { result ≡ is_no_tag (token_found found.now) }
 {
@@ -230,7 +230,7 @@ pub fn is_no_tag(found: &Found) -> bool
     }
 }
 
-/// Whether its count is 0, or comes before `!`, another count or the end of the text.
+/// True where the token's count is 0, or comes before `!`, another count or the end of the text.
 pub fn is_bad_run(found: &Found) -> bool
     ensures { result ≡ is_bad_run (token_found found.now) }
 {
@@ -241,7 +241,7 @@ pub fn is_bad_run(found: &Found) -> bool
     found.counted && (found.times == 0 || cut)
 }
 
-/// Whether the text ends where it would begin.
+/// True where the text ends where the token would begin.
 pub fn is_missing(found: &Found) -> bool
     ensures { result ≡ is_missing (token_found found.now) }
 {

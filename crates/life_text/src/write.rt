@@ -58,7 +58,6 @@ fn size(cells: &[(i32, i32)], corner: (i32, i32)) -> (u32, u32)
     (width, height)
 }
 
-// Appends a number.
 fn push_number(text: &mut Vec<u8>, number: u32) -> Result<(), AllocError>
     ensures { OnOk result (text.new.items ≡ text.old.items ++ decimal number) }
 {
@@ -66,7 +65,6 @@ fn push_number(text: &mut Vec<u8>, number: u32) -> Result<(), AllocError>
     text.extend_from_slice(buffer.format(number).as_bytes())
 }
 
-// Appends the header line.
 fn push_header(text: &mut Vec<u8>, rule: &Rule, width: u32, height: u32) -> Result<(), AllocError>
     ensures { OnOk result (text.new.items ≡ text.old.items ++ header rule.now width height) }
 {
@@ -80,7 +78,7 @@ fn push_header(text: &mut Vec<u8>, rule: &Rule, width: u32, height: u32) -> Resu
     Ok(())
 }
 
-// Takes one more cell. If it doesn't directly follow the last one, the run of that one and the gap are written.
+// Takes one more cell. If it doesn't directly follow the last one, the last run and the gap are written.
 fn put_cell(text: &mut Vec<u8>, nib: Nib, cell: (u32, u32)) -> Result<Nib, AllocError>
     requires used { nib.used ≤ 70 }
     requires run { nib.run ≤ nib.x }
@@ -116,7 +114,7 @@ fn put_cell(text: &mut Vec<u8>, nib: Nib, cell: (u32, u32)) -> Result<Nib, Alloc
     })
 }
 
-// Writes what is left after the last cell, and the end.
+// Writes the run that is left after the last cell, and the end.
 fn put_end(text: &mut Vec<u8>, nib: Nib) -> Result<(), AllocError>
     requires { nib.used ≤ 70 }
     ensures { OnOk result (text.new.items ≡ text.old.items ++ rest_of_text nib []) }
@@ -170,7 +168,7 @@ pub fn write_rle(rule: &Rule, cells: &CellList, out: &mut Vec<u8>) -> Result<(),
     Ok(())
 }
 
-/// A written text means its rule and the normal form of its cells, if that has no coordinate above 1,048,575 and at
+/// A written text is read as its rule and the normal form of its cells, if that has no coordinate above 1,048,575 and at
 /// most 1,048,576 cells.
 pub fn written_texts_are_read()
     ensures { (rule : model.Rule) (G : Generation) → rule.birth < 512 → rule.survival < 512 →
