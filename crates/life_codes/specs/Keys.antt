@@ -13,7 +13,7 @@ use Rattle.life_codes.specs.Lengths.Words.{is_at}
 abbrev pub column_of : ℕ → ℕ → ℕ
 column_of key i = key / 2 ^ (5 * i) % 32
 
--- the text of the first `n` columns of a key, from the last, as it were if none held 0
+-- the text of the first `n` columns of a key, from the last, as it would be if none were 0
 abbrev pub key_text : ℕ → ℕ → List ℕ
 key_text zero key = []
 key_text (suc n) key = digit (column_of key n) ∷ key_text n key
@@ -23,7 +23,7 @@ pub record IsKey (key wide : ℕ) (cells : List Cell) : Type 0 where
   pub bits : (s : ℕ) → bit_at key s ≡ (if is_at cells (s / 5) (pos (s % 5)) then 1 else 0)
   pub below : key < 2 ^ (5 * wide)
 
--- the key of the cells that the map takes cells of the frame to
+-- the key of the images of cells of the frame under the map
 abbrev pub IsTurnedKey : ℕ → Orientation → Frame → List Cell → Type 0
 IsTurnedKey key m f cells = IsKey key (wide_of (turned_frame m f)) (map (cell_in_frame m (turned_frame m f)) cells)
 
@@ -42,7 +42,7 @@ pub record AreKeys (keys : Keys) (f : Frame) (cells : List Cell) : Type 0 where
 abbrev pub IsPlain : ℕ → ℕ → Type 0
 IsPlain key wide = (i : ℕ) → i < wide → 0 < column_of key i
 
--- The keys of four maps hold no 0. Those of the other four hold the same columns.
+-- The keys of four maps have no column of 0. Those of the other four have the same columns.
 pub record ArePlain (keys : Keys) (wide high : ℕ) : Type 0 where
   pub same : IsPlain keys.same wide
   pub half : IsPlain keys.half wide

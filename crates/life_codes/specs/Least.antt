@@ -12,7 +12,7 @@ abbrev pub with_text : Option (List ℕ) → List ℕ → Option (List ℕ)
 with_text None text = Some text
 with_text (Some least) text = Some (lesser_text least text)
 
--- the text, where there is one
+-- the text, if there is one
 abbrev pub text_if : Bool → List ℕ → Option (List ℕ)
 text_if some text = if some then Some text else None
 
@@ -20,6 +20,6 @@ text_if some text = if some then Some text else None
 abbrev pub two_bodies : Generation → Orientation → List (List ℕ)
 two_bodies G m = body (image_under G m) ∷ body (image_under (image_under G m) FlipX) ∷ []
 
--- A grid's texts were taken, where it has a strip.
+-- The texts of a grid were taken, if it has a strip.
 abbrev pub IsTaken : Option (List ℕ) → List ℕ → ℕ → ℕ → Type 0
 IsTaken least values wide strips = 0 < strips → fold with_text least (both_texts values wide strips) ≡ least

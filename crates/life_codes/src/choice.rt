@@ -9,7 +9,7 @@ use std::cmp::Ordering;
 use std::marker::Model;
 use std::mem::swap;
 
-/// The least of the texts so far, where there is one.
+/// The least of the texts so far, if there is one.
 #[derive(Drop)]
 pub struct Choice {
     text: Vec<u8>,
@@ -24,7 +24,7 @@ impl Model for Choice {
 
     ghost view = { λ c. text_if c.some c.text.items };
 
-    // no byte where there is no text
+    // no bytes without a text
     ghost invariant = { λ c. c.some ≡ false → c.text.items ≡ [] };
 }
 
@@ -49,14 +49,14 @@ impl Choice {
         Ok(())
     }
 
-    /// Whether there is a text of fewer bytes.
+    /// True where there is a text of fewer bytes.
     pub fn is_shorter(&self, bytes: usize) -> bool
         ensures { IsTrue result → IsSomeAnd self.now (λ t. length t < bytes) }
     {
         self.some && self.text.len() < bytes
     }
 
-    /// Whether there is a text of fewer bytes than each of the texts of these lengths.
+    /// True where there is a text of fewer bytes than each of the texts of these lengths.
     pub fn is_below(&self, one: Lengths, other: Lengths) -> bool
         ensures one { IsTrue result → IsSomeAnd self.now (λ t. length t < one.forward) }
         ensures one_back { IsTrue result → IsSomeAnd self.now (λ t. length t < one.backward) }
@@ -70,7 +70,7 @@ impl Choice {
             && self.is_shorter(other.backward)
     }
 
-    /// Whether there is a text that is less than each text of `bytes` bytes with this first one.
+    /// True where there is a text that is less than each text of `bytes` bytes with this first one.
     pub fn is_before(&self, bytes: usize, first: u8) -> bool
         ensures { IsTrue result → (rest : List ℕ) → length (first ∷ rest) ≡ bytes →
             with_text self.now (first ∷ rest) ≡ self.now }
@@ -81,7 +81,7 @@ impl Choice {
         self.text[0] < first
     }
 
-    /// Whether there is a text that is less than each text of `bytes` bytes with this start.
+    /// True where there is a text that is less than each text of `bytes` bytes with this start.
     pub fn is_begun_before(&self, bytes: usize, start: &[u8]) -> bool
         ensures { IsTrue result → (rest : List ℕ) → length (start.now ++ rest) ≡ bytes →
             with_text self.now (start.now ++ rest) ≡ self.now }
@@ -92,7 +92,7 @@ impl Choice {
         self.text[..start.len()].cmp(start).is_lt()
     }
 
-    /// Takes one more text. The text that is not the least is left in its place.
+    /// Takes one more text. The text that is not the least is left in `text`.
     pub fn offer(&mut self, text: &mut Vec<u8>)
         ensures { self.new ≡ with_text self.old text.old.items }
     {
@@ -102,14 +102,14 @@ impl Choice {
         }
     }
 
-    /// The text; no byte where there is none.
+    /// The text, or no bytes if there is none.
     pub fn text(&self) -> &[u8]
         ensures { result.now ≡ unwrap_or self.now [] }
     {
         &self.text
     }
 
-    /// The text itself; no byte where there is none.
+    /// The text itself, or no bytes if there is none.
     pub fn into_text(self) -> Vec<u8>
         ensures { result.items ≡ unwrap_or self [] }
     {

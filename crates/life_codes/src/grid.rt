@@ -15,7 +15,7 @@ use std::alloc::{AllocError, Global};
 #[derive(Drop)]
 pub struct Grid {
     pub values: Vec<u8>,
-    /// How many columns a strip has.
+    /// The number of columns of a strip.
     pub wide: usize,
     pub strips: usize,
 }
@@ -30,14 +30,14 @@ impl Grid {
         }
     }
 
-    /// Has no strip from now on.
+    /// Sets the number of strips to 0.
     pub fn forget(&mut self)
         ensures { self.new.strips ≡ 0 }
     {
         self.strips = 0;
     }
 
-    /// Whether it has the columns of another.
+    /// True where it has the columns of another.
     pub fn is_same(&self, other: &Grid) -> bool
         ensures strips { IsTrue result → self.now.strips ≡ other.now.strips }
         ensures texts { IsTrue result →
@@ -48,8 +48,8 @@ impl Grid {
     }
 }
 
-/// Adds to each column what these cells, turned by the map, weigh there. Turned, they are in the frame, which has as many columns
-/// in each of its strips.
+/// Adds to each column the weight there of these cells, turned by the map. The turned cells are in the frame, and `values` has
+/// the columns of each of its strips.
 fn fill(values: &mut [u8], cells: &[(i32, i32)], orient: Orient, frame: Frame)
     requires room { length values.old ≡ strips_of frame * wide_of frame }
     requires empty { All (λ v. v ≡ 0) values.old }
@@ -69,7 +69,7 @@ fn fill(values: &mut [u8], cells: &[(i32, i32)], orient: Orient, frame: Frame)
     }
 }
 
-/// Makes a grid of what these cells, turned by the map, weigh. Turned, they are in the frame.
+/// Makes a grid of the weights of these cells, turned by the map. The turned cells are in the frame.
 pub fn make_grid(
     values: &mut Vec<u8>,
     cells: &[(i32, i32)],

@@ -73,7 +73,7 @@ fn keys_of(cells: &[(i32, i32)], frame: Frame) -> Keys
     keys
 }
 
-/// Whether none of the first `wide` columns of a key is 0.
+/// True where none of the first `wide` columns of a key is 0.
 #[inline(always)]
 fn is_plain(key: u32, wide: usize) -> bool
     requires { wide ≤ 5 }
@@ -87,7 +87,7 @@ fn is_plain(key: u32, wide: usize) -> bool
     true
 }
 
-/// Whether none of the columns of the keys is 0. The keys of mirror images have the same columns.
+/// True where none of the columns of the keys is 0. The keys of mirror images have the same columns.
 fn are_plain(keys: Keys, wide: usize, high: usize) -> bool
     requires wide { wide ≤ 5 }
     requires high { high ≤ 5 }
@@ -108,7 +108,7 @@ fn least_last(first: u32, keys: Keys) -> u32
         .min(keys.swap_half)
 }
 
-/// The key with the least text of all eight, and how many columns it has.
+/// The key with the least text of all eight, and its number of columns.
 fn least_key(keys: Keys, wide: usize, high: usize) -> (u32, usize)
     requires below { AreBelow keys wide high }
     requires wide { wide ≤ 5 }
@@ -126,7 +126,7 @@ fn least_key(keys: Keys, wide: usize, high: usize) -> (u32, usize)
     }
 }
 
-/// The key whose text is the least of those of cells, turned by each of the eight maps, and how many columns it has; or nothing
+/// The key whose text is the least of those of cells, turned by each of the eight maps, and its number of columns; or `None`
 /// where a column of one of them is 0.
 fn tiny_key(cells: &[(i32, i32)], frame: Frame) -> Option<(u32, usize)>
     requires some { 0 < length cells.now }
@@ -147,7 +147,7 @@ fn tiny_key(cells: &[(i32, i32)], frame: Frame) -> Option<(u32, usize)>
     }
 }
 
-/// The key whose text is the least of those of cells, turned by each of the eight maps, and how many columns it has, if the frame
+/// The key whose text is the least of those of cells, turned by each of the eight maps, and its number of columns, if the frame
 /// of the cells is tiny and no column of one of them is 0.
 pub fn key_of(cells: &[(i32, i32)], frame: Option<Frame>) -> Option<(u32, usize)>
     requires some { IfSome frame (λ f. 0 < length cells.now) }

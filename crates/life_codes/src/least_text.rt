@@ -25,7 +25,7 @@ use std::alloc::{AllocError, Global};
 use std::marker::Model;
 use std::mem::swap;
 
-/// The least Wechsler text of sets in all eight orientations, by length and then by bytes, found set by set.
+/// The least Wechsler text of sets in all eight orientations, by length, then by bytes, found set by set.
 #[derive(Drop)]
 pub struct LeastText {
     least: Choice,
@@ -42,7 +42,7 @@ impl Model for LeastText {
     ghost view = { λ l. l.least };
 }
 
-/// Room for two grids, for marks and for a text.
+/// Memory for two grids, for marks and for a text.
 #[derive(Drop)]
 struct Room {
     first: Grid,
@@ -52,7 +52,7 @@ struct Room {
 }
 
 impl Room {
-    /// The first grid has no strip from now on.
+    /// Sets the number of strips of the first grid to 0.
     fn forget(&mut self)
         ensures { self.new.first.strips ≡ 0 }
     {
@@ -60,7 +60,7 @@ impl Room {
     }
 }
 
-/// Whether the least text is less than that of a grid, which has `bytes` bytes, by its length or by its first byte alone.
+/// True where the least text is less than that of a grid, which has `bytes` bytes, by its length or by its first byte alone.
 fn is_beyond(
     least: &Choice,
     values: &[u8],
@@ -84,7 +84,7 @@ fn is_beyond(
     first != 0 && least.is_before(bytes, digit(first))
 }
 
-/// Takes the text of a grid, which has `bytes` bytes. It is written only as far as the least text may not be less.
+/// Takes the text of a grid, which has `bytes` bytes. It is written only until the least text is known to be less.
 fn add_text(
     least: &mut Choice,
     text: &mut Vec<u8>,
@@ -160,7 +160,7 @@ fn make_turned(
     Ok(())
 }
 
-/// Takes the texts of the second grid, unless it is the first, whose texts were taken. It becomes the first.
+/// Takes the texts of the second grid, unless it is the same as the first, whose texts were taken. It becomes the first.
 fn add_second(least: &mut Choice, room: &mut Room, lengths: Lengths) -> Result<(), AllocError>
     requires some { 0 < room.old.second.strips }
     requires wide { 0 < room.old.second.wide }
@@ -191,8 +191,8 @@ fn add_second(least: &mut Choice, room: &mut Room, lengths: Lengths) -> Result<(
     Ok(())
 }
 
-/// Takes the texts of cells, turned by a map, and of their mirror image, which have these lengths. A grid is made only where the
-/// least text may not be shorter than both. The first grid is the last one whose texts were taken.
+/// Takes the texts of cells, turned by a map, and of their mirror image, which have these lengths. A grid is made only if the
+/// least text is not known to be shorter than both. The first grid is the last one whose texts were taken.
 #[inline(always)]
 fn add_turned(
     least: &mut Choice,
@@ -386,8 +386,8 @@ impl LeastText {
         Ok(())
     }
 
-    /// Adds the texts of a set with this frame: from words and grids, unless those would be mostly empty, and otherwise from
-    /// shapes.
+    /// Adds the texts of a set with this frame: from words of bits and from grids, unless those would be mostly empty, and
+    /// otherwise from shapes.
     fn add_framed(&mut self, list: &CellList, frame: Option<Frame>) -> Result<(), AllocError>
         requires wide { width list.now ≤ extent_limit }
         requires high { height list.now ≤ extent_limit }
@@ -411,7 +411,7 @@ impl LeastText {
         }
     }
 
-    /// Adds the texts of a set. After an `Err` all is unchanged.
+    /// Adds the texts of a set. After an `Err` nothing has changed.
     ///
     /// The bounding box of the set is at most 16,777,216 wide and high.
     pub fn add(&mut self, list: &CellList) -> Result<(), AllocError>
@@ -428,14 +428,14 @@ impl LeastText {
         }
     }
 
-    /// The text so far; no byte where no set was added.
+    /// The least text so far, or no bytes if no set was added.
     pub fn text(&self) -> &[u8]
         ensures { result.now ≡ unwrap_or self.now [] }
     {
         self.least.text()
     }
 
-    /// The text itself; no byte where no set was added.
+    /// The least text itself, or no bytes if no set was added.
     pub fn into_text(self) -> Vec<u8>
         ensures { result.items ≡ unwrap_or self [] }
     {

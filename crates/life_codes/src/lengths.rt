@@ -1,4 +1,4 @@
-//! How long the Wechsler texts of sets of cells are in all eight orientations, computed from words of bits.
+//! The lengths of the Wechsler texts of sets of cells in all eight orientations, computed from words of bits.
 //!
 //! Tested in `tests_patterns`.
 mod frame;

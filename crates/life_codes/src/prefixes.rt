@@ -1,11 +1,11 @@
-//! What is before the text of an object in its code.
+//! The prefix of the code of an object.
 ghost use Rattle.std.specs.Prelude.{◌≡◌, ◌++◌, IfOk, codes};
 ghost use Rattle.life_answer.specs.Apgcode.{prefix};
 
 use itoa::Buffer;
 use std::alloc::{AllocError, Global};
 
-// The bytes of most codes, for which there is room from the start.
+// The number of bytes of most codes, for which there is room from the start.
 const CODE_ROOM: usize = 48;
 
 /// The prefix of a code, with the `_` after it: `xs` and the population of a still life, `xp` and the period of an

@@ -6,7 +6,7 @@ ghost use Rattle.life_codes.specs.Lengths.Grids.{columns_from, grid_text, strip_
 
 use std::alloc::AllocError;
 
-/// `0` to `9` and then `a` to `z`.
+/// The digit of a number: `0` to `9`, then `a` to `z`.
 pub fn digit(n: u8) -> u8
     requires { n < 36 }
     ensures { result ≡ digit n }
@@ -32,7 +32,7 @@ fn push_short(text: &mut Vec<u8>, count: usize) -> Result<(), AllocError>
     Ok(())
 }
 
-/// Adds a run of `count` zeros, however many.
+/// Adds a run of `count` zeros, of any length.
 fn push_run(text: &mut Vec<u8>, count: usize) -> Result<(), AllocError>
     ensures { OnOk result (text.new.items ≡ text.old.items ++ zeros count) }
 {

@@ -1,4 +1,4 @@
--- The least and the greatest places of cells, and what becomes of them as the cells are turned.
+-- The least and the greatest places of cells, before and after the cells are turned.
 use Rattle.std.specs.Prelude.{ℕ, ◌+◌, ◌/◌, ◌<◌, ℤ, pos, negsuc, neg_ℤ, ◌-ℤ◌, ◌≤ℤ◌, nat_abs, List, map, fold}
 use Rattle.std.specs.List.{slice_index_or}
 use Rattle.std.specs.Int.{int_min, int_max}
@@ -22,7 +22,7 @@ frame_of cs = record {
   bottom = greatest_at (λ c. c.1) cs;
 }
 
--- the least and the greatest places of the cells that the map takes cells of the frame to
+-- the least and the greatest places of the images of cells of the frame under the map
 abbrev pub turned_frame : Orientation → Frame → Frame
 turned_frame Same f = record { left = f.left; top = f.top; right = f.right; bottom = f.bottom }
 turned_frame FlipX f = record { left = neg_ℤ f.right; top = f.top; right = neg_ℤ f.left; bottom = f.bottom }
@@ -40,7 +40,7 @@ pub record IsInFrame (f : Frame) (c : Cell) : Type 0 where
   pub above : f.top ≤ℤ c.1
   pub below : c.1 ≤ℤ f.bottom
 
--- Its places are -16,777,216 to 16,777,216, and it is not turned inside out.
+-- Its places are -16,777,216 to 16,777,216, and it has a column and a row.
 pub record IsBounded (f : Frame) : Type 0 where
   pub left : negsuc last_place ≤ℤ f.left
   pub across : f.left ≤ℤ f.right
@@ -52,11 +52,11 @@ pub record IsBounded (f : Frame) : Type 0 where
 abbrev pub wide_of : Frame → ℕ
 wide_of f = nat_abs (f.right -ℤ f.left) + 1
 
--- how many strips of five rows it takes
+-- the number of strips of five rows that it takes
 abbrev pub strips_of : Frame → ℕ
 strips_of f = (nat_abs (f.bottom -ℤ f.top) + 5) / 5
 
--- where the map takes the cell, seen from the corner of the frame
+-- the image of the cell under the map, counted from the corner of the frame
 abbrev pub cell_in_frame : Orientation → Frame → Cell → Cell
 cell_in_frame m f c = plus (turn m c) (opposite (f.left, f.top))
 

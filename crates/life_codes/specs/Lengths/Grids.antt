@@ -4,7 +4,8 @@ use Rattle.life_model.specs.Cell.{Cell}
 use Rattle.life_cells.specs.Dots.{weights}
 use Rattle.life_cells.specs.Wechsler.{columns_text, strips_text}
 
--- Strip k of a grid that is `wide` columns wide is its columns from `k * wide` on. Each holds what the cells weigh there.
+-- Strip k of a grid that is `wide` columns wide is its columns from `k * wide` on. Each holds the weight of the cells
+-- there.
 pub record HoldsWeights (values : List ℕ) (wide strips : ℕ) (cells : List Cell) : Type 0 where
   pub each : (k x : ℕ) → k < strips → x < wide → slice_index values (k * wide + x) ≡ weights k cells x
 

@@ -56,7 +56,7 @@ fn framed(left: i32, top: i32, right: i32, bottom: i32) -> Frame
 }
 
 impl Frame {
-    /// The frame of the cells that the map takes cells of this frame to.
+    /// The frame of the images of the cells of this frame.
     pub fn turned(self, orient: Orient) -> Frame
         requires bounded { IsBounded self }
         ensures frame { result ≡ turned_frame (orientation orient) self }
@@ -76,7 +76,7 @@ impl Frame {
         }
     }
 
-    /// How wide it is.
+    /// The width.
     pub fn width(self) -> usize
         requires { IsBounded self }
         ensures { result ≡ wide_of self }
@@ -84,7 +84,7 @@ impl Frame {
         (self.right - self.left + 1) as usize
     }
 
-    /// How high it is.
+    /// The height.
     pub fn height(self) -> usize
         requires { IsBounded self }
         ensures { result ≡ nat_abs (self.bottom -ℤ self.top) + 1 }
@@ -92,7 +92,7 @@ impl Frame {
         (self.bottom - self.top + 1) as usize
     }
 
-    /// How many strips of five rows it takes.
+    /// The number of strips of five rows that it takes.
     pub fn strips(self) -> usize
         requires { IsBounded self }
         ensures { result ≡ strips_of self }
@@ -100,7 +100,7 @@ impl Frame {
         ((self.bottom - self.top + 5) as usize) / 5
     }
 
-    /// Whether it is at most 64 wide and at most 64 high.
+    /// True where it is at most 64 wide and at most 64 high.
     pub fn is_small(self) -> bool
         requires { IsBounded self }
         ensures { IsTrue result → IsSmallFrame self }
@@ -108,7 +108,7 @@ impl Frame {
         self.width() <= 64 && self.height() <= 64
     }
 
-    /// Whether it is at most 5 wide and at most 5 high.
+    /// True where it is at most 5 wide and at most 5 high.
     pub fn is_tiny(self) -> bool
         requires { IsBounded self }
         ensures { IsTrue result → IsTinyFrame self }
@@ -116,7 +116,8 @@ impl Frame {
         self.width() <= 5 && self.height() <= 5
     }
 
-    /// Whether its columns of five rows, and its rows of five columns, are few for `count` cells: about 64 for each cell at most.
+    /// True where its columns of five rows, and its rows of five columns, are few for `count` cells: at most about 64 for each
+    /// cell.
     pub fn is_dense(self, count: usize) -> bool
         requires { IsBounded self }
     {
@@ -127,7 +128,7 @@ impl Frame {
     }
 }
 
-/// Where the map takes the cell, seen from the corner of the frame.
+/// The image of the cell, counted from the corner of the frame.
 pub fn place_in(cell: (i32, i32), orient: Orient, frame: Frame) -> (usize, usize)
     requires placed { IsPlace cell }
     requires bounded { IsBounded frame }

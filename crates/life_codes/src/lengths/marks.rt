@@ -9,9 +9,9 @@ ghost use Rattle.life_codes.specs.Lengths.Words.{HoldsRows, IsSmallFrame, AreWit
 use crate::lengths::frame::{Frame, place_in};
 use life_cells::Orient;
 
-/// How many rows without a cell are above the first, for the last strip from the bottom, which may begin above it.
+/// The number of rows without a cell above the first, for the last strip from the bottom, which may begin above it.
 pub const ABOVE: usize = 4;
-/// How many words those and the rows of thirteen strips take.
+/// The number of words for those and for the rows of thirteen strips.
 pub const ROWS: usize = 69;
 
 /// Marks a cell in its row.

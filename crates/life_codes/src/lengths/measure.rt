@@ -1,9 +1,9 @@
-//! How long parts of texts are.
+//! The lengths of parts of texts.
 ghost use Rattle.std.specs.Prelude.{◌≡◌, ◌<◌, ◌≤◌, length};
 ghost use Rattle.life_cells.specs.Dots.{strip_mark};
 ghost use Rattle.life_cells.specs.Wechsler.{short_zeros, zeros};
 
-/// How long a text is, read from either side.
+/// The lengths of a text, read from either side.
 #[derive(Clone, Copy)]
 pub struct Lengths {
     pub forward: usize,
@@ -16,7 +16,7 @@ impl Lengths {
         self.forward.min(self.backward)
     }
 
-    /// How long the text of the mirror image is.
+    /// The lengths for the mirror image.
     pub fn mirrored(self) -> Lengths
         ensures forward { result.forward ≡ self.backward }
         ensures backward { result.backward ≡ self.forward }
@@ -28,7 +28,7 @@ impl Lengths {
     }
 }
 
-/// How long the text of fewer than 39 zeros is.
+/// The length of the text of fewer than 39 zeros.
 fn short_length(count: usize) -> usize
     requires { count < 39 }
     ensures length { result ≡ length (short_zeros count) }
@@ -41,7 +41,7 @@ fn short_length(count: usize) -> usize
     }
 }
 
-/// How long the text of `count` zeros is.
+/// The length of the text of `count` zeros.
 pub fn zeros_length(count: usize) -> usize
     ensures length { result ≡ length (zeros count) }
     ensures small { result ≤ count }
@@ -53,7 +53,7 @@ pub fn zeros_length(count: usize) -> usize
     }
 }
 
-/// How long the mark before a strip is.
+/// The length of the mark before a strip.
 pub fn mark_length(strip: usize) -> usize
     ensures length { result ≡ length (strip_mark strip) }
     ensures small { result ≤ 1 }

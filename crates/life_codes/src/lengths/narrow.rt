@@ -1,4 +1,4 @@
-//! How long the texts of strips of few columns are, worked out from counts of bits.
+//! The lengths of the texts of strips of few columns, computed from counts of bits.
 ghost use Rattle.std.specs.Prelude.{◌≡◌, ℕ, ◌+◌, ◌-◌, ◌*◌, ◌≤◌, bit_and, count_ones, false, length, reverse, true};
 ghost use Rattle.std.specs.Int.{bit_at};
 ghost use Rattle.life_cells.specs.Wechsler.{columns_text};
@@ -7,7 +7,7 @@ ghost use Rattle.life_codes.specs.Lengths.Words.{AreNearMarks, word_columns};
 
 use crate::lengths::measure::Lengths;
 
-/// How many columns these strips have at most. A run of fewer zeros takes at most two bytes.
+/// The greatest number of columns of these strips. A run of fewer zeros takes at most two bytes.
 pub const NARROW: usize = 40;
 
 /// The columns right after a marked one, and those at most four after one. The column before the first counts as marked.
@@ -31,8 +31,8 @@ fn before_marks(word: u64, wide: usize) -> (u64, u64)
     (next, two | two >> 2)
 }
 
-/// How long a text is whose columns are marked. Each takes three bytes, with the zeros before it, but one less where no zero is
-/// before it, and one less where there are fewer than four.
+/// The length of a text whose columns are marked. Each takes three bytes, with the zeros before it, but one less where no zero
+/// is before it, and one less where there are fewer than four.
 fn text_length(word: u64, marks: (u64, u64)) -> usize
     ensures { result + count_ones (bit_and word marks.0) + count_ones (bit_and word marks.1) ≡
         3 * count_ones word }
@@ -42,7 +42,7 @@ fn text_length(word: u64, marks: (u64, u64)) -> usize
     (bytes - (word & next).count_ones() - (word & near).count_ones()) as usize
 }
 
-/// How long the text of a strip of few columns is, whose columns that are not 0 are marked.
+/// The lengths of the text of a strip of few columns, in which the columns that are not 0 are marked.
 pub fn narrow_lengths(word: u64, wide: usize) -> Lengths
     requires narrow { wide ≤ 40 }
     requires beyond { (i : ℕ) → wide ≤ i → bit_at word i ≡ 0 }

@@ -1,5 +1,5 @@
-//! Which columns of strips of any width have a cell, in four maps whose texts, read from either side, are those of all eight. Two
-//! of them take a cell to one column, and so do the other two.
+//! The columns of strips of any width that have a cell, under four maps whose texts, read from either side, are those of all
+//! eight. Two of them take a cell to the same column, and so do the other two.
 ghost use Rattle.std.specs.Prelude.{◌≡◌, ◌+◌, ◌*◌, ◌/◌, ◌<◌, ◌≤◌, ◌-ℤ◌, All, OnOk, length, nat_abs};
 ghost use Rattle.life_model.specs.Symmetry.{FlipY, Same, Swap, SwapFlipY};
 ghost use Rattle.life_cells.specs.Limits.{IsPlace};
@@ -31,7 +31,7 @@ impl WideMarks {
     }
 }
 
-/// Where the words begin of the strip that a row is in, and of the strip that it is in upside down.
+/// The places where the words begin of the strip that a row is in, and of the strip that it is in upside down.
 #[derive(Clone, Copy)]
 pub struct RowPlace {
     pub row: usize,
@@ -39,7 +39,7 @@ pub struct RowPlace {
     pub flip: usize,
 }
 
-/// How many words of bits the columns of a strip of the frame take.
+/// The number of words of bits that the columns of a strip of the frame take.
 pub fn words_per_strip(frame: Frame) -> usize
     requires { IsBounded frame }
     ensures { result ≡ words_in (wide_of frame) }
@@ -47,7 +47,7 @@ pub fn words_per_strip(frame: Frame) -> usize
     frame.width().div_ceil(64)
 }
 
-/// Where the words of the strips of a row begin: `known`, if it is of this row.
+/// The places where the words of the strips of a row begin: `known`, if it is for this row.
 #[inline(always)]
 fn place_of(row: usize, known: RowPlace, frame: Frame) -> RowPlace
     requires bounded { IsBounded frame }
@@ -67,7 +67,7 @@ fn place_of(row: usize, known: RowPlace, frame: Frame) -> RowPlace
     }
 }
 
-/// Marks a column of the strip whose words begin here.
+/// Marks a column of the strip whose words begin at `first`.
 #[inline(always)]
 fn mark(words: &mut [u64], first: usize, column: usize)
     requires { first + column / 64 < length words.old }
@@ -122,7 +122,7 @@ fn mark_all(
     }
 }
 
-/// Makes words for the strips of a frame, without a mark.
+/// Makes words for the strips of a frame, with no column marked.
 fn clear(words: &mut Vec<u64>, frame: Frame) -> Result<(), AllocError>
     requires { IsBounded frame }
     ensures room { OnOk result
@@ -133,7 +133,7 @@ fn clear(words: &mut Vec<u64>, frame: Frame) -> Result<(), AllocError>
     words.resize(frame.strips() * words_per_strip(frame), 0)
 }
 
-/// Marks these cells, and no others, turned by each of the four maps. They stand in the frame.
+/// Marks these cells, and no others, turned by each of the four maps. They are in the frame.
 pub fn mark_wide(
     marks: &mut WideMarks,
     cells: &[(i32, i32)],

@@ -1,4 +1,4 @@
-//! How long the texts of strips of any width are, worked out from words that have a bit for each column with a cell.
+//! The lengths of the texts of strips of any width, computed from words that have a bit for each column with a cell.
 ghost use Rattle.std.specs.Prelude.{◌≡◌, ℕ, ◌+◌, ◌*◌, ◌/◌, ◌^◌, ◌<◌, ◌≤◌, All, IfOk, T, false, length, true};
 ghost use Rattle.std.specs.Int.{bit_at};
 ghost use Rattle.life_model.specs.Generation.{from_list, is_rising};
@@ -18,8 +18,8 @@ use crate::lengths::words::{FourLengths, next_column};
 use life_cells::Orient;
 use std::alloc::AllocError;
 
-/// How long the text of `gap` columns of 0 before one that is not is, read from either side. They are all columns since the last
-/// one that is not 0, which is right before a place, or since the first column. Then the place is 0.
+/// The lengths of the text of `gap` columns of 0 before one that is not 0, read from either side. They are all the columns since
+/// the last one that is not 0, which is right before `place`, or since the first column, where `place` is 0.
 fn gap_lengths(gap: usize, place: usize) -> Lengths
     ensures forward { result.forward ≡ length (zeros gap) }
     ensures later { 0 < place → result.backward ≡ length (zeros gap) }
@@ -40,7 +40,7 @@ fn gap_lengths(gap: usize, place: usize) -> Lengths
     }
 }
 
-/// How many bits are set from the lowest on, and the bits after those.
+/// The number of bits that are set from the lowest on, and the bits after those.
 fn next_gap(rest: u64) -> (usize, u64)
     requires { rest < 2 ^ 63 }
     ensures small { result.0 < 64 }
@@ -51,7 +51,7 @@ fn next_gap(rest: u64) -> (usize, u64)
     (ones as usize, rest >> ones)
 }
 
-/// How long the text of a strip is, whose columns that are not 0 are marked in `per` words from `first` on.
+/// The lengths of the text of a strip in which the columns that are not 0 are marked, in `per` words from `first` on.
 fn strip_lengths(words: &[u64], first: usize, per: usize, wide: usize) -> Lengths
     requires per { per ≡ words_in wide }
     requires room { first + per ≤ length words.now }
@@ -86,7 +86,7 @@ fn strip_lengths(words: &[u64], first: usize, per: usize, wide: usize) -> Length
     Lengths { forward, backward }
 }
 
-/// How long the text of the strips of a frame is.
+/// The lengths of the text of the strips of a frame.
 fn strips_lengths(words: &[u64], frame: Frame) -> Lengths
     requires bounded { IsBounded frame }
     requires room { length words.now ≡ strips_of frame * words_in (wide_of frame) }
@@ -110,7 +110,7 @@ fn strips_lengths(words: &[u64], frame: Frame) -> Lengths
     Lengths { forward, backward }
 }
 
-/// How long the text of the strips that a frame takes when it is turned is.
+/// The lengths of the text of the strips that a frame takes when it is turned.
 fn turned_lengths(words: &[u64], frame: Frame, orient: Orient) -> Lengths
     requires bounded { IsBounded frame }
     requires room { IsRoomFor words.now (orientation orient) frame }
@@ -127,7 +127,7 @@ fn turned_lengths(words: &[u64], frame: Frame, orient: Orient) -> Lengths
     strips_lengths(words, frame.turned(orient))
 }
 
-/// How long the texts of cells and of their mirror image are, turned by each of four maps. The marks are room for theirs.
+/// The lengths of the texts of cells and of their mirror image, turned by each of four maps. `marks` is memory for their marks.
 pub fn wide_lengths(
     marks: &mut WideMarks,
     cells: &[(i32, i32)],

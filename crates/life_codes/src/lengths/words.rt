@@ -1,4 +1,4 @@
-//! How long the texts of strips are, worked out from words that have a bit for each column with a cell.
+//! The lengths of the texts of strips, computed from words that have a bit for each column with a cell.
 ghost use Rattle.std.specs.Prelude.{◌≡◌, ℕ, ◌/◌, ◌^◌, ◌+◌, ◌<◌, ◌≤◌, All, List, T, false, length, map, true};
 ghost use Rattle.std.specs.Int.{bit_at};
 ghost use Rattle.life_model.specs.Cell.{Cell};
@@ -16,7 +16,7 @@ use crate::lengths::measure::{Lengths, zeros_length};
 use crate::lengths::narrow::{NARROW, narrow_lengths};
 use life_cells::Orient;
 
-/// How long the texts of cells and of their mirror image are, turned by each of four maps.
+/// The lengths of the texts of cells and of their mirror image, turned by each of four maps.
 #[derive(Clone, Copy)]
 pub struct FourLengths {
     pub same: Lengths,
@@ -26,18 +26,18 @@ pub struct FourLengths {
 }
 
 impl FourLengths {
-    /// How long the shortest of the texts that are not swapped is.
+    /// The length of the shortest of the texts that are not swapped.
     pub fn upright(self) -> usize {
         self.same.least().min(self.half.least())
     }
 
-    /// How long the shortest of the texts that are swapped is.
+    /// The length of the shortest of the texts that are swapped.
     pub fn swapped(self) -> usize {
         self.swap.least().min(self.swap_half.least())
     }
 }
 
-/// How many bits are not set before the lowest that is, and the bits after that one.
+/// The number of bits that are not set before the lowest that is, and the bits after that one.
 pub fn next_column(rest: u64) -> (usize, u64)
     requires { 0 < rest }
     ensures small { result.0 < 64 }
@@ -49,7 +49,8 @@ pub fn next_column(rest: u64) -> (usize, u64)
     (zeros as usize, rest >> zeros >> 1)
 }
 
-/// How long the text of a strip is, whose columns that are not 0 are marked, counted from one marked column to the next.
+/// The lengths of the text of a strip in which the columns that are not 0 are marked, counted from one marked column to
+/// the next.
 #[inline(never)]
 fn long_lengths(word: u64, wide: usize) -> Lengths
     requires narrow { wide ≤ 64 }
@@ -84,7 +85,7 @@ fn long_lengths(word: u64, wide: usize) -> Lengths
     }
 }
 
-/// How long the text of a strip is, whose columns that are not 0 are marked.
+/// The lengths of the text of a strip in which the columns that are not 0 are marked.
 fn word_lengths(word: u64, wide: usize) -> Lengths
     requires narrow { wide ≤ 64 }
     requires beyond { (i : ℕ) → wide ≤ i → bit_at word i ≡ 0 }
@@ -102,7 +103,7 @@ fn word_lengths(word: u64, wide: usize) -> Lengths
     }
 }
 
-/// How long the texts of cells of a frame and of their mirror image are. The cells are in these rows.
+/// The lengths of the texts of cells of a frame and of their mirror image. The cells are in these rows.
 #[inline(always)]
 fn lengths_down(rows: &[u64], frame: Frame) -> Lengths
     requires room { length rows.now ≡ 69 }
@@ -126,7 +127,8 @@ fn lengths_down(rows: &[u64], frame: Frame) -> Lengths
     Lengths { forward, backward }
 }
 
-/// How long the texts of the cells turned upside down and of their mirror image are: the strips are read from the bottom.
+/// The lengths of the texts of the cells turned upside down and of their mirror image: the strips are read from the
+/// bottom.
 #[inline(always)]
 fn lengths_up(rows: &[u64], frame: Frame) -> Lengths
     requires room { length rows.now ≡ 69 }
@@ -162,7 +164,7 @@ fn mirrored(lengths: Lengths) -> Lengths
     }
 }
 
-/// How long the texts of cells and of their mirror image are, turned by each of four maps.
+/// The lengths of the texts of cells and of their mirror image, turned by each of four maps.
 pub fn four_lengths(cells: &[(i32, i32)], frame: Frame) -> FourLengths
     requires some { 0 < length cells.now }
     requires rising { T (is_rising cells.now) }
