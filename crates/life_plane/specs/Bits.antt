@@ -16,7 +16,7 @@ pub record IsStrandOf (strand : Strand) (bits : ℕ) : Type 0 where
   pub here : (j : ℕ) → j < 64 → bit_at strand.here j ≡ bit_at bits (j + 64)
   pub east : (j : ℕ) → j < 64 → bit_at strand.east j ≡ bit_at bits (j + 65)
 
--- how many of the eight bits around bit j of the middle strand are set
+-- the number of set bits among the eight around bit j of the middle strand
 abbrev pub neighbour_count : Strand → Strand → Strand → ℕ → ℕ
 neighbour_count up mid down j =
     bit_at up.west j + bit_at up.here j + bit_at up.east j

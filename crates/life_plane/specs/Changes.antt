@@ -1,4 +1,4 @@
--- How eight rows of a tile differ from what was there before.
+-- The difference of eight rows of a tile from what was there before.
 use Rattle.std.specs.Prelude.{◌≡◌, ℕ, ◌+◌, ◌<◌, ◌↔◌}
 use Rattle.std.specs.Int.{bit_at}
 use Rattle.life_plane.specs.declared.tile.Tile.{Tile}

@@ -4,7 +4,7 @@ use Rattle.std.specs.List.{list_any}
 use Rattle.std.specs.Ordering.{is_lt}
 use Rattle.life_model.specs.Cell.{Cell, around, cell_cmp, same_cell}
 
--- whether a list has a cell
+-- true where a list has a cell
 abbrev pub has : List Cell → Cell → Bool
 has cs c = list_any (same_cell c) cs
 
@@ -15,7 +15,7 @@ pub record IsStep (s : Cell) : Type 0 where
   pub above : neg_ℤ (pos 1) ≤ℤ s.1
   pub below : s.1 ≤ℤ pos 1
 
--- those cells and the cells around them
+-- the cells of a list and the cells around them
 abbrev pub candidates_of : List Cell → List Cell
 candidates_of cs = cs ++ flat_map around cs
 

@@ -1,4 +1,4 @@
--- How a plane is kept as a value that contracts see: the members in order, and the age.
+-- A plane as a value that contracts see: the members in order, and the age.
 use Rattle.std.specs.Prelude.{ℕ}
 use Rattle.std.specs.Coded.{Coded, coded×, coded_ℕ}
 use Rattle.life_model.specs.Coded.{coded_generation}

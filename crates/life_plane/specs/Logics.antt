@@ -1,4 +1,4 @@
--- What a rule makes of a cell, in words.
+-- The next state of a cell by a rule, as logic on words.
 use Rattle.std.specs.Prelude.{◌≡◌, ℕ, ◌+◌, ◌/◌, ◌%◌, ◌<◌, ◌≤◌, ◌==◌, if◌then◌else◌, slice_index}
 use Rattle.std.specs.Int.{bit_at}
 use Rattle.life_model.specs.Rule.{Rule, born, stays}
@@ -12,12 +12,12 @@ use Rattle.life_plane.specs.declared.logic.Logic.TheVariants.{Life, General}
 abbrev pub xor_if : ℕ → ℕ → ℕ → ℕ
 xor_if bit word more = if bit == 1 then (word + more) % 2 else word
 
--- the sum without carries of those of four terms whose places have only bits that are set in a and b
+-- the sum modulo 2 of those of four terms whose places have only bits that are set in a and b
 abbrev pub sum_of_four : (ℕ → ℕ) → ℕ → ℕ → ℕ
 sum_of_four term a b = xor_if b (xor_if a (term 0) (term 1)) (xor_if a (term 2) (term 3))
 
--- the sum without carries of those of eight terms whose places have only bits of a, b and c, and also of the ninth term
--- if d is set
+-- the sum modulo 2 of those of eight terms whose places have only bits of a, b and c, and also of the ninth term if d
+-- is set
 abbrev pub sum_of : (ℕ → ℕ) → ℕ → ℕ → ℕ → ℕ → ℕ
 sum_of term a b c d = xor_if d (xor_if c (sum_of_four term a b) (sum_of_four (λ n. term (4 + n)) a b)) (term 8)
 
@@ -38,7 +38,7 @@ pub record IsPolynomialOf (polynomial : RulePolynomial) (rule : Rule) : Type 0 w
   pub dead : (number j : ℕ) → number ≤ 8 → j < 64 → mask_at polynomial 0 number j ≡ as_bit (born rule number)
   pub live : (number j : ℕ) → number ≤ 8 → j < 64 → mask_at polynomial 1 number j ≡ as_bit (stays rule number)
 
--- the logic works out the next state by the rule
+-- the logic computes the next state by the rule
 abbrev pub IsLogicOf : Logic → Rule → Type 0
 IsLogicOf Life rule = rule ≡ life
 IsLogicOf (General polynomial) rule = IsPolynomialOf polynomial rule

@@ -1,4 +1,4 @@
--- How far one set is from another that is its translate.
+-- The offset of a set from another, of which it is a translate.
 use Rattle.std.specs.Prelude.{◌≡◌, ℕ, neg_ℤ, pos, ◌≤ℤ◌, true}
 use Rattle.life_model.specs.Cell.{Cell, origin, plus}
 use Rattle.life_model.specs.Generation.{Generation, contains, empty}
@@ -20,10 +20,10 @@ pub record IsMoveWithin (n : ℕ) (d : Cell) : Type 0 where
   pub above : neg_ℤ (pos n) ≤ℤ d.1
   pub below : d.1 ≤ℤ pos n
 
--- each cell of G, moved by d, is one of H's
+-- each cell of G, moved by d, is a cell of H
 abbrev pub IsMovedInto : Generation → Generation → Cell → Type 0
 IsMovedInto G H d = (c : Cell) → contains G c ≡ true → contains H (plus c d) ≡ true
 
--- no move of at most n places leads all cells of G to cells of H
+-- no move of at most n places takes all cells of G to cells of H
 abbrev pub HasNoneWithin : ℕ → Generation → Generation → Type 0
 HasNoneWithin n G H = (d : Cell) → IsMoveWithin n d → IsMovedInto G H d → ⊥

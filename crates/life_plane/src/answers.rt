@@ -1,4 +1,4 @@
-//! What a rule makes of 64 cells at once.
+//! The next state of 64 cells at once, by the answers of a rule.
 ghost use Rattle.std.specs.Prelude.{◌≡◌, ℕ, ◌+◌, ◌*◌, ◌<◌, ◌≤◌, slice_index};
 ghost use Rattle.std.specs.Int.{bit_at};
 ghost use Rattle.life_plane.specs.Flags.{as_bit};
@@ -39,7 +39,7 @@ pub fn word_of(answer: bool) -> u64
     if answer { u64::MAX } else { 0 }
 }
 
-/// At each bit the word of the table that the planes' number names.
+/// At each place, the bit there of the word of the table that the planes' number selects.
 fn select(planes: &[u64; 4], table: &[u64; 9]) -> u64
     ensures { (j : ℕ) → number_in_planes planes.now j ≤ 8 →
         bit_at result j ≡ bit_at (slice_index table.now (number_in_planes planes.now j)) j }

@@ -9,8 +9,8 @@ use crate::adders::full_adder;
 use crate::logic::Count;
 use crate::window::Window;
 
-/// Sums over the rows of a window, in the middle 64 columns: for the eight rows, how many of the two cells beside a
-/// cell are live, and for all ten rows, how many of those two and the cell itself.
+/// Sums over the rows of a window, in the middle 64 columns: for the eight rows, the number of live cells among the
+/// two beside a cell, and for all ten rows, the number among those two and the cell itself.
 #[derive(Clone, Copy)]
 pub struct BandSums {
     pub two_ones: [u64; 8],

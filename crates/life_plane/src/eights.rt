@@ -4,7 +4,7 @@ ghost use Rattle.life_plane.specs.Eights.{AreVoid};
 
 use crate::tile::Tile;
 
-/// Whether eight rows of a tile, from `top` on, have a live cell.
+/// True where eight rows of a tile, from `top` on, have a live cell.
 pub fn has_cells(tile: &Tile, top: usize) -> bool
     requires { top ≤ 56 }
     ensures void { result ≡ false → AreVoid tile.now.rows top }

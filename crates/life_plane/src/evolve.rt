@@ -11,8 +11,8 @@ use life_cells::{Rule, put_in_order};
 use std::alloc::{AllocError, Global};
 use std::cmp::Ordering;
 
-/// Where the cells above, beside and below the last cell were found. The next search goes from there to both sides, so
-/// that cells which are asked for in order cost few steps each.
+/// The places where the cells above, beside and below the last cell were found. The next search goes from there to
+/// either side, so that cells that are looked up in order take few steps each.
 #[derive(Drop)]
 struct Cursors {
     above: usize,
@@ -20,7 +20,7 @@ struct Cursors {
     below: usize,
 }
 
-/// Whether one cell comes before another in the order of cells.
+/// True where one cell comes before another in the order of cells.
 fn comes_before(cell: (i32, i32), other: (i32, i32)) -> bool
     ensures { result ≡ is_lt (cell_cmp cell other) }
 {
@@ -65,7 +65,7 @@ fn walked_on(cells: &[(i32, i32)], from: usize, place: (i32, i32)) -> usize
     at
 }
 
-/// Whether the list in order has this cell.
+/// True where the list, which is in order, has this cell.
 pub fn is_live(cells: &[(i32, i32)], cursor: &mut usize, place: (i32, i32)) -> bool
     requires { T (is_rising cells.now) }
     ensures { result ≡ has cells.now place }
@@ -117,7 +117,7 @@ fn count(cells: &[(i32, i32)], cursors: &mut Cursors, cell: (i32, i32)) -> u32
     above + level + below
 }
 
-/// Whether a cell is live in the next generation.
+/// True where a cell is live in the next generation.
 fn lives_next(rule: &Rule, cells: &[(i32, i32)], cursors: &mut Cursors, cell: (i32, i32)) -> bool
     requires rising { T (is_rising cells.now) }
     requires within { IsWithin (age_limit + 1) cell }
@@ -131,7 +131,7 @@ fn lives_next(rule: &Rule, cells: &[(i32, i32)], cursors: &mut Cursors, cell: (i
     }
 }
 
-/// The cells that may be live next: those that are, and those around them.
+/// The cells that may be live next: those that are live, and those around them.
 fn candidates(alloc: Global, cells: &[(i32, i32)]) -> Result<Vec<(i32, i32)>, AllocError>
     requires { All (IsWithin age_limit) cells.now }
     ensures { IfOk result (λ all. all.items ≡ candidates_of cells.now) }

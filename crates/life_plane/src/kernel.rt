@@ -12,8 +12,8 @@ use crate::logic::{Branch, Life, Logic};
 use crate::tile::Tile;
 use crate::window::Window;
 
-/// How eight rows differ from what was there before. Bit `x` says whether the cell in column `x` changed: in any row in
-/// `all`, in the first row in `first`, and in the last row in `last`.
+/// The difference of eight rows from what was there before. Bit `x` is set where the cell in column `x` changed: in any
+/// row in `all`, in the first row in `first`, and in the last row in `last`.
 #[derive(Clone, Copy, PartialEq, Eq, Debug)]
 pub struct Change {
     pub all: u64,

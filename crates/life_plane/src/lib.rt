@@ -1,6 +1,6 @@
 //! Planes (sets of cells that evolve) and their observers, rows of 64 cells that are computed at a time, tiles of 64 by 64
 //! cells, and the kernel that makes eight of their rows at a time. `Strand`, `count_planes`, `next_row` and `Tile::next` are the
-//! reference kernel: the plain way, by which tests judge `band`.
+//! reference kernel, which applies the rule directly, and by which tests judge `band`.
 //!
 //! Tested in `tests_patterns`.
 #![tactic(auto)]

@@ -11,8 +11,8 @@ use life_cells::{CellList, Rule};
 use std::alloc::{AllocError, Global};
 use std::marker::Model;
 
-/// The live cells in order, and how many steps they have made. A step takes time in proportion to the number of live
-/// cells times its logarithm.
+/// The live cells in order, and the number of steps that they have made. A step takes time in proportion to the
+/// number of live cells times its logarithm.
 #[derive(Drop)]
 pub struct ListPlane {
     items: Vec<(i32, i32)>,

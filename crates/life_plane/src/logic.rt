@@ -1,4 +1,4 @@
-//! What a rule makes of 64 cells at once.
+//! The next state of 64 cells at once, by logic on words.
 ghost use Rattle.std.specs.Prelude.{◌≡◌, ℕ, ◌+◌, ◌*◌, ◌<◌, ◌≤◌, slice_index};
 ghost use Rattle.std.specs.Int.{bit_at};
 ghost use Rattle.life_model.specs.Rule.{Rule};
@@ -44,7 +44,7 @@ impl Count {
     }
 }
 
-/// A way to work out the next state of 64 cells.
+/// A way to compute the next state of 64 cells.
 pub trait Branch {
     ghost use Rattle.life_model.specs.Rule.{Rule};
 
@@ -203,7 +203,7 @@ pub enum Logic {
 }
 
 impl Logic {
-    /// The quickest logic of a rule.
+    /// The fastest logic for a rule.
     pub fn of(rule: &Rule) -> Logic
         ensures { IsLogicOf result rule.now }
     {
@@ -214,8 +214,8 @@ impl Logic {
         }
     }
 
-    /// The next state of the cells of `here`, which have `count` live neighbours: each bit says whether a cell with
-    /// that state and that number of live neighbours lives in the next generation.
+    /// The next state of the cells of `here`, which have `count` live neighbours: each bit is set where a cell with that state
+    /// and that number of live neighbours lives in the next generation.
     pub fn next(&self, here: u64, count: Count) -> u64
         ensures { (rule : Rule) → IsLogicOf self.now rule → (j : ℕ) → j < 64 →
             number_at count j ≤ 8 →

@@ -1,4 +1,4 @@
-//! Whether cells, moved as a whole, may be among others.
+//! The test of whether cells, moved as a whole, may be among others.
 ghost use Rattle.std.specs.Prelude.{◌≡◌, ◌<◌, ℕ, All, T, false, true, get_or, length};
 ghost use Rattle.life_model.specs.Cell.{Cell, opposite, origin, plus};
 ghost use Rattle.life_model.specs.Generation.{is_rising};
@@ -17,8 +17,8 @@ fn moved(cell: (i32, i32), from: (i32, i32), to: (i32, i32)) -> (i32, i32)
     (cell.0 - from.0 + to.0, cell.1 - from.1 + to.1)
 }
 
-/// Whether some move may lead all of some cells to cells of a list in order. Only the first and the last of them are
-/// checked.
+/// False only if no move takes all of these cells to cells of a list, which is in order. Only the first and the last
+/// of them are checked.
 pub fn may_have_moved(list: &[(i32, i32)], cells: &[(i32, i32)]) -> bool
     requires rising { T (is_rising list.now) }
     requires listed { All IsPlace list.now }

@@ -1,4 +1,4 @@
-//! Observers of how far a walk has come.
+//! Observers of the progress of a walk.
 
 /// Hears how far a walk along the generations of a pattern has come. No answer depends on it.
 pub trait Observer {

@@ -1,4 +1,4 @@
-//! How far one set of cells is from another that is its translate.
+//! The offset of a set of cells from another, of which it is a translate.
 ghost use Rattle.std.specs.Prelude.{All, IfNone, IfSome, T};
 ghost use Rattle.life_model.specs.Generation.{from_list, is_rising};
 ghost use Rattle.life_cells.specs.Limits.{IsPlace};
@@ -6,8 +6,8 @@ ghost use Rattle.life_plane.specs.Offsets.{AreNotTranslates, IsOffset};
 
 use crate::span::move_between;
 
-/// How far the second list is from the first, if it is the first list moved as a whole. For empty lists the offset is
-/// (0, 0).
+/// The offset of the second list from the first, if it is the first list moved as a whole. For empty lists the offset
+/// is (0, 0).
 pub fn offset_between(from: &[(i32, i32)], to: &[(i32, i32)]) -> Option<(i32, i32)>
     requires from_rising { T (is_rising from.now) }
     requires to_rising { T (is_rising to.now) }

@@ -70,8 +70,8 @@ pub trait Plane: Sized + Drop {
         ensures { (j : ℕ) → j < 64 →
             bit_at result j ≡ cond (contains (members self.now) (cell.0 +ℤ pos j, cell.1)) 1 0 };
 
-    /// Whether some move, of at most `reach` places to each side, may lead all cells of a list to live ones. A positive
-    /// answer means nothing.
+    /// False only if no move, of at most `reach` places to each side, takes all cells of a list to live ones. True
+    /// promises nothing.
     fn may_have_moved(&self, list: &CellList, reach: u32) -> bool
         requires { reach ≤ age_limit }
         ensures { result ≡ false → HasNoneWithin reach list.now (members self.now) };
@@ -84,7 +84,7 @@ pub trait Plane: Sized + Drop {
     fn cells_in(&self, list: CellList) -> Result<CellList, AllocError>
         ensures cells { IfOk result (λ new. new ≡ members self.now) };
 
-    /// How far the last of its cells, by y and then by x, is from the first, or (0, 0) if there is none. Sets that are
+    /// The offset of the last of its cells, by y, then by x, from the first, or (0, 0) if there is none. Sets that are
     /// equal up to a move have the same span, and few others do.
     fn span(&self) -> Result<(i32, i32), AllocError>
         ensures { IfOk result (λ span. span ≡ set_span (members self.now)) }
@@ -93,8 +93,8 @@ pub trait Plane: Sized + Drop {
         Ok(span_of(cells.as_slice()))
     }
 
-    /// How far its cells are from the listed ones, if they are those moved as a whole. Without cells the offset is (0,
-    /// 0).
+    /// The offset of its cells from the listed ones, if they are those moved as a whole. Without cells the offset is
+    /// (0, 0).
     fn offset_from(&self, list: &CellList) -> Result<Option<(i32, i32)>, AllocError>
         ensures offset { IfOk result
             (λ offset. IfSome offset (λ d. IsOffset list.now (members self.now) d)) }
@@ -105,7 +105,7 @@ pub trait Plane: Sized + Drop {
         Ok(offset_between(list.as_slice(), cells.as_slice()))
     }
 
-    /// How far its cells are from those of another plane, if they are those moved as a whole.
+    /// The offset of its cells from those of another plane, if they are those moved as a whole.
     fn offset_from_plane(&self, other: &Self) -> Result<Option<(i32, i32)>, AllocError>
         ensures offset { IfOk result
             (λ offset. IfSome offset (λ d. IsOffset (members other.now) (members self.now) d)) }

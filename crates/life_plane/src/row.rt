@@ -16,7 +16,8 @@ fn east_of(cell: (i32, i32), places: u32) -> (i32, i32)
     (cell.0 + places as i32, cell.1)
 }
 
-/// Which of the cell and the 63 to the east of it are in the list in order.
+/// The cell and the 63 to the east of it. The bit of each is set if the list, which is in order, has it: the first
+/// has bit 0.
 pub fn row_of(cells: &[(i32, i32)], cell: (i32, i32)) -> u64
     requires rising { T (is_rising cells.now) }
     requires placed { IsPlace cell }

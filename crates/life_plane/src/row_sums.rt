@@ -1,10 +1,10 @@
-//! How many cells of a row of three are live.
+//! The numbers of live cells in rows of three.
 ghost use Rattle.life_plane.specs.Bits.{wide_row};
 ghost use Rattle.life_plane.specs.Rows.{IsRowSumsOf};
 
 use crate::adders::{Sum, full_adder};
 
-/// For each of 64 cells of a row, how many of the two beside it are live, and how many of those two and itself.
+/// For each of 64 cells of a row, the number of live cells among the two beside it, and among those two and itself.
 #[derive(Clone, Copy, PartialEq, Eq, Debug)]
 pub struct RowSums {
     /// 0 to 2: the cells to the west and to the east.

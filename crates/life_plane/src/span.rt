@@ -1,4 +1,4 @@
-//! How far the last of some cells is from the first.
+//! The offset of the last of some cells from the first.
 ghost use Rattle.std.specs.Prelude.{◌≡◌, All};
 ghost use Rattle.life_model.specs.Cell.{opposite, plus};
 ghost use Rattle.life_cells.specs.Limits.{IsPlace};
@@ -13,7 +13,7 @@ pub fn move_between(from: (i32, i32), to: (i32, i32)) -> (i32, i32)
     (to.0 - from.0, to.1 - from.1)
 }
 
-/// How far the last cell is from the first, or (0, 0) if there is none.
+/// The offset of the last cell from the first, or (0, 0) if there is none.
 pub fn span_of(cells: &[(i32, i32)]) -> (i32, i32)
     requires { All IsPlace cells.now }
     ensures { result ≡ list_span cells.now }

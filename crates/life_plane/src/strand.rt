@@ -5,8 +5,8 @@ ghost use Rattle.life_plane.specs.Bits.{wide_row, IsStrandOf, neighbour_count, n
 
 use crate::adders::{full_adder, half_adder};
 
-/// A row of 64 cells, and what is to the left and to the right of each: bit `j` of `here` is the cell in column `j`, bit `j` of
-/// `west` the cell to its left and bit `j` of `east` the cell to its right.
+/// A row of 64 cells, and the cells to the left and to the right of each: bit `j` of `here` is the cell in column `j`, bit `j`
+/// of `west` the cell to its left and bit `j` of `east` the cell to its right.
 #[derive(Clone, Copy, PartialEq, Eq, Debug)]
 pub struct Strand {
     pub west: u64,
@@ -27,9 +27,9 @@ impl Strand {
     }
 }
 
-/// For each column `j`, how many of the eight cells around the middle one are live: bit `j` of `up.west`, `up.here`,
-/// `up.east`, `mid.west`, `mid.east`, `down.west`, `down.here` and `down.east`. Bit `j` of plane `k` weighs `2^k`, and
-/// in each column the four planes add up to the number.
+/// For each column `j`, the number of live cells among the eight around the middle one: bit `j` of `up.west`, `up.here`,
+/// `up.east`, `mid.west`, `mid.east`, `down.west`, `down.here` and `down.east`. Bit `j` of plane `k` weighs `2^k`, and in each
+/// column the four planes add up to the number.
 pub fn count_planes(up: Strand, mid: Strand, down: Strand) -> [u64; 4]
     ensures { (j : ℕ) → number_in_planes result j ≡ neighbour_count up mid down j }
 {

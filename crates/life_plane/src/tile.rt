@@ -8,7 +8,7 @@ use crate::answers::{Answers, next_row_by};
 use crate::strand::Strand;
 use life_cells::Rule;
 
-/// A square of 64 by 64 cells, seen as the set of its live ones: bit `x` of `rows[y]` says whether the cell in column `x` and
+/// A square of 64 by 64 cells, seen as the set of its live ones: bit `x` of `rows[y]` is set where the cell in column `x` and
 /// row `y` is live.
 #[derive(Clone, Copy)]
 pub struct Tile {
@@ -32,7 +32,7 @@ impl Tile {
     /// The tile without a live cell.
     pub const EMPTY: Tile = Tile { rows: [0; 64] };
 
-    /// Whether the cell in column `x` and row `y` is live.
+    /// True where the cell in column `x` and row `y` is live.
     pub fn get(&self, x: usize, y: usize) -> bool
         requires column { x < 64 }
         requires row { y < 64 }
@@ -57,7 +57,7 @@ impl Tile {
         };
     }
 
-    /// Whether no cell is live.
+    /// True where no cell is live.
     pub fn is_empty(&self) -> bool
         ensures { IsTrue result ↔ ((x y : ℕ) → x < 64 → y < 64 → tile_cell self.now x y ≡ 0) }
     {
@@ -110,7 +110,6 @@ impl Default for Tile {
     }
 }
 
-/// Whether each word is 0.
 fn all_zero(words: &[u64]) -> bool
     ensures { IsTrue result ↔
         ((x y : ℕ) → x < 64 → y < length words.now → bit_at (slice_index words.now y) x ≡ 0) }
