@@ -23,25 +23,25 @@ unfoldable pub tiles_cells : List (Cell × Tile) → List Cell
 tiles_cells [] = []
 tiles_cells (e ∷ es) = block_cells (start_at e.0.0) (start_at e.0.1) e.1.rows 64 ++ tiles_cells es
 
--- how many cells of a tile are live
+-- the number of live cells of a tile
 abbrev pub tile_count : Tile → ℕ
 tile_count tile = length (block_cells (pos 0) (pos 0) tile.rows 64)
 
--- whether some cell of a tile is live
+-- true where some cell of a tile is live
 abbrev pub has_cell : Tile → Bool
 has_cell tile = nat_lt 0 (tile_count tile)
 
--- how many tiles have a live cell
+-- the number of tiles that have a live cell
 abbrev pub live_tiles : List Tile → ℕ
 live_tiles tiles = count_by has_cell tiles
 
--- the first of some rows, how many rows these are, and how many cells they have
+-- the first of some rows, the number of these rows, and the number of their cells
 pub record RowsCount : Type 0 where
   pub from : ℕ
   pub height : ℕ
   pub cells : ℕ
 
--- how many cells some rows add to those before
+-- the number of cells that some rows add to those before
 abbrev pub IsCountFrom : List ℕ → RowsCount → Type 0
 IsCountFrom rows counted = (left top : ℤ) →
     length (block_cells left top rows counted.from) + counted.cells ≡ length (block_cells left top rows (counted.from + counted.height))

@@ -1,4 +1,4 @@
--- The first and the last of some cells, by y and then by x.
+-- The first and the last of some cells, by y, then by x.
 use Rattle.std.specs.Prelude.{◌≡◌, ◌⊎◌, ℕ, ℤ, pos, ◌+ℤ◌, ◌<◌, ◌≤ℤ◌, true, List, Option, Some, None}
 use Rattle.life_model.specs.Cell.{Cell}
 use Rattle.life_model.specs.Generation.{Generation, contains}
@@ -9,7 +9,7 @@ use Rattle.life_slots.specs.declared.slot.Slot.{Slot}
 use Rattle.life_slots.specs.declared.ends.Ends.{Ends}
 use Rattle.life_slots.specs.Slots.{place_of, tile_of}
 
--- a cell is another or comes before it
+-- a is b or comes before it
 pub record IsNoLater (a b : Cell) : Type 0 where
   pub above : a.1 ≤ℤ b.1
   pub left : a.1 ≡ b.1 → a.0 ≤ℤ b.0
@@ -34,7 +34,7 @@ pub record IsLastIn (tile : Tile) (x y : ℕ) : Type 0 where
   pub below : (p q : ℕ) → p < 64 → y < q → q < 64 → tile_cell tile p q ≡ 0
   pub behind : (p : ℕ) → x < p → p < 64 → tile_cell tile p y ≡ 0
 
--- a cell is one of the tile at a place, and live
+-- c is a live cell of the tile at a place
 pub record IsLiveIn (tile : Tile) (place : ℤ × ℤ) (c : Cell) : Type 0 where
   pub x : ℕ
   pub y : ℕ
@@ -43,7 +43,7 @@ pub record IsLiveIn (tile : Tile) (place : ℤ × ℤ) (c : Cell) : Type 0 where
   pub live : tile_cell tile x y ≡ 1
   pub is : c ≡ (start_at place.0 +ℤ pos x, start_at place.1 +ℤ pos y)
 
--- a cell is one of the tile of a slot from 1 to n - 1, and live
+-- c is a live cell of the tile of a slot from 1 to n - 1
 pub record IsLiveAt (slots : List Slot) (tiles : List Tile) (n : ℕ) (c : Cell) : Type 0 where
   pub k : ℕ
   pub later : 0 < k

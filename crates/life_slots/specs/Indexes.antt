@@ -1,4 +1,4 @@
--- What an index of slots and the links between them keep.
+-- The invariant of an index of slots and of the links between them.
 use Rattle.std.specs.Prelude.{◌≡◌, ℕ, ℤ, ◌<◌, List, Some, length}
 use Rattle.std.specs.BTreeMap.{IsOrdered, get}
 use Rattle.life_plane.specs.declared.tile.Tile.{Tile}

@@ -7,7 +7,7 @@ use Rattle.life_slots.specs.Kernels.Rows.{state}
 use Rattle.life_slots.specs.declared.leaf.Leaf.{Leaf}
 use Rattle.life_slots.specs.declared.leaf.FourLeaves.{FourLeaves}
 
--- the cell of a leaf in column x and row y: 1 where it is live, else 0
+-- the cell of a leaf in column x and row y: 1 if it is live, 0 if not
 abbrev pub leaf_cell : Leaf → ℕ → ℕ → ℕ
 leaf_cell leaf x y = bit_at (slice_index leaf.rows y) x
 

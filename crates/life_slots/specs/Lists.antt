@@ -16,7 +16,7 @@ pub record AddsCells (wide high : ℕ) (place : Cell) (G : Generation) (old new 
       IsListed new (plus place (pos x, pos y))
   pub only : (q : Cell) → IsListed new q → IsListed old q ⊎ (contains G q ≡ true)
 
--- a place far from the ends of the numbers of 32 bits
+-- a place far from the limits of 32-bit numbers
 pub record IsInReach (place : Cell) : Type 0 where
   pub west : negsuc reach_limit ≤ℤ place.0
   pub east : place.0 ≤ℤ pos reach_limit

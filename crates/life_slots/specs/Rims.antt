@@ -5,12 +5,12 @@ use Rattle.life_plane.specs.declared.tile.Tile.{Tile}
 use Rattle.life_plane.specs.Area.{tile_cell}
 use Rattle.life_slots.specs.declared.rim.Rim.{Rim}
 
--- which of 64 columns or rows are next to the 64 before them (0), to themselves (1), or to the 64 after them (2)
+-- the column or row, of 64, is the one next to the 64 before them (side 0), any (1), or the one next to the 64 after them (2)
 pub record IsEdge (side z : ℕ) : Type 0 where
   pub first : side ≡ 0 → z ≡ 0
   pub last : side ≡ 2 → z ≡ 63
 
--- no bit is set of those of 64 bits that are next to the 64 before them, to themselves, or to the 64 after them
+-- no bit of 64 is set at a side: the one next to the 64 before them, any, or the one next to the 64 after them
 abbrev pub IsSideClear : ℕ → ℕ → Type 0
 IsSideClear side bits = (x : ℕ) → x < 64 → IsEdge side x → bit_at bits x ≡ 0
 
@@ -37,7 +37,7 @@ pub record IsNextToBand (at : BandAndCell) : Type 0 where
 pub record IsStill (tile : Tile) (m : ℕ) : Type 0 where
   pub still : (x y : ℕ) → x < 64 → y < 64 → IsAtEdge m x y → tile_cell tile x y ≡ 0
 
--- a tile's first row, its last row, and in which columns it has a live cell
+-- a tile's first row, its last row, and the columns in which it has a live cell
 pub record IsRimOf (rim : Rim) (tile : Tile) : Type 0 where
   pub first : (x : ℕ) → x < 64 → bit_at rim.first x ≡ tile_cell tile x 0
   pub last : (x : ℕ) → x < 64 → bit_at rim.last x ≡ tile_cell tile x 63

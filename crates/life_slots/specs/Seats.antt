@@ -1,4 +1,4 @@
--- Which cells the tiles of seats have.
+-- The cells that the tiles of seats have.
 use Rattle.std.specs.Prelude.{◌≡◌, ℕ, pos, ◌+ℤ◌, ◌<◌, ◌≤◌, Bool, List, slice_index}
 use Rattle.std.specs.List.{list_any}
 use Rattle.life_model.specs.Cell.{Cell, same_cell}
@@ -13,22 +13,22 @@ pub record IsSeat (count : ℕ) (seat : Seat) : Type 0 where
   pub inside : IsInside (seat.column, seat.row)
   pub slot : seat.slot < count
 
--- its tile has live cells only from a row on and before another one
+-- its tile has live cells only from row `first` on and before row `end`
 pub record IsBetween (tiles : List Tile) (first end : ℕ) (seat : Seat) : Type 0 where
   pub above : (y : ℕ) → y < first → slice_index (tile_of tiles seat.slot).rows y ≡ 0
   pub below : (y : ℕ) → end ≤ y → y < 64 → slice_index (tile_of tiles seat.slot).rows y ≡ 0
 
--- whether the first n rows of its tile have the cell
+-- true where the first n rows of its tile have the cell
 abbrev pub has_rows : List Tile → ℕ → Cell → Seat → Bool
 has_rows tiles n q seat =
     list_any (same_cell q) (block_cells (start_at seat.column) (start_at seat.row) (tile_of tiles seat.slot).rows n)
 
--- whether its tile has the cell
+-- true where its tile has the cell
 abbrev pub has_tile : List Tile → Cell → Seat → Bool
 has_tile tiles q seat =
     list_any (same_cell q) (block_cells (start_at seat.column) (start_at seat.row) (tile_of tiles seat.slot).rows 64)
 
--- whether row y of its tile has the cell
+-- true where row y of its tile has the cell
 abbrev pub has_line : List Tile → ℕ → Cell → Seat → Bool
 has_line tiles y q seat =
     list_any (same_cell q)

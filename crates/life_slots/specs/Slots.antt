@@ -1,4 +1,4 @@
--- Slots: where the tile of each is, and which slots are around it.
+-- Slots: the place of the tile of each, and the slots around it.
 use Rattle.std.specs.Prelude.{ℕ, ℤ, pos, ◌+ℤ◌, ◌-ℤ◌, ◌%◌, ◌/◌, ◌+◌, ◌≤ℤ◌, neg_ℤ, List, [], ◌∷◌, slice_index, slice_index_or, replicate}
 use Rattle.std.specs.Option.{unwrap_or}
 use Rattle.std.specs.BTreeMap.{BTreeMap, get}
@@ -10,11 +10,11 @@ use Rattle.life_slots.specs.Cells.{tiles_cells}
 use Rattle.life_slots.specs.Places.{place_cmp, start_at}
 use Rattle.life_slots.specs.declared.slot.Slot.{Slot}
 
--- from places to slots
+-- the slots of places
 abbrev pub Index : Type 0
 Index = BTreeMap (ℤ × ℤ) ℕ
 
--- the slot of a place, 0 where it has none
+-- the slot of a place, 0 if it has none
 abbrev pub slot_at : Index → ℤ × ℤ → ℕ
 slot_at index place = unwrap_or (get place_cmp index place) 0
 
@@ -32,7 +32,7 @@ place_of slots k = (slice_index_or slots k no_slot).place
 abbrev pub links_of : List Slot → ℕ → List ℕ
 links_of slots k = (slice_index_or slots k no_slot).links
 
--- the slot in a direction from a slot, 0 where there is none
+-- the slot in a direction from a slot, 0 if there is none
 abbrev pub link_of : List Slot → ℕ → ℕ → ℕ
 link_of slots k m = slice_index (links_of slots k) m
 
@@ -66,7 +66,7 @@ placed_tiles (e ∷ es) tiles = (e.0, tile_of tiles e.1) ∷ placed_tiles es til
 unfoldable pub generation_shown : Index → List Tile → Generation
 generation_shown index tiles = from_list (tiles_cells (placed_tiles index.entries tiles))
 
--- where tiles may be at age a: where a cell of that age may be, or next to it
+-- the places of tiles at age a: where a cell of that age may be, or next to it
 pub record IsReached (a : ℕ) (place : ℤ × ℤ) : Type 0 where
   pub west : neg_ℤ (pos (a + 64)) ≤ℤ start_at place.0
   pub east : start_at place.0 ≤ℤ pos (place_limit + a)

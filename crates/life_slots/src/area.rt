@@ -71,7 +71,7 @@ pub fn middle(area: &Tile) -> Leaf
     Leaf { rows }
 }
 
-/// Whether eight rows from `top` on, the one above them and the one below have no live cell.
+/// True where eight rows from `top` on, the one above them and the one below have no live cell.
 #[inline(always)]
 fn is_quiet(area: &Tile, top: usize) -> bool
     requires { top ≤ 56 }
@@ -87,7 +87,7 @@ fn is_quiet(area: &Tile, top: usize) -> bool
     !has_cells(area, top)
 }
 
-/// Leaves no live cell in eight rows. Every other row is unchanged.
+/// Clears eight rows. Every other row is unchanged.
 #[inline(always)]
 fn clear(area: &mut Tile, top: usize)
     requires { top ≤ 56 }
@@ -101,8 +101,8 @@ fn clear(area: &mut Tile, top: usize)
 }
 
 /// Writes the next generation of an area over another area, as if no cell beyond its edge were live. `rim` rows and columns at
-/// each side of the area may be wrong, so one row and one column more at each side may be wrong then. Bands all of whose rows may
-/// be wrong then are unchanged. Eight rows that have no live cell near them are cleared, and not worked out.
+/// each side of the area may be wrong, so one more row and column at each side may be wrong afterwards. Bands of which all rows
+/// may then be wrong are unchanged. Eight rows that have no live cell near them are cleared, not computed.
 #[inline(always)]
 pub fn advance(logic: &Logic, rim: usize, here: &Tile, there: &mut Tile)
     requires { rim < 32 }

@@ -2,7 +2,7 @@
 ghost use Rattle.std.specs.Prelude.{◌≡◌, ℕ, ◌<◌, ◌≤◌, max, true};
 ghost use Rattle.std.specs.Int.{bit_at};
 
-/// Which of the eight bands of a tile are marked. Band `k` is rows `8 * k` to `8 * k + 7`, and its mark is bit `k`.
+/// The marked ones among the eight bands of a tile. Band `k` is rows `8 * k` to `8 * k + 7`, and its mark is bit `k`.
 #[derive(Clone, Copy)]
 pub struct Bands {
     pub bits: u8,
@@ -15,14 +15,14 @@ impl Bands {
     /// All eight bands.
     pub const ALL: Bands = Bands { bits: 255 };
 
-    /// Whether no band is marked.
+    /// True where no band is marked.
     pub fn is_empty(self) -> bool
         ensures { result ≡ true → (k : ℕ) → bit_at self.bits k ≡ 0 }
     {
         self.bits == 0
     }
 
-    /// The first marked band from a band on, 8 where there is none.
+    /// The first marked band from a band on, or 8 if there is none.
     pub fn first_from(self, band: usize) -> usize
         requires { band ≤ 8 }
         ensures small { result ≤ 8 }
@@ -38,7 +38,7 @@ impl Bands {
         }
     }
 
-    /// These bands and others.
+    /// These bands together with others.
     pub fn union(self, others: Bands) -> Bands
         ensures { (k : ℕ) → bit_at result.bits k ≡ max (bit_at self.bits k) (bit_at others.bits k) }
     {

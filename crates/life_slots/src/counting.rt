@@ -1,11 +1,11 @@
-//! How many cells of tiles are live.
+//! The numbers of live cells of tiles.
 ghost use Rattle.std.specs.Prelude.{◌≡◌, ℤ, ◌<◌, ◌≤◌, ◌^◌, length};
 ghost use Rattle.std.specs.List.{sum_by};
 ghost use Rattle.life_slots.specs.Cells.{row_cells, block_cells, tile_count, IsCountFrom};
 
 use life_plane::{Tile, has_cells};
 
-/// How many cells of a row are live.
+/// The number of live cells of a row.
 fn count_row(row: u64) -> u64
     ensures few { result ≤ 64 }
     ensures cells { (left y : ℤ) → result ≡ length (row_cells left y row 64) }
@@ -13,7 +13,7 @@ fn count_row(row: u64) -> u64
     u64::from(row.count_ones())
 }
 
-/// How many cells of eight rows of a tile, from `top` on, are live.
+/// The number of live cells of eight rows of a tile, from `top` on.
 fn count_rows(tile: &Tile, top: usize) -> u64
     requires { top ≤ 56 }
     ensures few { result ≤ 512 }
@@ -26,7 +26,7 @@ fn count_rows(tile: &Tile, top: usize) -> u64
     count
 }
 
-/// How many cells of a tile are live. Most eights of rows have none, which is quicker to see than to count.
+/// The number of live cells of a tile. Most bands of eight rows have none, which is quicker to see than to count.
 pub fn count_tile(tile: &Tile) -> u64
     ensures { (left top : ℤ) → result ≡ length (block_cells left top tile.now.rows 64) }
 {
@@ -39,7 +39,7 @@ pub fn count_tile(tile: &Tile) -> u64
     count
 }
 
-/// How many cells of tiles are live.
+/// The number of live cells of tiles.
 pub fn count_cells(tiles: &[Tile]) -> u64
     requires { sum_by tile_count tiles.now < 2 ^ 64 }
     ensures { result ≡ sum_by tile_count tiles.now }

@@ -1,4 +1,4 @@
-//! The first and the last of the live cells, by y and then by x.
+//! The first and the last of the live cells, by y, then by x.
 ghost use Rattle.std.specs.Prelude.{◌≡◌, ℕ, pos, ◌+ℤ◌, ◌<◌, ◌⊎◌, true, false, length, MatchOption};
 ghost use Rattle.life_slots.specs.Ends.{AreEnds, AreJoined, IsFirstIn, IsLastIn, IsLiveAt, IsLiveIn, IsNoLater, IsVoid};
 ghost use Rattle.life_slots.specs.Places.{start_at, IsInside};
@@ -8,14 +8,14 @@ use crate::grid::corner_of;
 use crate::slot::Slot;
 use life_plane::{Tile, end_of_eights, first_eight};
 
-/// The first and the last of some cells, by y and then by x.
+/// The first and the last of some cells, by y, then by x.
 #[derive(Clone, Copy)]
 pub struct Ends {
     pub first: (i32, i32),
     pub last: (i32, i32),
 }
 
-/// Whether a cell comes before another, by y and then by x.
+/// True where a cell comes before another, by y, then by x.
 pub fn is_before(cell: (i32, i32), other: (i32, i32)) -> bool
     ensures before { result ≡ true → IsNoLater cell other }
     ensures behind { result ≡ false → IsNoLater other cell }
@@ -54,7 +54,7 @@ fn first_in(tile: &Tile) -> Option<(usize, usize)>
     None
 }
 
-/// Whether no cell of a tile is live.
+/// True where no cell of a tile is live.
 pub fn is_void(tile: &Tile) -> bool
     ensures void { result ≡ true → IsVoid tile.now }
     ensures some { result ≡ false → IsVoid tile.now → ⊥ }

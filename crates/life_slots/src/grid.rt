@@ -1,13 +1,13 @@
-//! Where the tiles stand among the cells.
+//! The places of tiles among the cells.
 ghost use Rattle.std.specs.Prelude.{◌≡◌, pos, ◌+ℤ◌, ◌<◌, ◌≤ℤ◌};
 ghost use Rattle.life_slots.specs.Limits.{reach_limit};
 ghost use Rattle.life_slots.specs.Places.{start_at, IsInside};
 
-/// By how much the tiles are shifted to the north west, so that a pattern of up to 38 cells a side that is read at `(0, 0)` lies
-/// in one tile.
+/// The number of columns and of rows by which the tiles are shifted to the north west, so that a pattern of up to 38 cells a
+/// side that is read at `(0, 0)` is in one tile.
 const STAND_OFF: i32 = 26;
 
-/// In which column of tiles a column of cells is, and which of its 64 it is. It is used for rows too.
+/// The column of tiles that a column of cells is in, and its number among the 64 of that. It is used for rows too.
 pub fn split(z: i32) -> (i32, usize)
     requires { z ≤ℤ pos reach_limit }
     ensures small { result.1 < 64 }

@@ -1,5 +1,5 @@
-//! Laws of the kernels that work 64 cells at a time: what they add up at a column is the count of live neighbours of the cell
-//! there, and what they answer are rows of the next generation on the unbounded plane.
+//! Laws of the kernels that compute 64 cells at a time: their sum at a column is the number of live neighbours of the cell
+//! there, and their results are rows of the next generation on the unbounded plane.
 
 ghost use Rattle.std.specs.Prelude.{◌≡◌, ℕ, ℤ, pos, ◌+◌, ◌+ℤ◌, ◌<◌, ◌≤◌};
 ghost use Rattle.std.specs.Int.{bit_at};
@@ -13,8 +13,9 @@ ghost use Rattle.life_plane.specs.declared.window.Window.{Window};
 ghost use Rattle.life_plane.specs.Windows.{IsWindowOf, next_in_window, window_cell};
 ghost use Rattle.life_slots.specs.Kernels.Rows.{AreRowsAt, IsNineAt, IsWindowAt, state};
 
-/// Strands of three rows of a set, one below another. As many neighbours are set at a column as the cell there has live
-/// neighbours, and what a rule makes of the bit and of that number is the cell in the next generation.
+/// For strands of three rows of a set, one below another, the number of set neighbours at a column is the number of live
+/// neighbours of the cell there, and the next state that a rule gives to the bit with that number is the cell in the next
+/// generation.
 pub fn strands_tell_the_next_generation()
     ensures count { (G : Generation) (left y : ℤ) (above here below : ℕ) (up mid down : Strand) →
         AreRowsAt G (record { left = left; y = y; above = above; here = here; below = below }) →
@@ -28,8 +29,8 @@ pub fn strands_tell_the_next_generation()
         state (next R G) (left +ℤ pos j, y) }
 {}
 
-/// A window of eight rows of a set: the sum around a column of a row is the count of live neighbours of the cell there, and the
-/// next state there is the cell in the next generation.
+/// For a window of eight rows of a set, the sum around a column of a row is the number of live neighbours of the cell there, and
+/// the next state there is the cell in the next generation.
 pub fn windows_tell_the_next_generation()
     ensures count { (G : Generation) (left top : ℤ) (window : Window) →
         IsWindowAt G left top window → (x y : ℕ) → x < 64 → y < 8 →
@@ -39,9 +40,9 @@ pub fn windows_tell_the_next_generation()
         next_in_window R window x y ≡ state (next R G) (left +ℤ pos x, top +ℤ pos y) }
 {}
 
-/// A tile of a set and the eight around it: for all 64 rows of the tile, the sum around a column of a row is the count of live
-/// neighbours of the cell there, and the next state there is the cell in the next generation. A window of eight of its rows is a
-/// window of the set.
+/// For a tile of a set and the eight around it, and for all 64 rows of the tile, the sum around a column of a row is the number
+/// of live neighbours of the cell there, and the next state there is the cell in the next generation. A window of eight of its
+/// rows is a window of the set.
 pub fn tiles_tell_the_next_generation()
     ensures count { (G : Generation) (left top : ℤ) (nine : Nine) → IsNineAt G left top nine →
         (x y : ℕ) → x < 64 → y < 64 →
@@ -54,7 +55,7 @@ pub fn tiles_tell_the_next_generation()
         IsWindowOf window nine from → IsWindowAt G left (top +ℤ pos from) window }
 {}
 
-/// Whatever bits three rows, a window or nine tiles have, some set has these cells, wherever it is.
+/// Whatever bits three rows, a window or nine tiles have, and wherever they are, some set has these cells.
 pub fn each_row_is_of_a_set()
     ensures rows { (left y : ℤ) (above here below : ℕ) → (G : Generation) ×
         AreRowsAt G (record { left = left; y = y; above = above; here = here; below = below }) }

@@ -3,7 +3,7 @@ ghost use Rattle.std.specs.Prelude.{◌≡◌, ◌≢◌, ℕ, ◌<◌, ◌⊎�
 ghost use Rattle.std.specs.Int.{bit_at};
 ghost use Rattle.life_slots.specs.Leaves.{leaf_cell};
 
-/// A square of 32 by 32 cells, seen as the set of its live ones: bit `x` of `rows[y]` says whether the cell in column `x` and
+/// A square of 32 by 32 cells, seen as the set of its live ones: bit `x` of `rows[y]` is set where the cell in column `x` and
 /// row `y` is live. Row 0 is the northern one, and column 0 the western one.
 #[derive(Clone, Copy, PartialEq, Eq, Debug)]
 pub struct Leaf {
@@ -38,7 +38,7 @@ impl Leaf {
         self.rows[y as usize] |= 1 << x;
     }
 
-    /// Whether no cell is live.
+    /// True where no cell is live.
     pub fn is_empty(&self) -> bool
         ensures { IsTrue result ↔ ((x y : ℕ) → x < 32 → y < 32 → leaf_cell self.now x y ≡ 0) }
     {
@@ -46,7 +46,6 @@ impl Leaf {
     }
 }
 
-/// Whether each word is 0.
 fn all_zero(words: &[u32]) -> bool
     ensures { IsTrue result ↔
         ((x y : ℕ) → x < 32 → y < length words.now → bit_at (slice_index words.now y) x ≡ 0) }

@@ -9,7 +9,7 @@ use crate::leaf::Leaf;
 use crate::listing::push_row;
 use std::alloc::AllocError;
 
-/// Which of the 32 columns from a column on this one is. It is used for rows too.
+/// The number of a column among the 32 from column `from` on, if it is one of these. It is used for rows too.
 fn column_in(place: i32, from: i32) -> Option<u32>
     ensures { MatchOption result ((x : ℕ) → x < 32 → place ≢ (from +ℤ pos x))
         (λ x. (x < 32) × (place ≡ (from +ℤ pos x))) }

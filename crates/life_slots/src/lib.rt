@@ -1,6 +1,6 @@
-//! Tiles in slots, and leaves, squares of 32 by 32 cells: where the tile of each slot is and which slots are around it, what a
-//! step makes of them, the cells that they have, and what becomes of the middle of four leaves. Slot 0 has the empty tile: links
-//! and indices name it where there is no slot. `kernels` has the laws of the code that computes 64 cells at a time.
+//! Tiles in slots, and leaves, squares of 32 by 32 cells: the place of each slot's tile and the slots around it, the next
+//! generation of the tiles, the cells that they have, and the middle of four leaves some generations later. Slot 0 has the empty
+//! tile: links and indices name it where there is no slot. `kernels` has the laws of the code that computes 64 cells at a time.
 //!
 //! Tested in `tests_patterns`.
 #![tactic(auto)]

@@ -87,7 +87,7 @@ fn push_lines(cells: &mut Vec<(i32, i32)>, seats: &[Seat], tiles: &[Tile]) -> Re
 }
 
 /// Appends the live cells of the tiles of some seats. Those of seats that follow one another in one row of tiles are appended
-/// together, row by row. So the cells come in order where the seats are ordered by rows.
+/// together, row by row. So the cells are in order if the seats are ordered by rows.
 pub fn push_seats(
     cells: &mut Vec<(i32, i32)>,
     seats: &[Seat],

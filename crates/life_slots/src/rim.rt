@@ -7,7 +7,7 @@ ghost use Rattle.life_slots.specs.Rims.{IsEdge, IsRimOf, IsStill};
 
 use life_plane::Tile;
 
-/// The first and the last row of a tile, and in which columns it has a live cell.
+/// The first and the last row of a tile, and the columns in which it has a live cell.
 #[derive(Clone, Copy)]
 pub struct Rim {
     pub first: u64,
@@ -27,7 +27,7 @@ impl Rim {
         }
     }
 
-    /// Whether a live cell is at the edge in one of the nine directions.
+    /// True where a live cell is at the edge in one of the nine directions.
     pub fn reaches(&self, direction: usize) -> bool
         requires { direction < 9 }
         ensures still { (tile : Tile) → IsRimOf self.now tile → result ≡ false →
@@ -44,7 +44,8 @@ impl Rim {
     }
 }
 
-/// Whether one of 64 bits is set: of those next to the 64 bits before them, of all of them, or of those next to the 64 after.
+/// True where one of 64 bits is set: of those next to the 64 bits before them, of all of them, or of those next to the 64
+/// after.
 pub fn has_at_side(bits: u64, side: usize) -> bool
     requires { side < 3 }
     ensures clear { result ≡ false → (x : ℕ) → x < 64 → IsEdge side x → bit_at bits x ≡ 0 }
@@ -57,7 +58,7 @@ pub fn has_at_side(bits: u64, side: usize) -> bool
     }
 }
 
-/// For each column, whether one of its cells is live.
+/// For each column, a bit that is set where one of its cells is live.
 fn live_columns(tile: &Tile) -> u64
     ensures { (x : ℕ) → x < 64 →
         (bit_at result x ≡ 0) ↔ ((y : ℕ) → y < 64 → tile_cell tile.now x y ≡ 0) }

@@ -14,7 +14,7 @@ use life_plane::Tile;
 use std::alloc::{AllocError, Global};
 use std::collections::BTreeMap;
 
-/// In which row and in which column of tiles a tile is, and its slot.
+/// The row and the column of tiles that a tile is in, and its slot.
 #[derive(Clone, Copy)]
 pub struct Seat {
     pub row: i32,

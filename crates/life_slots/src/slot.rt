@@ -1,4 +1,4 @@
-//! Slots: where the tile of each is, and which slots are around it.
+//! Slots: the place of the tile of each, and the slots around it.
 ghost use Rattle.std.specs.Prelude.{◌≡◌, ◌≢◌, ℕ, ◌+◌, ◌-◌, ◌<◌, length, slice_index};
 ghost use Rattle.life_slots.specs.Places.{IsInside};
 ghost use Rattle.life_slots.specs.Slots.{slot_at, neighbour_at, place_of, link_of};
@@ -9,14 +9,14 @@ use std::collections::BTreeMap;
 /// south east, so 8 less a direction is the opposite one.
 pub const CENTRE: usize = 4;
 
-/// The place of a tile, and in each of the nine directions the slot of the tile there, 0 where there is none.
+/// The place of a tile, and in each of the nine directions the slot of the tile there, 0 if there is none.
 #[derive(Clone, Copy)]
 pub struct Slot {
     pub place: (i32, i32),
     pub links: [u32; 9],
 }
 
-/// The slot of a place, 0 where it has none.
+/// The slot of a place, 0 if it has none.
 pub fn slot_or_none(index: &BTreeMap<(i32, i32), u32>, place: (i32, i32)) -> u32
     ensures { result ≡ slot_at index.now place }
 {
@@ -50,7 +50,7 @@ pub fn links_around(index: &BTreeMap<(i32, i32), u32>, place: (i32, i32)) -> [u3
     links
 }
 
-/// The links with another one in a direction.
+/// The links with this slot in a direction.
 pub fn with_link(mut links: [u32; 9], direction: usize, slot: u32) -> [u32; 9]
     requires { direction < 9 }
     ensures here { slice_index result direction ≡ slot }
@@ -60,7 +60,7 @@ pub fn with_link(mut links: [u32; 9], direction: usize, slot: u32) -> [u32; 9]
     links
 }
 
-/// Makes those around a slot have it in the direction towards it.
+/// Links each of the slots around a slot to it, in the direction towards it.
 pub fn connect(slots: &mut [Slot], links: &[u32; 9], slot: u32)
     requires { (m : ℕ) → m < 9 → slice_index links.now m < length slots.old }
     ensures length { length slots.new ≡ length slots.old }

@@ -1,4 +1,4 @@
-//! The bands that have something to do in a first step.
+//! The bands that are active in a first step.
 ghost use Rattle.std.specs.Prelude.{◌≡◌, ℕ, ◌<◌, ◌≤◌, length};
 ghost use Rattle.life_plane.specs.Area.{tile_cell};
 ghost use Rattle.life_plane.specs.Changes.{IsChange};
@@ -22,7 +22,7 @@ pub fn clear_all(tiles: &mut [Tile])
     }
 }
 
-/// How eight rows of a tile, from `top` on, differ from those of the empty tile.
+/// The difference of eight rows of a tile, from `top` on, from those of the empty tile.
 fn birth(tile: &Tile, top: usize) -> Change
     requires { top ≤ 56 }
     ensures { IsChange result empty_tile tile.now top }

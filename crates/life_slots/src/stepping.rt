@@ -23,8 +23,8 @@ pub fn mark_all(marks: &mut [Bands], value: Bands)
     }
 }
 
-/// Works out the bands of the tile in the middle of nine slots that have something to do, into the tile of the generation before.
-/// Returns which bands of the nine tiles a cell that changed is in or next to.
+/// Computes the active bands of the tile in the middle of nine slots, and writes them over the tile of the generation before.
+/// Returns the bands of the nine tiles that a cell that changed is in or next to.
 #[inline(always)]
 fn work_out(
     tile: &mut Tile,
@@ -67,10 +67,10 @@ fn work_out(
     touched
 }
 
-/// This many slots are passed over at once where none of them has something to do.
+/// The number of slots that are passed over at once where none of them is active.
 const STRIDE: usize = 32;
 
-/// Whether one of `STRIDE` slots has something to do.
+/// False only where none of `STRIDE` slots is active.
 fn is_busy(active: &[Bands], from: usize) -> bool
     requires { from + STRIDE ≤ length active.now }
     ensures { result ≡ false → (k band : ℕ) → from ≤ k → k < from + STRIDE →
@@ -83,9 +83,9 @@ fn is_busy(active: &[Bands], from: usize) -> bool
     !all.is_empty()
 }
 
-/// The first slot from a slot on that has something to do, or one more than the last if none has.
+/// The first active slot from a slot on, or one more than the last if none is active.
 ///
-/// It is separate in the program too: within `next_tiles` compilers would count slots in memory.
+/// It is not inlined: within `next_tiles` compilers would keep the counter of slots in memory.
 #[inline(never)]
 fn first_busy(active: &[Bands], from: usize) -> usize
     ensures from { from ≤ result }
@@ -101,7 +101,7 @@ fn first_busy(active: &[Bands], from: usize) -> usize
     slot
 }
 
-/// Works out the bands of all slots but the first that have something to do, as `next_tiles` says, by a logic.
+/// Computes the active bands of all slots but the first, as `next_tiles` does, by a logic.
 #[inline(always)]
 fn next_tiles_by(
     logic: &Logic,
@@ -137,8 +137,8 @@ fn next_tiles_by(
     }
 }
 
-/// Works out the bands of all slots but the first that have something to do: each becomes the next generation of the band that
-/// `current` has there. Marks the bands that a cell which changed is in or next to.
+/// Computes the active bands of all slots but the first: each becomes the next generation of the band that `current` has there.
+/// Marks the bands that a cell that changed is in or next to.
 pub fn next_tiles(
     slots: &[Slot],
     current: &[Tile],
@@ -163,7 +163,7 @@ pub fn next_tiles(
       done = length slots.now;
     }) }
 {
-    // The logic is found out here once for all bands, and for Conway's rule without making room for another.
+    // The logic is chosen here once for all bands, and for Conway's rule without making room for a polynomial.
     if *rule == Rule::life() {
         next_tiles_by(&Logic::Life, slots, current, previous, active, marks);
     } else {

@@ -10,15 +10,15 @@ use crate::bands::Bands;
 use crate::rim::has_at_side;
 use life_plane::Change;
 
-/// The bands of nine tiles that a cell of the middle tile which changed is in or next to. The tiles make a western, a middle and
-/// an eastern column, each of 24 bands, and bit `k` of its word is the mark of the band that is the `k`th from the north.
+/// The bands of nine tiles that a changed cell of the middle tile is in or next to. The tiles make a western, a middle and an
+/// eastern column, each of 24 bands, and bit `k` of its word is the mark of the band that is the `k`th from the north.
 #[derive(Clone, Copy)]
 pub struct Touched {
     pub columns: [u32; 3],
 }
 
-/// Whether a cell that changed is in or next to a western (0), a middle (1) or an eastern (2) column: in bit 0 of the first of eight
-/// rows, in bit 1 of any, and in bit 2 of the last.
+/// Three bits, set where a changed cell is in or next to a western (0), a middle (1) or an eastern (2) column: bit 0 for the
+/// first of eight rows, bit 1 for any of them, and bit 2 for the last.
 #[inline(always)]
 fn rows_beside(change: &Change, side: usize) -> u32
     requires { side < 3 }
@@ -43,7 +43,7 @@ fn with_bits(word: u32, at: usize, bits: u32) -> u32
     word | (bits << at)
 }
 
-/// The bands of one column, and also those of them that a cell which changed in band `index` of the middle tile is in or next to.
+/// The bands of one column, and also those of it that a changed cell in band `index` of the middle tile is in or next to.
 #[inline(always)]
 fn with_change(column: u32, side: usize, index: usize, change: &Change) -> u32
     requires side { side < 3 }
@@ -62,7 +62,7 @@ fn with_change(column: u32, side: usize, index: usize, change: &Change) -> u32
     with_bits(column, index + 7, rows_beside(change, side))
 }
 
-/// The bands of the tile in a row of three tiles of a column.
+/// The bands of one of the three tiles of a column.
 fn bands_in(column: u32, row: usize) -> Bands
     requires { row < 3 }
     ensures { (k : ℕ) → k < 8 → bit_at result.bits k ≡ bit_at column (8 * row + k) }
@@ -92,7 +92,7 @@ impl Touched {
     /// No band.
     pub const NONE: Touched = Touched { columns: [0; 3] };
 
-    /// These bands, and also those that a cell which changed in band `index` of the middle tile is in or next to.
+    /// These bands, and also those that a changed cell in band `index` of the middle tile is in or next to.
     #[inline(always)]
     pub fn with_band(self, index: usize, change: &Change) -> Touched
         requires { index < 8 }

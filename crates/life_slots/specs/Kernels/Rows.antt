@@ -17,7 +17,7 @@ state G c = as_bit (contains G c)
 pub record IsRowAt (G : Generation) (left y : ℤ) (bits : ℕ) : Type 0 where
   pub bit : (j : ℕ) → 63 ≤ j → j < 129 → bit_at bits j ≡ state G ((left -ℤ pos 64) +ℤ pos j, y)
 
--- the bits of three rows, one below another, and where the cells of the middle one begin
+-- the bits of three rows, one below another, and the place where the cells of the middle one begin
 pub record ThreeRows : Type 0 where
   pub left : ℤ
   pub y : ℤ
