@@ -1,4 +1,4 @@
--- Cells that are looked at when sets are compared.
+-- Cells that are examined when sets are compared.
 use Rattle.std.specs.Prelude.{◌≡◌, ℕ, ℤ, pos, negsuc, ◌≤ℤ◌, ◌+ℤ◌, ◌<◌}
 use Rattle.std.specs.Int.{bit_at}
 use Rattle.life_model.specs.Cell.{Cell, plus}
@@ -9,7 +9,7 @@ use Rattle.life_slots.specs.Ends.{IsMember}
 use Rattle.life_slots.specs.Limits.{reach_limit}
 use Rattle.life_slots.specs.Places.{start_at}
 
--- both coordinates fit into 32 bits by far
+-- both coordinates are far within the range of 32 bits
 pub record IsInReach (c : Cell) : Type 0 where
   pub west : negsuc reach_limit ≤ℤ c.0
   pub east : c.0 ≤ℤ pos reach_limit

@@ -1,4 +1,4 @@
--- Whether cells, moved as a whole, are among others.
+-- Cells that, moved as a whole, are among others.
 use Rattle.std.specs.Prelude.{◌≡◌, ℕ, pos, ◌+ℤ◌, ◌<◌, All, List, get_or}
 use Rattle.std.specs.Int.{bit_at}
 use Rattle.life_model.specs.Cell.{Cell, origin, plus}
@@ -12,16 +12,16 @@ use Rattle.life_slots.specs.Ends.{IsMember}
 abbrev pub AreMembers : Generation → List Cell → Cell → Type 0
 AreMembers G cells d = All (λ c. IsMember G (plus c d)) cells
 
--- a move leads the cell with this number to the given place
+-- a move takes the cell with this number to the given place
 abbrev pub IsLedTo : List Cell → ℕ → Cell → Cell → Type 0
 IsLedTo cells lead d to = plus (get_or cells lead origin) d ≡ to
 
--- No move that leads the cell with this number to a set bit of a word makes all of some cells members. Bit 0 is at
+-- No move that takes the cell with this number to a set bit of a word makes all of some cells members. Bit 0 is at
 -- `start`.
 pub record HasNoneInRow (G : Generation) (cells : List Cell) (lead word : ℕ) (start : Cell) : Type 0 where
   pub none : (j : ℕ) (d : Cell) → j < 64 → bit_at word j ≡ 1 → IsLedTo cells lead d (start.0 +ℤ pos j, start.1) → AreMembers G cells d → ⊥
 
--- no move by at most n places to each side that leads it to a live cell of a tile does so; the tile's first cell is at
+-- no move by at most n places to each side that takes it to a live cell of a tile does so; the tile's first cell is at
 -- `corner`
 pub record HasNoneInTile (n : ℕ) (G : Generation) (cells : List Cell) (lead : ℕ) (tile : Tile) (corner : Cell) : Type 0 where
   pub none : (x y : ℕ) (d : Cell) → x < 64 → y < 64 → tile_cell tile x y ≡ 1 → IsMoveWithin n d →

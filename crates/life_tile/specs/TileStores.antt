@@ -1,4 +1,4 @@
--- What a store of tiles keeps.
+-- The invariant of a store of tiles.
 use Rattle.std.specs.Prelude.{◌≡◌, ◌≢◌, ◌⊎◌, ℕ, ℤ, pos, ◌+ℤ◌, ◌/◌, ◌<◌, ◌≤◌, true, false, [], ◌∷◌, ◌++◌, length, vec_len}
 use Rattle.std.specs.Vec.{vec_capacity}
 use Rattle.life_model.specs.Cell.{Cell}
@@ -17,7 +17,7 @@ use Rattle.life_slots.specs.Work.{band_mark, IsIdle, IsCalm}
 use Rattle.life_slots.specs.declared.bands.Bands.{Bands}
 use Rattle.life_tile.specs.declared.tile_store.TileStore.{TileStore}
 
--- a store without regard to what its tiles hold: slot 0 has the empty tile
+-- the invariant of a store, apart from what its tiles have: slot 0 has the empty tile
 pub record IsTileStore (store : TileStore) : Type 0 where
   pub indexed : IsIndexed store.index store.slots.items
   pub current_length : length store.current.items ≡ length store.slots.items
@@ -31,7 +31,7 @@ pub record IsTileStore (store : TileStore) : Type 0 where
 abbrev pub members_of : TileStore → Generation
 members_of store = generation_shown store.index store.current.items
 
--- what the other tiles show: the generation before, if there is one
+-- the generation that the other tiles show: the one before, if there is one
 abbrev pub earlier_of : TileStore → Generation
 earlier_of store = generation_shown store.index store.previous.items
 
@@ -46,7 +46,7 @@ pub record IsSettled (store : TileStore) (k band : ℕ) : Type 0 where
 pub record IsGrown (store : TileStore) : Type 0 where
   pub closed : (k : ℕ) → 0 < k → k < length store.slots.items → IsClosed store.slots.items store.current.items k
 
--- what a store keeps between steps
+-- the invariant of a store between steps
 pub record IsKept (store : TileStore) : Type 0 where
   pub whole : IsTileStore store
   pub young : store.age ≤ age_limit
@@ -59,8 +59,8 @@ pub record IsKept (store : TileStore) : Type 0 where
   pub calm : IsCalm store.active.items → store.lacks_previous ≡ false
   pub grown : IsCalm store.active.items → IsGrown store
 
--- In a store that is ready for a step, each band without something to do is already in `previous` what it will be, and
--- each band without a mark is what it becomes from what `previous` shows.
+-- In a store that is ready for a step, each band that is not active has in `previous` what it will have next, and each
+-- band that is not marked for the step after is the next generation of what `previous` shows.
 pub record IsBegun (before after : TileStore) : Type 0 where
   pub same : after ≡ record before { previous = after.previous; active = after.active; next_active = after.next_active }
   pub previous_length : length after.previous.items ≡ length before.slots.items
@@ -101,7 +101,7 @@ no_bands = record { bits = 0 }
 abbrev pub all_bands : Bands
 all_bands = record { bits = 255 }
 
--- one more slot at the end, with the empty tile twice, and all bands to do
+-- one more slot at the end, with the empty tile twice, and all bands active
 pub record IsAppended (before after : TileStore) (slot : Slot) : Type 0 where
   pub age : after.age ≡ before.age
   pub rule : after.rule ≡ before.rule

@@ -13,7 +13,7 @@ use crate::tile_store::TileStore;
 use life_plane::Tile;
 use life_slots::{is_before, tile_in};
 
-/// Whether a cell is in a list, found by halving.
+/// False only if a cell is not in a list, which is searched by halving.
 fn is_listed(cells: &[(i32, i32)], cell: (i32, i32)) -> bool
     requires { T (is_rising cells.now) }
     ensures { result ≡ false → contains (from_list cells.now) cell ≡ false }
@@ -35,7 +35,7 @@ fn is_listed(cells: &[(i32, i32)], cell: (i32, i32)) -> bool
     false
 }
 
-/// Whether each set bit of a word is a listed cell. Bit 0 is at `start`.
+/// False only if some set bit of a word is no listed cell. Bit 0 is at `start`.
 fn lists_row(cells: &[(i32, i32)], word: u64, start: (i32, i32)) -> bool
     requires rising { T (is_rising cells.now) }
     requires reach { IsInReach start }
@@ -52,8 +52,8 @@ fn lists_row(cells: &[(i32, i32)], word: u64, start: (i32, i32)) -> bool
     true
 }
 
-/// Whether each live cell of a tile, whose first cell is at `corner`, is listed after the move from one place to
-/// another.
+/// False only if some live cell of a tile, whose first cell is at `corner`, is not listed after the move from one place
+/// to another.
 fn lists_tile(
     cells: &[(i32, i32)],
     tile: &Tile,
@@ -78,8 +78,8 @@ fn lists_tile(
     true
 }
 
-/// Whether each live cell of the tiles that have something to do is listed after the move from one place to another. If
-/// one is not, the live cells are not all listed after that move.
+/// False only if some live cell of the active tiles is not listed after the move from one place to another. Then the
+/// live cells are not all listed after that move.
 pub fn lists_changed(
     store: &TileStore,
     cells: &[(i32, i32)],

@@ -1,4 +1,4 @@
-//! Whether the live cells of a store, moved as a whole, are live in another store, in rows of 64.
+//! The test of whether the live cells of a store, moved as a whole, are live in another store, in rows of 64.
 ghost use Rattle.std.specs.Prelude.{◌≡◌, ◌↔◌, ◌+◌, ◌-◌, ◌+ℤ◌, ◌<◌, ◌≤◌, ℕ, pos, IsTrue, length};
 ghost use Rattle.std.specs.Int.{bit_at};
 ghost use Rattle.life_model.specs.Cell.{Cell, opposite, plus};
@@ -58,7 +58,7 @@ pub fn row_from(store: &TileStore, cell: (i32, i32)) -> u64
     joined(west, east, shift)
 }
 
-/// Whether each set bit of a word is a live cell. Bit 0 is at `start`.
+/// True where each set bit of a word is a live cell. Bit 0 is at `start`.
 fn has_row(store: &TileStore, word: u64, start: (i32, i32)) -> bool
     requires kept { IsKept store.now }
     requires reach { IsInReach start }
@@ -70,7 +70,7 @@ fn has_row(store: &TileStore, word: u64, start: (i32, i32)) -> bool
     word & !row_from(store, start) == 0
 }
 
-/// Whether each live cell of a tile, whose first cell is at `corner`, is live in the store after the move from one
+/// True where each live cell of a tile, whose first cell is at `corner`, is live in the store after the move from one
 /// place to another.
 fn has_tile(
     store: &TileStore,
@@ -96,7 +96,6 @@ fn has_tile(
     true
 }
 
-/// The place of a slot.
 fn place_in(slots: &[Slot], slot: usize) -> (i32, i32)
     requires { slot < length slots.now }
     ensures { result ≡ place_of slots.now slot }
@@ -116,7 +115,7 @@ pub fn corner_in(store: &TileStore, slot: usize) -> (i32, i32)
     corner_of(place_in(&store.slots, slot))
 }
 
-/// Whether each live cell of another store is live in this one after the move from one place to another.
+/// True where each live cell of another store is live in this one after the move from one place to another.
 pub fn has_store(store: &TileStore, other: &TileStore, from: (i32, i32), to: (i32, i32)) -> bool
     requires kept { IsKept store.now }
     requires other { IsKept other.now }

@@ -12,13 +12,13 @@ use life_slots::is_void;
 use std::alloc::{AllocError, Global};
 use std::marker::Model;
 
-/// A plane that keeps its live cells in tiles that stay where they are. A step works out only the bands of eight rows
+/// A plane that keeps its live cells in tiles that stay where they are. A step computes only the bands of eight rows
 /// that may change: those with a cell that changed between the last two generations, or next to one. For the other
 /// tiles it only checks that they have no such band.
 #[derive(Drop)]
 pub struct TilePlane {
     store: TileStore,
-    /// The number of slots at which the store is rebuilt, without those whose tile has no live cell.
+    /// The number of slots at which the store is rebuilt without the slots whose tile has no live cell.
     limit: usize,
 }
 
@@ -38,30 +38,31 @@ impl Model for TilePlane {
     ghost invariant = { λ p. IsKept p.store };
 }
 
-/// A list begins with room for this many cells.
+/// The number of cells for which a list has room at first.
 const FEW: usize = 32;
 
-/// The number of slots at which a store is to be rebuilt that now has room for what its tiles may grow into.
+/// The number of slots at which a store is to be rebuilt. The store now has room for what its tiles may grow into.
 fn limit_of(store: &TileStore) -> usize {
     store.slots.len().saturating_mul(2).saturating_add(32)
 }
 
-/// Whether at most half of a store's slots have a live cell, so that rebuilding it is worth while.
+/// True where at most half of a store's slots have a live cell, so that rebuilding it is worth while.
 fn is_sparse(store: &TileStore) -> bool {
     let live = store.current.iter().filter(|tile| !is_void(tile)).count();
     live <= store.slots.len() / 2
 }
 
 impl TilePlane {
-    /// How many tiles it keeps, which determines its memory. At least one: the empty tile stands for all tiles that it
-    /// doesn't keep.
+    /// The number of tiles that it keeps, which determines its memory. It is at least one: the empty tile is used for
+    /// all tiles that it doesn't keep.
     pub fn tiles(&self) -> usize
         ensures { 0 < result }
     {
         self.store.slots.len()
     }
 
-    /// How many bands of eight rows the next step works out, which determines its time. No answer depends on it.
+    /// The number of bands of eight rows that the next step computes, which determines its time. No answer depends on
+    /// it.
     pub fn active_bands(&self) -> u64 {
         let mut count = 0u64;
         for bands in &self.store.active {

@@ -1,4 +1,4 @@
-//! Whether the cells of a store are given cells, moved as a whole.
+//! The test of whether the cells of a store are given cells, moved as a whole.
 ghost use Rattle.std.specs.Prelude.{◌≡◌, ◌↔◌, All, IfNone, IfSome, IsTrue, T};
 ghost use Rattle.life_model.specs.Cell.{opposite, plus};
 ghost use Rattle.life_model.specs.Generation.{contains, from_list, is_rising};
@@ -14,7 +14,7 @@ use crate::tile_store::TileStore;
 use life_plane::move_between;
 use life_slots::{slot_or_none, split, tile_in};
 
-/// Whether a cell is live.
+/// True where a cell is live.
 fn is_live(store: &TileStore, cell: (i32, i32)) -> bool
     requires kept { IsKept store.now }
     requires reach { IsInReach cell }
@@ -37,7 +37,7 @@ pub fn moved(cell: (i32, i32), from: (i32, i32), to: (i32, i32)) -> (i32, i32)
     (cell.0 - from.0 + to.0, cell.1 - from.1 + to.1)
 }
 
-/// Whether each of some cells is live after the move from one place to another.
+/// True where each of some cells is live after the move from one place to another.
 fn are_live(store: &TileStore, cells: &[(i32, i32)], from: (i32, i32), to: (i32, i32)) -> bool
     requires kept { IsKept store.now }
     requires placed { All IsPlace cells.now }
@@ -54,9 +54,9 @@ fn are_live(store: &TileStore, cells: &[(i32, i32)], from: (i32, i32), to: (i32,
     true
 }
 
-/// How far the live cells are from those of a list, if they are those moved as a whole. They are if they are equally
-/// many, and each cell of the list is live after the move that leads the first of them to the first live cell. What may
-/// have changed is looked at first.
+/// The offset of the live cells from those of a list, if they are those moved as a whole. They are if their number is
+/// the same and each cell of the list is live after the move that takes the first of them to the first live cell. The
+/// cells that may have changed are examined first.
 pub fn offset_from(store: &TileStore, cells: &[(i32, i32)]) -> Option<(i32, i32)>
     requires kept { IsKept store.now }
     requires rising { T (is_rising cells.now) }
@@ -82,8 +82,9 @@ pub fn offset_from(store: &TileStore, cells: &[(i32, i32)]) -> Option<(i32, i32)
     }
 }
 
-/// How far the live cells are from those of another store, if they are those moved as a whole. They are if they are
-/// equally many, and each cell of the other is live after the move that leads the first of them to the first live cell.
+/// The offset of the live cells from those of another store, if they are those moved as a whole. They are if their
+/// number is the same and each cell of the other is live after the move that takes the first of them to the first live
+/// cell.
 pub fn offset_from_store(store: &TileStore, other: &TileStore) -> Option<(i32, i32)>
     requires kept { IsKept store.now }
     requires other { IsKept other.now }

@@ -1,4 +1,4 @@
-//! Whether the cells of a list, moved as a whole, may be live in a store, in rows of 64.
+//! The test of whether the cells of a list, moved as a whole, may be live in a store, in rows of 64.
 ghost use Rattle.std.specs.Prelude.{◌≡◌, ◌≢◌, ◌+ℤ◌, ◌<◌, ◌≤◌, ◌≤ℤ◌, ℕ, ℤ, pos, neg_ℤ, negsuc, All, false, get_or, length};
 ghost use Rattle.std.specs.Int.{bit_at};
 ghost use Rattle.life_model.specs.Cell.{Cell, origin, plus};
@@ -16,7 +16,7 @@ use crate::tile_store::TileStore;
 use life_plane::Tile;
 use life_slots::{is_void, tile_in};
 
-/// Whether a place, moved by at most `reach`, may be one of the 64 from another on. It serves for x and for y.
+/// False only if a place, moved by at most `reach`, is not one of the 64 from another on. It is used for x and for y.
 fn is_near(z: i32, first: i32, reach: u32) -> bool
     requires west { negsuc last_place ≤ℤ z }
     requires east { z ≤ℤ pos last_place }
@@ -31,7 +31,7 @@ fn is_near(z: i32, first: i32, reach: u32) -> bool
     offset <= far && -far - 63 <= offset
 }
 
-/// The bits at which a cell of the list may be live, after the move that leads the cell with the number `lead` to a bit
+/// The bits at which a cell of the list may be live, after the move that takes the cell with the number `lead` to a bit
 /// of a row of members. Bit 0 is at `start`. A cell to the right in the same row is looked up in the word; beyond the
 /// end of the word every cell may be live.
 fn live_beside(
@@ -61,8 +61,8 @@ fn live_beside(
     }
 }
 
-/// Whether the cells may all be live after a move that leads the one with the number `lead` to a set bit of a row of
-/// members. Bit 0 is at `start`.
+/// False only if no move that takes the cell with the number `lead` to a set bit of a row of members makes all of the
+/// cells live. Bit 0 is at `start`.
 fn may_stand_in_row(
     store: &TileStore,
     cells: &[(i32, i32)],
@@ -78,7 +78,7 @@ fn may_stand_in_row(
         bit_at word j ≡ state_at (members_of store.now) (start.0 +ℤ pos j) start.1 }
     ensures { result ≡ false → HasNoneInRow (members_of store.now) cells.now lead word start }
 {
-    // (the bits at which the cells looked at so far may all be live)
+    // (the bits at which the cells examined so far may all be live)
     let mut left = word;
     for n in lead + 1..cells.len() {
         if left == 0 {
@@ -95,8 +95,8 @@ fn may_stand_in_row(
     left != 0
 }
 
-/// Whether the cells may all be live after a move by at most `reach` places to each side that leads the one with the
-/// number `lead` into a tile of the store. The tile's first cell is at `corner`.
+/// False only if no move by at most `reach` places to each side that takes the cell with the number `lead` into a tile
+/// of the store makes all of the cells live. The tile's first cell is at `corner`.
 fn may_stand_in_tile(
     store: &TileStore,
     cells: &[(i32, i32)],
@@ -135,8 +135,8 @@ fn may_stand_in_tile(
     false
 }
 
-/// The number of the cell with the most cells after it in its own row. Such a row shows soonest that the cells are not
-/// there. Nothing rests on the choice.
+/// The number of the cell with the most cells after it in its own row. Such a row shows earliest that the cells are not
+/// there. No answer depends on the choice.
 fn first_of_longest_row(cells: &[(i32, i32)]) -> usize
     requires { 0 < length cells.now }
     ensures { result < length cells.now }
@@ -157,7 +157,7 @@ fn first_of_longest_row(cells: &[(i32, i32)]) -> usize
     best
 }
 
-/// Whether the cells may all be live after a move by at most `reach` places to each side.
+/// False only if no move by at most `reach` places to each side makes all of the cells live.
 pub fn may_stand(store: &TileStore, cells: &[(i32, i32)], reach: u32) -> bool
     requires kept { IsKept store.now }
     requires placed { All IsPlace cells.now }

@@ -20,8 +20,8 @@ use std::alloc::{AllocError, Global};
 use std::collections::BTreeMap;
 use std::mem::swap;
 
-/// Room for `FIRST_TILES` tiles is reserved at first, for the empty one and one more: such pieces of memory are quick
-/// to get.
+/// The number of tiles for which room is reserved at first: the empty one and one more. Such pieces of memory are
+/// quick to get.
 const FIRST_TILES: usize = 2;
 
 /// Tiles in slots. Slot 0 has the empty tile and no place.
@@ -32,21 +32,21 @@ const FIRST_TILES: usize = 2;
 /// tile needs four slots, three of which have empty tiles.
 #[derive(Drop)]
 pub struct TileStore {
-    /// From the place of each tile to its slot.
+    /// The slot of the tile at each place.
     pub index: BTreeMap<(i32, i32), u32>,
     pub slots: Vec<Slot>,
     /// The tiles of this generation.
     pub current: Vec<Tile>,
     /// The tiles of the generation before, if there is one. They become the next generation.
     pub previous: Vec<Tile>,
-    /// Which bands of the slots may differ between the generation before and the next one. A band of slot 0 is marked
-    /// if a place without a slot may get a live cell.
+    /// The bands of the slots that may differ between the generation before and the next one. A band of slot 0 is
+    /// marked if a place without a slot may get a live cell.
     pub active: Vec<Bands>,
-    /// Room for the marks of the generation after.
+    /// Memory for the marks of the generation after.
     pub next_active: Vec<Bands>,
     /// The rule that made this generation from the one before.
     pub rule: Rule,
-    /// Whether `previous` is no generation. Then every band has something to do.
+    /// True where `previous` is no generation. Then every band is active.
     pub lacks_previous: bool,
     /// The number of steps it has made.
     pub age: u32,
@@ -101,7 +101,7 @@ impl TileStore {
         Ok(())
     }
 
-    /// Adds one more slot at the end, with the empty tile twice, and something to do.
+    /// Adds one more slot at the end, with the empty tile twice, and all bands active.
     fn append(&mut self, slot: Slot)
         requires { HasRoom self.old }
         ensures { IsAppended self.old self.new slot }
@@ -159,7 +159,6 @@ impl TileStore {
         self.slots[slot].links[direction]
     }
 
-    /// The place of a slot.
     fn place(&self, slot: usize) -> (i32, i32)
         requires { slot < length self.now.slots.items }
         ensures { result ≡ place_of self.now.slots.items slot }
@@ -167,7 +166,7 @@ impl TileStore {
         self.slots[slot].place
     }
 
-    /// Whether there is a slot in each direction from a slot.
+    /// True only if there is a slot in each direction from a slot.
     fn is_surrounded(&self, slot: usize) -> bool
         requires { slot < length self.now.slots.items }
         ensures { result ≡ true → (m : ℕ) → m < 9 → link_of self.now.slots.items slot m ≢ 0 }
@@ -199,7 +198,7 @@ impl TileStore {
         Ok(())
     }
 
-    /// Whether no band of a slot is marked. Then no cell of its tile changed in the last step.
+    /// True only if no band of a slot is marked. Then no cell of its tile changed in the last step.
     pub fn is_idle(&self, slot: usize) -> bool
         requires { slot < length self.now.active.items }
         ensures { result ≡ true → IsIdle self.now.active.items slot }
@@ -229,7 +228,7 @@ impl TileStore {
         Ok(())
     }
 
-    /// Whether no place without a slot can have a new live cell next to it.
+    /// True only if no place without a slot can have a new live cell next to it.
     fn is_closed(&self) -> bool
         requires { 0 < length self.now.active.items }
         ensures { result ≡ true → IsCalm self.now.active.items }
@@ -255,7 +254,7 @@ impl TileStore {
         Ok(())
     }
 
-    /// Makes every slot do its work if the last step was by another rule.
+    /// Makes every band active if the last step was by another rule.
     pub fn use_rule(&mut self, rule: &Rule)
         requires { IsKept self.old }
         ensures kept { IsKept self.new }
@@ -270,9 +269,9 @@ impl TileStore {
         }
     }
 
-    /// Prepares a step. If there is no generation before, an empty one is assumed. So only bands with a live cell in
-    /// them or next to them have something to do. They have it again in the step after, since the empty generation was
-    /// not really the one before.
+    /// Prepares a step. If there is no generation before, an empty one is assumed, so that only bands with a live cell
+    /// in them or next to them are active. They are active again in the step after, since the empty generation was not
+    /// really the one before.
     fn begin(&mut self)
         requires { IsKept self.old }
         ensures { IsBegun self.old self.new }
