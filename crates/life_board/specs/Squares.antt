@@ -19,7 +19,7 @@ shown left top tile = from_list (block_cells left top tile.rows 64)
 abbrev pub members_of : Square → Generation
 members_of square = shown square.left square.top square.tile
 
--- a place whose coordinates are far from the ends of 32 bits
+-- a place whose coordinates are far from the limits of 32 bits
 pub record IsFarFromEnds (left top : ℤ) : Type 0 where
   pub west : negsuc corner_limit ≤ℤ left
   pub east : left ≤ℤ pos corner_limit
@@ -37,7 +37,7 @@ pub record IsVoidOutside (rows : List ℕ) (first end : ℕ) : Type 0 where
 abbrev pub AreColumnsOf : ℕ → Tile → Type 0
 AreColumnsOf columns tile = (x : ℕ) → x < 64 → (bit_at columns x ≡ 0) ↔ ((y : ℕ) → y < 64 → tile_cell tile x y ≡ 0)
 
--- what a square keeps
+-- the invariant of a square
 pub record IsSquare (square : Square) : Type 0 where
   pub place : IsFarFromEnds square.left square.top
   pub young : square.age ≤ age_limit
@@ -73,8 +73,8 @@ pub record IsRange (range : ℤ × ℤ) : Type 0 where
   pub high_from : negsuc last_place ≤ℤ range.1
   pub high_to : range.1 ≤ℤ pos last_place
 
--- How many of the eight cells around a cell are live, in three rows of 192 cells one above the other. The cell is in the middle
--- row, in column x of the middle 64.
+-- The number of live cells among the eight around a cell, in three rows of 192 cells one above the other. The cell is in the
+-- middle row, in column x of the middle 64.
 abbrev pub around_in : ℕ → ℕ → ℕ → ℕ → ℕ
 around_in a b c x =
     bit_at a (x + 63) + bit_at a (x + 64) + bit_at a (x + 65)

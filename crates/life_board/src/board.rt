@@ -32,7 +32,8 @@ impl Model for Board {
 }
 
 impl Board {
-    /// How many bands of eight rows the next step works out, which determines its time. No answer depends on it.
+    /// The number of bands of eight rows that the next step computes, which determines its time. No answer depends on
+    /// it.
     pub fn active_bands(&self) -> u64 {
         self.kind.active_bands()
     }

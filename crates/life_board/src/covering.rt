@@ -1,5 +1,5 @@
-//! Whether some cells, moved as a whole, are live in a square: those of a list one by one, and those of another square
-//! in rows of 64.
+//! The test of whether some cells, moved as a whole, are live in a square: those of a list one by one, and those of
+//! another square in rows of 64.
 ghost use Rattle.std.specs.Prelude.{◌≡◌, ◌≢◌, ◌↔◌, ◌+ℤ◌, ◌<◌, ◌<ℤ◌, ◌≤ℤ◌, ℕ, pos, negsuc, All, IfNone, IfSome, IsTrue};
 ghost use Rattle.std.specs.Int.{bit_at};
 ghost use Rattle.life_model.specs.Cell.{Cell, opposite, plus};
@@ -14,7 +14,7 @@ ghost use Rattle.life_board.specs.Squares.{members_of, IsSquare, IsFarFromEnds};
 
 use crate::small::Square;
 
-/// Which of the 64 columns from a column on this one is. It also serves for rows.
+/// The number of a column among the 64 from a column on, if it is one of these. It is used for rows too.
 fn index_from(z: i32, from: i32) -> Option<usize>
     requires west { negsuc reach_limit ≤ℤ z }
     requires east { z ≤ℤ pos reach_limit }
@@ -32,7 +32,7 @@ fn index_from(z: i32, from: i32) -> Option<usize>
     }
 }
 
-/// Whether a cell is live.
+/// True where a cell is live.
 fn is_live(square: &Square, cell: (i32, i32)) -> bool
     requires kept { IsSquare square.now }
     requires reach { IsInReach cell }
@@ -58,7 +58,7 @@ pub fn moved(cell: (i32, i32), from: (i32, i32), to: (i32, i32)) -> (i32, i32)
     (cell.0 - from.0 + to.0, cell.1 - from.1 + to.1)
 }
 
-/// Whether each of some cells is live after the move from one place to another.
+/// True where each of some cells is live after the move from one place to another.
 pub fn are_live(square: &Square, cells: &[(i32, i32)], from: (i32, i32), to: (i32, i32)) -> bool
     requires kept { IsSquare square.now }
     requires placed { All IsPlace cells.now }
@@ -106,7 +106,7 @@ pub fn row_from(square: &Square, cell: (i32, i32)) -> u64
     }
 }
 
-/// Whether each set bit of a word is a live cell. Bit 0 is at `start`.
+/// True where each set bit of a word is a live cell. Bit 0 is at `start`.
 fn has_row(square: &Square, word: u64, start: (i32, i32)) -> bool
     requires kept { IsSquare square.now }
     requires reach { IsInReach start }
@@ -115,7 +115,7 @@ fn has_row(square: &Square, word: u64, start: (i32, i32)) -> bool
     word & !row_from(square, start) == 0
 }
 
-/// Whether each live cell of another square is live in this one after the move from one place to another.
+/// True where each live cell of another square is live in this one after the move from one place to another.
 pub fn has_square(square: &Square, other: &Square, from: (i32, i32), to: (i32, i32)) -> bool
     requires kept { IsSquare square.now }
     requires other { IsSquare other.now }

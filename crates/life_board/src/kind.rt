@@ -20,7 +20,7 @@ use life_plane::Plane;
 use life_tile::TilePlane;
 use std::alloc::{AllocError, Global};
 
-/// How the cells of a board are kept.
+/// The cells of a board, in one of two forms.
 #[derive(Drop)]
 pub enum Kind {
     Small(Square),
@@ -38,7 +38,7 @@ fn as_tiles(square: &Square) -> Result<TilePlane, AllocError>
 }
 
 impl Kind {
-    /// A square without a live cell whose middle is that of the cells of a list, if they fit into it.
+    /// An empty square with the same middle as the cells of a list, if they fit into it.
     pub fn around(alloc: Global, list: &CellList, age: u32) -> Kind
         requires { age ≤ age_limit }
         ensures kept { IsKind result }
@@ -49,8 +49,7 @@ impl Kind {
         Kind::Small(Square::empty(alloc, left, top, age))
     }
 
-    /// Puts the cells of a list into a square without a live cell, or into tiles if a cell is too near to the edge of
-    /// the square.
+    /// Puts the cells of a list into an empty square, or into tiles if a cell is too near to the edge of the square.
     pub fn fill(&mut self, alloc: Global, list: &CellList, age: u32) -> Result<(), AllocError>
         requires kept { IsKind self.old }
         requires empty { members_of self.old ≡ from_list [] }
@@ -71,8 +70,7 @@ impl Kind {
 
     /// Puts the cells of a list into tiles, whatever was there before.
     ///
-    /// It is a function of its own in the program too: inlined into `fill`, it would make every square reserve stack
-    /// space for tiles first.
+    /// It is not inlined: in `fill`, it would make every square reserve stack space for tiles first.
     #[inline(never)]
     fn fill_tiles(&mut self, alloc: Global, list: &CellList, age: u32) -> Result<(), AllocError>
         requires age { age ≤ age_limit }
@@ -87,8 +85,7 @@ impl Kind {
 
     /// Keeps the cells in tiles from now on.
     ///
-    /// It is a function of its own in the program too: inlined into `step`, it would make each step of a square reserve
-    /// stack space for tiles first.
+    /// It is not inlined: in `step`, it would make each step of a square reserve stack space for tiles first.
     #[inline(never)]
     fn leave_square(&mut self) -> Result<(), AllocError>
         requires { IsKind self.old }
@@ -150,7 +147,7 @@ impl Kind {
         }
     }
 
-    /// How many bands of eight rows the next step works out. Nothing rests on it.
+    /// The number of bands of eight rows that the next step computes. No answer depends on it.
     pub fn active_bands(&self) -> u64 {
         match self {
             Kind::Small(square) => square.end.saturating_sub(square.first) as u64 / 8 + 1,
@@ -183,7 +180,7 @@ impl Kind {
         }
     }
 
-    /// Whether some move, of at most `reach` places to each side, may lead all cells of a list to live ones.
+    /// False only if no move, of at most `reach` places to each side, takes all cells of a list to live ones.
     pub fn may_have_moved(&self, list: &CellList, reach: u32) -> bool
         requires kept { IsKind self.now }
         requires reach { reach ≤ age_limit }
@@ -217,7 +214,7 @@ impl Kind {
         }
     }
 
-    /// How far the last of its cells, by y and then by x, is from the first, or (0, 0) if there is none.
+    /// The offset of the last of its cells, by y, then by x, from the first, or (0, 0) if there is none.
     pub fn span(&self) -> Result<(i32, i32), AllocError>
         requires { IsKind self.now }
         ensures { IfOk result (λ span. span ≡ set_span (members_of self.now)) }
@@ -228,7 +225,7 @@ impl Kind {
         }
     }
 
-    /// How far its cells are from the listed ones, if they are those moved as a whole.
+    /// The offset of its cells from the listed ones, if they are those moved as a whole.
     pub fn offset_from(&self, list: &CellList) -> Result<Option<(i32, i32)>, AllocError>
         requires { IsKind self.now }
         ensures offset { IfOk result
@@ -242,7 +239,7 @@ impl Kind {
         }
     }
 
-    /// How far its cells are from those of another board, if they are those moved as a whole.
+    /// The offset of its cells from those of another board, if they are those moved as a whole.
     pub fn offset_from_plane(&self, other: &Kind) -> Result<Option<(i32, i32)>, AllocError>
         requires kept { IsKind self.now }
         requires other { IsKind other.now }

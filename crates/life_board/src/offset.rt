@@ -1,4 +1,4 @@
-//! Whether the cells of a square are given cells, moved as a whole.
+//! The test of whether the cells of a square are given cells, moved as a whole.
 ghost use Rattle.std.specs.Prelude.{All, IfNone, IfSome, T};
 ghost use Rattle.life_model.specs.Generation.{from_list, is_rising};
 ghost use Rattle.life_cells.specs.Limits.{IsPlace};
@@ -9,8 +9,8 @@ use crate::covering::{are_live, has_square};
 use crate::small::Square;
 use life_plane::move_between;
 
-/// How far the live cells are from those of a list, if they are those moved as a whole. They are if they are equally
-/// many, and each cell of the list is live after the move that leads the first of them to the first live cell.
+/// The offset of the live cells from those of a list, if they are those moved as a whole. They are if their number is
+/// the same and each cell of the list is live after the move that takes the first of them to the first live cell.
 pub fn offset_from(square: &Square, cells: &[(i32, i32)]) -> Option<(i32, i32)>
     requires kept { IsSquare square.now }
     requires rising { T (is_rising cells.now) }
@@ -33,8 +33,9 @@ pub fn offset_from(square: &Square, cells: &[(i32, i32)]) -> Option<(i32, i32)>
     }
 }
 
-/// How far the live cells are from those of another square, if they are those moved as a whole. They are if they are
-/// equally many, and each cell of the other is live after the move that leads the first of them to the first live cell.
+/// The offset of the live cells from those of another square, if they are those moved as a whole. They are if their
+/// number is the same and each cell of the other is live after the move that takes the first of them to the first live
+/// cell.
 pub fn offset_from_square(square: &Square, other: &Square) -> Option<(i32, i32)>
     requires kept { IsSquare square.now }
     requires other { IsSquare other.now }

@@ -1,4 +1,4 @@
-//! Where the square of a pattern is.
+//! The place of the square of a pattern.
 ghost use Rattle.std.specs.Prelude.{pos, negsuc, ◌≤ℤ◌, All};
 ghost use Rattle.life_cells.specs.Limits.{IsPlace, last_place};
 ghost use Rattle.life_board.specs.Squares.{IsFarFromEnds, IsRange};
@@ -17,7 +17,7 @@ fn widened(range: (i32, i32), number: i32) -> (i32, i32)
     )
 }
 
-/// The first of 64 columns with this range in their middle, if it fits into them. It also serves for rows.
+/// The first of 64 columns with this range in their middle, if it fits into them. It is used for rows too.
 fn start_around(range: (i32, i32)) -> i32
     requires { IsRange range }
     ensures from { negsuc corner_limit ≤ℤ result }

@@ -54,8 +54,8 @@ fn advance_by(tile: &mut Tile, first: usize, end: usize, logic: &Logic) -> u64
 
 /// Turns a tile into its next generation by any rule, as `advance` says.
 ///
-/// It is a function of its own in the program too: inlined into `advance`, it would make a step by Conway's rule
-/// reserve stack space for the logic of any rule first.
+/// It is not inlined: in `advance`, it would make a step by Conway's rule reserve stack space for the logic of any
+/// rule first.
 #[inline(never)]
 fn advance_by_rule(tile: &mut Tile, first: usize, end: usize, rule: &Rule) -> u64
     requires first { 0 < first }
@@ -70,7 +70,7 @@ fn advance_by_rule(tile: &mut Tile, first: usize, end: usize, rule: &Rule) -> u6
 }
 
 /// Turns a tile into its next generation, if all cells around it are dead and no row outside a range has a live cell.
-/// Returns for each column whether one of its cells is then live.
+/// Returns for each column a bit that is set if one of its cells is then live.
 pub fn advance(tile: &mut Tile, first: usize, end: usize, rule: &Rule) -> u64
     requires first { 0 < first }
     requires end { end ≤ 62 }

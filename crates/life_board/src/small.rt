@@ -16,10 +16,10 @@ use life_plane::{Tile, move_between};
 use life_slots::{Rim, push_row};
 use std::alloc::{AllocError, Global};
 
-/// A list of up to this many cells never has to grow.
+/// The number of cells up to which a list never has to grow.
 const FEW: usize = 64;
 
-/// A cell that is put into a square is at least this far from its edge.
+/// The least distance from the edge of a cell that is put into a square.
 const MARGIN: i32 = 8;
 
 /// The row around which cells are put into a square.
@@ -38,12 +38,12 @@ pub struct Square {
     pub first: usize,
     /// No row from this one on has a live cell.
     pub end: usize,
-    /// For each column whether one of its cells is live.
+    /// For each column, a bit that is set if one of its cells is live.
     pub columns: u64,
     pub age: u32,
 }
 
-/// Whether a live cell of a tile is at its edge.
+/// False only if no live cell of a tile is at its edge.
 fn is_at_edge(tile: &Tile, columns: u64) -> bool
     requires { AreColumnsOf columns tile.now }
     ensures { result ≡ false → IsInner tile.now }
@@ -92,8 +92,8 @@ fn make_live(tile: &mut Tile, x: usize, y: usize)
     tile.rows[y] |= 1 << x;
 }
 
-/// Which of the 64 columns from a column on this one is, if it is not too near to the first or the last. It also serves
-/// for rows.
+/// The number of a column among the 64 from a column on, if it is not too near to the first or the last. It is used for
+/// rows too.
 fn column_of(z: i32, from: i32) -> Option<usize>
     requires west { negsuc corner_limit ≤ℤ z }
     requires east { z ≤ℤ pos corner_limit }
@@ -112,7 +112,7 @@ fn column_of(z: i32, from: i32) -> Option<usize>
 }
 
 impl Square {
-    /// The square without a live cell.
+    /// The empty square.
     pub fn empty(alloc: Global, left: i32, top: i32, age: u32) -> Square
         requires place { IsFarFromEnds left top }
         requires young { age ≤ age_limit }
@@ -150,7 +150,7 @@ impl Square {
         Some(())
     }
 
-    /// Makes cells live in a square without a live cell, if none of them is too near to its edge.
+    /// Makes cells live in an empty square, if none of them is too near to its edge.
     pub fn put_all(&mut self, cells: &[(i32, i32)]) -> Option<()>
         requires kept { IsSquare self.old }
         requires empty { members_of self.old ≡ from_list [] }
@@ -165,7 +165,7 @@ impl Square {
         Some(())
     }
 
-    /// Leaves out rows without a live cell.
+    /// Drops rows without a live cell from both ends of the range.
     fn shrink(&mut self)
         requires { IsSquare self.old }
         ensures kept { IsSquare self.new }
@@ -176,7 +176,7 @@ impl Square {
         self.end = end_of_rows(&self.tile, self.first, self.end);
     }
 
-    /// Whether the next generation may have a cell outside the square.
+    /// False only if the next generation has no cell outside the square.
     pub fn is_full(&self) -> bool
         requires { IsSquare self.now }
         ensures { result ≡ false → StaysInSquare self.now }
@@ -244,7 +244,7 @@ impl Square {
         (self.left + x as i32, self.top + y as i32)
     }
 
-    /// The first and the last of the live cells, by y and then by x.
+    /// The first and the last of the live cells, by y, then by x.
     pub fn ends(&self) -> Option<((i32, i32), (i32, i32))>
         requires { IsSquare self.now }
         ensures { MatchOption result (HasNoMember (members_of self.now))
@@ -255,7 +255,7 @@ impl Square {
         Some((self.cell_at(left, top), self.cell_at(right, bottom)))
     }
 
-    /// How far the last of its cells, by y and then by x, is from the first, or (0, 0) if there is none.
+    /// The offset of the last of its cells, by y, then by x, from the first, or (0, 0) if there is none.
     pub fn span(&self) -> Result<(i32, i32), AllocError>
         requires { IsSquare self.now }
         ensures { IfOk result (λ span. span ≡ set_span (members_of self.now)) }

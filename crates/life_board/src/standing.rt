@@ -1,4 +1,4 @@
-//! Whether the cells of a list, moved as a whole, may be live in a square, in rows of 64.
+//! The test of whether the cells of a list, moved as a whole, may be live in a square, in rows of 64.
 ghost use Rattle.std.specs.Prelude.{◌≡◌, ◌+ℤ◌, ◌<◌, pos, All, false, length, slice_index};
 ghost use Rattle.life_model.specs.Cell.{Cell};
 ghost use Rattle.life_cells.specs.Limits.{IsPlace};
@@ -8,7 +8,7 @@ ghost use Rattle.life_board.specs.Squares.{members_of, IsSquare};
 use crate::covering::{moved, row_from};
 use crate::small::Square;
 
-/// Whether the cells may all be live after a move that leads the first of them to a live cell of row `y`.
+/// False only if no move that takes the first of the cells to a live cell of row `y` makes all of them live.
 fn may_stand_in_row(square: &Square, cells: &[(i32, i32)], y: usize) -> bool
     requires kept { IsSquare square.now }
     requires some { 0 < length cells.now }
@@ -18,7 +18,7 @@ fn may_stand_in_row(square: &Square, cells: &[(i32, i32)], y: usize) -> bool
         HasNoneInRow (members_of square.now) cells.now 0 (slice_index square.now.tile.rows y)
         (square.now.left, square.now.top +ℤ pos y) }
 {
-    // (the bits at which the cells looked at so far are live)
+    // (the bits at which the cells examined so far are live)
     let mut left = square.tile.rows[y];
     for n in 1..cells.len() {
         if left == 0 {
@@ -30,7 +30,7 @@ fn may_stand_in_row(square: &Square, cells: &[(i32, i32)], y: usize) -> bool
     left != 0
 }
 
-/// Whether the cells may all be live, moved as a whole.
+/// False only if no move makes all of the cells live.
 pub fn may_stand(square: &Square, cells: &[(i32, i32)]) -> bool
     requires kept { IsSquare square.now }
     requires placed { All IsPlace cells.now }
