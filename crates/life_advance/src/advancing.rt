@@ -14,8 +14,7 @@ use life_cells::{CellList, Rule};
 use life_plane::{AGE_LIMIT, Plane};
 use std::alloc::{AllocError, Global};
 
-/// Makes some steps, and then leaps if these get further. It returns the cells at the age `until` if it has reached
-/// that.
+/// Makes some steps, then leaps if these get further. Returns the cells at the age `until` if that is reached.
 fn turn(
     alloc: Global,
     kept: &mut Option<LeapPlane>,
@@ -48,8 +47,8 @@ fn turn(
     Ok(None)
 }
 
-/// What the cells of a list become after `generations` generations. Steps in tiles are made until leaps may pay, and
-/// then both by turns. Leaps for which there is no memory are left out.
+/// The cells of a list `generations` generations later. Steps in tiles are made until leaps may pay, then both
+/// alternately. Leaps for which there is no memory are left out.
 pub fn generation_of(
     alloc: Global,
     rule: &Rule,

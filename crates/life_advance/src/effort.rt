@@ -1,10 +1,10 @@
-//! How work is divided between steps and leaps. This chooses what is tried next, and nothing rests on it.
+//! The division of work between steps and leaps. It only determines what is tried next: no answer depends on it.
 //!
-//! Work is counted in half bands of eight rows of 32 cells, some 12 ns each. Steps go on until leaps have paid off:
+//! Work is counted in half bands of eight rows of 32 cells, some 12 ns each. Steps are made until leaps have paid off:
 //! before each trial of leaps the work of all steps, done and to come, is estimated. Trials may take a quarter of it in
 //! all, and no more than twice the work done by steps. So if steps are better, little is lost, and if leaps are much
-//! better, a trial soon has enough. A trial that is given up is resumed from where it came to, while its next leap
-//! lands beyond the steps.
+//! better, one of the first trials has enough. A trial that is given up is resumed from where it stopped, as long as
+//! its next leap lands beyond the steps.
 ghost use Rattle.std.specs.Prelude.{◌≤◌};
 
 /// The work of steps before leaps are first tried.
@@ -19,7 +19,7 @@ const STEP_WORK: u64 = 2;
 /// The work of putting a cell into squares. Putting it back into tiles takes as much again.
 const CELL_WORK: u64 = 6;
 
-/// The active bands are counted once in `SAMPLE` steps.
+/// The number of steps for which the active bands are counted once.
 pub const SAMPLE: u32 = 16;
 
 /// The greatest power of two that is to divide the rest before leaps are tried.
@@ -52,19 +52,19 @@ pub struct Trial {
 }
 
 impl Trial {
-    /// The work that a trial may still do after it has worked `worked` and come to an age. It may also use what the
-    /// steps until then would have taken.
+    /// The work that a trial may still do after it has done `worked` and reached an age. It may also use what the steps
+    /// until then would have taken.
     pub fn left(&self, worked: u64, age: u32) -> u64 {
         let saved = self.saved(age) / 2;
         self.work.saturating_add(saved).saturating_sub(worked)
     }
 
-    /// Whether it may do at least half as much work as changing over costs.
+    /// True where it may do at least half as much work as changing over costs.
     pub fn is_worthwhile(&self) -> bool {
         self.work > self.over.saturating_add(self.back) / 4
     }
 
-    /// The work of the steps until an age that it has come to.
+    /// The work of the steps until an age that it has reached.
     fn saved(&self, age: u32) -> u64 {
         let generations = age.saturating_sub(self.age);
         self.rate.saturating_mul(u64::from(generations))
@@ -72,7 +72,7 @@ impl Trial {
 }
 
 impl Effort {
-    /// No work is done yet.
+    /// The effort before any work is done.
     pub fn new() -> Effort {
         Effort {
             steps: 0,
@@ -82,20 +82,20 @@ impl Effort {
         }
     }
 
-    /// Counts the steps until the next sample, each of which works out `bands` bands.
+    /// Counts the steps until the next sample, each of which computes `bands` bands.
     pub fn add_steps(&mut self, bands: u64) {
         self.rate = bands.saturating_mul(BAND_WORK).saturating_add(STEP_WORK);
         let work = self.rate.saturating_mul(u64::from(SAMPLE));
         self.steps = self.steps.saturating_add(work);
     }
 
-    /// Whether leaps are to be tried at an age, with `left` generations to come.
+    /// True where leaps are to be tried at an age, with `left` generations to come.
     pub fn is_trial_due(&self, age: u32, left: u32) -> bool {
         self.next_trial <= self.steps && left % wait_of(age) == 0
     }
 
-    /// A trial at an age, with `left` generations to come and `cells` cells. Its squares are there already if it
-    /// `is_begun`.
+    /// A trial at an age, with `left` generations to come and `cells` cells. If it `is_begun`, its squares exist
+    /// already.
     pub fn trial(&self, age: u32, left: u32, cells: u64, is_begun: bool) -> Trial {
         let to_come = self.rate.saturating_mul(u64::from(left));
         let part = self.steps.saturating_add(to_come) / 4;
@@ -111,12 +111,12 @@ impl Effort {
         }
     }
 
-    /// Sets when the next trial is due after one.
+    /// Sets the work at which the next trial is due.
     pub fn put_off(&mut self) {
         self.next_trial = self.steps.saturating_add(self.steps / 2).max(FIRST_TRIAL);
     }
 
-    /// Counts a trial that has worked `bands` bands of leaves and come to an age.
+    /// Counts a trial that has computed `bands` bands of leaves and reached an age.
     pub fn add_trial(&mut self, trial: &Trial, bands: u64, age: u32) {
         let back = if age > trial.age { trial.back } else { 0 };
         let spent = bands

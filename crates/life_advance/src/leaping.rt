@@ -12,7 +12,7 @@ use life_cells::{CellList, Rule};
 use life_plane::{AGE_LIMIT, Plane};
 use std::alloc::Global;
 
-/// How many more leaps are tried than there are generations to make, since some run out of memory.
+/// The number of leaps that are tried beyond the number of generations to make, since some run out of memory.
 const MORE_TRIES: u32 = 32;
 
 /// The greatest exponent, up to `greatest`, whose power of two divides a number.
@@ -45,7 +45,7 @@ fn make_room(plane: &mut LeapPlane)
 }
 
 /// Makes a leap towards an age, of at most 2^`greatest` generations and with at most `work` work. If it runs out of
-/// memory, the next leap has to be shorter. Returns whether to go on.
+/// memory, the next leap has to be shorter. Returns true where leaping may continue.
 fn leap_once(plane: &mut LeapPlane, until: u32, work: u64, greatest: &mut u32) -> bool
     requires until { until ≤ AGE_LIMIT }
     requires young { steps_made plane.old < until }
@@ -125,7 +125,7 @@ fn landing_of(plane: &LeapPlane) -> Option<Landing>
     }
 }
 
-/// Whether the next leap of a plane, if there is one, goes beyond an age.
+/// True where the next leap of a plane, if there is one, goes beyond an age.
 fn lands_beyond(plane: &Option<LeapPlane>, age: u32, until: u32) -> bool {
     match plane {
         Some(plane) => {
@@ -136,8 +136,8 @@ fn lands_beyond(plane: &Option<LeapPlane>, age: u32, until: u32) -> bool {
     }
 }
 
-/// The plane with which leaps go on: the one that is held, if it is not behind the board, or else one with the cells of
-/// the board, if there is memory.
+/// The plane with which leaps continue: the one that is held, if it is not behind the board, or otherwise one with the
+/// cells of the board, if there is memory.
 fn plane_for(
     alloc: Global,
     held: Option<LeapPlane>,

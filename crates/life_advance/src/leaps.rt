@@ -1,5 +1,5 @@
-//! The plane that leaps: a set of cells as squares of squares that remember what their middles become. Squares
-//! are given back when the plane collects or is dropped.
+//! The plane that leaps: a set of cells as squares of squares that remember what their middles become. Squares are
+//! freed when the plane collects or is dropped.
 mod building;
 mod centre;
 mod chains;

@@ -1,4 +1,4 @@
-//! Whether cells grow so far apart that nothing recurs within a bound.
+//! The test of whether cells grow so far apart that nothing recurs within a bound.
 //!
 //! Tested in `tests_objects`.
 

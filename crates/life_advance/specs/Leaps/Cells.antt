@@ -19,7 +19,7 @@ cells_of v (suc n) i p =
     ++ (cells_of v n (v.square i).quarters.south_west (beyond p 0 (width n))
     ++ cells_of v n (v.square i).quarters.south_east (beyond p (width n) (width n))))
 
--- a cell stands in the square of a level at a place
+-- a cell is in the square of a level at a place
 pub record IsInside (n : ℕ) (p c : Cell) : Type 0 where
   pub x : ℕ
   pub y : ℕ

@@ -11,7 +11,7 @@ pub record IsCopyOf (v : View) (n i : ℕ) (w : View) (copy : ℕ) : Type 0 wher
   pub at : IsAt w n copy
   pub shows : (G : Generation) (p : Cell) → Shows v n i G p → Shows w n copy G p
 
--- what a store keeps that takes copies
+-- the invariant of a store that takes copies
 pub record IsCopier (v : View) (c : Copier) : Type 0 where
   pub kept : IsKept (view c.store)
   pub many : length c.places.items ≡ v.squares

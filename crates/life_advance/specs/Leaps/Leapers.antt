@@ -1,4 +1,4 @@
--- What a plane that leaps keeps.
+-- The invariant of a plane that leaps.
 use Rattle.std.specs.Prelude.{◌≡◌, ◌≤◌, true}
 use Rattle.life_model.specs.Cell.{Cell}
 use Rattle.life_model.specs.Generation.{Generation, contains, from_list}

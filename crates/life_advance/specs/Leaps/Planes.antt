@@ -1,4 +1,4 @@
--- What a plane that leaps is: its cells, how many steps it has made, and its rule.
+-- A plane that leaps, as contracts see it: its cells, the number of steps that it has made, and its rule.
 use Rattle.std.specs.Prelude.{ℕ}
 use Rattle.std.specs.Coded.{Coded, coded×}
 use Rattle.life_model.specs.Coded.{coded_rule}

@@ -1,4 +1,4 @@
--- Squares of one level in a row, and what a store makes of a leap.
+-- Squares of one level in a row, and the results of a leap in a store.
 use Rattle.std.specs.Prelude.{ℕ, ◌+◌, ◌*◌, nat_lt, if◌then◌else◌}
 use Rattle.life_model.specs.Cell.{Cell}
 use Rattle.life_model.specs.Rule.{Rule}
@@ -42,24 +42,25 @@ pub record ShowsTwoInRow (v : View) (n : ℕ) (row : TwoInRow) (G : Generation) 
   pub west : Shows v n row.west G p
   pub east : Shows v n row.east G (beyond p (width n) 0)
 
--- how many generations a square whose quarters have a level still has to make after one of the level below
+-- the number of generations that a square whose quarters have a level still has to make after one of the level below
 abbrev pub rest : ℕ → ℕ → ℕ
 rest exponent n = if nat_lt (n + 4) exponent then jump exponent n else 0
 
--- of two rows of four squares, one below the other, three squares are the middles of each four that make one, some generations later
+-- three squares are the middles, some generations later, of the three that two rows of four make, one row below the
+-- other
 pub record AreThreeLater (rule : Rule) (t : ℕ) (v : View) (n : ℕ) (north south : FourInRow) (w : View) (three : ThreeInRow) : Type 0 where
   pub at : AreThreeAt w n three
   pub shows : (G : Generation) (p : Cell) → ShowsFourInRow v n north G p → ShowsFourInRow v n south G (beyond p 0 (width n)) →
       ShowsThreeInRow w n three (generation rule G t) (beyond p (half n) (half n))
 
--- of two rows of three squares, one below the other, two squares are the middles of each four that make one, some generations
--- later
+-- two squares are the middles, some generations later, of the two that two rows of three make, one row below the
+-- other
 pub record AreTwoLater (rule : Rule) (t : ℕ) (v : View) (n : ℕ) (north south : ThreeInRow) (w : View) (two : TwoInRow) : Type 0 where
   pub at : AreTwoAt w n two
   pub shows : (G : Generation) (p : Cell) → ShowsThreeInRow v n north G p → ShowsThreeInRow v n south G (beyond p 0 (width n)) →
       ShowsTwoInRow w n two (generation rule G t) (beyond p (half n) (half n))
 
--- a step that can be made in a store
+-- the step can be made in the store
 pub record IsReady (step : Step) (v : View) : Type 0 where
   pub logic : IsLogicOf step.logic step.rule
   pub kept : IsKept v

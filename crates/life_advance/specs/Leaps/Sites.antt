@@ -1,4 +1,4 @@
--- Where squares stand.
+-- The places of squares.
 use Rattle.std.specs.Prelude.{◌≡◌, ℕ, suc, ℤ, pos, neg_ℤ, ◌+ℤ◌, ◌<◌, ◌≤◌, ◌≤ℤ◌, List}
 use Rattle.life_model.specs.Cell.{Cell}
 use Rattle.life_advance.specs.declared.leaps.site.Site.{Site}
@@ -6,7 +6,7 @@ use Rattle.life_advance.specs.declared.leaps.site.Sites.{Sites}
 use Rattle.life_advance.specs.Leaps.Squares.{beyond, width}
 use Rattle.life_advance.specs.Leaps.Cells.{IsInside, IsListed}
 
--- the level of the square that has all cells of a plane, and where it begins
+-- the level of the square that has all cells of a plane, and the place where it begins
 abbrev pub root_level : ℕ
 root_level = 20
 
@@ -16,7 +16,7 @@ first_place = neg_ℤ (pos 16777216)
 abbrev pub root_corner : Cell
 root_corner = (first_place, first_place)
 
--- where the square begins that has that one in its middle
+-- the place where the square begins that has that one in its middle
 abbrev pub wide_corner : Cell
 wide_corner = (neg_ℤ (pos 33554432), neg_ℤ (pos 33554432))
 
@@ -32,7 +32,7 @@ pub record IsSite (site : Site) : Type 0 where
   pub north : first_place ≤ℤ site.top
   pub south : (site.top +ℤ pos (width site.level)) ≤ℤ pos 16777216
 
--- a cell stands in a column and a row of the square at a place
+-- a cell is in a column and a row of the square at a place
 pub record IsPlaceIn (site : Site) (c : Cell) (place : ℕ × ℕ) : Type 0 where
   pub wide : place.0 < width site.level
   pub high : place.1 < width site.level
@@ -50,11 +50,11 @@ pub record AreQuartersOf (site : Site) (sites : Sites) : Type 0 where
   pub south_west : IsQuarterOf site sites.south_west 0 (width sites.south_west.level)
   pub south_east : IsQuarterOf site sites.south_east (width sites.south_east.level) (width sites.south_east.level)
 
--- cells of a list, and all of those that stand in a square
+-- cells of a list, among them all that are in a square
 pub record IsPartOf (cells : List Cell) (site : Site) (part : List Cell) : Type 0 where
   pub listed : (q : Cell) → IsListed part q → IsListed cells q
   pub all : (q : Cell) → IsListed cells q → IsInside site.level (corner site) q → IsListed part q
 
--- all cells of a list stand in a square
+-- all cells of a list are in a square
 abbrev pub AreInside : Site → List Cell → Type 0
 AreInside site cells = (q : Cell) → IsListed cells q → IsInside site.level (corner site) q

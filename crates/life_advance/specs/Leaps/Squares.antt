@@ -10,19 +10,19 @@ use Rattle.life_advance.specs.Leaps.Places.{empty_at}
 use Rattle.life_advance.specs.declared.leaps.square.Quarters.{Quarters}
 use Rattle.life_advance.specs.declared.leaps.square.Square.{Square}
 
--- the leaves and the squares of a store, and how many there are
+-- the leaves and the squares of a store, and their numbers
 pub record View : Type 0 where
   pub leaf : ℕ → Leaf
   pub leaves : ℕ
   pub square : ℕ → Square
   pub squares : ℕ
 
--- half as many cells as a square of a level is wide
+-- half of the width of a square of a level, in cells
 unfoldable pub half : ℕ → ℕ
 half zero = 16
 half (suc n) = 2 * half n
 
--- how many cells a square of a level is wide
+-- the width of a square of a level, in cells
 abbrev pub width : ℕ → ℕ
 width n = 2 * half n
 
@@ -58,7 +58,7 @@ pub record AreAt (v : View) (n : ℕ) (quarters : Quarters) : Type 0 where
   pub south_west : IsAt v n quarters.south_west
   pub south_east : IsAt v n quarters.south_east
 
--- how many generations the answers of squares are for whose quarters have a level
+-- the number of generations by which squares whose quarters have a level remember their middles later
 abbrev pub jump : ℕ → ℕ → ℕ
 jump exponent n = 2 ^ min exponent (n + 4)
 
@@ -76,7 +76,7 @@ pub record IsMiddle (rule : Rule) (t : ℕ) (v : View) (n : ℕ) (quarters : Qua
 abbrev pub IsRight : Rule → ℕ → View → Square → Type 0
 IsRight rule exponent v square = (later : ℕ) → square.later ≡ Some later → IsMiddle rule (jump exponent square.level) v square.level square.quarters v later
 
--- what a store keeps
+-- the invariant of a store
 pub record IsKept (v : View) : Type 0 where
   pub leaf : (x y : ℕ) → leaf_cell (v.leaf 0) x y ≡ 0
   pub some : 0 < v.leaves
@@ -89,7 +89,7 @@ pub record IsKept (v : View) : Type 0 where
 abbrev pub AreRight : Rule → ℕ → View → Type 0
 AreRight rule exponent v = (i : ℕ) → i < v.squares → IsRight rule exponent v (v.square i)
 
--- a store has at its places what another one has
+-- the second store has at its places what the first one has there
 pub record Extends (v w : View) : Type 0 where
   pub leaf : (i : ℕ) → i < v.leaves → w.leaf i ≡ v.leaf i
   pub leaves : v.leaves ≤ w.leaves
@@ -97,13 +97,13 @@ pub record Extends (v w : View) : Type 0 where
   pub level : (i : ℕ) → i < v.squares → (w.square i).level ≡ (v.square i).level
   pub squares : v.squares ≤ w.squares
 
--- a store has grown, and goes on to be right
+-- a store has grown, and is right if it was right
 pub record Grows (rule : Rule) (exponent : ℕ) (v w : View) : Type 0 where
   pub kept : IsKept w
   pub extends : Extends v w
   pub right : AreRight rule exponent v → AreRight rule exponent w
 
--- what squares remember whose quarters have a level or a greater one is forgotten, and all else is unchanged
+-- what is remembered by squares whose quarters have a level or a greater one is forgotten, and all else is unchanged
 pub record Forgets (least : ℕ) (v w : View) : Type 0 where
   pub leaf : (i : ℕ) → w.leaf i ≡ v.leaf i
   pub leaves : w.leaves ≡ v.leaves

@@ -1,4 +1,4 @@
--- What a store has at its places.
+-- The leaves and squares of a store, by their places.
 use Rattle.std.specs.Prelude.{◌≡◌, ℕ, List, [], length, slice_index_or, None}
 use Rattle.life_slots.specs.declared.leaf.Leaf.{Leaf}
 use Rattle.life_advance.specs.declared.leaps.square.Square.{Square}

@@ -15,7 +15,7 @@ use crate::leaps::store::Store;
 use life_slots::Leaf;
 use std::alloc::{AllocError, Global};
 
-/// Cells of a list, among them all that stand in a square.
+/// Cells of a list, among them all that are in a square.
 fn part_of(alloc: Global, cells: &[(i32, i32)], site: &Site) -> Result<Vec<(i32, i32)>, AllocError>
     requires { IsSite site.now }
     ensures { IfOk result (λ part. IsPartOf cells.now site.now part.items) }
@@ -29,7 +29,7 @@ fn part_of(alloc: Global, cells: &[(i32, i32)], site: &Site) -> Result<Vec<(i32,
     Ok(part)
 }
 
-/// The leaf with those cells of a list that stand in it.
+/// The leaf with those cells of a list that are in it.
 fn leaf_of(cells: &[(i32, i32)], site: &Site) -> Leaf
     requires site { IsSite site.now }
     requires leaf { site.now.level ≡ 0 }
@@ -44,7 +44,7 @@ fn leaf_of(cells: &[(i32, i32)], site: &Site) -> Leaf
     leaf
 }
 
-/// Whether all cells of a list stand in a square.
+/// True only if all cells of a list are in a square.
 fn are_in(cells: &[(i32, i32)], site: &Site) -> bool
     requires { IsSite site.now }
     ensures { IsTrue result → AreInside site.now cells.now }
@@ -58,7 +58,7 @@ fn are_in(cells: &[(i32, i32)], site: &Site) -> bool
 }
 
 impl Store {
-    /// The square at a site with the cells of a list, which all stand in its first quarter.
+    /// The square at a site with the cells of a list, which are all in its first quarter.
     #[cycle(build)]
     fn build_first(
         &mut self,
@@ -87,7 +87,7 @@ impl Store {
         Ok(place)
     }
 
-    /// The square at a site with those cells of a list that stand in it. Only these are looked at further.
+    /// The square at a site with those cells of a list that are in it. Only these are examined further.
     #[cycle(build)]
     fn build_part(&mut self, site: &Site, cells: &[(i32, i32)]) -> Result<u32, AllocError>
         requires kept { IsKept (view self.old) }
@@ -103,7 +103,7 @@ impl Store {
         Ok(place)
     }
 
-    /// The square at a site with those cells of a list that stand in it.
+    /// The square at a site with those cells of a list that are in it.
     #[cycle(build)]
     pub fn build(&mut self, site: &Site, cells: &[(i32, i32)]) -> Result<u32, AllocError>
         requires kept { IsKept (view self.old) }

@@ -1,13 +1,13 @@
-//! Places of a list, found by what is there.
+//! Places of a list, found by hashes of what is there.
 ghost use Rattle.std.specs.Prelude.{◌<◌};
 
 use std::alloc::{AllocError, Global};
 
-/// How many chains there are at first.
+/// The number of chains at first.
 const FIRST_CHAINS: usize = 64;
 
-/// Places of a list in chains, each for a part of all mixed numbers. Whatever they hold, a chain goes to lower places and ends
-/// with 0. What is at a place must be looked at before it is used.
+/// Places of a list in chains, as in a hash table: each chain is for a part of all mixed numbers (hashes). Whatever it holds,
+/// a chain goes to lower places and ends with 0. What is at a place must be compared before it is used.
 #[derive(Drop)]
 pub struct Chains {
     /// The first place of each chain.
@@ -27,7 +27,7 @@ impl Chains {
         Ok(chains)
     }
 
-    /// Leaves out all places, and has this many chains.
+    /// Removes all places, and makes this many chains.
     pub fn clear(&mut self, chains: usize) -> Result<(), AllocError> {
         self.heads.clear();
         self.heads.resize(chains, 0)?;
@@ -35,7 +35,7 @@ impl Chains {
         Ok(())
     }
 
-    /// Which chain has the places of a mixed number.
+    /// The number of the chain that has the places of a mixed number.
     fn chain_of(&self, mixed: u64) -> usize {
         let chains = self.heads.len() as u64;
         ((mixed >> 32).wrapping_mul(chains) >> 32) as usize
@@ -59,7 +59,7 @@ impl Chains {
         }
     }
 
-    /// Whether there are more places than chains.
+    /// True where there are more places than chains.
     pub fn is_full(&self) -> bool {
         self.nexts.len() > self.heads.len()
     }

@@ -1,4 +1,4 @@
-//! A store with no squares but those that one is made of.
+//! A store with only the squares that one square is made of.
 ghost use Rattle.std.specs.Prelude.{◌≡◌, ℕ, Some, None, slice_index_or, IfOk, IfSome};
 ghost use Rattle.life_model.specs.Rule.{Rule};
 ghost use Rattle.life_advance.specs.Leaps.Squares.{AreRight, Grows, IsAt, IsKept};
@@ -9,21 +9,21 @@ use crate::leaps::square::{Quarters, ROOT_LEVEL};
 use crate::leaps::store::Store;
 use std::alloc::{AllocError, Global};
 
-/// How much work it is to copy a square.
+/// The work of copying a square.
 const COPY_WORK: u64 = 2;
 
 /// A store that takes copies of squares of another one.
 #[derive(Drop)]
 pub struct Copier {
     pub store: Store,
-    /// For each square of the other store the place of its copy, where it has one.
+    /// For each square of the other store, the place of its copy, if it has one.
     pub places: Vec<Option<u32>>,
 }
 
 impl Copier {
     ghost use Rattle.life_advance.specs.Leaps.Copies.{IsCopier, IsCopyOf};
 
-    /// A store without copies except of the empty squares, which has worked as much as the other one.
+    /// A store without copies, except of the empty squares, which has done as much work as the other one.
     fn new(alloc: Global, old: &Store) -> Result<Copier, AllocError>
         ensures copier { IfOk result (IsCopier (view old.now)) }
         ensures right { IfOk result (λ c. (rule : Rule) (e : ℕ) → AreRight rule e (view c.store)) }
@@ -35,7 +35,7 @@ impl Copier {
         Ok(Copier { store, places })
     }
 
-    /// The place of the copy of a square, where it has one.
+    /// The place of the copy of a square, if it has one.
     fn found(&self, place: u32) -> Option<u32>
         ensures { IfSome result (λ copy. slice_index_or self.now.places.items place None ≡ Some copy) }
     {
@@ -82,8 +82,8 @@ impl Copier {
 impl Leaper {
     ghost use Rattle.life_advance.specs.Leaps.Leapers.{IsLeaper, cells_in};
 
-    /// Keeps no squares but those that the one with all cells is made of, and forgets what they become. After an `Err` all is
-    /// unchanged.
+    /// Keeps only the squares that the one with all cells is made of, and forgets what they become. After an `Err` nothing
+    /// has changed.
     pub fn collect(&mut self) -> Result<(), AllocError>
         requires { IsLeaper self.old }
         ensures kept { IsLeaper self.new }

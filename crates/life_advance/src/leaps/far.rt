@@ -37,7 +37,7 @@ pub struct Spots {
     pub fourth: Spot,
 }
 
-/// Whether a cell stands further to a side than another.
+/// True where a cell is further to a side than another.
 fn is_further(side: Side, cell: (i32, i32), other: (i32, i32)) -> bool {
     match side {
         Side::North => cell.1 < other.1,
@@ -47,7 +47,7 @@ fn is_further(side: Side, cell: (i32, i32), other: (i32, i32)) -> bool {
     }
 }
 
-/// The one of two cells that stands further to a side.
+/// The one of two cells that is further to a side.
 fn further(side: Side, one: Option<(i32, i32)>, other: Option<(i32, i32)>) -> Option<(i32, i32)>
     ensures some { IfSome result (λ cell. (one ≡ Some cell) ⊎ (other ≡ Some cell)) }
     ensures none { IfNone result ((one ≡ None) × (other ≡ None)) }
@@ -136,8 +136,7 @@ impl Store {
         }
     }
 
-    /// A live cell of a square that stands far to a side: no live cells stand further in any of its leaves. `None` where none is
-    /// live.
+    /// A live cell of a square, far to a side: no live cells are further in any of its leaves. `None` if none is live.
     pub fn far_cell(&self, side: Side, spot: &Spot) -> Option<(i32, i32)>
         requires kept { IsKept (view self.now) }
         requires spot { IsSpot (view self.now) spot.now }

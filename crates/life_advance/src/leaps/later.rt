@@ -8,10 +8,10 @@ use crate::leaps::rows::{FourInRow, Step, ThreeInRow, TwoInRow, northern, southe
 use crate::leaps::square::Quarters;
 use crate::leaps::store::{NoLeap, Store};
 
-/// How much work a square is that is made of squares.
+/// The work of a square that is made of squares.
 const SQUARE_WORK: u64 = 10;
 
-/// How much work a generation of the middle of four leaves is.
+/// The work of a generation of the middle of four leaves.
 const LEAF_WORK: u64 = 8;
 
 impl Store {
@@ -58,7 +58,7 @@ impl Store {
         }
     }
 
-    /// The middle of a square whose quarters are made of squares of a level. These sixteen make nine squares that overlap, which
+    /// The middle of a square whose quarters are made of squares of a level. The sixteen squares make nine that overlap, which
     /// go the first half of the way, and the four squares that those make go the rest.
     #[cycle(later)]
     fn middle_of_squares(

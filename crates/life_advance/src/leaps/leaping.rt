@@ -14,7 +14,7 @@ use life_cells::{CellList, Rule, put_in_order};
 use life_plane::Logic;
 use std::alloc::{AllocError, Global};
 
-/// The squares of a set of cells, what to work out of them, and how many steps it has made.
+/// The squares of a set of cells, what is to be computed of them, and the number of steps that the set has made.
 #[derive(Drop)]
 pub struct Leaper {
     pub alloc: Global,
@@ -25,7 +25,7 @@ pub struct Leaper {
     pub age: u32,
 }
 
-/// The least level for which squares with quarters of it remember something else where leaps have another exponent.
+/// The least level for which squares with quarters of it remember something else if leaps have another exponent.
 fn first_changed(old: u32, new: u32) -> u32
     ensures { (n : ℕ) → n < result → min old (n + 4) ≡ min new (n + 4) }
 {
@@ -39,7 +39,7 @@ fn first_changed(old: u32, new: u32) -> u32
 impl Leaper {
     ghost use Rattle.life_advance.specs.Leaps.Leapers.{IsLeaper, cells_in};
 
-    /// The squares of the cells of a list, at some age, at which their places may be.
+    /// The squares of the cells of a list at some age. The cells are in the range of that age.
     pub fn at_age(
         alloc: Global,
         rule: &Rule,
@@ -71,7 +71,7 @@ impl Leaper {
         })
     }
 
-    /// Makes the store ready for leaps of 2^exponent generations, and for `work` more work.
+    /// Prepares the store for leaps of 2^exponent generations, and for `work` more work.
     fn prepare(&mut self, exponent: u32, work: u64)
         requires { IsLeaper self.old }
         ensures kept { IsLeaper self.new }
@@ -119,7 +119,7 @@ impl Leaper {
         Ok(CellList::from_ordered(cells))
     }
 
-    /// A live cell far to a side. `None` where none is live.
+    /// A live cell far to a side. `None` if none is live.
     pub fn far_cell(&self, side: Side) -> Option<(i32, i32)>
         requires { IsLeaper self.now }
         ensures member { IfSome result (λ c. sets.contains (cells_in self.now) c ≡ true) }

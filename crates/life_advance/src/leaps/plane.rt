@@ -12,8 +12,8 @@ use life_cells::{CellList, Rule};
 use std::alloc::{AllocError, Global};
 use std::marker::Model;
 
-/// A finite set of live cells, kept as squares that remember what they become, how many steps it has made, and its rule. It keeps
-/// the squares that it has made until it collects.
+/// A finite set of live cells, kept as squares that remember what they become, the number of steps that it has made, and its
+/// rule. It keeps the squares that it has made until it collects.
 #[derive(Drop)]
 pub struct LeapPlane {
     leaper: Leaper,
@@ -33,7 +33,7 @@ impl Model for LeapPlane {
 }
 
 impl LeapPlane {
-    /// The plane of these cells at some age, at which their places may be, and by a rule.
+    /// The plane of these cells at some age, by a rule. The cells are in the range of that age.
     pub fn at_age(alloc: Global, rule: &Rule, list: &CellList, age: u32) -> Result<Self, AllocError>
         requires age { age ≤ farthest_age }
         requires within { All (IsWithin age) (sets.cells list.now) }
@@ -45,8 +45,8 @@ impl LeapPlane {
         Ok(LeapPlane { leaper })
     }
 
-    /// Replaces all cells by those of a list, at some age, at which their places may be. What was worked out is kept, and so is
-    /// the rule. After an `Err` the cells and the age are unchanged.
+    /// Replaces all cells by those of a list, at some age. The cells are in the range of that age. What was computed is kept, and
+    /// so is the rule. After an `Err` the cells and the age are unchanged.
     pub fn put(&mut self, list: &CellList, age: u32) -> Result<(), AllocError>
         requires age { age ≤ farthest_age }
         requires within { All (IsWithin age) (sets.cells list.now) }
@@ -60,8 +60,8 @@ impl LeapPlane {
         Ok(())
     }
 
-    /// Makes 2^exponent generations, for about `work` work: a unit is a band of eight rows of 64 cells. After an `Err` the cells
-    /// and the age are unchanged.
+    /// Makes 2^exponent generations, with about `work` work, in units of a band of eight rows of 64 cells. After an `Err` the
+    /// cells and the age are unchanged.
     pub fn leap(&mut self, exponent: u32, work: u64) -> Result<(), NoLeap>
         requires { steps_made self.old + 2 ^ exponent ≤ farthest_age }
         ensures cells { OnOk result (members self.new ≡
@@ -75,13 +75,13 @@ impl LeapPlane {
         Ok(())
     }
 
-    /// Whether squares take half of the memory that they may take. Leaps are refused once they take all.
+    /// True where squares take half of the memory that they may take. Leaps are refused once they take all.
     pub fn is_half_full(&self) -> bool {
         self.leaper.store.is_half_full()
     }
 
-    /// Gives back the memory of all squares but those that show the cells now, and forgets what was worked out. After an `Err`
-    /// all is unchanged.
+    /// Frees the memory of all squares but those that show the cells now, and forgets what was computed. After an `Err` nothing
+    /// has changed.
     pub fn collect(&mut self) -> Result<(), AllocError>
         ensures { self.new ≡ self.old }
     {
@@ -96,7 +96,7 @@ impl LeapPlane {
         self.leaper.cells()
     }
 
-    /// A live cell far to a side: no leaf, of 32 by 32 cells, that has live ones stands further. `None` where none is live.
+    /// A live cell far to a side: no leaf, of 32 by 32 cells, that has live ones is further. `None` if none is live.
     pub fn far_cell(&self, side: Side) -> Option<(i32, i32)>
         ensures member { IfSome result (λ c. sets.contains (members self.now) c ≡ true) }
         ensures place { IfSome result IsPlace }
@@ -105,7 +105,7 @@ impl LeapPlane {
         self.leaper.far_cell(side)
     }
 
-    /// How many steps it has made. No cell is further from the places of age 0 than that.
+    /// The number of steps that it has made. No cell is further than that from the range of age 0.
     pub fn age(&self) -> u32
         ensures age { result ≡ steps_made self.now }
         ensures within { All (IsWithin (steps_made self.now)) (sets.cells (members self.now)) }
@@ -113,7 +113,7 @@ impl LeapPlane {
         self.leaper.age
     }
 
-    /// How much it has worked since it was made.
+    /// The work that it has done since it was made.
     pub fn work(&self) -> u64 {
         self.leaper.store.work
     }

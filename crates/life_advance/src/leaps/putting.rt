@@ -12,7 +12,7 @@ use std::alloc::AllocError;
 impl Leaper {
     ghost use Rattle.life_advance.specs.Leaps.Leapers.{IsLeaper, cells_in};
 
-    /// Replaces all cells by those of a list, at some age, at which their places may be. What squares remember they go on to
+    /// Replaces all cells by those of a list, at some age. The cells are in the range of that age. Squares keep what they
     /// remember. After an `Err` the cells and the age are unchanged.
     pub fn put(&mut self, list: &CellList, age: u32) -> Result<(), AllocError>
         requires kept { IsLeaper self.old }

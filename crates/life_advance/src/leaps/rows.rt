@@ -1,18 +1,18 @@
-//! Squares side by side, and what a store works out of them.
+//! Squares side by side, and what a store computes of them.
 ghost use Rattle.std.specs.Prelude.{◌≡◌};
 
 use crate::leaps::square::Quarters;
 use life_cells::Rule;
 use life_plane::Logic;
 
-/// What a store works out: the middle of each square 2^exponent generations later, where it is wide enough for that, and
+/// The task of a store: the middle of each square 2^exponent generations later, if it is wide enough for that, and
 /// otherwise as many generations later as its width allows.
 #[derive(Clone, Copy)]
 pub struct Step {
     pub rule: Rule,
     pub logic: Logic,
     pub exponent: u32,
-    /// Nothing is begun once this much work is done.
+    /// The work after which nothing is begun.
     pub work: u64,
 }
 

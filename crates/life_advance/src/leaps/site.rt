@@ -1,4 +1,4 @@
-//! Where squares stand.
+//! The places of squares.
 ghost use Rattle.std.specs.Prelude.{◌≡◌, ℕ, ℤ, pos, ◌+ℤ◌, ◌<◌, ◌≤◌, ◌≤ℤ◌, suc, MatchOption};
 ghost use Rattle.life_advance.specs.Leaps.Cells.{IsInside};
 ghost use Rattle.life_advance.specs.Leaps.Sites.{AreQuartersOf, IsPlaceIn, IsSite, corner, first_place, root_corner, root_level};
@@ -8,7 +8,7 @@ use crate::leaps::square::ROOT_LEVEL;
 /// The first column and the first row of the square that has all cells of a plane.
 const FIRST_PLACE: i32 = -16_777_216;
 
-/// How wide that square is.
+/// The width of that square.
 const ROOT_WIDTH: u32 = 33_554_432;
 
 /// The place of a square of a level.
@@ -29,7 +29,7 @@ pub struct Sites {
     pub south_east: Site,
 }
 
-/// Which of `wide` columns from a column on this one is. It is used for rows too.
+/// The number of a column among `wide` from a column on, if it is one of these. It is used for rows too.
 fn column_of(z: i32, from: i32, wide: u32) -> Option<u32>
     requires first { first_place ≤ℤ from }
     requires last { (from +ℤ pos wide) ≤ℤ pos 16777216 }
@@ -61,7 +61,7 @@ impl Site {
         }
     }
 
-    /// The column and the row of the square in which a cell stands.
+    /// The column and the row of the square that a cell is in.
     pub fn place_of(&self, cell: (i32, i32)) -> Option<(u32, u32)>
         requires { IsSite self.now }
         ensures { MatchOption result (IsInside self.now.level (corner self.now) cell → ⊥)

@@ -24,7 +24,7 @@ pub struct Square {
     pub quarters: Quarters,
     /// The level of the quarters.
     pub level: u32,
-    /// The square in the middle, half as wide, as many generations later as the store makes in one leap, where it is known.
+    /// The square in the middle, half as wide, as many generations later as the store makes in one leap, if it is known.
     pub later: Option<u32>,
 }
 
@@ -40,7 +40,7 @@ impl Square {
         }
     }
 
-    /// Whether these are the quarters, and of this level.
+    /// True only if these are the quarters, and of this level.
     pub fn is_made_of(&self, level: u32, quarters: &Quarters) -> bool
         ensures { IsTrue result → (self.now.level ≡ level) × (self.now.quarters ≡ quarters.now) }
     {
@@ -48,14 +48,14 @@ impl Square {
     }
 }
 
-/// The place of the square of a level without a live cell.
+/// The place of the empty square of a level.
 pub fn empty_place(level: u32) -> u32
     ensures { result ≡ empty_at level }
 {
     level.saturating_sub(1)
 }
 
-/// A number in which all bits of four places and of a level have a part.
+/// A number that depends on all bits of four places and of a level.
 pub fn mix_quarters(level: u32, quarters: &Quarters) -> u64 {
     let north = u64::from(quarters.north_west) | u64::from(quarters.north_east) << 32;
     let south = u64::from(quarters.south_west) | u64::from(quarters.south_east) << 32;

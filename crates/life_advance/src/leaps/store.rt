@@ -12,13 +12,13 @@ use life_slots::Leaf;
 use std::alloc::{AllocError, Global};
 use thiserror::Error;
 
-/// How much memory squares may take, in pieces of some sixty bytes.
+/// The memory that squares may take, in pieces of some sixty bytes.
 const PIECES: u64 = 4_000_000;
 
-/// How many pieces a leaf takes.
+/// The number of pieces that a leaf takes.
 const LEAF_PIECES: u64 = 4;
 
-/// Why a leap was not made.
+/// The reason why a leap was not made.
 #[derive(Clone, Copy, Debug, PartialEq, Eq, Drop, Error)]
 pub enum NoLeap {
     /// It would have been too much work.
@@ -35,7 +35,7 @@ impl From<AllocError> for NoLeap {
     }
 }
 
-/// The next place of a list of this length. There are no more than fit into a square.
+/// The next place of a list of this length, if a square can refer to it.
 fn place_of(len: usize) -> Result<u32, AllocError>
     ensures { IfOk result (λ i. i ≡ len) }
 {
@@ -50,13 +50,13 @@ pub struct Store {
     leaf_chains: Chains,
     pub squares: Vec<Square>,
     square_chains: Chains,
-    /// How many pieces of memory are taken.
+    /// The number of pieces of memory that are taken.
     taken: u64,
-    /// How much was worked: in bands of eight rows of a leaf's area.
+    /// The work done, in bands of eight rows of a leaf's area.
     pub work: u64,
 }
 
-/// A number in which all bits of a leaf have a part.
+/// A number that depends on all bits of a leaf.
 fn mix_leaf(leaf: &Leaf) -> u64 {
     let mut mixed: u64 = 1;
     for row in &leaf.rows {
@@ -94,12 +94,12 @@ impl Store {
         Ok(store)
     }
 
-    /// Whether half of the memory that squares may take is taken.
+    /// True where half of the memory that squares may take is taken.
     pub fn is_half_full(&self) -> bool {
         self.taken >= PIECES / 2
     }
 
-    /// Takes memory, where any is left.
+    /// Takes memory, if any is left.
     fn take(&mut self, pieces: u64) -> Result<(), AllocError>
         requires { pieces ≤ 4 }
         ensures { HasSame self.old self.new }
@@ -163,7 +163,7 @@ impl Store {
         Ok(())
     }
 
-    /// The place of a leaf, where it is found.
+    /// The place of a leaf, if it is found.
     fn find_leaf(&self, leaf: &Leaf, mixed: u64) -> Option<u32>
         ensures at { IfSome result (λ i. i < (view self.now).leaves) }
         ensures is { IfSome result (λ i. (view self.now).leaf i ≡ leaf.now) }
@@ -197,7 +197,7 @@ impl Store {
         Ok(place)
     }
 
-    /// The place of the square that has quarters of a level, where it is found.
+    /// The place of the square that has quarters of a level, if it is found.
     fn find_square(&self, level: u32, quarters: &Quarters, mixed: u64) -> Option<u32>
         ensures at { IfSome result (λ i. IsAt (view self.now) (suc level) i) }
         ensures is { IfSome result (λ i. ((view self.now).square i).quarters ≡ quarters.now) }
@@ -260,7 +260,7 @@ impl Store {
         self.squares[place as usize].later = Some(later);
     }
 
-    /// Forgets what squares remember whose quarters have this level or a greater one.
+    /// Forgets what is remembered by squares whose quarters have this level or a greater one.
     pub fn forget(&mut self, level: u32)
         ensures { Forgets level (view self.old) (view self.new) }
     {

@@ -12,8 +12,8 @@ use crate::width::spread::spread_of;
 use life_cells::{CellList, Rule};
 use std::alloc::Global;
 
-/// The exponent of the number of generations that are leapt over at once. What sends something out at a quarter of a
-/// cell per generation, to one side only, is then wider than it may be within a bound of 1,000,000.
+/// The exponent of the number of generations that are leapt over at once. A pattern that sends something out at a
+/// quarter of a cell per generation, to one side only, is then wider than it may be within a bound of 1,000,000.
 const FAR: u32 = 23;
 
 /// The first generation at which the distance between the cells is checked.
@@ -22,7 +22,8 @@ const FIRST_ASKED: u32 = 2_048;
 /// The last generation at which it is checked.
 const LAST_ASKED: u32 = 1_048_576;
 
-/// How many cells make a leap as expensive as a band of eight rows of 64 cells in each generation before it.
+/// The number of cells with which a leap is as expensive as a band of eight rows of 64 cells in each generation before
+/// it.
 const CELLS_OF_WORK: u64 = 16;
 
 /// A generation long after this one, if some work and the memory that there is are enough. The work is about a fraction
@@ -43,7 +44,7 @@ fn far_generation(alloc: Global, rule: &Rule, cells: &CellList, age: u32) -> Opt
     }
 }
 
-/// Whether two cells are in columns more than `most` apart.
+/// True only if two cells are in columns more than `most` apart.
 fn is_wider(plane: &LeapPlane, most: i64) -> bool
     ensures { IsTrue result →
         (n : ℕ) → pos n ≤ℤ most → SpansColumns (members plane.now) n → ⊥ }
@@ -57,7 +58,7 @@ fn is_wider(plane: &LeapPlane, most: i64) -> bool
     i64::from(east.0) - i64::from(west.0) > most
 }
 
-/// Whether two cells are in rows more than `most` apart.
+/// True only if two cells are in rows more than `most` apart.
 fn is_higher(plane: &LeapPlane, most: i64) -> bool
     ensures { IsTrue result →
         (n : ℕ) → pos n ≤ℤ most → SpansRows (members plane.now) n → ⊥ }
@@ -71,10 +72,10 @@ fn is_higher(plane: &LeapPlane, most: i64) -> bool
     i64::from(south.1) - i64::from(north.1) > most
 }
 
-/// Whether the cells of a later generation, of this age, show that the cells grow further apart than they may if a
+/// True only if the cells of a later generation, of this age, show that the cells grow further apart than they may if a
 /// generation recurs within a bound. A far generation is made from them by leaps. This is not checked before age 2,048.
-/// A negative answer means nothing: the leaps may be too much work or run out of memory, or the cells of the far
-/// generation may be near enough.
+/// False promises nothing: the leaps may be too much work or run out of memory, or the cells of the far generation may
+/// be near enough.
 pub fn outgrows(
     alloc: Global,
     rule: &Rule,

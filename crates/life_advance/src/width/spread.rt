@@ -1,17 +1,17 @@
-//! How far apart the cells of a list are.
+//! The distances between the cells of a list.
 ghost use Rattle.std.specs.Prelude.{All};
 ghost use Rattle.life_model.specs.Generation.{from_list};
 ghost use Rattle.life_cells.specs.Limits.{IsPlace};
 ghost use Rattle.life_advance.specs.Width.Spans.{SpansColumns, SpansRows};
 
-/// How many columns the rightmost cell is from the leftmost one, and how many rows the lowest is below the highest.
+/// The number of columns from the leftmost cell to the rightmost one, and of rows from the highest to the lowest.
 #[derive(Clone, Copy)]
 pub struct Spread {
     pub columns: u32,
     pub rows: u32,
 }
 
-/// How far apart cells are. If there is none, any number will do.
+/// The spread of cells. If there is none, any numbers will do.
 pub fn spread_of(cells: &[(i32, i32)]) -> Spread
     requires { All IsPlace cells.now }
     ensures columns { SpansColumns (from_list cells.now) result.columns }
