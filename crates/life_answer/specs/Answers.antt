@@ -1,4 +1,4 @@
--- What is found for a pattern that settles.
+-- The finding for a pattern that settles.
 use Rattle.std.specs.Prelude.{ℕ, ◌+◌, Option, Some, None}
 use Rattle.life_model.specs.Rule.{Rule}
 use Rattle.life_model.specs.Generation.{Generation, size}
@@ -28,14 +28,14 @@ abbrev pub outcome_from : Rule → Generation → ℕ → Option ℕ → Outcome
 outcome_from R G b None = Unresolved
 outcome_from R G b (Some onset) = outcome_at R G onset (first_return R G b onset)
 
--- what becomes of a set within the bound
+-- the outcome of a set within the bound
 unfoldable pub outcome_of : Rule → Generation → ℕ → Outcome
 outcome_of R G b = outcome_from R G b (first_onset R G b)
 
--- what is found for a set with this outcome
+-- the finding for a set with this outcome
 abbrev pub finding_with : Generation → Outcome → Finding
 finding_with G outcome = record { population = size G; outcome = outcome }
 
--- what is found for a set within the bound
+-- the finding for a set within the bound
 abbrev pub finding_of : Rule → Generation → ℕ → Finding
 finding_of R G b = finding_with G (outcome_of R G b)

@@ -1,4 +1,4 @@
--- The code of an object, as on LifeWiki. Which of equally short bodies is taken is this project's choice.
+-- The code of an object, as on LifeWiki. The choice among equally short bodies is this project's own.
 use Rattle.std.specs.Prelude.{ℕ, List, [], ◌∷◌, ◌++◌, codes, decimal, map, flat_map, ◌==◌, if◌then◌else◌}
 use Rattle.std.specs.List.{range_with_len}
 use Rattle.life_model.specs.Cell.{Cell, origin, same_cell}
@@ -28,7 +28,7 @@ turned_bodies G = map (λ m. body (image_under G m)) orientations
 abbrev pub bodies : Rule → Generation → ℕ → List (List ℕ)
 bodies R H period = flat_map (λ n. turned_bodies (generation R H n)) (range_with_len 0 period)
 
--- the code of a set that recurs after `period` steps, moved by `displacement`: its prefix, and then the least of those texts,
--- by length and then by bytes
+-- the code of a set that recurs after `period` steps, moved by `displacement`: its prefix, then the least of those texts, by
+-- length, then by bytes
 unfoldable pub code_of : Rule → Generation → ℕ → Cell → List ℕ
 code_of R H period displacement = prefix (size H) period displacement ++ codes "_" ++ least_text (bodies R H period)

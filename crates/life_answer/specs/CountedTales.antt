@@ -9,17 +9,17 @@ use Rattle.life_answer.specs.declared.tale.Engines.{Engines}
 use Rattle.life_answer.specs.declared.tale.Tale.{Tale}
 use Rattle.life_cells.specs.TextOrder.{shorter_cmp}
 
--- by code, and then by number
+-- by code, then by number
 abbrev pub part_cmp : Part → Part → Ordering
 part_cmp p q = ordering_then (shorter_cmp p.code q.code) (nat_cmp p.count q.count)
 
--- by period, by how far to the right and by how far down, and then by what is emitted, entry by entry
+-- by period, then by the moves to the right and down, then by what is emitted, entry by entry
 abbrev pub tale_cmp : Tale → Tale → Ordering
 tale_cmp s t =
     ordering_then (nat_cmp s.period t.period)
     (ordering_then (int_cmp s.dx t.dx) (ordering_then (int_cmp s.dy t.dy) (slice_cmp part_cmp s.emits t.emits)))
 
--- whether the tales are the same
+-- true where the tales are the same
 abbrev pub same_tale : Tale → Tale → Bool
 same_tale s t = eq_by_cmp tale_cmp s t
 

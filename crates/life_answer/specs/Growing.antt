@@ -8,13 +8,13 @@ use Rattle.life_answer.specs.declared.finding.Outcome.TheVariants.{Grows}
 use Rattle.life_answer.specs.declared.tale.Engines.{Engines}
 
 -- The greatest bound from 1 to b such that no generation up to four times that bound has more cells than it may have; 0
--- where there is none.
+-- if there is none.
 unfoldable pub allowed_bound : Option ℕ → Rule → Generation → ℕ → ℕ
 allowed_bound limit R G zero = 0
 allowed_bound limit R G (suc b) =
     if is_none (first_past limit R G (4 * suc b)) then suc b else allowed_bound limit R G b
 
--- that it grows, where that is reported, and otherwise another outcome
+-- growth, if engines are reported, and otherwise another outcome
 abbrev pub growing_or : Option (List Engines) → Outcome → Outcome
 growing_or (Some engines) outcome = Grows engines
 growing_or None outcome = outcome

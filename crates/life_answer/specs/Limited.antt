@@ -1,4 +1,4 @@
--- What becomes of a pattern whose generations may have no more than some number of cells.
+-- The outcome of a pattern whose generations may have no more than some number of cells.
 use Rattle.std.specs.Prelude.{◌≤◌, ℕ, suc, Option, Some, None, nat_lt}
 use Rattle.life_model.specs.Rule.{Rule}
 use Rattle.life_model.specs.Generation.{Generation, size}

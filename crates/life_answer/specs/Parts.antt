@@ -24,7 +24,7 @@ with_code_by_order Less code part parts rest = single code ∷ part ∷ parts
 with_code_by_order Equal code part parts rest = more part ∷ parts
 with_code_by_order Greater code part parts rest = part ∷ rest
 
--- one more object with this code, counted among parts in the order of their codes, by length and then by bytes
+-- one more object with this code, counted among parts in the order of their codes, by length, then by bytes
 abbrev pub with_code : List ℕ → List Part → List Part
 with_code code [] = single code ∷ []
 with_code code (part ∷ parts) = with_code_by_order (shorter_cmp code part.code) code part parts (with_code code parts)
@@ -33,6 +33,6 @@ with_code code (part ∷ parts) = with_code_by_order (shorter_cmp code part.code
 abbrev pub with_codes : List (List ℕ) → List Part → List Part
 with_codes codes parts = fold (λ parts code. with_code code parts) parts codes
 
--- objects with these codes, counted: for each code one part, in the order of codes, by length and then by bytes
+-- objects with these codes, counted: for each code one part, in the order of codes, by length, then by bytes
 abbrev pub counted_codes : List (List ℕ) → List Part
 counted_codes codes = with_codes codes []

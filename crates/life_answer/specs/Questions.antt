@@ -1,4 +1,4 @@
--- What is found for an RLE text, whatever the question.
+-- The answer to an RLE text, for each question.
 use Rattle.std.specs.Prelude.{◌≤◌, ℕ, ◌*◌, min, List, Result, Ok, Err}
 use Rattle.std.specs.Coded.{Coded}
 use Rattle.life_model.specs.Rule.{Rule}
@@ -27,11 +27,11 @@ abbrev pub bound_of : Question → ℕ
 bound_of (Settles bound cells) = bound
 bound_of (Objects bound cells near horizon) = bound
 
--- the greatest bound for the question how a pattern settles
+-- the greatest bound of the question how a pattern settles
 abbrev pub settles_bound_limit : ℕ
 settles_bound_limit = 1000000
 
--- the greatest bound for such a question
+-- the greatest bound of such a question
 abbrev pub greatest_bound : Question → ℕ
 greatest_bound (Settles bound cells) = settles_bound_limit
 greatest_bound (Objects bound cells near horizon) = objects_bound_limit
@@ -49,7 +49,7 @@ HasHorizon (Objects bound cells near horizon) = (1 ≤ horizon) × (horizon ≤ 
 abbrev pub IsAnswered : Question → Type 0
 IsAnswered question = (1 ≤ bound_of question) × (bound_of question ≤ greatest_bound question) × HasHorizon question
 
--- What becomes of a set. If objects are asked for it may grow: as its generation c does, where c is the greatest number up to
+-- The outcome of a set. If objects are asked for, it may grow: as its generation c does, where c is the greatest number up to
 -- the bound such that no generation up to 4 * c has more cells than allowed.
 abbrev pub outcome_to : Question → Rule → Generation → Outcome
 outcome_to (Settles bound cells) R G = outcome_unless_large cells R G bound (outcome_of R G bound)
@@ -58,7 +58,7 @@ outcome_to (Objects bound cells near horizon) R G =
     growing_or (growth_told near R (min horizon c) (generation R G c))
     (outcome_unless_large cells R G (3 * bound) (fallen_of near R G bound))
 
--- what is found for a set
+-- the finding for a set
 abbrev pub finding_to : Question → Rule → Generation → Finding
 finding_to question R G = finding_with G (outcome_to question R G)
 
@@ -66,10 +66,10 @@ abbrev pub answer_to : Question → Result Picture RleFault → Answer
 answer_to question (Ok pattern) = Found pattern.rule (finding_to question pattern.rule pattern.cells)
 answer_to question (Err fault) = Refused (fault_number fault)
 
--- what is found for an RLE text
+-- the answer to an RLE text
 unfoldable pub answer_to_question : Question → List ℕ → Answer
 answer_to_question question text = answer_to question (picture_of (reading text))
 
--- how a proof tells questions apart
+-- the questions, as values that proofs distinguish
 pub question_code : Coded Question
 question_code = (question_row.the_row).coded

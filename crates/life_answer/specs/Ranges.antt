@@ -1,4 +1,4 @@
--- The range of what is reported about engines.
+-- The range of the facts that are reported about engines.
 use Rattle.std.specs.Prelude.{ℕ, ◌≤◌, pos, neg_ℤ, ◌≤ℤ◌}
 use Rattle.life_answer.specs.Parts.{objects_in}
 use Rattle.life_answer.specs.declared.tale.Engines.{Engines}

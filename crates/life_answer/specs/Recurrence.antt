@@ -7,7 +7,7 @@ use Rattle.life_model.specs.Generation.{Generation, cells}
 use Rattle.life_model.specs.Evolution.{generation}
 use Rattle.life_model.specs.Symmetry.{normal, corner}
 
--- whether one set is the other, moved
+-- true where one set is the other, moved
 abbrev pub same_shape : Generation → Generation → Bool
 same_shape G H = pointwise same_cell (cells (normal G)) (cells (normal H))
 
@@ -16,7 +16,7 @@ abbrev pub first_from : (ℕ → Bool) → ℕ → ℕ → Option ℕ
 first_from test n zero = None
 first_from test n (suc count) = if test n then Some n else first_from test (n + 1) count
 
--- whether generation g recurs after n steps, moved as a whole
+-- true where generation g recurs after n steps, moved as a whole
 abbrev pub comes_again : Rule → Generation → ℕ → ℕ → Bool
 comes_again R G g n = same_shape (generation R G (g + n)) (generation R G g)
 
@@ -28,6 +28,6 @@ first_return R G b g = first_from (comes_again R G g) 1 (b - g)
 abbrev pub first_onset : Rule → Generation → ℕ → Option ℕ
 first_onset R G b = first_from (λ g. is_some (first_return R G b g)) 0 b
 
--- how far the least x and the least y have moved
+-- the offset of the second set's least x and least y from those of the first
 abbrev pub corners_apart : Generation → Generation → Cell
 corners_apart G H = plus (opposite (corner G)) (corner H)

@@ -1,4 +1,4 @@
--- What is reported about an engine.
+-- The facts that are reported about an engine.
 use Rattle.std.specs.Prelude.{ℕ, Bool, List, [], Option, Some, None, pos}
 use Rattle.life_model.specs.Rule.{Rule}
 use Rattle.life_model.specs.Generation.{Generation}

@@ -1,5 +1,6 @@
-//! The laws of the census of a pattern: that it is right, and that it depends neither on the bound nor on the generation
-//! looked at. They hold both where things near one another count as one object and where independent parts are counted.
+//! The laws of the census of a pattern: that it is right, and that it depends neither on the bound nor on the generation from
+//! which the pattern is followed. They hold both where things near one another count as one object and where independent parts
+//! are counted.
 
 ghost use Rattle.std.specs.Prelude.{◌≡◌, ◌≢◌, ℕ, ◌+◌, ◌*◌, ◌≤◌, ℤ, Bool, List, [], ◌∷◌, Option};
 ghost use Rattle.life_model.specs.Evolution.{generation};
@@ -31,8 +32,8 @@ pub fn nothing_else_is_ash()
         census_of near R G b ≡ Unresolved → HasFallenApart R b G parts → ⊥ }
 {}
 
-/// A census depends neither on the bound nor on the generation looked at. Within each greater bound it is the same. If
-/// objects are found for two generations of a pattern, within two bounds, they are the same.
+/// A census depends neither on the bound nor on the generation from which the pattern is followed. Within each greater bound it
+/// is the same. If objects are found for two generations of a pattern, within two bounds, they are the same.
 pub fn a_census_lasts()
     ensures bound { (near : Bool) (R : Rule) (b c onset : ℕ) (G : Generation) (parts : List Part) → b ≤ c →
         census_of near R G b ≡ Ash onset parts → census_of near R G c ≡ Ash onset parts }
@@ -41,17 +42,17 @@ pub fn a_census_lasts()
         census_of near R (generation R G n) c ≡ Ash other others → parts ≡ others }
 {}
 
-/// Ash that is seen sooner is found: if some generation is ash within some bound, its objects are found within each bound
-/// that is no smaller than either number.
+/// Ash that appears earlier is found: if generation g is ash within h, its objects are found within each bound that is at least
+/// g and at least h.
 pub fn ash_that_is_seen_sooner_is_found()
     ensures { (near : Bool) (R : Rule) (b g h : ℕ) (G : Generation) (parts : List Generation) →
         IsAsh R h (generation R G g) parts → g ≤ b → h ≤ b →
         census_of near R G b ≡ Ash (ash_onset R G b) (counted_parts near R h parts) }
 {}
 
-/// Ash of exactly one part is that part alone: its pattern recurs from the onset of the ash on, after at most the bound, and has
-/// the part's code. Where objects are asked for, what recurs is what is found where it is asked which generation recurs, at each
-/// bound from the onset plus the period on; and what has fallen apart has no part, or more than one.
+/// Ash of exactly one part is that part alone: its pattern recurs from the onset of the ash on, with a period of at most the
+/// bound, and has the part's code. If the question is for objects, an answer `Recurs` is the same as to the question which
+/// generation recurs, at each bound from the onset plus the period on; and an answer `Ash` has no part, or more than one.
 pub fn ash_of_one_part_recurs()
     ensures found { (near : Bool) (R : Rule) (G : Generation) (b onset : ℕ) (parts : List Part) →
         census_of near R G b ≡ Ash onset parts → objects_in parts ≡ 1 →

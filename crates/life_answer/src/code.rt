@@ -23,7 +23,7 @@ impl Model for Code {
 }
 
 impl Code {
-    /// A copy of these bytes. It takes no memory where they are at most 32.
+    /// A copy of these bytes. It takes no memory if there are at most 32.
     pub fn of(alloc: Global, bytes: &[u8]) -> Result<Code, AllocError>
         ensures copied { IfOk result (λ c. c ≡ bytes.now) }
         ensures short { length bytes.now ≤ 32 → IsOk result }

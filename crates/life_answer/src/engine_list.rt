@@ -13,7 +13,7 @@ use std::marker::Model;
 /// The greatest number of engines that are counted. No memory holds more.
 const COUNT_LIMIT: u64 = 4_294_967_295;
 
-/// The engines by which a pattern grows, grouped by their tales. They are fewer than 2 to the 32nd.
+/// The engines by which a pattern grows, grouped by their tales. There are fewer than 2^32.
 #[derive(Drop)]
 pub struct EngineList {
     engines: Vec<Engines>,
@@ -33,7 +33,7 @@ impl Model for EngineList {
     ghost invariant = { λ l. (l.count ≡ engines_in l.engines.items) × (l.count < 2 ^ 32) };
 }
 
-/// The place among the engines where one with this tale is counted, and whether one is counted there already.
+/// The place among the engines where one with this tale is counted, and true if one is counted there already.
 fn place_of(engines: &[Engines], tale: &Tale) -> (usize, bool)
     ensures within { result.0 ≤ length engines.now }
     ensures inside { result.1 ≡ true → result.0 < length engines.now }
@@ -64,7 +64,7 @@ impl EngineList {
     }
 
     /// Counts one more engine with this tale. The engines are in the order of their tales, with one entry for each tale.
-    /// After an error they are unchanged: memory is refused, or 4,294,967,295 engines are counted already.
+    /// After an error they are unchanged: memory was refused, or 4,294,967,295 engines were counted already.
     pub fn add(&mut self, tale: Tale) -> Result<(), AllocError>
         ensures added { OnOk result (self.new ≡ with_tale tale self.old) }
         ensures unchanged { OnErr result (self.new ≡ self.old) }

@@ -1,4 +1,4 @@
-//! What is found for a pattern and for a text.
+//! The finding for a pattern, and the answer to a text.
 ghost use Rattle.std.specs.Prelude.{◌≡◌};
 ghost use Rattle.life_answer.specs.Census.{engines_found, parts_found};
 
@@ -9,16 +9,16 @@ use crate::parts::Parts;
 use crate::tale::Engines;
 use life_cells::Rule;
 
-/// What is found for a pattern within a bound.
+/// The finding for a pattern within a bound.
 #[derive(Drop)]
 pub struct Finding {
-    /// How many live cells generation 0 has.
+    /// The number of live cells of generation 0.
     pub population: u64,
-    /// What becomes of it.
+    /// The outcome within the bound.
     pub outcome: Outcome,
 }
 
-/// What becomes of a pattern within a bound.
+/// The outcome of a pattern within a bound.
 #[derive(Drop)]
 pub enum Outcome {
     /// It recurs, moved as a whole.
@@ -27,9 +27,9 @@ pub enum Outcome {
         onset: u32,
         /// The number of generations after which that one first recurs.
         period: u32,
-        /// How far to the right it is then; 0 where there is no cell.
+        /// The number of columns that it has then moved to the right; 0 if there is no cell.
         dx: i32,
-        /// How far down it is then; 0 where there is no cell.
+        /// The number of rows that it has then moved down; 0 if there is no cell.
         dy: i32,
         /// The code of the object that it has become.
         code: Code,
@@ -77,7 +77,7 @@ impl Outcome {
     }
 }
 
-/// What is found for an RLE text within a bound.
+/// The answer to an RLE text within a bound.
 #[derive(Drop)]
 pub enum Answer {
     /// The text means a pattern.

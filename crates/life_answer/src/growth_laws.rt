@@ -1,6 +1,6 @@
-//! The laws of what is reported about growth: that it is right, and that it depends neither on the bound nor on the
-//! generation looked at. Unless said otherwise, they hold both where things near one another count as one object and where
-//! independent parts are counted.
+//! The laws of the report of growth: that it is right, and that it depends neither on the bound nor on the generation from
+//! which the pattern is followed. Unless said otherwise, they hold both where things near one another count as one object and
+//! where independent parts are counted.
 
 ghost use Rattle.std.specs.Prelude.{◌≡◌, ◌↔◌, ℕ, ◌+◌, ◌*◌, ◌≤◌, Bool, Option, None, Some, List, Contains, count_by, length, true};
 ghost use Rattle.std.specs.List.{All, AllPairs};
@@ -29,8 +29,8 @@ ghost use Rattle.life_answer.specs.declared.question.Question.TheVariants.{Objec
 ghost use Rattle.life_answer.specs.declared.tale.Engines.{Engines};
 ghost use Rattle.life_answer.specs.declared.tale.Tale.{Tale};
 
-/// The tale of an engine is the period and the displacement of its way, and what it emits in a period, counted as the objects
-/// of ash are.
+/// The tale of an engine is the period and the displacement of its way, and the objects that it emits in a period, counted as
+/// those of ash are.
 pub fn tales_are_right()
     ensures { (near : Bool) (R : Rule) (b : ℕ) (E : Generation) (way : Way) (objects : List Generation) →
         IsEngine R b E way → Emits R b way objects → tale_of near R b E ≡ record {
@@ -42,9 +42,9 @@ pub fn tales_are_right()
 {}
 
 /// Two engines that move alike and emit alike have the same tale, whatever the bounds. Two engines with the same tale have
-/// the same period and displacement, and what they emit counts as alike sets. So where things near one another count as one
-/// object, two engines are alike (`AreToldAlike`) exactly where they have the same tale. Independent parts alone don't
-/// determine the objects that are emitted.
+/// the same period and displacement, and what they emit counts as alike sets. So if things near one another count as one
+/// object, two engines are alike (`AreToldAlike`) exactly if they have the same tale. Independent parts alone don't determine
+/// the objects that are emitted.
 pub fn tales_tell_engines()
     ensures one { (near : Bool) (R : Rule) (b c : ℕ) (E F : Generation) → AreToldAlike R b c E F →
         tale_of near R b E ≡ tale_of near R c F }
@@ -57,8 +57,9 @@ pub fn tales_tell_engines()
         AreAlike R (counted_of near R b Ps) (counted_of near R c Qs)) }
 {}
 
-/// Tales are counted. A line has a tale and how often it occurs, which is at least once. Each tale has a line. The lines rise
-/// in the order of tales. Their numbers add up to the number of tales. The order in which the tales come makes no difference.
+/// Tales are counted. A line has a tale and the number of times that it occurs, which is at least 1. Each tale has a line.
+/// The lines are sorted by their tales. Their numbers add up to the number of tales. The order in which the tales come makes
+/// no difference.
 pub fn tales_are_counted()
     ensures number { (ts : List Tale) (line : Engines) → Contains (counted_tales ts) line →
         (1 ≤ line.count) × (line.count ≡ count_by (same_tale line.tale) ts) }
@@ -71,8 +72,7 @@ pub fn tales_are_counted()
     ensures any_order { (ts us : List Tale) → IsPermutation ts us → counted_tales ts ≡ counted_tales us }
 {}
 
-/// What is reported is what there is: the engines of a set that grows, counted by their tales, and nothing for a set that
-/// doesn't grow.
+/// The engines of a set that grows are reported, counted by their tales, and nothing is reported for a set that doesn't grow.
 pub fn what_is_told_is_right()
     ensures grows { (near : Bool) (R : Rule) (b : ℕ) (G S : Generation) (Es : List Generation) → IsGrowth R b G Es S →
         growth_told near R b G ≡ Some (told_of_engines near R b Es) }
@@ -89,9 +89,9 @@ pub fn nothing_else_is_told()
         growth_told near R b G ≡ None → IsGrowth R b G Es S → ⊥ }
 {}
 
-/// What is reported depends neither on the bound nor on the generation looked at. Within each greater bound, and for each
-/// later generation, the same is reported. If something is reported for two generations of a pattern, within two bounds, it
-/// is the same.
+/// The report depends neither on the bound nor on the generation from which the pattern is followed. Within each greater
+/// bound, and for each later generation, the same is reported. If something is reported for two generations of a pattern,
+/// within two bounds, it is the same.
 pub fn what_is_told_lasts()
     ensures bound { (near : Bool) (R : Rule) (b c : ℕ) (G : Generation) (told : List Engines) → b ≤ c →
         growth_told near R b G ≡ Some told → growth_told near R c G ≡ Some told }
@@ -102,17 +102,17 @@ pub fn what_is_told_lasts()
         told ≡ others }
 {}
 
-/// Growth that is seen sooner is reported. Take a generation that grows within some number of generations that is no more
-/// than the horizon. Let neither be more than some c up to the bound such that no generation up to four times c has more
-/// cells than allowed. Then the answer is that the pattern grows, by these engines.
+/// Growth that appears earlier is reported. Take a generation g that grows within h generations, where h is no more than the
+/// horizon. Let neither be more than some c up to the bound such that no generation up to four times c has more cells than
+/// allowed. Then the answer is that the pattern grows, by these engines.
 pub fn what_is_seen_sooner_is_told()
     ensures { (near : Bool) (limit : Option ℕ) (R : Rule) (b horizon c g h : ℕ) (G S : Generation) (Es : List Generation) →
         IsGrowth R h (generation R G g) Es S → g ≤ c → h ≤ c → h ≤ horizon → c ≤ b → StaysWithin limit R G (4 * c) →
         outcome_to (Objects b limit near horizon) R G ≡ Grows (told_of_engines near R h Es) }
 {}
 
-/// Only for what grows the answer is that it grows. Otherwise the answer is what was found without regard to growth. An
-/// answer of growth stays within each greater bound and each greater horizon. A pattern has one such answer, whatever the
+/// The answer is that a pattern grows only if it does. Otherwise the answer is what was found apart from growth. An answer of
+/// growth stays the same within each greater bound and each greater horizon. A pattern has one such answer, whatever the
 /// bound, the horizon and the limit on cells.
 pub fn what_is_answered_is_right()
     ensures only { (near : Bool) (limit : Option ℕ) (R : Rule) (b horizon : ℕ) (G : Generation) (told : List Engines) →
@@ -134,8 +134,8 @@ pub fn what_is_answered_is_right()
         outcome_to (Objects c other near further) R G ≡ Grows others → told ≡ others }
 {}
 
-/// What is reported is in range. There are engines. Each recurs within the bound or the horizon, has moved by no more cells
-/// than it took generations, and emits something.
+/// The report is in range. There are engines. Each recurs within the bound or the horizon, has moved by no more cells than it
+/// took generations, and emits something.
 pub fn what_is_told_is_in_range()
     ensures told { (near : Bool) (R : Rule) (b : ℕ) (G : Generation) (told : List Engines) →
         growth_told near R b G ≡ Some told → (1 ≤ engines_in told) × All (IsInRange b) told }
@@ -144,8 +144,8 @@ pub fn what_is_told_is_in_range()
         (1 ≤ engines_in told) × All (IsInRange horizon) told }
 {}
 
-/// No pattern both falls apart and grows, whatever the bounds and from whichever of its generations it is looked at. So the
-/// answer for what falls apart within the bound is what was found without regard to growth.
+/// No pattern both falls apart and grows, whatever the bounds and the generations from which it is followed. So the answer
+/// for what falls apart within the bound is what was found apart from growth.
 pub fn what_is_ash_never_grows()
     ensures told { (near close : Bool) (R : Rule) (b c m n onset : ℕ) (G : Generation) (parts : List Part)
         (told : List Engines) → census_of near R (generation R G m) b ≡ Ash onset parts →
@@ -158,10 +158,10 @@ pub fn what_is_ash_never_grows()
         ≡ outcome_unless_large limit R G (3 * b) (fallen_of near R G b) }
 {}
 
-/// What is reported about growth is true for ever. Take a number of generations that is a whole number of periods of each
-/// engine, and the objects with a code that a growing pattern's debris has fallen apart into. Their number rises by exactly
-/// what the lines say: for each line its number of engines, and for each of these, in each of its periods, the number of such
-/// objects that it emits.
+/// The report of growth is true for ever. Take a number of generations that is a whole number of periods of each engine, and
+/// the objects with a code that a growing pattern's debris has fallen apart into. Their number rises by exactly what the
+/// lines say: for each line its number of engines, and for each of these, in each of its periods, the number of such objects
+/// that it emits.
 pub fn what_is_told_goes_on()
     ensures { (near : Bool) (R : Rule) (b m n : ℕ) (G S T U : Generation) (Es Fs Hs parts others : List Generation)
         (code : List ℕ) → IsGrowth R b G Es S → IsGrowth R b (generation R G n) Fs T →

@@ -25,7 +25,7 @@ ghost use Rattle.life_answer.specs.declared.question.Question.{Question};
 ghost use Rattle.life_answer.specs.declared.question.Question.TheVariants.{Settles as AsksSettling};
 ghost use Rattle.std.specs.List.Sorted.{IsPermutation};
 
-/// For a set that settles within the bound, this is found: the population of the set itself, its onset, period and
+/// For a set that settles within the bound, the finding is the population of the set itself, its onset, period and
 /// displacement, and the code of the generation at the onset. It is found only for such a set.
 pub fn a_settled_set_recurs()
     ensures found { (R : Rule) (G : Generation) (b : ℕ) (r : Recurrence) → Settles R G b r →
@@ -40,7 +40,7 @@ pub fn a_settled_set_recurs()
         Settles R G b (record { onset = onset; period = period; displacement = (dx, dy) }) }
 {}
 
-/// A set is unresolved exactly where none of its generations recurs within the bound.
+/// A set is unresolved exactly if none of its generations recurs within the bound.
 pub fn an_unresolved_set_settles_nowhere()
     ensures found { (R : Rule) (G : Generation) (b : ℕ) → ((g : ℕ) → SettlesAt R G b g → ⊥) →
         finding_of R G b ≡ record { population = size G; outcome = Unresolved } }
@@ -57,7 +57,7 @@ pub fn one_finding()
         c < r.onset + r.period → finding_of R G c ≡ record { population = size G; outcome = Unresolved } }
 {}
 
-/// The answer to a text is the finding of the pattern that it means, or the number of its fault, which is 1 to 10.
+/// The answer to a text is the finding for the pattern that it means, or the number of its fault, which is 1 to 10.
 pub fn a_text_is_found_or_refused()
     ensures found { (question : Question) (text : List ℕ) (pattern : Picture) →
         picture_of (reading text) ≡ Ok pattern →
@@ -71,7 +71,7 @@ pub fn a_text_is_found_or_refused()
         (1 ≤ number) × (number ≤ 10) }
 {}
 
-/// Where the question is which generation recurs, no answer is that a pattern has fallen apart, and none that it grows.
+/// To the question which generation recurs, no answer is that a pattern has fallen apart, and none that it grows.
 pub fn what_comes_again_is_no_ash()
     ensures ash { (text : List ℕ) (b : ℕ) (cells : Option ℕ) (rule : Rule) (finding : Finding)
         (onset : ℕ) (parts : List Part) →
@@ -82,8 +82,8 @@ pub fn what_comes_again_is_no_ash()
         finding.outcome ≡ Grows lines → ⊥ }
 {}
 
-/// If a pattern is found to have fallen apart within a bound, the onset found is that of its ash, and no other number is. It
-/// is the same within each other bound within which the pattern has fallen apart.
+/// If a pattern is found to have fallen apart within a bound, the onset that is found is that of its ash, and the only one.
+/// It is the same within each other bound within which the pattern has fallen apart.
 pub fn the_onset_of_ash_is_found()
     ensures found { (near : Bool) (R : Rule) (G : Generation) (b onset : ℕ) (parts : List Part) →
         census_of near R G b ≡ Ash onset parts → IsAshOnset R b G onset }
@@ -93,8 +93,8 @@ pub fn the_onset_of_ash_is_found()
         census_of near R G b ≡ Ash onset parts → census_of close R G c ≡ Ash other others → onset ≡ other }
 {}
 
-/// The first generation over a limit is the first that has more cells than allowed. There is none exactly where all
-/// generations stay within the limit.
+/// The first generation over a limit is the first that has more cells than allowed. There is none exactly if all generations
+/// stay within the limit.
 pub fn the_first_generation_past_the_limit()
     ensures some { (R : Rule) (G : Generation) (most last n : ℕ) →
         (first_past (Some most) R G last ≡ Some n)
@@ -104,7 +104,7 @@ pub fn the_first_generation_past_the_limit()
         (first_past limit R G last ≡ None) ↔ StaysWithin limit R G last }
 {}
 
-/// If two sets settle under one rule, their codes are equal exactly where their generations at the onset are one object.
+/// If two sets settle under one rule, their codes are equal exactly if their generations at the onset are one object.
 pub fn codes_tell_objects()
     ensures { (R : Rule) (G J : Generation) (b c : ℕ) (r s : Recurrence) →
         Settles R G b r → Settles R J c s →

@@ -2,11 +2,11 @@
 
 use crate::code::Code;
 
-/// Those parts of a pattern that are one object.
+/// The parts of a pattern that are one object.
 #[derive(Drop)]
 pub struct Part {
     /// The object's code.
     pub code: Code,
-    /// How many parts are that object.
+    /// The number of parts that are that object.
     pub count: u64,
 }

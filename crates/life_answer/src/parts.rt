@@ -14,7 +14,7 @@ use std::marker::Model;
 /// The greatest number of objects that are counted. No memory holds a list of more parts.
 const COUNT_LIMIT: u64 = 4_294_967_295;
 
-/// The parts into which a pattern has fallen apart, object by object. They are fewer than 2 to the 32nd.
+/// The parts into which a pattern has fallen apart, grouped by their objects. There are fewer than 2^32.
 #[derive(Drop)]
 pub struct Parts {
     parts: Vec<Part>,
@@ -33,7 +33,7 @@ impl Model for Parts {
     ghost invariant = { λ p. (p.count ≡ objects_in p.parts.items) × (p.count < 2 ^ 32) };
 }
 
-/// The place among the parts where an object with this code is counted, and whether one is counted there already.
+/// The place among the parts where an object with this code is counted, and true if one is counted there already.
 fn place_of(parts: &[Part], code: &[u8]) -> (usize, bool)
     ensures within { result.0 ≤ length parts.now }
     ensures inside { result.1 ≡ true → result.0 < length parts.now }
@@ -63,8 +63,8 @@ impl Parts {
         }
     }
 
-    /// Counts one more object that has this code. The parts are in the order of their codes, by length and then by bytes, one
-    /// for each code. After an error they are unchanged: memory is refused, or 4,294,967,295 objects are counted already.
+    /// Counts one more object that has this code. The parts are in the order of their codes, by length, then by bytes, one
+    /// for each code. After an error they are unchanged: memory was refused, or 4,294,967,295 objects were counted already.
     pub fn add(&mut self, code: Code) -> Result<(), AllocError>
         ensures added { OnOk result (self.new ≡ with_code code self.old) }
         ensures unchanged { OnErr result (self.new ≡ self.old) }
@@ -90,7 +90,7 @@ impl Parts {
         self.count
     }
 
-    /// The parts, object by object.
+    /// The parts, one entry for each object.
     pub fn as_slice(&self) -> &[Part]
         ensures parts { result.now ≡ self.now }
         ensures few { objects_in self.now < 2 ^ 32 }

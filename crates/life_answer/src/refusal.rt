@@ -8,7 +8,7 @@ use crate::finding::Answer;
 use life_text::RleFault;
 use std::alloc::AllocError;
 
-/// The answer to a text that has a fault. There is none exactly where the fault is out of memory.
+/// The answer to a text that has a fault. The result is an error exactly if the fault is out of memory.
 pub fn refused(fault: RleFault) -> Result<Answer, AllocError>
     ensures answer { IfOk result (λ answer. answer ≡ Refused (fault_number fault)) }
     ensures fault { OnOk result (fault ≢ Memory) }

@@ -1,4 +1,4 @@
-//! What is reported about engines.
+//! The facts that are reported about engines.
 ghost use Rattle.std.specs.Prelude.{◌≡◌};
 ghost use Rattle.std.specs.Cmp.Lexicographic.{slice_cmp};
 ghost use Rattle.life_answer.specs.CountedTales.{part_cmp, tale_cmp};
@@ -8,16 +8,16 @@ use crate::parts::Parts;
 use life_cells::shorter;
 use std::cmp::Ordering;
 
-/// What is reported about an engine.
+/// The facts that are reported about an engine.
 #[derive(Drop)]
 pub struct Tale {
     /// The number of generations after which it recurs.
     pub period: u32,
-    /// How far to the right it is then.
+    /// The number of columns that it has then moved to the right.
     pub dx: i32,
-    /// How far down it is then.
+    /// The number of rows that it has then moved down.
     pub dy: i32,
-    /// What it emits in that time, object by object.
+    /// The objects that it emits in that time, with one entry for each object.
     pub emits: Parts,
 }
 
@@ -30,14 +30,14 @@ pub struct Engines {
     pub count: u64,
 }
 
-/// The order of parts: by code, and then by number.
+/// The order of parts: by code, then by number.
 fn part_order(part: &Part, other: &Part) -> Ordering
     ensures { result ≡ part_cmp part.now other.now }
 {
     shorter(part.code.as_slice(), other.code.as_slice()).then(part.count.cmp(&other.count))
 }
 
-/// The order of lists of parts: entry by entry, and a list that ends is before one that goes on.
+/// The order of lists of parts: entry by entry, and a list that ends comes before one that continues.
 fn parts_order(parts: &[Part], others: &[Part]) -> Ordering
     ensures { result ≡ slice_cmp part_cmp parts.now others.now }
 {
@@ -57,7 +57,7 @@ fn parts_order(parts: &[Part], others: &[Part]) -> Ordering
 }
 
 impl Tale {
-    /// The order of tales: by period, by how far to the right and by how far down, and then by what is emitted.
+    /// The order of tales: by period, then by the moves to the right and down, then by what is emitted.
     pub fn order(&self, other: &Tale) -> Ordering
         ensures { result ≡ tale_cmp self.now other.now }
     {
