@@ -1,4 +1,4 @@
--- Whether two sets settle into one object.
+-- Sets that settle into objects, and two that settle into one.
 use Rattle.std.specs.Prelude.{◌≡◌, ℕ, List, Bool, IsTrue, ◌↔◌}
 use Rattle.life_model.specs.Rule.{Rule}
 use Rattle.life_model.specs.Generation.{Generation}
@@ -12,7 +12,7 @@ pub record SettlesIntoCode (R : Rule) (G : Generation) (b : ℕ) (code : List �
   pub settles : Settles R G b recurrence
   pub coded : code ≡ code_of R (generation R G recurrence.onset) recurrence.period recurrence.displacement
 
--- Both settle within the bound, and `same` says whether their generations at the onset are one object.
+-- Both settle within the bound, and `same` is true exactly if their generations at the onset are one object.
 pub record TellsObject (R : Rule) (F S : Generation) (b : ℕ) (same : Bool) : Type 0 where
   pub first : Recurrence
   pub first_settles : Settles R F b first

@@ -1,4 +1,5 @@
--- For how long no generation of a set is another set, moved: a cell that is missed comes no faster than by one place a step.
+-- The generations of a set that are known not to be another set, moved: a missing cell comes no faster than by one place a
+-- step.
 use Rattle.std.specs.Prelude.{◌≡◌, ℕ, ◌<◌, ℤ, ◌+ℤ◌, ◌-ℤ◌, ◌≤ℤ◌, All, List, length, slice_index_or}
 use Rattle.life_model.specs.Cell.{Cell, origin, plus, opposite}
 use Rattle.life_model.specs.Rule.{Rule}
@@ -23,7 +24,7 @@ pub record IsMissed (r : ℤ) (listed cs : List Cell) (by : Cell) : Type 0 where
   pub inside : at < length listed
   pub far : IsFar r (plus (slice_index_or listed at origin) by) cs
 
--- one of the listed cells is missed, whichever of the others is where the first of them is moved to
+-- whichever of the others the first of the listed cells is moved to, one of the listed cells is missing
 abbrev pub IsAway : ℤ → List Cell → List Cell → Type 0
 IsAway r listed cs = All (λ b. IsMissed r listed cs (plus b (opposite (slice_index_or listed 0 origin)))) cs
 

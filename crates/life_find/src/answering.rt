@@ -1,4 +1,4 @@
-//! What is found of a text.
+//! The answer to a text.
 ghost use Rattle.std.specs.Prelude.{◌≡◌, ◌≤◌, IfOk, IsOk, OnErr};
 ghost use Rattle.life_answer.specs.declared.question.Question.TheVariants.{Settles};
 ghost use Rattle.life_answer.specs.Questions.{answer_to_question};
@@ -12,7 +12,7 @@ use life_plane::{Observer, Plane};
 use life_text::read_rle;
 use std::alloc::{AllocError, Global};
 
-/// What is found of an RLE text within the bound, over planes of one kind.
+/// The answer to an RLE text within the bound, over planes of one kind.
 fn answer_on<P: Plane, W: Observer>(
     alloc: Global,
     observer: &W,
@@ -37,10 +37,10 @@ fn answer_on<P: Plane, W: Observer>(
     }
 }
 
-/// What is found of an RLE text within the bound: the rule and the finding of the pattern that it means, or the number of
-/// its fault. With a limit no generation from 0 to the bound may have more cells.
+/// The answer to an RLE text within the bound: the rule and the finding of the pattern that it means, or the number of its
+/// fault. With a limit no generation from 0 to the bound may have more cells.
 ///
-/// It may look at generations past the bound, up to twice the bound. Those that are looked at are reported to an observer.
+/// It may examine generations past the bound, up to twice the bound. Those that are examined are reported to an observer.
 pub fn answer<W: Observer>(
     alloc: Global,
     observer: &W,

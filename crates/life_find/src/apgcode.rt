@@ -17,7 +17,7 @@ use life_codes::{LeastText, prefix};
 use life_plane::{AGE_LIMIT, Plane};
 use std::alloc::{AllocError, Global};
 
-/// Lists what a plane holds, in the memory of a list that is no longer needed.
+/// Lists the cells of a plane, in the memory of a list that is no longer needed.
 fn list_phase<P: Plane>(plane: &P, list: CellList) -> Result<CellList, AllocError>
     requires { P.steps_made plane.now ≤ AGE_LIMIT }
     ensures cells { IfOk result (λ phase. phase ≡ P.members plane.now) }
@@ -28,7 +28,7 @@ fn list_phase<P: Plane>(plane: &P, list: CellList) -> Result<CellList, AllocErro
     plane.cells_in(list)
 }
 
-/// Whether this is the least text of these cells, in all eight orientations.
+/// True only if this is the least text of these cells, in all eight orientations.
 fn has_text(alloc: Global, phase: &CellList, text: &[u8]) -> Result<bool, AllocError>
     requires wide { width phase.now ≤ extent_limit }
     requires high { height phase.now ≤ extent_limit }
@@ -41,8 +41,8 @@ fn has_text(alloc: Global, phase: &CellList, text: &[u8]) -> Result<bool, AllocE
 }
 
 /// Adds the texts of all phases of one period, in all eight orientations. The list has the cells of the first phase, wherever
-/// they stand; all later ones are listed in one memory. Where the phase after half the period is the first one, turned and moved,
-/// the second half of the phases has no other texts than the first.
+/// they are; all later ones are listed in one piece of memory. If the phase after half the period is the first one, turned and
+/// moved, the second half of the phases has no other texts than the first.
 fn add_phases<P: Plane>(
     alloc: Global,
     least: &mut LeastText,
@@ -78,7 +78,7 @@ fn add_phases<P: Plane>(
     Ok(())
 }
 
-/// The code of what a plane holds, which recurs as the recurrence says. The list has its cells, wherever they stand.
+/// The code of the cells of a plane, which recur as the recurrence says. The list has these cells, wherever they are.
 fn code_from<P: Plane>(
     alloc: Global,
     listed: &CellList,
@@ -108,7 +108,7 @@ fn code_from<P: Plane>(
     Code::of(alloc, &text)
 }
 
-/// The code of what a plane holds, which recurs as the recurrence says. Where a pattern recurs from its first generation on, its
+/// The code of the cells of a plane, which recur as the recurrence says. If a pattern recurs from its first generation on, its
 /// own list has the cells of the first phase.
 pub fn code_of<P: Plane>(
     alloc: Global,

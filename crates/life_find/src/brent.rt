@@ -1,6 +1,5 @@
-//! Brent's cycle finding: the walk along the generations of a pattern, until one of them comes again. Each generation is
-//! compared with an anchor, which is moved on at the powers of two (R. P. Brent, An improved Monte Carlo factorization
-//! algorithm, 1980).
+//! Brent's cycle finding: the walk along the generations of a pattern, until one of them recurs. Each generation is compared with
+//! an anchor, which is moved on at the powers of two (R. P. Brent, An improved Monte Carlo factorization algorithm, 1980).
 ghost use Rattle.std.specs.Prelude.{◌≡◌, ℕ, ◌+◌, ◌*◌, ◌<◌, ◌≤◌, ◌++◌, IfNone, IfOk, IfSome, OnOk, [], ◌∷◌, length};
 ghost use Rattle.life_model.specs.Evolution.{generation};
 ghost use Rattle.life_model.specs.Generation.{Generation};
@@ -17,16 +16,16 @@ use life_cells::{CellList, Rule};
 use life_plane::{AGE_LIMIT, Observer, Plane};
 use std::alloc::{AllocError, Global};
 
-/// How many generations are compared with the first one: most known oscillators and spaceships have no longer period.
+/// The number of generations that are compared with the first one: most known oscillators and spaceships have no longer period.
 const FIRST_LEAD: u32 = 64;
 
-/// The span is looked at once in this many generations, whatever the population is.
+/// The span is determined once in this many generations, whatever the population is.
 const SPAN_STEP: u32 = 16;
 
-/// There is room for this many fingerprints from the first one on.
+/// The number of fingerprints for which there is room from the first one on.
 const FINGERPRINT_ROOM: usize = 16;
 
-/// Notes one more fingerprint.
+/// Records one more fingerprint.
 fn note(fingerprints: &mut Vec<Fingerprint>, fingerprint: Fingerprint) -> Result<(), AllocError>
     ensures { OnOk result
         (fingerprints.new.items ≡ fingerprints.old.items ++ fingerprint ∷ []) }
@@ -38,9 +37,9 @@ fn note(fingerprints: &mut Vec<Fingerprint>, fingerprint: Fingerprint) -> Result
     Ok(())
 }
 
-/// Makes at most `steps` steps, until the cells that the plane began with, which are listed, stand again: after how many steps,
-/// and how far away. Notes the fingerprints of the generations before the last two, or before the last where they don't stand
-/// again. So a pattern that recurs at once takes no room for them.
+/// Makes at most `steps` steps, until the cells that the plane began with, which are listed, recur, and returns the number of
+/// steps and the displacement. Records the fingerprints of the generations before the last two, or before the last if the cells
+/// don't recur. So a pattern that recurs at once takes no room for them.
 fn run_to_return<P: Plane, W: Observer>(
     observer: &W,
     runner: &mut P,
@@ -91,9 +90,9 @@ fn run_to_return<P: Plane, W: Observer>(
     Ok(None)
 }
 
-/// What is known of a generation that recurs, where the generations up to the bound decide it: one that does, or that none does
-/// within the bound, as the cells grow too far apart. Each generation is compared with the one at the greatest power of two
-/// before it, and the first few with the first.
+/// The decision of the generations up to the bound, if they decide: a generation that recurs, or that none does within the bound,
+/// as the cells grow too far apart. Each generation is compared with the one at the greatest power of two before it, and the
+/// first few with the first.
 fn find_return_within<P: Plane, W: Observer>(
     alloc: Global,
     observer: &W,
@@ -170,8 +169,9 @@ fn find_return_within<P: Plane, W: Observer>(
     Ok(None)
 }
 
-/// A generation that recurs, where one does within the bound at all. It may be found where none does. Goes past the bound only
-/// while the fingerprints leave a period possible, and notes the fingerprint of each generation. Each is reported to an observer.
+/// A generation that recurs, if one does within the bound at all. It may be found even if none does. The walk goes past the bound
+/// only while the fingerprints leave a period possible, and records the fingerprint of each generation. Each is reported to an
+/// observer.
 pub fn find_return<P: Plane, W: Observer>(
     alloc: Global,
     observer: &W,

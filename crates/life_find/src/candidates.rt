@@ -6,7 +6,7 @@ ghost use Rattle.life_find.specs.Search.{changes_at, ends_alike, from_first};
 use crate::fingerprint::{Fingerprint, may_match};
 use std::alloc::{AllocError, Global};
 
-/// Whether the last fingerprint agrees with the one `places` places before it.
+/// True where the last fingerprint agrees with the one `places` places before it.
 fn ends_alike(fingerprints: &[Fingerprint], places: u32) -> bool
     ensures { result ≡ ends_alike fingerprints.now places }
 {
@@ -38,9 +38,9 @@ pub fn candidates(
     Ok(periods)
 }
 
-/// Strikes the periods before the first that the last fingerprint leaves possible. Those after it are not looked at. As the walk
-/// goes on, each period is struck at most once, and one look a generation shows that none was. So all looks together are no more
-/// than the generations and the periods.
+/// Strikes out the periods before the first that the last fingerprint leaves possible. Those after it are not examined. As the
+/// walk goes on, each period is struck out at most once, and one comparison a generation shows that none was. So there are no
+/// more comparisons in all than generations and periods.
 pub fn strike_periods<'a>(periods: &'a [u32], fingerprints: &[Fingerprint]) -> &'a [u32]
     ensures { result.now ≡ from_first (ends_alike fingerprints.now) periods.now }
 {
@@ -54,7 +54,7 @@ pub fn strike_periods<'a>(periods: &'a [u32], fingerprints: &[Fingerprint]) -> &
     left
 }
 
-/// Whether the fingerprint `places` places further on disagrees.
+/// True where the fingerprint `places` places further on disagrees.
 fn changes(fingerprints: &[Fingerprint], places: u32, at: u32) -> bool
     ensures { result ≡ changes_at fingerprints.now places at }
 {

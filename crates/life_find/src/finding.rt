@@ -1,4 +1,4 @@
-//! What is found of a pattern.
+//! The finding for a pattern.
 ghost use Rattle.std.specs.Prelude.{◌≡◌, ◌≤◌, All, IfOk};
 ghost use Rattle.life_model.specs.Generation as generation;
 ghost use Rattle.life_cells.specs.Limits.{IsWithin};
@@ -19,7 +19,7 @@ use life_plane::{Observer, Plane, Unobserved};
 use life_text::Pattern;
 use std::alloc::{AllocError, Global};
 
-/// What becomes of a pattern that settles.
+/// The outcome of a pattern that settles.
 fn recurs(recurrence: Recurrence, code: Code) -> Outcome
     ensures { result ≡
         Recurs recurrence.onset recurrence.period recurrence.displacement.0
@@ -40,7 +40,7 @@ fn recurs(recurrence: Recurrence, code: Code) -> Outcome
     }
 }
 
-/// What becomes of cells that a plane at age 0 holds.
+/// The outcome of the cells of a plane at age 0.
 fn outcome_on<P: Plane, W: Observer>(
     alloc: Global,
     observer: &W,
@@ -64,7 +64,7 @@ fn outcome_on<P: Plane, W: Observer>(
     }
 }
 
-/// What becomes of cells whose places are from 0 to 1,048,575.
+/// The outcome of cells whose places are from 0 to 1,048,575.
 pub fn outcome_of<P: Plane, W: Observer>(
     alloc: Global,
     observer: &W,
@@ -80,7 +80,7 @@ pub fn outcome_of<P: Plane, W: Observer>(
     outcome_on(alloc, observer, &mut plane, rule, cells, bound)
 }
 
-/// What is found of cells whose places are from 0 to 1,048,575.
+/// The finding for cells whose places are from 0 to 1,048,575.
 pub fn find_cells<P: Plane>(
     alloc: Global,
     rule: &Rule,
@@ -99,10 +99,10 @@ pub fn find_cells<P: Plane>(
     })
 }
 
-/// What is found of a pattern within the bound, over planes of any kind: its population, and where some generation up to the
-/// bound stands again later, moved as a whole, also its onset, period, displacement and apgcode, as on LifeWiki.
+/// The finding for a pattern within the bound, over planes of any kind: its population and, if some generation recurs within
+/// the bound, moved as a whole, also its onset, period, displacement and apgcode, as on LifeWiki.
 ///
-/// It may look at generations past the bound, up to twice the bound.
+/// It may examine generations past the bound, up to twice the bound.
 pub fn find<P: Plane>(alloc: Global, pattern: &Pattern, bound: u32) -> Result<Finding, AllocError>
     requires { 1 ≤ bound × bound ≤ BOUND_LIMIT }
     ensures { IfOk result (λ found. found ≡ finding_of pattern.now.rule pattern.now.cells bound) }
@@ -110,7 +110,7 @@ pub fn find<P: Plane>(alloc: Global, pattern: &Pattern, bound: u32) -> Result<Fi
     find_cells::<P>(alloc, &pattern.rule(), pattern.cells(), bound)
 }
 
-/// What becomes of cells, unless some generation from 0 to the bound has more cells than it may have.
+/// The outcome of cells, unless some generation from 0 to the bound has more cells than it may have.
 fn outcome_limited<P: Plane, W: Observer>(
     alloc: Global,
     observer: &W,
@@ -133,9 +133,9 @@ fn outcome_limited<P: Plane, W: Observer>(
     outcome_of::<P, W>(alloc, observer, rule, cells, bound)
 }
 
-/// What `find` finds, unless some generation from 0 to the bound has more cells than it may have. Where there is such a limit,
-/// the generations are looked at in rounds. The first round looks at the first few alone, and all those up to the bound are
-/// looked at only where no round before decides what is found. The generations that are looked at are reported to an observer.
+/// The finding of `find`, unless some generation from 0 to the bound has more cells than it may have. With such a limit, the
+/// generations are examined in rounds. The first round examines only the first few, and all those up to the bound are examined
+/// only if no earlier round decides what is found. The generations that are examined are reported to an observer.
 pub fn find_limited<P: Plane, W: Observer>(
     alloc: Global,
     observer: &W,

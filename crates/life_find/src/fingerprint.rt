@@ -1,4 +1,4 @@
-//! What is noted of a generation, by which most generations are told apart without their cells.
+//! Fingerprints of generations, by which most generations are distinguished without their cells.
 ghost use Rattle.std.specs.Prelude.{◌≡◌, IfOk};
 ghost use Rattle.life_model.specs.Generation as generations;
 ghost use Rattle.life_find.specs.Fingerprint.{IsFingerprint, may_match, counts_agree, spans_agree};
@@ -7,7 +7,7 @@ use life_cells::CellList;
 use life_plane::{Plane, span_of};
 use std::alloc::AllocError;
 
-/// How many cells a generation has, and how far the last of them is from the first, each where it was looked at.
+/// The number of cells of a generation, and the offset of the last of them from the first, each if it was determined.
 #[derive(Clone, Copy)]
 pub struct Fingerprint {
     pub population: Option<u64>,
@@ -15,14 +15,14 @@ pub struct Fingerprint {
 }
 
 impl Fingerprint {
-    /// The fingerprint of a generation that wasn't looked at.
+    /// The fingerprint of a generation that wasn't examined.
     pub const UNKNOWN: Fingerprint = Fingerprint {
         population: None,
         span: None,
     };
 }
 
-/// Whether two populations may be those of one shape: they are equal where both are known.
+/// True where two populations may be those of one shape: they are equal if both are known.
 fn counts_agree(one: Option<u64>, other: Option<u64>) -> bool
     ensures { result ≡ counts_agree one other }
 {
@@ -35,7 +35,7 @@ fn counts_agree(one: Option<u64>, other: Option<u64>) -> bool
     }
 }
 
-/// Whether two spans may be those of one shape: they are equal where both are known.
+/// True where two spans may be those of one shape: they are equal if both are known.
 fn spans_agree(one: Option<(i32, i32)>, other: Option<(i32, i32)>) -> bool
     ensures { result ≡ spans_agree one other }
 {
@@ -48,7 +48,7 @@ fn spans_agree(one: Option<(i32, i32)>, other: Option<(i32, i32)>) -> bool
     }
 }
 
-/// Whether two fingerprints may be those of one shape.
+/// True where two fingerprints may be those of one shape.
 pub fn may_match(one: Fingerprint, other: Fingerprint) -> bool
     ensures { result ≡ may_match one other }
 {
@@ -65,7 +65,7 @@ pub fn fingerprint_of(list: &CellList) -> Fingerprint
     }
 }
 
-/// The fingerprint of what a plane holds, which has `population` cells, with its span where that is wanted.
+/// The fingerprint of the cells of a plane, of which there are `population`, with their span if `spanned`.
 pub fn fingerprint_on<P: Plane>(
     plane: &P,
     population: u64,

@@ -10,8 +10,8 @@ use life_cells::{CellList, Rule};
 use life_plane::{AGE_LIMIT, Observer, Plane};
 use std::alloc::{AllocError, Global};
 
-/// The first generation from 0 to the last that has more than `most` cells. No generation after it is looked at. Each that is
-/// looked at is reported to an observer.
+/// The first generation from 0 to the last that has more than `most` cells. No generation after it is examined. Each that is
+/// examined is reported to an observer.
 pub fn first_larger<P: Plane, W: Observer>(
     alloc: Global,
     observer: &W,
@@ -38,8 +38,8 @@ pub fn first_larger<P: Plane, W: Observer>(
     Ok(None)
 }
 
-/// What becomes of cells where some generation up to the last has more than it may have, whatever else would become of them.
-/// Where any number is allowed, no generation is looked at.
+/// The outcome of cells if some generation up to the last has more than it may have, whatever the outcome would be otherwise.
+/// If any number is allowed, no generation is examined.
 pub fn too_large<P: Plane, W: Observer>(
     alloc: Global,
     observer: &W,

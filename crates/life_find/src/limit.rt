@@ -1,4 +1,4 @@
-//! How far a search may go.
+//! The limit of a search.
 
 /// The greatest number of generations to search.
 pub const BOUND_LIMIT: u32 = 1_000_000;

@@ -1,4 +1,4 @@
-//! The lookout for a set that is to stand again.
+//! The lookout for a set that is to recur.
 ghost use Rattle.std.specs.Prelude.{◌≡◌, ℕ, ◌<◌, ◌≤◌, IfNone, IfOk, IfSome, OnOk};
 ghost use Rattle.life_model.specs.Evolution.{generation, next};
 ghost use Rattle.life_model.specs.Rule.{Rule};
@@ -15,34 +15,34 @@ use life_cells::CellList;
 use life_plane::Plane;
 use std::alloc::AllocError;
 
-/// A set with at most this many cells is small enough to compare each with each.
+/// The number of cells up to which a set is small enough to compare each with each.
 const FEW: usize = 64;
 
-/// After this many consecutive generations with as many cells as the set that is to stand again, the lookout checks how far away
-/// they are.
+/// The number of consecutive generations with as many cells as the set that is to recur after which the lookout checks how far
+/// away they are.
 const PATIENCE: u32 = 64;
 
 /// The part of the generations so far for which the lookout may rest at once.
 const REST: u32 = 10;
 
-/// What is known of the coming generations.
+/// The facts that are known of the coming generations.
 #[derive(Clone, Copy)]
 pub struct Lookout {
-    /// This many of the coming generations are known to be others.
+    /// The number of the coming generations that are known to be others.
     pub quiet: u32,
-    /// This many consecutive generations had as many cells as the set that is to stand again.
+    /// The number of consecutive generations that had as many cells as the set that is to recur.
     pub alike: u32,
 }
 
-/// What was seen of a generation: its fingerprint, and how far it is from the set that is to stand again, if it is that set.
+/// The sight of a generation: its fingerprint, and its offset from the set that is to recur, if it is that set, moved.
 #[derive(Clone, Copy)]
 pub struct Sight {
     pub fingerprint: Fingerprint,
     pub offset: Option<(i32, i32)>,
 }
 
-/// How many of the coming generations are known to be others: `wanted`, or 0. It is `wanted` if a listed cell is missed so far
-/// away that it can't come sooner, wherever the listed ones are moved to.
+/// The number of the coming generations that are known to be others: `wanted`, or 0. It is `wanted` if, wherever the listed
+/// cells are moved to, one of them is missing so far away that it can't come sooner.
 fn quiet_for<P: Plane>(listed: &CellList, plane: &P, wanted: u32) -> Result<u32, AllocError>
     requires { wanted ≤ BOUND_LIMIT }
     ensures { IfOk result (λ quiet. (R : Rule) (k : ℕ) → 0 < k → k ≤ quiet →
@@ -60,14 +60,14 @@ fn quiet_for<P: Plane>(listed: &CellList, plane: &P, wanted: u32) -> Result<u32,
 }
 
 impl Lookout {
-    /// Nothing is known yet.
+    /// The lookout before anything is known.
     pub fn new() -> Lookout
         ensures { result.quiet ≡ 0 }
     {
         Lookout { quiet: 0, alike: 0 }
     }
 
-    /// Finds out how long the coming generations are others, where many consecutive ones had as many cells as the listed set.
+    /// Determines for how long the coming generations are others, if many consecutive ones had as many cells as the listed set.
     fn rest<P: Plane>(
         &mut self,
         listed: &CellList,
@@ -93,8 +93,8 @@ impl Lookout {
         Ok(())
     }
 
-    /// What is seen of a generation that came `taken` steps after the listed set, with its span where that is wanted. It isn't
-    /// looked at where it is known to be another.
+    /// The sight of a generation that came `taken` steps after the listed set, with its span if `spanned`. It isn't examined if
+    /// it is known to be another.
     pub fn look<P: Plane>(
         &mut self,
         listed: &CellList,

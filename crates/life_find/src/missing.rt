@@ -1,10 +1,10 @@
-//! Whether cells are missed where others are to stand, and how far the next ones are.
+//! The test of whether listed cells are missing among others, and far from them.
 ghost use Rattle.std.specs.Prelude.{◌<◌, ◌≤◌, IsTrue, All, length, pos};
 ghost use Rattle.life_model.specs.Cell.{opposite, plus};
 ghost use Rattle.life_cells.specs.Limits.{IsPlace, extent_limit};
 ghost use Rattle.life_find.specs.Quiet.{IsAway, IsFar, IsMissed, IsReachedBy};
 
-/// Whether a cell, moved as one place is from another, is more than `reach` columns from another cell.
+/// True only if a cell, after the move from one place to another, is more than `reach` columns from another cell.
 fn is_far_across(
     cell: (i32, i32),
     from: (i32, i32),
@@ -31,7 +31,7 @@ fn is_far_across(
     false
 }
 
-/// Whether a cell, moved as one place is from another, is more than `reach` rows from another cell.
+/// True only if a cell, after the move from one place to another, is more than `reach` rows from another cell.
 fn is_far_down(
     cell: (i32, i32),
     from: (i32, i32),
@@ -58,7 +58,8 @@ fn is_far_down(
     false
 }
 
-/// Whether a cell, moved as one place is from another, is more than `reach` from another cell, in columns or in rows.
+/// True only if a cell, after the move from one place to another, is more than `reach` from another cell, in columns or in
+/// rows.
 fn is_far(cell: (i32, i32), from: (i32, i32), to: (i32, i32), other: (i32, i32), reach: u32) -> bool
     requires cell { IsPlace cell }
     requires from { IsPlace from }
@@ -74,7 +75,7 @@ fn is_far(cell: (i32, i32), from: (i32, i32), to: (i32, i32), other: (i32, i32),
     is_far_down(cell, from, to, other, reach)
 }
 
-/// Whether a cell, moved as one place is from another, is more than `reach` from each of some cells.
+/// True only if a cell, after the move from one place to another, is more than `reach` from each of some cells.
 fn is_far_from_all(
     cell: (i32, i32),
     from: (i32, i32),
@@ -97,7 +98,8 @@ fn is_far_from_all(
     true
 }
 
-/// Whether one of the listed cells, moved as one place is from another, is more than `reach` from each of some cells.
+/// True only if one of the listed cells, after the move from one place to another, is more than `reach` from each of some
+/// cells.
 fn one_is_missed(
     listed: &[(i32, i32)],
     from: (i32, i32),
@@ -120,8 +122,8 @@ fn one_is_missed(
     false
 }
 
-/// Whether one of the listed cells is more than `reach` from each of some cells, whichever of these is where the first one is
-/// moved to.
+/// True only if, whichever of some cells the first of the listed ones is moved to, one of the listed ones is then more than
+/// `reach` from each of these cells.
 pub fn are_away(listed: &[(i32, i32)], cells: &[(i32, i32)], reach: u32) -> bool
     requires some { 0 < length listed.now }
     requires listed { All IsPlace listed.now }

@@ -1,4 +1,4 @@
-//! How far one generation is from another that is the same, moved as a whole.
+//! The offset of a generation from another that is the same, moved as a whole.
 ghost use Rattle.std.specs.Prelude.{◌≡◌, IfNone, IfOk, IfSome};
 ghost use Rattle.life_model.specs.Symmetry.{normal};
 ghost use Rattle.life_plane.specs.Offsets.{IsOffset};
@@ -9,8 +9,8 @@ use life_cells::CellList;
 use life_plane::Plane;
 use std::alloc::AllocError;
 
-/// How far the cells of the plane are from the listed ones, if they are those moved as a whole. They are looked at where the
-/// fingerprints agree.
+/// The offset of the cells of the plane from the listed ones, if they are those moved as a whole. They are compared only if
+/// the fingerprints agree.
 pub fn offset_to<P: Plane>(
     from: &CellList,
     marked: Fingerprint,
@@ -30,7 +30,7 @@ pub fn offset_to<P: Plane>(
     Ok(None)
 }
 
-/// How far the second plane's cells are from the first's, if they are those moved as a whole.
+/// The offset of the second plane's cells from the first's, if they are those moved as a whole.
 pub fn plane_offset<P: Plane>(from: &P, to: &P) -> Result<Option<(i32, i32)>, AllocError>
     ensures offset { IfOk result
         (λ found. IfSome found (λ d. IsOffset (P.members from.now) (P.members to.now) d)) }

@@ -1,6 +1,6 @@
 //! A generation that recurs.
 
-/// A generation that recurs, after how many steps it first does, and how far away.
+/// A generation that recurs, the number of steps after which it first does, and its displacement then.
 #[derive(Clone, Copy)]
 pub struct Recurrence {
     pub onset: u32,

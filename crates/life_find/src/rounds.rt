@@ -1,4 +1,4 @@
-//! What the first generations of a pattern say about all those after them.
+//! The outcome of a pattern, if its first generations decide it.
 ghost use Rattle.std.specs.Prelude.{◌≡◌, ℕ, ◌≤◌, All, IfNone, IfOk, IfSome};
 ghost use Rattle.life_model.specs.Generation as generations;
 ghost use Rattle.life_cells.specs.Limits.{IsWithin};
@@ -14,14 +14,14 @@ use life_cells::{CellList, Rule};
 use life_plane::{Observer, Plane};
 use std::alloc::{AllocError, Global};
 
-/// Up to which generation the first round goes.
+/// The generation up to which the first round goes.
 const FIRST_REACH: u32 = 16;
 
-/// How many times as far each round goes as the one before it.
+/// The factor by which each round goes further than the one before it.
 const REACH_GROWTH: u32 = 4;
 
-/// What becomes of cells, whose generations may have no more cells than the limit, within every bound from the reach on: a
-/// generation up to the reach is too large, or, where none is, they recur within the reach. `None` where they do neither.
+/// The outcome of cells, whose generations may have no more cells than the limit, within every bound from the reach on: a
+/// generation up to the reach is too large or, if none is, they recur within the reach. `None` if they do neither.
 fn found_to<P: Plane, W: Observer>(
     alloc: Global,
     observer: &W,
@@ -46,9 +46,9 @@ fn found_to<P: Plane, W: Observer>(
     }
 }
 
-/// What becomes of cells within the bound, where there is a limit and their first generations decide it. They are looked at in
+/// The outcome of cells within the bound, if there is a limit and their first generations decide it. These are examined in
 /// rounds. Each begins again and goes four times as far as the one before it, and none goes further than a fourth of the bound.
-/// So all rounds together look at no more than a third as many generations as a search up to the bound may.
+/// So all rounds together examine no more than a third as many generations as a search up to the bound may.
 pub fn found_early<P: Plane, W: Observer>(
     alloc: Global,
     observer: &W,

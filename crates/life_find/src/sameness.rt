@@ -1,4 +1,4 @@
-//! Whether two sets of cells settle into one object.
+//! The test of whether two sets of cells settle into one object.
 ghost use Rattle.std.specs.Prelude.{◌≤◌, ℕ, All, IfNone, IfOk, IfSome};
 ghost use Rattle.life_model.specs.Generation as generation;
 ghost use Rattle.life_model.specs.Recurrence.{SettlesAt};
@@ -13,7 +13,7 @@ use life_cells::{CellList, Rule};
 use life_plane::{Plane, Unobserved};
 use std::alloc::{AllocError, Global};
 
-/// The code of the object that a set of cells settles into, where it does within the bound.
+/// The code of the object that a set of cells settles into, if it does within the bound.
 fn settled_code<P: Plane>(
     alloc: Global,
     rule: &Rule,
@@ -33,7 +33,7 @@ fn settled_code<P: Plane>(
     }
 }
 
-/// Whether two sets of cells settle into one object, over planes of one kind.
+/// True where two sets of cells settle into one object, over planes of one kind.
 fn same_object_on<P: Plane>(
     alloc: Global,
     rule: &Rule,
@@ -60,9 +60,9 @@ fn same_object_on<P: Plane>(
     Ok(Some(first.as_slice() == second.as_slice()))
 }
 
-/// Whether two sets of cells, whose places are from 0 to 1,048,575, settle into one object under a rule: whether some phase
-/// of the one, at its onset or later, turned by one of the eight maps and moved, is such a phase of the other. `None`
-/// exactly where one of them doesn't settle within the bound.
+/// True where two sets of cells, whose places are from 0 to 1,048,575, settle into one object under a rule: some phase of
+/// one, at its onset or later, turned by one of the eight maps and moved, is such a phase of the other. `None` exactly if
+/// one of them doesn't settle within the bound.
 pub fn same_object(
     alloc: Global,
     rule: &Rule,

@@ -15,7 +15,6 @@ use life_cells::{CellList, Rule};
 use life_plane::{AGE_LIMIT, Observer, Plane};
 use std::alloc::{AllocError, Global};
 
-/// Makes `steps` steps.
 fn advance<P: Plane>(plane: &mut P, rule: &Rule, steps: u32) -> Result<(), AllocError>
     requires { P.steps_made plane.old + steps ≤ AGE_LIMIT }
     ensures cells { OnOk result
@@ -28,8 +27,8 @@ fn advance<P: Plane>(plane: &mut P, rule: &Rule, steps: u32) -> Result<(), Alloc
     Ok(())
 }
 
-/// The first generation that recurs within the bound, after how many steps, and how far away. The plane of the cells then has
-/// those of that generation, wherever they stand.
+/// The first generation that recurs within the bound, the number of steps after which it does, and the displacement. The
+/// plane of the cells then has those of that generation, wherever they are.
 pub fn settling<P: Plane, W: Observer>(
     alloc: Global,
     observer: &W,
@@ -77,9 +76,9 @@ pub fn settling<P: Plane, W: Observer>(
     settling_from(alloc, runner, cells, rule, bound, seen.period, first)
 }
 
-/// The first generation that recurs within the bound, where the period and a generation before which none recurs are known.
+/// The first generation that recurs within the bound, if the period and a generation before which none recurs are known.
 ///
-/// It stands apart in the program too: within `settling` each search would first make room for its planes.
+/// It is not inlined: within `settling` each search would first make room for its planes.
 #[inline(never)]
 fn settling_from<P: Plane>(
     alloc: Global,

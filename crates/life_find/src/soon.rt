@@ -1,4 +1,4 @@
-//! What the first generations of a pattern say about a text.
+//! The answer to a text, if the first generations of its pattern decide it.
 ghost use Rattle.std.specs.Prelude.{◌≡◌, ◌<◌, ◌≤◌, true, IfNone, IfOk, IfSome};
 ghost use Rattle.life_answer.specs.declared.question.Question.TheVariants.{Settles};
 ghost use Rattle.life_answer.specs.Questions.{answer_to_question};
@@ -10,10 +10,10 @@ use life_answer::{Answer, Outcome};
 use life_plane::Unobserved;
 use std::alloc::{AllocError, Global};
 
-/// The greatest bound within which no generation past 256 is looked at, as a search goes up to twice its bound.
+/// The greatest bound within which no generation past 256 is examined, as a search goes up to twice its bound.
 const SOON_REACH: u32 = 128;
 
-/// Whether more generations may decide what these did not.
+/// True where more generations may decide what these did not.
 fn is_open(answer: &Answer) -> bool
     ensures { result ≡ is_open answer.now }
 {
@@ -26,9 +26,9 @@ fn is_open(answer: &Answer) -> bool
     }
 }
 
-/// What is found of an RLE text within the bound, where the first 256 generations of its pattern decide it, or there is no
-/// pattern. No later generation is looked at. The bound is 1 to 1,000,000 generations, and the limit is that of `answer`. `None`
-/// says that the bound is greater than 128, and that nothing is found within 128 generations.
+/// The answer to an RLE text within the bound, if the first 256 generations of its pattern decide it, or there is no pattern. No
+/// later generation is examined. The bound is 1 to 1,000,000 generations, and the limit is that of `answer`. `None` means that
+/// the bound is greater than 128, and that nothing is found within 128 generations.
 pub fn answer_soon(
     alloc: Global,
     text: &[u8],
