@@ -1,19 +1,19 @@
--- Readers and writers that remember that they failed, by one value before and one after.
+-- Readers and writers that remember that they failed, as one value before and one after.
 use Rattle.std.specs.Prelude.{◌≡◌, ℕ, ◌≤◌, Bool, true, false, List, length, take, Option, MatchBool}
 use Rattle.std.specs.Io.KnownBytes.{Appends}
 use Rattle.watched.specs.Watching.{AppendsFront}
 
--- a reader: the bytes that it has left, where they are known, and whether it has failed
+-- a reader: the bytes that it has left, if they are known, and true if it has failed
 pub record Reader : Type 0 where
   pub unread : Option (List ℕ)
   pub failed : Bool
 
--- a writer: the bytes that were written, where they are known, and whether it has failed
+-- a writer: the bytes that were written, if they are known, and true if it has failed
 pub record Sink : Type 0 where
   pub written : Option (List ℕ)
   pub failed : Bool
 
--- what is known of a reader or a writer, and that itself
+-- what is known of a reader or a writer, and the reader or the writer itself
 pub record Watched (S T : Type 0) : Type 0 where
   pub stream : S
   pub inner : T
@@ -44,7 +44,7 @@ pub record WritesBetween (first all : List ℕ) (before after : Sink) : Type 0 w
   pub written : Appends before.written after.written (take count all)
   pub failed : after.failed ≡ true
 
--- these bytes were written, whole where the writer has not failed, else a prefix of them, and nothing else
+-- these bytes were written, all of them if the writer has not failed, otherwise a prefix of them, and nothing else
 abbrev pub PutsBytes : List ℕ → Sink → Sink → Type 0
 PutsBytes bytes before after =
     MatchBool after.failed (AppendsFront before.written after.written bytes) (Appends before.written after.written bytes)

@@ -1,4 +1,4 @@
--- What is put to a watched writer by way of a block.
+-- Bytes that are put to a watched writer through a block.
 use Rattle.std.specs.Prelude.{◌≡◌, ℕ, Bool, List, ◌++◌, Option, MatchBool}
 use Rattle.std.specs.Io.KnownBytes.{Appends}
 use Rattle.watched.specs.Watching.{AppendsFront}
@@ -9,7 +9,7 @@ use Rattle.watched.specs.declared.block.Block.{Block}
 abbrev pub pending_of : Block → List ℕ
 pending_of block = block.bytes.items
 
--- a writer and its block: the bytes that were written, where they are known, those that it is still to be given, and whether it
+-- a writer and its block: the bytes that were written, if they are known, those that are still to be written, and true if it
 -- has failed
 pub record Sheet : Type 0 where
   pub written : Option (List ℕ)
@@ -19,7 +19,7 @@ pub record Sheet : Type 0 where
 abbrev pub sheet : {W : Type 0} → Block → Watched Sink W → Sheet
 sheet block writer = record { written = writer.stream.written; pending = pending_of block; failed = writer.stream.failed }
 
--- The bytes that were put after the first ones, by what was written: all but those of the block, and a prefix of them where the
+-- The bytes that were put after the first ones, by what was written: all but those of the block, and a prefix of them if the
 -- writer has failed.
 abbrev pub IsToldAfter : Option (List ℕ) → List ℕ → Sheet → Type 0
 IsToldAfter first bytes s =

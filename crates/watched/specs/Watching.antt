@@ -1,4 +1,4 @@
--- What calls of readers and writers do to known bytes.
+-- The effect of calls of readers and writers on known bytes.
 use Rattle.std.specs.Prelude.{ℕ, ◌<◌, ◌≤◌, List, length, take, Option}
 use Rattle.std.specs.Io.KnownBytes.{Appends, Consumes}
 

@@ -1,20 +1,20 @@
-//! A block of bytes that a writer is to be given.
+//! A block of bytes for a writer.
 ghost use Rattle.std.specs.Prelude.{◌≡◌, ◌++◌, [], true, false, IsTrue, IsFalse};
 ghost use Rattle.watched.specs.Telling.{pending_of};
 
 use std::alloc::Global;
 
-// The most bytes of a block.
+// The greatest number of bytes of a block.
 const SIZE: usize = 65_536;
 
-/// Bytes that a writer is to be given, at most 65,536 of them.
+/// Bytes for a writer, at most 65,536 of them.
 #[derive(Drop)]
 pub struct Block {
     bytes: Vec<u8>,
 }
 
 impl Block {
-    /// A block without a byte. Nothing is allocated yet.
+    /// A block without bytes. Nothing is allocated yet.
     pub fn new(alloc: Global) -> Block
         ensures { pending_of result ≡ [] }
     {
@@ -30,8 +30,8 @@ impl Block {
         self.bytes.as_slice()
     }
 
-    // Whether there was room for these bytes after the others. Where there was none, or memory was refused, the block is
-    // unchanged.
+    // Adds these bytes and returns true, if there is room for them. If there is none, or memory is refused, the block is
+    // unchanged, and the result is false.
     pub fn takes(&mut self, bytes: &[u8]) -> bool
         ensures yes { IsTrue result → pending_of self.new ≡ pending_of self.old ++ bytes.now }
         ensures no { IsFalse result → pending_of self.new ≡ pending_of self.old }

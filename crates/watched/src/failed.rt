@@ -1,4 +1,4 @@
-//! What is returned in the place of what a reader gives or a writer takes.
+//! The error of readers and writers that have failed.
 use thiserror::Error;
 
 /// The reader or the writer has failed, in this call or in an earlier one.

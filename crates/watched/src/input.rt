@@ -1,4 +1,4 @@
-//! A reader with a flag that is raised once a call of it failed.
+//! A reader with a flag that is raised once a call of it has failed.
 ghost use Rattle.std.specs.Prelude.{◌≡◌, ◌<◌, true, false, length, MatchResult};
 ghost use Rattle.std.specs.Io.{ReadsAtMost};
 ghost use Rattle.std.specs.Io.KnownBytes.{ReadConsumes};
@@ -8,8 +8,8 @@ use crate::interrupted::read_through;
 use std::io::Read;
 use std::marker::Model;
 
-/// A reader, and whether it has failed. It has not failed at first, and once it has, it stays so. A clause sees the bytes that it
-/// has left, where they are known, and whether it has failed.
+/// A reader, and a flag that is raised once it has failed, and stays raised. A clause sees the bytes that are left to read, if
+/// they are known, and the flag.
 #[derive(Drop)]
 pub struct Input<R: Read> {
     reader: R,
@@ -49,16 +49,16 @@ impl<R: Read> Input<R> {
         reader
     }
 
-    /// Whether a call has failed.
+    /// True where a call has failed.
     pub fn failed(&self) -> bool
         ensures { result ≡ self.now.stream.failed }
     {
         self.failed
     }
 
-    /// Reads into the front of the buffer, by one call of the reader, and returns how many bytes came: from 0 to the buffer's
-    /// length, 0 only at the reader's end. `Failed` is returned where the reader's call fails, or has failed before. In the
-    /// second case the reader is not called. A call that a signal interrupts is made again.
+    /// Reads into the front of the buffer, by one call of the reader, and returns the number of bytes read: from 0 to the
+    /// buffer's length, 0 only at the reader's end. `Failed` is returned if the reader's call fails, or if one has failed before.
+    /// In the second case the reader is not called. A call that a signal interrupts is repeated.
     pub fn get(&mut self, buffer: &mut [u8]) -> Result<usize, Failed>
         requires { 0 < length buffer.old }
         ensures failed { MatchResult result (λ _. self.new.stream.failed ≡ false)

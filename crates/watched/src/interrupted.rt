@@ -1,4 +1,4 @@
-//! Calls that are made again where a signal interrupts them.
+//! Calls that are repeated if a signal interrupts them.
 ghost use Rattle.std.specs.Prelude.{◌≢◌, IfErr};
 ghost use Rattle.std.specs.Io.{ReadsAtMost, WritesAtMost};
 ghost use Rattle.std.specs.Io.KnownBytes.{ReadConsumes, WriteAppends};
@@ -8,7 +8,7 @@ ghost use Rattle.std.specs.declared.io.ErrorKind.{ErrorKind};
 use std::io;
 use std::io::{ErrorKind, Read, Write};
 
-// One read. Where a signal interrupts it, it is made again.
+// One read. If a signal interrupts it, it is repeated.
 pub fn read_through<R: Read>(reader: &mut R, buffer: &mut [u8]) -> io::Result<usize>
     ensures count { ReadsAtMost result buffer.new }
     ensures bytes { ReadConsumes (R.remaining reader.old) (R.remaining reader.new) result
@@ -28,7 +28,7 @@ pub fn read_through<R: Read>(reader: &mut R, buffer: &mut [u8]) -> io::Result<us
     Err(io::Error::from(ErrorKind::TimedOut))
 }
 
-// One write. Where a signal interrupts it, it is made again.
+// One write. If a signal interrupts it, it is repeated.
 pub fn write_through<W: Write>(writer: &mut W, bytes: &[u8]) -> io::Result<usize>
     ensures count { WritesAtMost result bytes.now }
     ensures bytes { WriteAppends (W.contents writer.old) (W.contents writer.new) result bytes.now }

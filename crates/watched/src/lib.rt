@@ -1,8 +1,8 @@
 //! Readers and writers that remember that they failed, and blocks of bytes that go to a writer together.
 //!
 //! An `Input` holds a reader and a flag, an `Output` a writer and a flag. The first call that fails raises the flag. It stays
-//! raised from then on, and no further call reaches the reader or writer. So whoever holds one can tell a failure of the reader
-//! or writer from every other cause of an error. A call that a signal interrupts has not failed: it is made again.
+//! raised from then on, and no further call reaches the reader or writer. So whoever holds one can distinguish a failure of the
+//! reader or writer from every other cause of an error. A call that a signal interrupts has not failed: it is repeated.
 //!
 //! Tested in `tests_reports`.
 #![tactic(auto)]

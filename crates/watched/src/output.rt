@@ -1,4 +1,4 @@
-//! A writer with a flag that is raised once a call of it failed.
+//! A writer with a flag that is raised once a call of it has failed.
 ghost use Rattle.std.specs.Prelude.{◌≡◌, ◌<◌, ◌≤◌, true, false, length, take, IfOk, MatchResult};
 ghost use Rattle.std.specs.Io.KnownBytes.{Appends, Keeps};
 ghost use Rattle.watched.specs.Streams.{PutsMoreBytes};
@@ -9,8 +9,8 @@ use crate::writing::put_all;
 use std::io::Write;
 use std::marker::Model;
 
-/// A writer, and whether it has failed. It has not failed at first, and once it has, it stays so. A clause sees the bytes that
-/// were written, where they are known, and whether it has failed.
+/// A writer, and a flag that is raised once it has failed, and stays raised. A clause sees the bytes that were written, if
+/// they are known, and the flag.
 #[derive(Drop)]
 pub struct Output<W: Write> {
     writer: W,
@@ -50,16 +50,16 @@ impl<W: Write> Output<W> {
         writer
     }
 
-    /// Whether a call has failed.
+    /// True where a call has failed.
     pub fn failed(&self) -> bool
         ensures { result ≡ self.now.stream.failed }
     {
         self.failed
     }
 
-    /// Writes a prefix of the bytes, by one call of the writer, and returns how many bytes it took, at least 1. `Failed` is
-    /// returned where the writer's call fails or takes nothing, or one has failed before, and then nothing was written. In the
-    /// last case the writer is not called. A call that a signal interrupts is made again.
+    /// Writes a prefix of the bytes, by one call of the writer, and returns the number of bytes that it took, at least 1.
+    /// `Failed` is returned if the writer's call fails or takes nothing, or if one has failed before, and then nothing was
+    /// written. In the last case the writer is not called. A call that a signal interrupts is repeated.
     pub fn put(&mut self, bytes: &[u8]) -> Result<usize, Failed>
         requires { 0 < length bytes.now }
         ensures failed { MatchResult result (λ _. self.new.stream.failed ≡ false)
@@ -82,8 +82,8 @@ impl<W: Write> Output<W> {
         }
     }
 
-    /// Writes a text, and asks for no memory. Where the writer fails, a prefix of the text was written; where it has failed
-    /// before, the text is lost.
+    /// Writes a text, and requests no memory. If the writer fails, a prefix of the text was written; if it has failed before,
+    /// the text is lost.
     pub fn tell(&mut self, text: &[u8])
         ensures { PutsMoreBytes text.now self.old.stream self.new.stream }
     {

@@ -1,4 +1,4 @@
-//! Writing by way of a block.
+//! Writing through a block.
 ghost use Rattle.std.specs.Prelude.{◌≡◌, [], true, false, MatchResult};
 ghost use Rattle.watched.specs.Telling.{TellsAfter, pending_of, sheet};
 
@@ -7,7 +7,7 @@ use crate::{Failed, Output, put_all};
 use itoa::{Buffer, Integer};
 use std::io::Write;
 
-/// Gives the writer the bytes of the block, which is empty afterwards.
+/// Writes the bytes of the block, which is empty afterwards.
 pub fn send<W: Write>(block: &mut Block, writer: &mut Output<W>) -> Result<(), Failed>
     ensures tells { TellsAfter [] (sheet block.old writer.old)
         (sheet block.new writer.new) }
@@ -20,7 +20,7 @@ pub fn send<W: Write>(block: &mut Block, writer: &mut Output<W>) -> Result<(), F
     sent
 }
 
-// Gives the writer the bytes of the block, and then these.
+// Writes the bytes of the block, then these.
 fn put_behind<W: Write>(bytes: &[u8], block: &mut Block, writer: &mut Output<W>)
     ensures { TellsAfter bytes.now (sheet block.old writer.old)
         (sheet block.new writer.new) }
@@ -29,8 +29,8 @@ fn put_behind<W: Write>(bytes: &[u8], block: &mut Block, writer: &mut Output<W>)
     let _ = put_all(writer, bytes);
 }
 
-/// Puts these bytes in the block, or writes the block and these bytes after it. It asks for no more memory than a block has, and
-/// where that is refused the bytes are written at once. To a writer that has failed nothing is written.
+/// Puts these bytes in the block, or writes the block and these bytes after it. No more memory is requested than a block has,
+/// and if that is refused the bytes are written at once. To a writer that has failed nothing is written.
 pub fn put<W: Write>(bytes: &[u8], block: &mut Block, writer: &mut Output<W>)
     ensures { TellsAfter bytes.now (sheet block.old writer.old)
         (sheet block.new writer.new) }

@@ -10,7 +10,7 @@ use std::alloc::{AllocError, Global};
 use std::io::Read;
 use thiserror::Error;
 
-/// Why a reader was not read to its end.
+/// The reason why a reader was not read to its end.
 #[derive(Clone, Copy, Debug, PartialEq, Eq, Drop, Error)]
 pub enum ReadFault {
     /// The reader has failed.
@@ -45,13 +45,13 @@ impl From<AllocError> for ReadFault {
     }
 }
 
-/// The most bytes that one call of the reader may give.
+/// The greatest number of bytes that one call of the reader may give.
 const BUFFER_LEN: usize = 8192;
 
 /// Reads all the bytes up to the reader's end, of which there may be at most `limit`.
 ///
-/// `Read` is returned exactly where the reader has failed on return; where it has failed before, it is not called. `TooLong` is
-/// returned as soon as a byte after the limit came. After each fault the bytes that came are lost. No more than `limit` + 1 bytes
+/// `Read` is returned exactly if the reader has failed on return; if it had failed before, it is not called. `TooLong` is
+/// returned once a byte after the limit has come. After each fault the bytes that came are lost. No more than `limit` + 1 bytes
 /// are ever taken from the reader.
 pub fn read_all<R: Read>(
     alloc: Global,

@@ -7,8 +7,8 @@ use crate::failed::Failed;
 use crate::output::Output;
 use std::io::Write;
 
-/// Writes all the bytes. `Failed` is returned where the writer fails or takes nothing before the last byte, and then a prefix of
-/// the bytes was written; or where it has failed before, and then it is not called, even for no bytes.
+/// Writes all the bytes. `Failed` is returned if the writer fails or takes nothing before the last byte, and then a prefix of
+/// the bytes was written; or if it had failed before, and then it is not called, even for no bytes.
 #[tactic(auto, using(crate::proofs::Fronts::front_none, crate::proofs::Fronts::front_more, crate::proofs::Fronts::front_err, crate::proofs::Fronts::front_all))]
 pub fn put_all<W: Write>(writer: &mut Output<W>, bytes: &[u8]) -> Result<(), Failed>
     ensures failed { MatchResult result (λ _. writer.new.stream.failed ≡ false)
