@@ -2,7 +2,7 @@
 use Rattle.std.specs.Prelude.{◌≡◌, ◌⊎◌, ℕ, zero, suc, ◌<◌, ◌==◌, Bool, true, false, cond, leb, List, length, get_or}
 use Rattle.std.specs.List.{sum}
 
--- where at most n steps lead from k, each to a smaller number
+-- the number that at most n steps lead to from k, each to a smaller number
 abbrev pub root_within : ℕ → List ℕ → ℕ → ℕ
 root_within zero forest k = k
 root_within (suc n) forest k =
@@ -12,11 +12,11 @@ root_within (suc n) forest k =
 abbrev pub root : List ℕ → ℕ → ℕ
 root forest k = root_within k forest k
 
--- where a root is once one of them points to another
+-- the root that a number with the root k has once high points to low
 abbrev pub moved : ℕ → ℕ → ℕ → ℕ
 moved high low k = cond (k == high) low k
 
--- the one pair of numbers is joined as the other
+-- k and l have the roots of one and of other
 abbrev pub AreAs : List ℕ → ℕ → ℕ → ℕ → ℕ → Type 0
 AreAs forest k l one other = (root forest k ≡ root forest one) × (root forest l ≡ root forest other)
 
@@ -25,7 +25,7 @@ pub record IsPut (old new : List ℕ) (high low : ℕ) : Type 0 where
   pub lower : low < high
   pub goes : (k : ℕ) → root new k ≡ moved high low (root old k)
 
--- Two numbers are joined, and nothing more than that requires.
+-- Two numbers are joined, and nothing is joined beyond what that requires.
 pub record IsJoined (old new : List ℕ) (one other : ℕ) (is_new : Bool) : Type 0 where
   pub long : length new ≡ length old
   pub coarser : (k l : ℕ) → root old k ≡ root old l → root new k ≡ root new l

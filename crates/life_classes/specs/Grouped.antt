@@ -12,7 +12,7 @@ use Rattle.life_classes.specs.Labels.{cells_of_root, chosen, class_of_root}
 abbrev pub lists_of : {A : Type 0} → List (Vec Cell A) → List (List Cell)
 lists_of lists = map (λ list. list.items) lists
 
--- the cells of each number as a root
+-- for each number, the cells whose labels have it as their root
 abbrev pub by_roots : List Cell → List Tag → List ℕ → List (List Cell)
 by_roots cs ts f = map (chosen cs ts f) (range_with_len 0 (length f))
 

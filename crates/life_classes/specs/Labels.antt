@@ -1,4 +1,4 @@
--- Cells with labels, and the classes that they give.
+-- Cells with labels, and the classes given by them.
 use Rattle.std.specs.Prelude.{◌≡◌, ◌⊎◌, ℕ, ◌<◌, ◌==◌, cond, true, List, [], ◌∷◌, length, get_or, map}
 use Rattle.std.specs.List.{All, Contains, range_with_len}
 use Rattle.life_model.specs.Cell.{Cell, IsNear}
@@ -12,7 +12,7 @@ use Rattle.life_classes.specs.Forest.{root}
 use Rattle.life_classes.specs.Nearness.{reaches}
 use Rattle.life_classes.specs.Tags.{AreNumbersOf}
 
--- the cells whose labels have a root
+-- the cells whose labels have the root r
 abbrev pub chosen : List Cell → List Tag → List ℕ → ℕ → List Cell
 chosen [] ts f r = []
 chosen (c ∷ cs) [] f r = []
@@ -21,11 +21,11 @@ chosen (c ∷ cs) (t ∷ ts) f r = cond (root f t.label == r) (c ∷ chosen cs t
 abbrev pub cells_of_root : Labelled → List ℕ → ℕ → List Cell
 cells_of_root l f r = chosen (cells l.cells) l.tags.items f r
 
--- the class of a root, by the labels of the cells at first and of those that have become of them
+-- the class of a root, from the labels of the first cells and of the cells that they have become
 abbrev pub class_of_root : Labelled → Labelled → List ℕ → ℕ → Class
 class_of_root a l f r = record { first = from_list (cells_of_root a f r); last = from_list (cells_of_root l f r) }
 
--- the class of each number; that of a number that is no root has no cell
+-- the class of each number; a number that is no root has a class without cells
 abbrev pub classes_by : Labelled → Labelled → List ℕ → List Class
 classes_by a l f = map (class_of_root a l f) (range_with_len 0 (length f))
 
@@ -40,7 +40,7 @@ pub record AreLabelled (l : Labelled) (f : List ℕ) : Type 0 where
   pub tagged : IsTagged l
   pub within : All (λ t. t.label < length f) l.tags.items
 
--- the tag in this place has the label, and its cell is at most one away
+-- the tag at this place has the label, and its cell is at most one away
 pub record IsLabelOf (l : Labelled) (c : Cell) (label : ℕ) : Type 0 where
   pub by : ℕ
   pub inside : by < length l.tags.items
@@ -57,7 +57,7 @@ pub record IsHeir (l : Labelled) (f : List ℕ) (c : Cell) (t : Tag) : Type 0 wh
 abbrev pub AreHeirs : Labelled → List ℕ → List Cell → ℕ → List Tag → Type 0
 AreHeirs l f cs n ts = (k : ℕ) (d : Tag) (e : Cell) → k < n → IsHeir l f (get_or cs k e) (get_or ts k d)
 
--- each of the first n cells is in a listed place, or was there before
+-- each of the first n cells is at a listed place, or was there before
 abbrev pub AreBornOrOld : Labelled → List Cell → ℕ → List ℕ → Type 0
 AreBornOrOld l cs n born = (k : ℕ) (e : Cell) → k < n → Contains born k ⊎ (contains l.cells (get_or cs k e) ≡ true)
 
@@ -65,7 +65,7 @@ AreBornOrOld l cs n born = (k : ℕ) (e : Cell) → k < n → Contains born k �
 abbrev pub AreReached : Labelled → Generation → Type 0
 AreReached l G = (c : Cell) → contains G c ≡ true → reaches 1 l.cells c ≡ true
 
--- the cells in two places are near each other
+-- the cells at two places are near each other
 abbrev pub AreNearAt : Labelled → ℕ → ℕ → Type 0
 AreNearAt l i j = (d e : Cell) → AreNear (get_or (cells l.cells) i d) (get_or (cells l.cells) j e)
 

@@ -4,14 +4,14 @@ use Rattle.std.specs.List.{list_any}
 use Rattle.life_model.specs.Cell.{Cell, same_cell}
 use Rattle.life_model.specs.Generation.{Generation, cells}
 
--- whether two cells are at most r from each other in both directions
+-- true if two cells are at most r from each other in both directions
 abbrev pub are_within : ℕ → Cell → Cell → Bool
 are_within r c d = nat_le (unsigned_abs (c.0 -ℤ d.0)) r && nat_le (unsigned_abs (c.1 -ℤ d.1)) r
 
--- whether a cell of P is at most r from c in both directions
+-- true if a cell of P is at most r from c in both directions
 abbrev pub reaches : ℕ → Generation → Cell → Bool
 reaches r P c = list_any (are_within r c) (cells P)
 
--- whether a cell is listed
+-- true if a cell is listed
 abbrev pub lists_cell : List Cell → Cell → Bool
 lists_cell cs c = list_any (same_cell c) cs

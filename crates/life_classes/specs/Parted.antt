@@ -25,7 +25,7 @@ pub record HasLabel (l : Labelled) (c : Cell) (label : ℕ) : Type 0 where
 abbrev pub IsLabelOr : Labelled → ℕ → Cell → ℕ → Type 0
 IsLabelOr l other c label = HasLabel l c label ⊎ ((contains l.cells c ≡ true → ⊥) × (label ≡ other))
 
--- the labels of the first n cells are such
+-- each of the first n cells has such a label
 abbrev pub AreLabelsOr : Labelled → ℕ → List Cell → ℕ → List Tag → Type 0
 AreLabelsOr l other cs n ts = (k : ℕ) (d : Tag) (e : Cell) → k < n → IsLabelOr l other (get_or cs k e) (get_or ts k d).label
 
@@ -42,23 +42,23 @@ pub record AreOthers (l : Labelled) (f : List ℕ) (m : ℕ) (G : Generation) : 
   pub all : (k : ℕ) (d : Tag) (e : Cell) → k < length (cells l.cells) → (root f (get_or l.tags.items k d).label ≡ m → ⊥) →
       contains G (get_or (cells l.cells) k e) ≡ true
 
--- one more class, and those of the rest
+-- the class of the herd, and those of the rest
 abbrev pub classes_beside : Generation → Generation → Split → List Class
 classes_beside first herd rest = record { first = first; last = herd } ∷ classes_of_split rest
 
--- no cell of that class is one of the rest, in which no two classes are near each other
+-- no cell of the herd's class is one of the rest, and no two classes of the rest are near each other
 pub record IsParted (first herd : Generation) (rest : Split) : Type 0 where
   pub labelled : IsLabelledSplit rest
   pub apart : AreApartNow (classes_of_split rest)
   pub firsts : AreDisjoint first rest.first.cells
   pub lasts : AreDisjoint herd rest.last.cells
 
--- classes, and what they are m generations later
+-- the classes ds are what the classes cs have become m generations later
 abbrev pub LeadFor : Rule → ℕ → List Class → List Class → Type 0
 LeadFor R m cs ds =
     (b n : ℕ) (G : Generation) → n + m ≤ b → AreTracked R b n G cs → AreTracked R b (n + m) G ds
 
--- the cells of a root are left out, and the others have their labels
+-- the cells of the root m are left out, and the others keep their labels
 pub record IsRest (l rest : Labelled) (f : List ℕ) (m : ℕ) : Type 0 where
   pub others : (r : ℕ) → (r ≡ m → ⊥) → from_list (cells_of_root rest f r) ≡ from_list (cells_of_root l f r)
   pub none : from_list (cells_of_root rest f m) ≡ empty

@@ -1,4 +1,4 @@
--- The classes of a pattern, as labels give them.
+-- The classes of a pattern, given by labels.
 use Rattle.std.specs.Prelude.{List}
 use Rattle.life_classes.specs.declared.class.Class.{Class}
 use Rattle.life_classes.specs.declared.split.Split.{Split}

@@ -7,20 +7,20 @@ use Rattle.life_classes.specs.declared.tags.Tag.{Tag}
 abbrev pub place_number : Cell → ℤ
 place_number c = (c.1 *ℤ pos (2 ^ 31)) +ℤ c.0
 
--- the number is one of a cell
+-- the number is in the range of the numbers of cells
 pub record IsNumbered (t : Tag) : Type 0 where
   pub low : neg_ℤ (pos (2 ^ 62 + 2 ^ 31)) ≤ℤ t.number
   pub high : t.number ≤ℤ pos (2 ^ 62 + 2 ^ 31)
 
--- the numbers do not fall from place to place
+-- the numbers never fall from place to place
 abbrev pub AreRisingTags : List Tag → Type 0
 AreRisingTags ts = (i j : ℕ) (d : Tag) → i ≤ j → j < length ts → (get_or ts i d).number ≤ℤ (get_or ts j d).number
 
--- those before place n have smaller numbers
+-- the tags before place n have numbers less than low
 abbrev pub AreLess : List Tag → ℕ → ℤ → Type 0
 AreLess ts n low = (k : ℕ) (d : Tag) → k < n → k < length ts → (get_or ts k d).number <ℤ low
 
--- those from place n on have numbers that are not less
+-- the tags from place n on have numbers of at least low
 abbrev pub AreFrom : List Tag → ℕ → ℤ → Type 0
 AreFrom ts n low = (k : ℕ) (d : Tag) → n ≤ k → k < length ts → low ≤ℤ (get_or ts k d).number
 
@@ -32,7 +32,7 @@ AreNumbersOf cs n ts = (k : ℕ) (d : Tag) (e : Cell) → k < n → (get_or ts k
 abbrev pub AreOwnLabels : ℕ → List Tag → Type 0
 AreOwnLabels n ts = (k : ℕ) (d : Tag) → k < n → (get_or ts k d).label ≡ k
 
--- the tag in this place has a number from `low` to `low + 2`
+-- the tag at this place has a number from `low` to `low + 2`
 pub record IsFrom (ts : List Tag) (low : ℤ) (place : ℕ) : Type 0 where
   pub inside : place < length ts
   pub first : (d : Tag) → low ≤ℤ (get_or ts place d).number
@@ -43,7 +43,7 @@ abbrev pub HasNoneFrom : List Tag → ℤ → Type 0
 HasNoneFrom ts low = (k : ℕ) (d : Tag) → k < length ts → low ≤ℤ (get_or ts k d).number →
     (get_or ts k d).number ≤ℤ (low +ℤ pos 2) → ⊥
 
--- the tag in this place has a number that is at most one from this one, or from that of the cell above or below it
+-- the tag at this place has a number at most one away from this one, or from that of the cell above or below
 pub record IsBeside (ts : List Tag) (number : ℤ) (place : ℕ) : Type 0 where
   pub row : ℤ
   pub rows : (row ≡ pos 0) ⊎ ((row ≡ pos (2 ^ 31)) ⊎ (row ≡ neg_ℤ (pos (2 ^ 31))))

@@ -17,7 +17,7 @@ first_sets cs = map (λ c. c.first) cs
 abbrev pub last_sets : List Class → List Generation
 last_sets cs = map (λ c. c.last) cs
 
--- the class of some cells, as they are at first
+-- the class of some cells at the start
 abbrev pub at_first : List Cell → Class
 at_first cs = record { first = from_list cs; last = from_list cs }
 
@@ -25,7 +25,7 @@ at_first cs = record { first = from_list cs; last = from_list cs }
 abbrev pub class_of_cell : Cell → Class
 class_of_cell c = record { first = from_list (c ∷ []); last = from_list (c ∷ []) }
 
--- a class a generation later, if G is all cells of that generation
+-- a class one generation later, if G has all cells of that generation
 abbrev pub moved_on : Generation → Class → Class
 moved_on G c = record { first = c.first; last = keep G (reaches 1 c.last) }
 
@@ -33,12 +33,12 @@ moved_on G c = record { first = c.first; last = keep G (reaches 1 c.last) }
 abbrev pub after : Rule → ℕ → Class → Class
 after R n c = record { first = c.first; last = generation R c.last n }
 
--- what has become of any two classes is apart
+-- the last cells of any two classes are apart
 abbrev pub AreApartNow : List Class → Type 0
 AreApartNow cs = AllPairs (λ c d. AreApart c.last d.last) cs
 
--- The classes are G after n generations. In each of these but the last any two of them were apart, and no split for b
--- generations tears one of them.
+-- The first cells of the classes together are G, and their last cells are what has become of them n generations
+-- later. Any two classes were apart in each generation before that, and no split for b generations tears one of them.
 pub record AreTracked (R : Rule) (b n : ℕ) (G : Generation) (cs : List Class) : Type 0 where
   pub together : union_of (first_sets cs) ≡ G
   pub whole : All (λ c. StaysWhole R b G c.first) cs

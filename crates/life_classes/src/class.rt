@@ -1,7 +1,7 @@
-//! Sets of a pattern's cells, and what has become of them.
+//! Sets of a pattern's cells, and what they have become.
 use life_cells::CellList;
 
-/// A class: its cells at first, and those that have become of them.
+/// A class: its first cells, and the cells that they have become.
 #[derive(Drop)]
 pub struct Class {
     pub first: CellList,

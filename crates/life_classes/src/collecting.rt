@@ -1,4 +1,4 @@
-//! The classes that labels give.
+//! The classes given by labels.
 ghost use Rattle.std.specs.Prelude.{◌≡◌, ◌<◌, ◌==◌, ◌++◌, ◌∷◌, [], cond, All, IfOk, OnOk, get_or, length, replicate, set, vec_len};
 ghost use Rattle.life_model.specs.Generation as generations;
 ghost use Rattle.life_model.specs.Generation.{from_list};
@@ -23,7 +23,7 @@ fn empty_groups(alloc: Global, count: usize) -> Result<Vec<Vec<(i32, i32)>>, All
     Ok(all)
 }
 
-/// Adds a cell to the list in a place.
+/// Adds a cell to the list at a place.
 fn give(all: &mut Vec<Vec<(i32, i32)>>, place: usize, cell: (i32, i32)) -> Result<(), AllocError>
     requires { place < vec_len all.old }
     ensures { OnOk result (lists_of all.new.items ≡
@@ -33,7 +33,7 @@ fn give(all: &mut Vec<Vec<(i32, i32)>>, place: usize, cell: (i32, i32)) -> Resul
     Ok(())
 }
 
-/// The cells of each root, in the place of the root.
+/// The cells of each root, at the place of the root.
 pub fn groups(
     alloc: Global,
     forest: &[usize],
@@ -83,7 +83,7 @@ fn add_class(
     Ok(())
 }
 
-/// The classes of the roots, by the labels of the cells at first and of those that have become of them.
+/// The classes of the roots, from the labels of the first cells and of the cells that they have become.
 pub fn collected(
     alloc: Global,
     forest: &[usize],

@@ -20,7 +20,7 @@ pub fn root(forest: &[usize], number: usize) -> usize
     at
 }
 
-/// Lets a number point to its root.
+/// Points a number at its root.
 fn shorten(forest: &mut Vec<usize>, number: usize)
     requires { number < length forest.old.items }
     ensures long { length forest.new.items ≡ length forest.old.items }
@@ -33,7 +33,7 @@ fn shorten(forest: &mut Vec<usize>, number: usize)
     }
 }
 
-/// Lets a root point to a smaller one.
+/// Points a root at a smaller one.
 fn put(forest: &mut Vec<usize>, high: usize, low: usize)
     requires within { high < length forest.old.items }
     requires less { low < high }
@@ -46,7 +46,7 @@ fn put(forest: &mut Vec<usize>, high: usize, low: usize)
     forest[high] = low;
 }
 
-/// Joins two numbers. False if they are joined already.
+/// Joins two numbers. False if they were joined already.
 #[cold]
 pub fn join(forest: &mut Vec<usize>, one: usize, other: usize) -> bool
     requires { one < length forest.old.items × other < length forest.old.items }

@@ -20,14 +20,14 @@ pub struct Heirs {
     pub born: Vec<usize>,
 }
 
-/// The label that a cell takes, and whether the cell was not there before.
+/// The label that a cell takes, and whether the cell is new in this generation.
 #[derive(Clone, Copy)]
 struct Heir {
     label: usize,
     is_born: bool,
 }
 
-/// Where tags were found that may be beside the last cell, in its row, above it and below it.
+/// The places where the last searches for a tag beside a cell ended: in its row, above it and below it.
 #[derive(Drop)]
 struct Cursors {
     level: usize,
@@ -56,8 +56,8 @@ fn place_from(tags: &[Tag], low: i64, cursor: &mut usize) -> Option<usize>
     Some(at)
 }
 
-/// The place of a tag whose number is at most one from this one, if there is one. It is that of the number itself, if
-/// possible.
+/// The place of a tag whose number is at most one away from this one, if there is one. A tag with this very number is
+/// preferred.
 #[inline(always)]
 fn place_level(tags: &[Tag], number: i64, cursor: &mut usize) -> Option<usize>
     requires rising { AreRisingTags tags.now }
@@ -87,7 +87,7 @@ fn place_level(tags: &[Tag], number: i64, cursor: &mut usize) -> Option<usize>
     None
 }
 
-/// The place of a tag whose number is at most one from this one, or from that of the cell above or below it.
+/// The place of a tag whose number is at most one away from this one, or from that of the cell above or below it.
 #[inline(always)]
 fn place_beside(tags: &[Tag], number: i64, cursors: &mut Cursors) -> Option<usize>
     requires rising { AreRisingTags tags.now }

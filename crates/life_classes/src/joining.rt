@@ -1,4 +1,4 @@
-//! Labels of cells that are near each other are joined.
+//! Joining the labels of cells that are near each other.
 ghost use Rattle.std.specs.Prelude.{◌≡◌, ◌+◌, ◌-◌, ◌≤◌, ◌<◌, ◌^◌, ◌+ℤ◌, ◌-ℤ◌, ◌≤ℤ◌, All, neg_ℤ, pos, length, get_or};
 ghost use Rattle.life_classes.specs.declared.tags.Tag.{Tag as ModelTag};
 ghost use Rattle.life_classes.specs.Labels.{AreLabelled, AreNearAt, IsTagged};
@@ -9,17 +9,17 @@ use crate::forest::join;
 use crate::labels::Labelled;
 use crate::tags::{ROW, place_of};
 
-/// If more than one cell in `MANY` is born, it is quicker to visit all cells.
+/// If more than one in `MANY` cells is born, it is quicker to visit all cells.
 const MANY: usize = 4;
 
-/// Where tags were found that may be near the last one, in the two rows above it.
+/// The places where the last searches for near tags ended, in the two rows above a cell.
 #[derive(Drop)]
 struct Cursors {
     above: usize,
     further: usize,
 }
 
-/// Where tags were found that may be near the last one, in the two rows below it.
+/// The places where the last searches for near tags ended, in the two rows below a cell.
 #[derive(Drop)]
 struct CursorsBelow {
     below: usize,
@@ -43,7 +43,7 @@ fn tie(forest: &mut Vec<usize>, cells: &Labelled, one: usize, other: usize)
     }
 }
 
-/// The number of the cell in a place.
+/// The number of the cell at place `n`.
 #[inline(always)]
 fn number_at(cells: &Labelled, n: usize) -> i64
     requires tagged { IsTagged cells.now }
@@ -55,7 +55,7 @@ fn number_at(cells: &Labelled, n: usize) -> i64
     cells.tags[n].number
 }
 
-/// Joins the label of a cell, whose number this is, with that of the cell before it, if that is near.
+/// Joins the label of the cell at `n`, which has this number, with that of the cell before it, if that one is near.
 #[inline(always)]
 fn tie_before(forest: &mut Vec<usize>, cells: &Labelled, n: usize, number: i64)
     requires labelled { AreLabelled cells.now forest.old.items }
@@ -77,8 +77,8 @@ fn tie_before(forest: &mut Vec<usize>, cells: &Labelled, n: usize, number: i64)
     tie(forest, cells, n - 1, n);
 }
 
-/// Joins the label of a cell with that of the cell in a place, if that is near. It is the first cell whose number is
-/// not less than `number`.
+/// Joins the label of the cell at `n` with that of the cell at `at`, if that one is near. The cell at `at` is the first
+/// whose number is not less than `number`.
 #[inline(always)]
 fn tie_next(forest: &mut Vec<usize>, cells: &Labelled, n: usize, number: i64, at: usize)
     requires labelled { AreLabelled cells.now forest.old.items }
@@ -102,8 +102,8 @@ fn tie_next(forest: &mut Vec<usize>, cells: &Labelled, n: usize, number: i64, at
     tie(forest, cells, at, n);
 }
 
-/// Joins the label of a cell with that of the cell before a place, if that is near. It is the last cell whose number is
-/// less than `number`.
+/// Joins the label of the cell at `n` with that of the cell before `at`, if that one is near. The cell before `at` is
+/// the last whose number is less than `number`.
 #[inline(always)]
 fn tie_last(forest: &mut Vec<usize>, cells: &Labelled, n: usize, number: i64, at: usize)
     requires labelled { AreLabelled cells.now forest.old.items }
@@ -128,8 +128,8 @@ fn tie_last(forest: &mut Vec<usize>, cells: &Labelled, n: usize, number: i64, at
     tie(forest, cells, at - 1, n);
 }
 
-/// Joins the label of a cell with those of the cells next to this number, if they are near. The number is that of a
-/// place in a row above the cell or below it.
+/// Joins the label of the cell at `n` with those of the cells whose numbers are next to this one, if they are near. The
+/// number is that of a place in a row above or below the cell.
 #[inline(always)]
 fn tie_around(forest: &mut Vec<usize>, cells: &Labelled, n: usize, number: i64, cursor: &mut usize)
     requires labelled { AreLabelled cells.now forest.old.items }
@@ -148,7 +148,7 @@ fn tie_around(forest: &mut Vec<usize>, cells: &Labelled, n: usize, number: i64, 
     tie_last(forest, cells, n, number, at);
 }
 
-/// Joins the label of a cell with those of the near cells before it.
+/// Joins the label of a cell with those of the cells near it and before it.
 #[inline(always)]
 fn tie_at(forest: &mut Vec<usize>, cells: &Labelled, n: usize, cursors: &mut Cursors)
     requires labelled { AreLabelled cells.now forest.old.items }
@@ -181,7 +181,7 @@ pub fn join_near(forest: &mut Vec<usize>, cells: &Labelled)
     }
 }
 
-/// Joins the label of a cell with that of the cell after it, if that is near.
+/// Joins the label of a cell with that of the cell after it, if that one is near.
 #[inline(always)]
 fn tie_after(forest: &mut Vec<usize>, cells: &Labelled, n: usize)
     requires labelled { AreLabelled cells.now forest.old.items }
@@ -197,7 +197,7 @@ fn tie_after(forest: &mut Vec<usize>, cells: &Labelled, n: usize)
     }
 }
 
-/// Joins the label of a cell with those of the near cells after it.
+/// Joins the label of a cell with those of the cells near it and after it.
 #[inline(always)]
 fn tie_below(forest: &mut Vec<usize>, cells: &Labelled, n: usize, cursors: &mut CursorsBelow)
     requires labelled { AreLabelled cells.now forest.old.items }
@@ -215,8 +215,8 @@ fn tie_below(forest: &mut Vec<usize>, cells: &Labelled, n: usize, cursors: &mut 
     tie_around(forest, cells, n, number + 2 * ROW, &mut cursors.beyond);
 }
 
-/// Joins the labels of cells that are near each other. Where neither of the two is in a listed place, they are joined
-/// already.
+/// Joins the labels of cells that are near each other. Where neither of the two is at a place listed in `born`, they
+/// are joined already.
 pub fn join_born(forest: &mut Vec<usize>, cells: &Labelled, born: &[usize])
     requires labelled { AreLabelled cells.now forest.old.items }
     requires inside { All (λ k. k < length cells.now.tags.items) born.now }

@@ -11,7 +11,7 @@ use crate::tags::{Tag, place_number, tagged};
 use life_cells::CellList;
 use std::alloc::{AllocError, Global};
 
-/// Cells, and a tag of each, in the same order.
+/// Cells, and a tag for each, in the same order.
 #[derive(Drop)]
 pub struct Labelled {
     pub cells: CellList,
@@ -56,7 +56,7 @@ pub fn first_label(cells: &Labelled) -> usize
     cells.tags[0].label
 }
 
-/// Whether two labels have one root.
+/// True if two labels have one root.
 #[inline(always)]
 fn are_joined(forest: &[usize], one: usize, other: usize) -> bool
     ensures { IsTrue result ↔ (root forest.now one ≡ root forest.now other) }
@@ -64,7 +64,7 @@ fn are_joined(forest: &[usize], one: usize, other: usize) -> bool
     one == other || root(forest, one) == root(forest, other)
 }
 
-/// Whether the labels of the cells have one root.
+/// True if the labels of the cells have one root.
 pub fn have_one_root(forest: &[usize], cells: &Labelled) -> bool
     ensures { IsTrue result ↔ HasOneRoot cells.now.tags.items forest.now }
 {

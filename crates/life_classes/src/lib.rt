@@ -1,4 +1,4 @@
-//! The sets that a pattern falls apart into when it is split as finely as sets that stay apart allow.
+//! The finest split of a pattern's cells into sets that stay apart.
 //!
 //! Tested in `tests_objects`.
 #![tactic(auto)]

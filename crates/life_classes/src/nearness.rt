@@ -1,4 +1,4 @@
-//! Which cells are near each other.
+//! Tests for cells that are near each other.
 ghost use Rattle.std.specs.Prelude.{◌≡◌};
 ghost use Rattle.std.specs.List.{list_any};
 ghost use Rattle.life_classes.specs.Nearness.{are_within, reaches};
@@ -6,21 +6,21 @@ ghost use Rattle.life_classes.specs.Nearness.{are_within, reaches};
 use crate::rows::rows;
 use life_cells::CellList;
 
-/// Whether two cells are at most `reach` from each other in both directions.
+/// True if two cells are at most `reach` from each other in both directions.
 fn are_within(reach: u32, cell: (i32, i32), other: (i32, i32)) -> bool
     ensures { result ≡ are_within reach cell other }
 {
     cell.0.abs_diff(other.0) <= reach && cell.1.abs_diff(other.1) <= reach
 }
 
-/// Whether one of the cells is at most `reach` from this one in both directions.
+/// True if one of the cells is at most `reach` from this one in both directions.
 fn is_any_within(reach: u32, cells: &[(i32, i32)], cell: (i32, i32)) -> bool
     ensures { result ≡ list_any (are_within reach cell) cells.now }
 {
     cells.iter().any(|other| are_within(reach, cell, *other))
 }
 
-/// Whether a cell of a set is at most `reach` from this one in both directions.
+/// True if a cell of a set is at most `reach` from this one in both directions.
 pub fn reaches(reach: u32, set: &CellList, cell: (i32, i32)) -> bool
     ensures { result ≡ reaches reach set.now cell }
 {
@@ -33,7 +33,7 @@ pub fn reaches(reach: u32, set: &CellList, cell: (i32, i32)) -> bool
     )
 }
 
-/// Whether one of the cells is at most `reach` from a cell of a set in both directions.
+/// True if one of the cells is at most `reach` from a cell of a set in both directions.
 pub fn reaches_any(reach: u32, set: &CellList, cells: &[(i32, i32)]) -> bool
     ensures { result ≡ list_any (reaches reach set.now) cells.now }
 {

@@ -18,7 +18,7 @@ use life_cells::CellList;
 use life_plane::{AGE_LIMIT, Plane};
 use std::alloc::{AllocError, Global};
 
-/// A class, as its cells at first and a plane of those that have become of them, and the other classes with a plane of
+/// A class, as its first cells and a plane of the cells that they have become, and the other classes with a plane of
 /// their own.
 #[derive(Drop)]
 pub struct Parted<P> {
@@ -28,7 +28,7 @@ pub struct Parted<P> {
     pub others: P,
 }
 
-/// Classes with a plane of their cells, and how many generations were made.
+/// Classes with a plane of their cells, and the number of generations made.
 #[derive(Drop)]
 pub struct Walk<P> {
     pub split: Split,
@@ -94,7 +94,7 @@ fn rest_of(
     Ok(rest)
 }
 
-/// The class of a root by itself, with planes of this age.
+/// The class of a root parted from the others, with planes of this age.
 pub fn parted_off<P: Plane>(
     alloc: Global,
     split: Split,
@@ -164,7 +164,7 @@ fn age_of<P: Plane>(parted: &Parted<P>) -> u32
     age
 }
 
-/// All classes again, the herd's with a label of its own. Those that are near each other are joined.
+/// All classes together again, the herd's with a label of its own. Classes that are near each other are joined.
 pub fn fell_back<P: Plane>(
     alloc: Global,
     parted: Parted<P>,

@@ -1,4 +1,4 @@
-//! Cells that are given the labels of others.
+//! Giving cells the labels of others.
 ghost use Rattle.std.specs.Prelude.{◌≡◌, ◌≤◌, IfOk, length};
 ghost use Rattle.life_model.specs.Generation as generations;
 ghost use Rattle.life_cells.specs.Limits.{IsPlace};

@@ -3,9 +3,9 @@ ghost use Rattle.std.specs.Prelude.{◌≡◌, ◌≤ℤ◌, Bool, T, filter, tr
 ghost use Rattle.life_model.specs.Cell.{Cell};
 ghost use Rattle.life_model.specs.Generation.{is_rising};
 
-/// Those of the cells that are in the rows from one to another.
+/// The cells in the rows from `top` to `bottom`.
 ///
-/// No cell that passes a test is left out, provided that the test is passed in these rows alone.
+/// For a test that only cells in these rows pass, no cell that passes it is left out.
 pub fn rows(cells: &[(i32, i32)], top: i64, bottom: i64) -> &[(i32, i32)]
     requires { T (is_rising cells.now) }
     ensures { (p : Cell → Bool) → ((c : Cell) → p c ≡ true → (top ≤ℤ c.1) × (c.1 ≤ℤ bottom)) →

@@ -1,4 +1,4 @@
-//! A pattern's cells with labels, and a generation later.
+//! A pattern's cells with labels, and the same a generation later.
 ghost use Rattle.std.specs.Prelude.{◌≡◌, ◌↔◌, ℕ, IfOk, IsTrue, length, map};
 ghost use Rattle.life_model.specs.Generation as generation_sets;
 ghost use Rattle.life_classes.specs.Forest.{root};
@@ -12,7 +12,7 @@ use crate::labels::{Labelled, first_labels, have_one_root};
 use life_cells::CellList;
 use std::alloc::{AllocError, Global};
 
-/// The cells of a pattern at first and those that have become of them, with labels, and a forest that joins the labels.
+/// The first cells of a pattern and the cells that they have become, with labels, and a forest that joins the labels.
 #[derive(Drop)]
 pub struct Split {
     pub first: Labelled,
@@ -32,7 +32,7 @@ fn roots(alloc: Global, count: usize) -> Result<Vec<usize>, AllocError>
     Ok(forest)
 }
 
-/// The cells as classes of those that are near each other. The list is passed twice.
+/// The cells in classes of those that are near each other. The caller passes the list twice.
 pub fn first_split(alloc: Global, first: CellList, last: CellList) -> Result<Split, AllocError>
     requires { last ≡ first }
     ensures first { IfOk result (λ split. split.first.cells ≡ first) }
@@ -76,7 +76,7 @@ pub fn followed(alloc: Global, split: Split, cells: CellList) -> Result<Split, A
     })
 }
 
-/// Whether at most one of the classes has a cell left.
+/// True if at most one of the classes has a cell left.
 pub fn are_few(split: &Split) -> bool
     requires { IsLabelledSplit split.now }
     ensures { IsTrue result ↔ AreFew (classes_of_split split.now) }

@@ -27,7 +27,7 @@ fn classes_in(alloc: Global, split: &Split) -> Result<Vec<Class>, AllocError>
     collected(alloc, split.forest.as_slice(), &split.first, &split.last)
 }
 
-/// The cells as classes of those that are near each other.
+/// The cells in classes of those that are near each other.
 pub fn first_classes(alloc: Global, cells: &[(i32, i32)]) -> Result<Vec<Class>, AllocError>
     requires { All IsPlace cells.now }
     ensures tracked { IfOk result (λ all. LeadTo (map class_of_cell cells.now) all.items) }
@@ -82,8 +82,8 @@ fn lone_class_later<P: Plane>(
 /// The generation at which following a class by itself is first tried.
 const FIRST_TRIAL: u32 = 16;
 
-/// The generation of the next trial, after one that was due at `trial`. From generation `before`, `made` generations
-/// were made.
+/// The generation of the next trial, where the last one was due at `trial`. From generation `before`, `made`
+/// generations were made.
 fn next_trial(trial: u32, before: u32, made: u32) -> u32
     requires before { before ≤ AGE_LIMIT }
     requires made { made ≤ AGE_LIMIT }

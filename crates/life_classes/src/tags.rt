@@ -4,10 +4,10 @@ ghost use Rattle.life_classes.specs.Tags.{AreFrom, AreLess, AreNumbersOf, AreOwn
 
 use std::alloc::{AllocError, Global};
 
-/// How much greater the number of a cell is than that of the cell above it.
+/// The difference between the number of a cell and that of the cell above it.
 pub const ROW: i64 = 2_147_483_648;
 
-/// How many tags are looked at one by one, before larger steps are taken.
+/// The number of tags that are looked at one by one before larger steps are taken.
 const SHORT: usize = 32;
 
 /// A cell, given by its number, and its label: the place of a cell of the first generation, to whose class it belongs.
@@ -17,7 +17,7 @@ pub struct Tag {
     pub label: usize,
 }
 
-/// A number that rises along each row and from row to row.
+/// The number of a cell. It rises along each row and from row to row.
 pub fn place_number(cell: (i32, i32)) -> i64
     ensures number { result ≡ place_number cell }
     ensures low { neg_ℤ (pos (2 ^ 62 + 2 ^ 31)) ≤ℤ result }
@@ -43,8 +43,8 @@ fn start_from(tags: &[Tag], near: usize, low: i64) -> usize
     near
 }
 
-/// A place from which on no number is less than `low`. The steps of the search double, so it is not much further than
-/// it has to be.
+/// A place such that no number from there on is less than `low`. The steps of the search double, so it is not much
+/// further than it has to be.
 #[inline(always)]
 fn leap(tags: &[Tag], from: usize, low: i64) -> usize
     requires rising { AreRisingTags tags.now }
@@ -63,7 +63,8 @@ fn leap(tags: &[Tag], from: usize, low: i64) -> usize
     tags.len()
 }
 
-/// The place of the first tag whose number is not less than `low`, if that is one from `first` to `last`.
+/// The place of the first tag whose number is not less than `low`, which is at one of the places from `first` to
+/// `last`.
 #[inline(always)]
 fn place_between(tags: &[Tag], first: usize, last: usize, low: i64) -> usize
     requires rising { AreRisingTags tags.now }
@@ -100,8 +101,8 @@ fn far_place(tags: &[Tag], from: usize, low: i64) -> usize
     place_between(tags, from, leap(tags, from, low), low)
 }
 
-/// The place of the first tag whose number is not less than `low`. The search starts from a place that may be near it,
-/// and mostly is if tags are asked for in order.
+/// The place of the first tag whose number is not less than `low`. The search starts from `near`, which is usually
+/// close if tags are looked up in order.
 #[inline(always)]
 pub fn place_of(tags: &[Tag], near: usize, low: i64) -> usize
     requires rising { AreRisingTags tags.now }

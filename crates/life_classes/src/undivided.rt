@@ -1,4 +1,4 @@
-//! Whether a plane's cells are undivided.
+//! A test for cells that are undivided.
 ghost use Rattle.std.specs.Prelude.{ℕ, ◌≤◌, ◌+◌, ◌↔◌, IfOk, IsTrue};
 ghost use Rattle.life_model.specs.Rule.{Rule as ModelRule};
 ghost use Rattle.life_objects.specs.Piece.{IsUndivided};
@@ -9,7 +9,7 @@ use life_cells::{CellList, Rule};
 use life_plane::{AGE_LIMIT, Plane};
 use std::alloc::{AllocError, Global};
 
-/// Whether cells are one class from the start. Then they are undivided under each rule and for each bound.
+/// True if the cells are one class from the start. They are then undivided under each rule and for each bound.
 pub fn hold_together(alloc: Global, cells: &CellList) -> Result<bool, AllocError>
     ensures { IfOk result
         (λ are. IsTrue are → (R : ModelRule) (b : ℕ) → IsUndivided R b cells.now) }
@@ -18,8 +18,8 @@ pub fn hold_together(alloc: Global, cells: &CellList) -> Result<bool, AllocError
     Ok(classes.len() < 2)
 }
 
-/// Whether no split of the plane's cells into two sets that stay apart for `bound` generations leaves both alive to the
-/// end. The walk ends as soon as at most one class lives: what has died stays dead.
+/// True if no split of the plane's cells into two sets that stay apart for `bound` generations leaves both alive at the
+/// end. The walk ends once at most one class lives: what has died stays dead.
 pub fn is_undivided<P: Plane>(
     alloc: Global,
     plane: P,

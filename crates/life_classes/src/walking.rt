@@ -12,14 +12,14 @@ use life_cells::Rule;
 use life_plane::{AGE_LIMIT, Plane};
 use std::alloc::{AllocError, Global};
 
-/// Classes, one of which is followed by itself, and how many generations were made.
+/// Classes, one of which is followed by itself, and the number of generations made.
 #[derive(Drop)]
 struct Far<P> {
     parted: Parted<P>,
     made: u32,
 }
 
-/// Whether no cell of the rest is near one of the herd, and the rest has at most half as many cells as the herd.
+/// True if no cell of the rest is near one of the herd, and the rest has at most half as many cells as the herd.
 fn is_apart<P: Plane>(parted: &Parted<P>) -> Result<bool, AllocError>
     ensures { IfOk result
         (λ is. IsTrue is → AreApart (P.members parted.now.herd) parted.now.rest.last.cells) }
