@@ -1,4 +1,4 @@
-//! Which islands are followed. Nothing rests on the choice.
+//! Choosing the islands to follow. Correctness does not depend on the choice.
 ghost use Rattle.std.specs.Prelude.{◌+◌, ◌<◌, ◌≤◌, All, IfOk, OnOk, length};
 ghost use Rattle.life_model.specs.Generation.{Generation};
 ghost use Rattle.life_model.specs.Rule.{Rule as ModelRule};
@@ -9,17 +9,17 @@ use life_classes::Class;
 use life_plane::{AGE_LIMIT, Plane};
 use std::alloc::{AllocError, Global};
 
-/// For how many generations islands are checked for standing where they are: to show that there is no ash, and for islands that
-/// hang on others.
+/// The number of generations for which islands are checked for recurring in place: to show that there is no ash, and for
+/// islands that hang on others.
 pub const LOOK: u32 = 64;
 
-/// An island that stands where it is within `SOON` generations is not followed.
+/// An island whose cells are all live again within `SOON` generations is not followed.
 const SOON: u32 = 2;
 
-/// How many islands of each of two kinds are followed to show that there is no ash.
+/// The number of islands of each of two kinds that are followed to show that there is no ash.
 const FEW: u32 = 2;
 
-/// Whether all the cells are live in a plane.
+/// True if all the cells are live in a plane.
 fn stand<P: Plane>(plane: &P, cells: &CellList) -> bool {
     for cell in cells.as_slice() {
         if plane.row(*cell) % 2 == 0 {
@@ -52,7 +52,7 @@ fn absent<P: Plane>(
     Ok(left)
 }
 
-/// The islands that stand where they are in none of the next generations, up to the bound. The others are appended to
+/// The islands that have all of their cells live in none of the next `bound` generations. The others are appended to
 /// `standing`.
 fn unsettled<P: Plane>(
     alloc: Global,
@@ -115,7 +115,8 @@ fn take_largest(
     Ok(())
 }
 
-/// At most `count` of the islands: the largest that stand where they are in none of the next `bound` generations.
+/// At most `count` of the islands: the largest of those that have all of their cells live in none of the next `bound`
+/// generations.
 pub fn chosen<P: Plane>(
     alloc: Global,
     plane: &P,
@@ -147,8 +148,9 @@ pub fn take_first(islands: &mut Vec<Class>, some: &mut Vec<Class>) -> Result<(),
     Ok(())
 }
 
-/// A few of the islands: the largest that stand where they are in none of the next `LOOK` generations, and the largest of the
-/// others. An island that stands where it is within `SOON` generations is left out. At most `bound` generations are looked at.
+/// A few of the islands: the largest of those that have all of their cells live in none of the next `LOOK` generations, and the
+/// largest of the others. An island whose cells are all live again within `SOON` generations is left out. At most `bound`
+/// generations are looked at.
 pub fn chosen_for_ash<P: Plane>(
     alloc: Global,
     plane: &P,

@@ -12,14 +12,14 @@ use std::alloc::{AllocError, Global};
 /// The greatest coordinate of a cell of a list. The least is `-LAST_PLACE - 1`.
 const LAST_PLACE: i32 = 16_777_215;
 
-/// Whether a cell may be in a list.
+/// True if a cell may be in a list.
 pub fn is_place(cell: (i32, i32)) -> bool
     ensures { IsTrue result → IsPlace cell }
 {
     -LAST_PLACE <= cell.0 && cell.0 <= LAST_PLACE && -LAST_PLACE <= cell.1 && cell.1 <= LAST_PLACE
 }
 
-/// The cell to the north-west of a cell, or the one `rows` rows below that.
+/// The cell `rows` rows below the one to the north-west of a cell.
 fn corner(cell: (i32, i32), rows: u32) -> (i32, i32)
     requires placed { IsPlace cell }
     requires rows { rows < 3 }
@@ -37,7 +37,7 @@ fn east_of(cell: (i32, i32), places: u32) -> (i32, i32)
     (cell.0 + places as i32, cell.1)
 }
 
-/// Appends those of three cells side by side, from `first` on, that are live by the lowest bits of a word.
+/// Appends those of the three cells from `first` eastwards that are live, by the three lowest bits of a word.
 fn push_three(word: u64, first: (i32, i32), heirs: &mut Vec<(i32, i32)>) -> Result<(), AllocError>
     requires first { IsPlace first }
     requires before { All IsPlace heirs.old.items }
@@ -55,7 +55,7 @@ fn push_three(word: u64, first: (i32, i32), heirs: &mut Vec<(i32, i32)>) -> Resu
     Ok(())
 }
 
-/// Appends the live ones of a cell and the eight around it.
+/// Appends those of a cell and the eight around it that are live.
 fn push_heirs<P: Plane>(
     plane: &P,
     cell: (i32, i32),
@@ -77,8 +77,8 @@ fn push_heirs<P: Plane>(
     Ok(())
 }
 
-/// Cells of a plane, each next to one of `cells`, which are of the generation before, or one of them itself. About `many` of
-/// `cells`, spread over all of them, are looked at, and all such cells next to these are returned.
+/// Cells of a plane, each of which is one of `cells`, the cells of the generation before, or next to one. About `many` of
+/// `cells` are looked at, spread over all of them, and all cells of the plane at these or next to these are returned.
 pub fn heirs_of<P: Plane>(
     alloc: Global,
     plane: &P,

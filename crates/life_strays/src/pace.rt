@@ -1,29 +1,29 @@
-//! When it is worth looking whether a pattern has fallen apart.
+//! The moments at which it is worth checking whether a pattern has fallen apart.
 ghost use Rattle.std.specs.Prelude.{◌+◌, ◌≤◌};
 
-/// The population of every `STRIDE`-th generation is counted. Most of what recurs has one population in all of these.
+/// The population of every `STRIDE`-th generation is counted. Most patterns that recur have one population in all of these.
 pub const STRIDE: u32 = 4;
 
-/// How many populations are kept.
+/// The number of populations that are kept.
 const KEPT: usize = 128;
 
-/// How many consecutive populations must repeat.
+/// The number of consecutive populations that must repeat.
 const SPELL: u32 = 12;
 
-/// The greatest period with which populations are seen to repeat, in strides.
+/// The greatest period at which repeating populations are noticed, in strides.
 const LONGEST: u32 = 60;
 
-/// The moment, which is an age in strides, at which a pattern may have been ash from the start: there fewer populations decide.
+/// The moment (an age in strides) at which fewer populations decide, since the pattern may have been ash from the start.
 const EARLY: u32 = 3;
 
-/// The age from which on looks are due.
+/// The age from which looks are due.
 const FIRST_DUE: u32 = 4096;
 
 /// After this many looks that found nothing, the next ones wait longer.
 const PATIENT: usize = 5;
 
-/// The populations at the last `KEPT` moments, the ages from which on a look is due and from which on one is allowed, and how
-/// many looks were due.
+/// The populations at the last `KEPT` moments, the ages from which a look is due and from which one is allowed, and one more
+/// than the number of looks that were due.
 #[derive(Clone, Copy)]
 pub struct Pace {
     counts: [u64; KEPT],
@@ -33,7 +33,7 @@ pub struct Pace {
 }
 
 impl Pace {
-    /// Before the first generation.
+    /// The pace before the first generation.
     pub fn new() -> Pace {
         Pace {
             counts: [0; KEPT],
@@ -48,7 +48,7 @@ impl Pace {
         self.counts[moment as usize % KEPT]
     }
 
-    /// Whether the populations up to this moment have repeated with a period for a while.
+    /// True if the populations at the last `spell` moments up to this one repeat those of `period` moments before.
     fn repeats(&self, moment: u32, period: u32, spell: u32) -> bool
         requires { period + spell ≤ moment }
     {
@@ -60,7 +60,7 @@ impl Pace {
         true
     }
 
-    /// Whether the populations up to this moment have repeated for a while.
+    /// True if the populations up to this moment have repeated for a while.
     fn is_settled(&self, moment: u32) -> bool {
         if moment == EARLY {
             return self.repeats(moment, 1, EARLY - 1);
@@ -76,14 +76,14 @@ impl Pace {
         false
     }
 
-    /// Notes the population at this age, where it is one of those that are kept.
+    /// Records the population at this age, if it is one of those that are kept.
     pub fn count(&mut self, age: u32, population: u64) {
         if age % STRIDE == 0 {
             self.counts[(age / STRIDE) as usize % KEPT] = population;
         }
     }
 
-    /// How long the next look waits after one at this age.
+    /// The part of the wait after a look at this age that grows with the age.
     fn wait(&self, age: u32) -> u32 {
         if self.looks > PATIENT {
             return age / 2;
@@ -91,8 +91,9 @@ impl Pace {
         age / 8
     }
 
-    /// Whether to look at the generation of this age, whose population is noted already if it is to be kept. Looks are due each
-    /// time that the age has doubled, from 4,096 on, and also where populations repeat, if the last look is some time ago.
+    /// True if the generation of this age is to be looked at. Its population has been recorded already if it is one to be kept.
+    /// Looks are due each time that the age has doubled, from 4,096 on, and also where populations repeat, if the last look was
+    /// some time ago.
     pub fn is_due(&mut self, age: u32) -> bool {
         if age % STRIDE != 0 {
             return false;
@@ -109,7 +110,7 @@ impl Pace {
         true
     }
 
-    /// One more than how many looks were due so far.
+    /// One more than the number of looks that were due so far.
     pub fn looks(&self) -> usize {
         self.looks
     }

@@ -1,4 +1,4 @@
-//! What strays show about a plane's cells.
+//! Using strays to show that a plane's cells are no ash and don't grow.
 ghost use Rattle.std.specs.Prelude.{◌≡◌, ℕ, ◌*◌, ◌+◌, ◌≤◌, All, IfOk, List, true};
 ghost use Rattle.std.specs.Bool.{OnTrue};
 ghost use Rattle.std.specs.List.{Contains};
@@ -20,22 +20,23 @@ use life_classes::{Class, reaches};
 use life_plane::{AGE_LIMIT, Plane};
 use std::alloc::{AllocError, Global};
 
-/// How many islands are followed to show that there is no growth, where one does not show it.
+/// The number of islands that are followed to show that there is no growth, where one alone does not show it.
 const SOME: u32 = 2;
 
-/// What hangs on islands is looked for next to about this many of their cells. What hangs on the other cells is left out.
+/// The cells that hang on islands are looked for next to about this many of the islands' cells. Those that hang on others are
+/// left out.
 const MANY: u32 = 64;
 
-/// What hangs on an island that is followed alone is looked for next to about this many of its cells.
+/// The cells that hang on an island that is followed alone are looked for next to about this many of its cells.
 const FEW: u32 = 32;
 
-/// For how many generations an island that is followed alone is checked for standing where it is.
+/// The number of generations for which an island that is followed alone is checked for recurring in place.
 const SHORT: u32 = 16;
 
-/// Whether it is shown that a plane's cells are no ash within the bound. Each time that an island of theirs comes back, moved,
-/// some of what then hangs on it is, moved back, not among these cells. That need not be so in all generations, only in those of
-/// the later half of the bound, or in those from twice the bound to three times. One island is followed first, and then a few
-/// more.
+/// True if it is shown that a plane's cells are no ash within the bound: each time that an island of theirs comes back, moved,
+/// some of the cells that then hang on it are, moved back, not among these cells. That need not be so in all generations, only
+/// in those of the later half of the bound, or in those from twice the bound to three times. One island is followed first, and
+/// then a few more.
 pub fn are_no_ash<P: Plane>(
     alloc: Global,
     plane: &P,
@@ -74,7 +75,7 @@ pub fn are_no_ash<P: Plane>(
     Ok(true)
 }
 
-/// Whether the sets have a cell in common.
+/// True if the sets have a cell in common.
 fn meet(set: &CellList, other: &CellList) -> bool
     ensures { OnTrue result ((c : Cell) × (contains set.now c ≡ true) × (contains other.now c ≡ true)) }
 {
@@ -86,7 +87,7 @@ fn meet(set: &CellList, other: &CellList) -> bool
     false
 }
 
-/// Whether something that hangs on one of the strays is in a set.
+/// True if a cell that hangs on one of the strays is in a set.
 fn hang_on_one(strays: &[Stray], set: &CellList) -> bool
     ensures { OnTrue result ((stray : Stray) × Contains strays.now stray × (c : Cell)
         × (contains stray.heirs c ≡ true) × (contains set.now c ≡ true)) }
@@ -113,7 +114,7 @@ fn hanging(alloc: Global, islands: Vec<Class>, strays: &[Stray]) -> Result<Vec<C
     Ok(left)
 }
 
-/// Whether one of the later strays hangs on one of the earlier ones.
+/// True if one of the later strays hangs on one of the earlier ones.
 fn some_hang(strays: &[Stray], laters: &[Stray]) -> bool
     ensures { OnTrue result ((stray : Stray) × Contains strays.now stray × (later : Stray)
         × Contains laters.now later × (c : Cell) × (contains stray.heirs c ≡ true)
@@ -127,10 +128,10 @@ fn some_hang(strays: &[Stray], laters: &[Stray]) -> bool
     false
 }
 
-/// Whether it is shown that a plane's cells neither grow within the bound nor are ash: an island of theirs comes back nowhere
+/// True if it is shown that a plane's cells neither grow within the bound nor are ash: an island of theirs comes back nowhere
 /// within it, and neither does one that hangs on it `bound` generations later. At most `count` islands are followed each time,
-/// none that stands where it is within `look` generations, or `LOOK` for the later ones if that is less. What hangs on them is
-/// looked for next to about `many` cells.
+/// none that recurs in place within `look` generations, or `LOOK` for the later ones if that is less. The cells that hang on
+/// them are looked for next to about `many` cells.
 fn some_never_grow<P: Plane>(
     alloc: Global,
     plane: &P,
@@ -176,8 +177,8 @@ fn some_never_grow<P: Plane>(
     Ok(true)
 }
 
-/// Whether one island shows that a plane's cells neither grow within the bound nor are ash. Only one island is followed, and the
-/// rest is stepped.
+/// True if one island shows that a plane's cells neither grow within the bound nor are ash. Only one island is followed, and
+/// the rest is only stepped.
 pub fn one_never_grows<P: Plane>(
     alloc: Global,
     plane: &P,
@@ -193,7 +194,7 @@ pub fn one_never_grows<P: Plane>(
     some_never_grow(alloc, plane, rule, bound, 1, SHORT, FEW)
 }
 
-/// Whether it is shown that a plane's cells neither grow within the bound nor are ash: by one island, or by `SOME`.
+/// True if it is shown that a plane's cells neither grow within the bound nor are ash: by one island, or by `SOME`.
 pub fn never_grow<P: Plane>(
     alloc: Global,
     plane: &P,

@@ -1,4 +1,4 @@
-//! Whether a move leads an island to later cells, and what hangs on it back to the first.
+//! Moves that take an island to later cells and, reversed, the cells that hang on it to the first.
 ghost use Rattle.std.specs.Prelude.{◌≡◌, ◌<◌, ◌≤◌, false, IfOk, IfSome, IsTrue, OnOk, T, true};
 ghost use Rattle.std.specs.Bool.{OnTrue};
 ghost use Rattle.life_model.specs.Cell.{opposite};
@@ -14,10 +14,10 @@ use life_cells::CellList;
 use life_plane::{AGE_LIMIT, Plane, is_live, move_between};
 use std::alloc::AllocError;
 
-/// How many cells are looked up for each cell of a generation, to see whether an island has come back there.
+/// The number of cells that are looked up for each cell of a generation, to see whether an island has come back there.
 const EACH: u64 = 32;
 
-/// Whether a move goes at most `reach` places to any side.
+/// True if a move goes at most `reach` places to any side.
 fn is_move_within(by: (i32, i32), reach: u32) -> bool
     requires reach { reach ≤ AGE_LIMIT }
     ensures within { IsTrue result → IsMoveWithin reach by }
@@ -27,7 +27,7 @@ fn is_move_within(by: (i32, i32), reach: u32) -> bool
     -most <= by.0 && by.0 <= most && -most <= by.1 && by.1 <= most
 }
 
-/// The move back.
+/// The reverse of a move.
 fn back(by: (i32, i32)) -> (i32, i32)
     requires { IsMoveWithin AGE_LIMIT by }
     ensures way { result ≡ opposite by }
@@ -36,8 +36,8 @@ fn back(by: (i32, i32)) -> (i32, i32)
     (-by.0, -by.1)
 }
 
-/// Whether a move may lead all the cells to live ones of a plane, of which at most `left` are looked up; as many fewer are left
-/// afterwards. A positive answer means nothing.
+/// False only if a move takes some of the cells to places that are not live in a plane. At most `left` cells are looked up,
+/// and `left` is reduced by their number. A positive answer means nothing.
 fn may_lead<P: Plane>(plane: &P, cells: &CellList, by: (i32, i32), left: &mut u64) -> bool
     requires by { IsMoveWithin AGE_LIMIT by }
     ensures { result ≡ false → IsMovedInto cells.now (P.members plane.now) by → ⊥ }
@@ -55,9 +55,8 @@ fn may_lead<P: Plane>(plane: &P, cells: &CellList, by: (i32, i32), left: &mut u6
     true
 }
 
-/// Whether a move may lead a set to live cells of a later plane and, back, its heirs to live cells of the first. The later plane
-/// is at generation `number`, so no move goes further than that. At most `left` cells are looked
-/// up.
+/// False only if a move doesn't both take a set to live cells of a later plane and, reversed, its heirs to live cells of the
+/// first. The later plane is at generation `number`, so no move goes further than that. At most `left` cells are looked up.
 fn may_return<P: Plane>(
     start: &P,
     later: &P,
@@ -80,8 +79,8 @@ fn may_return<P: Plane>(
     may_lead(start, heirs, back(by), left)
 }
 
-/// Whether a move may lead a set to live cells of a later plane, as in `may_return`. First it is checked whether the move leads
-/// one cell of the set to one of `cells`, the later plane's, in order. The cursor says where one was found last.
+/// The answer of `may_return`, after a quick check: the move must take the cell `one` of the set to one of `cells`, those of
+/// the later plane, in order. The cursor is where such a cell was last found.
 fn may_return_by<P: Plane>(
     start: &P,
     later: &P,
@@ -111,9 +110,9 @@ fn may_return_by<P: Plane>(
     may_return(start, later, set, heirs, number, by, left)
 }
 
-/// Whether some move may lead a set to live cells of a later plane and, back, its heirs to live cells of the first. `cells` are
-/// those of the later plane. Where most moves lead most cells to live ones, as in a pattern that fills the plane, the search is
-/// given up once it has looked up `EACH` cells for each of the later plane.
+/// False only if no move both takes a set to live cells of a later plane and, reversed, its heirs to live cells of the first.
+/// `cells` are those of the later plane. Where most moves take most cells to live ones, as in a pattern that fills the plane,
+/// the search gives up once it has looked up `EACH` cells for each of the later plane.
 fn some_may_return<P: Plane>(
     start: &P,
     later: &P,
@@ -156,7 +155,7 @@ fn some_may_return<P: Plane>(
     false
 }
 
-/// The cells of a plane. They are listed only if they have not been listed before.
+/// The cells of a plane, taken from `listed` if they have been listed before.
 fn listed_once<P: Plane>(plane: &P, listed: Option<CellList>) -> Result<CellList, AllocError>
     requires { IfSome listed (λ list. list ≡ P.members plane.now) }
     ensures { IfOk result (λ list. list ≡ P.members plane.now) }
@@ -167,8 +166,8 @@ fn listed_once<P: Plane>(plane: &P, listed: Option<CellList>) -> Result<CellList
     }
 }
 
-/// Whether a trail still tells, where these are its heirs in generation `number`, that of the later plane. Up to generation
-/// `after` this is not tested. The later plane's cells are listed once they are needed.
+/// True if a trail may still show that there is no ash, where `heirs` are its heirs in generation `number`, that of the later
+/// plane. Up to generation `after` this is not tested. The later plane's cells are listed when they are first needed.
 pub fn still_tells<P: Plane>(
     start: &P,
     later: &P,

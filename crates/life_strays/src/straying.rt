@@ -12,7 +12,7 @@ use life_classes::Class;
 use life_plane::{AGE_LIMIT, Plane};
 use std::alloc::{AllocError, Global};
 
-/// The islands as strays. Their own cells hang on them if `with_heirs`, and otherwise none.
+/// The islands as strays. Their own cells hang on them if `with_heirs`, and otherwise no cells do.
 fn first_strays(
     alloc: Global,
     islands: Vec<Class>,
@@ -39,8 +39,8 @@ fn first_strays(
     Ok(strays)
 }
 
-/// The strays that have not come back in the next generation either: in generation `number`, that of the plane. What hangs on
-/// them is looked for next to about `many` cells.
+/// The strays that have not come back in the next generation either: generation `number`, that of the plane. The cells that
+/// hang on them are looked for next to about `many` cells.
 fn still_strays<P: Plane>(
     alloc: Global,
     plane: &P,
@@ -69,8 +69,9 @@ fn still_strays<P: Plane>(
     Ok(left)
 }
 
-/// Those of the islands of a plane that come back nowhere within the bound, with what hangs on them then if `with_heirs`: this
-/// is looked for next to about `many` cells in each generation. Afterwards the plane is `bound` generations later.
+/// Those of the islands of a plane that come back nowhere within the bound, with cells that hang on them at the end if
+/// `with_heirs`: these are looked for next to about `many` cells in each generation. Afterwards the plane is `bound`
+/// generations later.
 pub fn strays_of<P: Plane>(
     alloc: Global,
     plane: &mut P,

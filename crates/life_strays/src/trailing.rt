@@ -16,10 +16,10 @@ use life_classes::Class;
 use life_plane::{AGE_LIMIT, Plane};
 use std::alloc::{AllocError, Global};
 
-/// What hangs on islands is looked for next to about this many cells. What hangs on the other cells is left out.
+/// The cells that hang on islands are looked for next to about this many cells. Those that hang on others are left out.
 const MANY: u32 = 16;
 
-/// The islands as trails, on which their own cells hang. Each may still tell.
+/// The islands as trails on which their own cells hang, each with `tells` set.
 fn first_trails(alloc: Global, islands: Vec<Class>) -> Result<Vec<Trail>, AllocError>
     ensures { IfOk result (λ trails. (R : ModelRule) (after : ℕ) (G : Generation) →
         All (IsIslandNow R G) islands.items → All (IsTrail R after 0 G) trails.items) }
@@ -35,7 +35,7 @@ fn first_trails(alloc: Global, islands: Vec<Class>) -> Result<Vec<Trail>, AllocE
     Ok(trails)
 }
 
-/// The trails, each of which may tell again.
+/// The trails, each with `tells` set again.
 fn told_anew(alloc: Global, trails: Vec<Trail>) -> Result<Vec<Trail>, AllocError>
     ensures { IfOk result (λ anew. (R : ModelRule) (after later n : ℕ) (G : Generation) → n ≤ later →
         All (IsTrail R after n G) trails.items → All (IsTrail R later n G) anew.items) }
@@ -51,7 +51,7 @@ fn told_anew(alloc: Global, trails: Vec<Trail>) -> Result<Vec<Trail>, AllocError
     Ok(anew)
 }
 
-/// A trail a generation later: in generation `number`, that of the later plane.
+/// A trail a generation later: in generation `number`, which the later plane is at.
 fn next_trail<P: Plane>(
     alloc: Global,
     start: &P,
@@ -77,7 +77,7 @@ fn next_trail<P: Plane>(
     })
 }
 
-/// The trails a generation later: in generation `number`, that of the later plane.
+/// The trails a generation later: in generation `number`, which the later plane is at.
 fn next_trails<P: Plane>(
     alloc: Global,
     start: &P,
@@ -100,7 +100,7 @@ fn next_trails<P: Plane>(
     Ok(left)
 }
 
-/// Whether one of the trails tells.
+/// True if one of the trails has `tells` set.
 pub fn some_tell(trails: &[Trail]) -> bool
     ensures { OnTrue result ((trail : Trail) × Contains trails.now trail × (trail.tells ≡ true)) }
 {
@@ -112,8 +112,8 @@ pub fn some_tell(trails: &[Trail]) -> bool
     false
 }
 
-/// The islands of a plane, followed to the bound. Those that lack some in each generation of its later half tell. The later
-/// plane has the same cells at first, and is `bound` generations later afterwards.
+/// The trails of islands of a plane, followed to the bound. Those that lack some cells in each generation of its later half
+/// have `tells` set. The later plane has the same cells at first, and is `bound` generations later afterwards.
 pub fn first_told<P: Plane>(
     alloc: Global,
     start: &P,
@@ -140,8 +140,8 @@ pub fn first_told<P: Plane>(
     Ok(trails)
 }
 
-/// Whether one of the trails, followed from the bound to three times the bound, tells then: whether it lacks some in each
-/// generation after twice the bound.
+/// True if one of the trails, followed from the bound to three times the bound, has `tells` set then: it lacks some cells
+/// in each generation after twice the bound.
 pub fn later_told<P: Plane>(
     alloc: Global,
     start: &P,

@@ -1,8 +1,8 @@
-//! Stretches of generations that have too many cells, compared with others, for what recurs.
+//! Stretches of generations that have too many cells, compared with others, for a pattern that recurs.
 ghost use Rattle.std.specs.Prelude.{◌≡◌, ◌+◌, ◌-◌, ◌*◌, ◌<◌, ℕ, IfSome, IsTrue, length, slice_index_or};
 ghost use Rattle.life_strays.specs.Totals.{IsUneven};
 
-/// How many cells `count` stretches have from a place on, where the totals do not fall.
+/// The number of cells in the `count` stretches from a place on, if the totals do not fall.
 fn cells_of(totals: &[u128], place: usize, count: usize) -> Option<u128>
     requires { place + count < length totals.now }
     ensures { IfSome result (λ cells. (d : ℕ) → cells ≡
@@ -11,7 +11,7 @@ fn cells_of(totals: &[u128], place: usize, count: usize) -> Option<u128>
     totals[place + count].checked_sub(totals[place])
 }
 
-/// Whether `greater` times `count` is more than `lesser` times `count + 1`. False where these are too large.
+/// True if `greater` times `count` is more than `lesser` times `count + 1`. False if these products are too large.
 fn is_more(count: u128, greater: u128, lesser: u128) -> bool
     ensures { IsTrue result → (count + 1) * lesser < count * greater }
 {
@@ -27,7 +27,8 @@ fn is_more(count: u128, greater: u128, lesser: u128) -> bool
     low < high
 }
 
-/// Whether `count` stretches from the place `greater` on have too many cells, compared with `count` stretches from `lesser` on.
+/// True if the `count` stretches from the place `greater` on have too many cells, compared with the `count` stretches from
+/// `lesser` on.
 fn are_uneven(totals: &[u128], count: usize, greater: usize, lesser: usize) -> bool
     requires greater { greater + count < length totals.now }
     requires lesser { lesser + count < length totals.now }
@@ -42,9 +43,9 @@ fn are_uneven(totals: &[u128], count: usize, greater: usize, lesser: usize) -> b
     is_more(count as u128, more, less)
 }
 
-/// Whether some of the last stretches have too many cells, compared with equally many of the first, for what recurs within a
-/// stretch, or the first compared with the last. The totals before each stretch and after the last are given. A negative answer
-/// means nothing.
+/// True if some of the last stretches have too many cells, compared with equally many of the first, for a pattern that recurs
+/// within a stretch, or the first compared with the last. The totals are those before each stretch and after the last. A
+/// negative answer means nothing.
 pub fn is_uneven(totals: &[u128]) -> bool
     ensures { IsTrue result → IsUneven totals.now }
 {
