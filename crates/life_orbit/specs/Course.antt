@@ -7,14 +7,14 @@ use Rattle.life_model.specs.Generation.{Generation}
 use Rattle.life_model.specs.Recurrence.{RecursBy}
 use Rattle.life_model.specs.Rule.{Rule}
 
--- the rule, the set, after how many steps it first recurs, and how far it has moved then
+-- the rule, the set, the number of steps after which it first recurs, and its displacement then
 pub record Course : Type 0 where
   pub rule : Rule
   pub set : Generation
   pub period : ℕ
   pub displacement : Cell
 
--- coded as what it is made of
+-- coded by its fields
 abbrev pub coded_course : Coded Course
 coded_course =
     code_by (Rule × (Generation × (ℕ × Cell)))
@@ -22,7 +22,7 @@ coded_course =
     (λ c. (c.rule, (c.set, (c.period, c.displacement))))
     (λ p. record { rule = p.0; set = p.1.0; period = p.1.1.0; displacement = p.1.1.1 }) (λ _. refl)
 
--- The set recurs in this way, and not sooner.
+-- The set recurs in this way, and not earlier.
 pub record IsCourse (c : Course) : Type 0 where
   pub recurs : RecursBy c.rule c.set c.period c.displacement
   pub least : (n : ℕ) (d : Cell) → RecursBy c.rule c.set n d → c.period ≤ n

@@ -14,14 +14,14 @@ pub record IsInHull (h : Hull) (c : Cell) : Type 0 where
   pub above : h.top ≤ℤ c.1
   pub below : c.1 ≤ℤ h.bottom
 
--- the one box is in the other
+-- the first box is in the second
 pub record IsPartOf (a b : Hull) : Type 0 where
   pub left : b.left ≤ℤ a.left
   pub right : a.right ≤ℤ b.right
   pub above : b.top ≤ℤ a.top
   pub below : a.bottom ≤ℤ b.bottom
 
--- no cell of the one box, moved, is near one of the other
+-- no cell of the first box, moved, is near one of the second
 abbrev pub AreFar : Hull → Cell → Hull → Type 0
 AreFar a by b = (c d : Cell) → IsInHull a c → IsInHull b d → AreNear (plus c by) d → ⊥
 

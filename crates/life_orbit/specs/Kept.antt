@@ -1,4 +1,4 @@
--- How a set that recurs is kept: as its generations over one period.
+-- The stored form of a set that recurs: its generations over one period.
 use Rattle.std.specs.Prelude.{◌≡◌, ℕ, ◌+◌, ◌<◌, ◌≤◌, List, length, slice_index_or}
 use Rattle.std.specs.List.{All}
 use Rattle.life_model.specs.Cell.{Cell}
@@ -9,7 +9,7 @@ use Rattle.life_model.specs.Rule.{Rule}
 use Rattle.life_cells.specs.Limits.{IsWithin}
 use Rattle.life_objects.specs.Limits.{objects_bound_limit}
 
--- the greatest age at whose places a set may be for its orbit to be made
+-- orbits are made only of sets whose cells are within the places of this age
 abbrev pub orbit_age_limit : ℕ
 orbit_age_limit = 4000000
 
@@ -24,7 +24,7 @@ pub record ArePhasesOfOrbit (R : Rule) (G : Generation) (list : List Generation)
   pub least : (n : ℕ) (e : Cell) → RecursBy R G n e → length list ≤ n
   pub short : length list ≤ objects_bound_limit
 
--- the list is the generations of G before this one, and G has not recurred so far
+-- the list is the generations of G before `here`, and G has not recurred so far
 pub record IsOrbitWalk (R : Rule) (G : Generation) (taken : ℕ) (list : List Generation) (here : Generation) : Type 0 where
   pub count : length list ≡ taken
   pub phases : ArePhases R G list

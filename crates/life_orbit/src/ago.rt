@@ -1,4 +1,4 @@
-//! What sets that recur were some generations ago.
+//! Sets that recur, some generations ago.
 ghost use Rattle.std.specs.Prelude.{◌≡◌, ◌+◌, ◌-◌, ◌/◌, ◌%◌, ◌≤◌, ◌^◌, All, IfNone, IfOk, IfSome};
 ghost use Rattle.life_model.specs.Cell.{opposite, plus};
 ghost use Rattle.life_model.specs.Evolution.{generation};
@@ -16,7 +16,7 @@ use crate::shift::repeated;
 use life_cells::{COORDINATE_LIMIT, CellList};
 use std::alloc::{AllocError, Global};
 
-/// The phase that a set had `ago` generations ago, wherever it stood.
+/// The phase that a set had `ago` generations ago, wherever it was.
 pub fn phase_ago(orbit: &Orbit, ago: u32) -> &CellList
     requires { 1 ≤ ago }
     ensures { result.now ≡ generation orbit.now.rule orbit.now.set
@@ -26,7 +26,7 @@ pub fn phase_ago(orbit: &Orbit, ago: u32) -> &CellList
     orbit.phase(period - 1 - (ago - 1) % period)
 }
 
-/// How far a set has come in whole periods, of which the first began with the phase of `ago` generations ago.
+/// The displacement of a set over the whole periods of which the first began with the phase of `ago` generations ago.
 pub fn shift_since(orbit: &Orbit, ago: u32) -> (i128, i128)
     requires { 1 ≤ ago }
     ensures value { result ≡ multiple_of ((ago - 1) / orbit.now.period + 1) orbit.now.displacement }
@@ -37,7 +37,7 @@ pub fn shift_since(orbit: &Orbit, ago: u32) -> (i128, i128)
     repeated(rounds as u128 + 1, orbit.displacement())
 }
 
-/// The cell, moved back, if it then has a place of a list of cells.
+/// The cell moved back, if a list of cells can hold it then.
 fn cell_before(cell: (i32, i32), by: (i128, i128)) -> Option<(i32, i32)>
     requires { IsReach (2 ^ 64) by }
     ensures moved { IfSome result (λ place. place ≡ plus cell (opposite by)) }
@@ -53,7 +53,7 @@ fn cell_before(cell: (i32, i32), by: (i128, i128)) -> Option<(i32, i32)>
     None
 }
 
-/// The cells, moved back, if they then all have places of a list of cells.
+/// The cells moved back, if a list of cells can hold them all then.
 fn cells_before(
     alloc: Global,
     cells: &CellList,
@@ -77,8 +77,7 @@ fn cells_before(
 }
 
 impl Orbit {
-    /// What the set was `ago` generations ago, if it has recurred like this all the time and its cells had places of a list of
-    /// cells then.
+    /// The set as it was `ago` generations ago, if it has recurred like this all the time and a list of cells can hold it.
     pub fn set_ago(&self, alloc: Global, ago: u32) -> Result<Option<CellList>, AllocError>
         requires { 1 ≤ ago }
         ensures set { IfOk result (λ found. IfSome found (λ set. (P : Generation) →
@@ -89,7 +88,7 @@ impl Orbit {
         cells_before(alloc, phase_ago(self, ago), shift_since(self, ago))
     }
 
-    /// How many cells it had `ago` generations ago.
+    /// The number of cells that it had `ago` generations ago.
     pub fn size_ago(&self, ago: u32) -> usize
         requires { 1 ≤ ago }
         ensures { (P : Generation) → IsPast ago self.now P → result ≡ generations.size P }

@@ -1,4 +1,4 @@
-//! Since when two sets that recur have been apart.
+//! The generation since which two sets that recur have been apart.
 ghost use Rattle.std.specs.Prelude.{◌≡◌, ◌+◌, ◌-◌, ◌/◌, ◌%◌, ◌≤◌, ◌^◌, ◌↔◌, IfNone, IfSome, IsTrue};
 ghost use Rattle.life_model.specs.Cell.{opposite, plus};
 ghost use Rattle.life_model.specs.Evolution.{generation};
@@ -19,7 +19,7 @@ use crate::periods::rounds_together;
 use crate::shift::repeated;
 use crate::watch::rounds_near;
 
-/// How much further than the first of two moves the second is.
+/// The difference of two moves, the second less the first.
 fn further(here: (i128, i128), there: (i128, i128)) -> (i128, i128)
     requires reach { IsReach (2 ^ 64) here }
     requires other_reach { IsReach (2 ^ 64) there }
@@ -29,7 +29,7 @@ fn further(here: (i128, i128), there: (i128, i128)) -> (i128, i128)
     (there.0 - here.0, there.1 - here.1)
 }
 
-/// Whether two sets were apart `ago` generations ago.
+/// True if two sets were apart `ago` generations ago.
 fn were_apart(orbit: &Orbit, other: &Orbit, ago: u32) -> bool
     requires rule { orbit.now.rule ≡ other.now.rule }
     requires ago { 1 ≤ ago }
@@ -47,7 +47,7 @@ fn were_apart(orbit: &Orbit, other: &Orbit, ago: u32) -> bool
     )
 }
 
-/// The move back.
+/// The reverse of a move.
 fn turned(by: (i128, i128)) -> (i128, i128)
     requires { IsReach (2 ^ 49) by }
     ensures value { result ≡ opposite by }
@@ -56,15 +56,15 @@ fn turned(by: (i128, i128)) -> (i128, i128)
     (-by.0, -by.1)
 }
 
-/// Whether two moves are one.
+/// True if two moves are the same.
 fn are_same(by: (i128, i128), other_by: (i128, i128)) -> bool
     ensures { IsTrue result ↔ (by ≡ other_by) }
 {
     by == other_by
 }
 
-/// How many generations ago two sets of different velocities may have been near: more than the first number, and no more than the
-/// second. Sets of one velocity are apart at all times or at none, so they have no such numbers.
+/// The numbers of generations ago at which two sets of different velocities may have been near: more than `from`, and no more
+/// than `until`. Sets of one velocity are apart at all times or at none, so they have no such numbers.
 fn watch_back(orbit: &Orbit, other: &Orbit, age: u32) -> Option<Span>
     requires rule { orbit.now.rule ≡ other.now.rule }
     ensures recent { IfSome result (λ span. (P Q : Generation) → IsPast age orbit.now P →
@@ -93,8 +93,8 @@ fn watch_back(orbit: &Orbit, other: &Orbit, age: u32) -> Option<Span>
 }
 
 impl Orbit {
-    /// From which generation on two sets are apart for ever, where they are apart for ever at this age and both have recurred
-    /// like this before.
+    /// The first generation from which two sets are apart for ever, where they are apart for ever at this age and both have
+    /// recurred like this before.
     pub fn apart_since(&self, other: &Orbit, age: u32) -> u32
         requires rule { self.now.rule ≡ other.now.rule }
         requires apart { AreApartForEver self.now.rule self.now.set other.now.set }

@@ -6,7 +6,7 @@ ghost use Rattle.life_orbit.specs.Reach.{IsReach};
 
 use life_cells::CellList;
 
-/// The least and the greatest places of some cells.
+/// A box around some cells, given by its first and last columns and rows.
 #[derive(Clone, Copy)]
 pub struct Hull {
     pub left: i32,
@@ -15,7 +15,7 @@ pub struct Hull {
     pub bottom: i32,
 }
 
-/// The hull, with one more cell.
+/// The box, extended to one more cell.
 fn with_cell(hull: Hull, cell: (i32, i32)) -> Hull
     ensures cell { IsInHull result cell }
     ensures wider { IsPartOf hull result }
@@ -28,7 +28,7 @@ fn with_cell(hull: Hull, cell: (i32, i32)) -> Hull
     }
 }
 
-/// The hull, with some more cells.
+/// The box, extended to some more cells.
 fn with_cells(hull: Hull, cells: &[(i32, i32)]) -> Hull
     ensures cells { All (IsInHull result) cells.now }
     ensures wider { IsPartOf hull result }
@@ -40,7 +40,7 @@ fn with_cells(hull: Hull, cells: &[(i32, i32)]) -> Hull
     wider
 }
 
-/// A box that has all cells of some sets, and a place.
+/// A box around a place and all cells of some sets.
 pub fn hull_of(place: (i32, i32), sets: &[CellList]) -> Hull
     ensures { All (HoldsAllCells result) sets.now }
 {
@@ -56,7 +56,7 @@ pub fn hull_of(place: (i32, i32), sets: &[CellList]) -> Hull
     hull
 }
 
-/// Whether the first place, moved, is more than two past the other.
+/// True if the first place, moved, is more than two past the other.
 fn is_past(place: i32, by: i128, other: i32) -> bool
     requires low { neg_ℤ (pos (2 ^ 126)) ≤ℤ by }
     requires high { by ≤ℤ pos (2 ^ 126) }
@@ -68,7 +68,7 @@ fn is_past(place: i32, by: i128, other: i32) -> bool
     false
 }
 
-/// Whether the first place, moved, is more than two before the other.
+/// True if the first place, moved, is more than two before the other.
 fn is_before(place: i32, by: i128, other: i32) -> bool
     requires low { neg_ℤ (pos (2 ^ 126)) ≤ℤ by }
     requires high { by ≤ℤ pos (2 ^ 126) }
@@ -80,7 +80,7 @@ fn is_before(place: i32, by: i128, other: i32) -> bool
     false
 }
 
-/// Whether the boxes show that no cell of the first, moved, is near one of the second.
+/// True if the boxes show that no cell of the first, moved, is near one of the second.
 pub fn are_far(hull: Hull, by: (i128, i128), other: Hull) -> bool
     requires { IsReach (2 ^ 126) by }
     ensures { OnTrue result (AreFar hull by other) }

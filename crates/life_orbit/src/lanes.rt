@@ -1,10 +1,10 @@
-//! In which rounds what moves along one axis can be near what else moves along it.
+//! The rounds in which two sets that move along one axis can be near each other.
 ghost use Rattle.std.specs.Prelude.{◌≡◌, ℕ, ◌+◌, ◌*◌, ◌<◌, ◌≤◌, ◌^◌, IfNone, IfSome, pos, neg_ℤ, ◌+ℤ◌, ◌<ℤ◌, ◌≤ℤ◌};
 ghost use Rattle.std.specs.Bool.{OnTrue};
 ghost use Rattle.std.specs.Int.{int_max, int_min};
 ghost use Rattle.life_orbit.specs.Passing.{IsOneAhead, IsOnePast, IsPassed, IsYetAhead, passing};
 
-/// The first and the last place that cells have along one axis, and how far they move along it in a round.
+/// The first and the last place of some cells along one axis, and the distance that they move along it in a round.
 #[derive(Clone, Copy)]
 pub struct Lane {
     pub first: i32,
@@ -12,14 +12,14 @@ pub struct Lane {
     pub by: i128,
 }
 
-/// The numbers from one on and before another, of rounds or of generations. There may be none.
+/// The numbers from `from` to before `until`, of rounds or of generations. There may be none.
 #[derive(Clone, Copy)]
 pub struct Span {
     pub from: u128,
     pub until: u128,
 }
 
-/// After how many rounds more than `places` places are used up, where each round uses `each` of them.
+/// The least number of rounds that use up more than `places` places, where each uses `each` of them.
 fn rounds_over(places: u128, each: u128) -> u128
     requires each { 1 ≤ each }
     requires places { places < 2 ^ 52 }
@@ -30,7 +30,7 @@ fn rounds_over(places: u128, each: u128) -> u128
     places / each + 1
 }
 
-/// How much greater the first number is.
+/// The difference of two numbers, of which the first is not less.
 fn difference(greater: i128, less: i128) -> u128
     requires order { less ≤ℤ greater }
     requires low { neg_ℤ (pos (2 ^ 50)) ≤ℤ less }
@@ -41,7 +41,7 @@ fn difference(greater: i128, less: i128) -> u128
     (greater - less) as u128
 }
 
-/// Where the first of some places begin over a round of moves.
+/// The least coordinate over a round of moves that begins at `left`.
 fn low_end(left: i32, by: i128) -> i128
     requires low { neg_ℤ (pos (2 ^ 49)) ≤ℤ by }
     ensures end { result ≡ left +ℤ int_min (pos 0) by }
@@ -54,7 +54,7 @@ fn low_end(left: i32, by: i128) -> i128
     left as i128
 }
 
-/// Where the last of some places end over a round of moves.
+/// The greatest coordinate over a round of moves that begins at `right`.
 fn high_end(right: i32, by: i128) -> i128
     requires high { by ≤ℤ pos (2 ^ 49) }
     ensures end { result ≡ right +ℤ int_max (pos 0) by }
@@ -67,7 +67,7 @@ fn high_end(right: i32, by: i128) -> i128
     right as i128
 }
 
-/// After how many rounds the one has passed the other, for good, where it moves further on in each.
+/// The number of rounds after which `lane` has passed `other` for good, where it moves further in each.
 fn rounds_to_pass(lane: Lane, other: Lane) -> u128
     requires faster { other.by <ℤ lane.by }
     requires low { neg_ℤ (pos (2 ^ 49)) ≤ℤ other.by }
@@ -83,7 +83,7 @@ fn rounds_to_pass(lane: Lane, other: Lane) -> u128
     rounds_over(difference(high + 2, low), difference(lane.by, other.by))
 }
 
-/// For how many rounds from the start the one is still ahead of the other, which moves further on in each.
+/// The number of rounds from the start in which `lane` is still ahead of `other`, which moves further in each.
 fn rounds_ahead(lane: Lane, other: Lane) -> u128
     requires slower { lane.by <ℤ other.by }
     requires low { neg_ℤ (pos (2 ^ 49)) ≤ℤ lane.by }
@@ -99,7 +99,7 @@ fn rounds_ahead(lane: Lane, other: Lane) -> u128
     rounds_over(difference(low, high + 3), difference(other.by, lane.by))
 }
 
-/// In which rounds the two can be near, where the one moves further on than the other in each.
+/// The rounds in which the two can be near, where `lane` moves further than `other` in each.
 fn rounds_between(lane: Lane, other: Lane) -> Span
     requires faster { other.by <ℤ lane.by }
     requires low { neg_ℤ (pos (2 ^ 49)) ≤ℤ other.by }
@@ -115,7 +115,7 @@ fn rounds_between(lane: Lane, other: Lane) -> Span
     }
 }
 
-/// Whether what moves at least as fast as the other is past it over a whole round, and so stays past it.
+/// True if `lane`, which moves at least as fast as `other`, is past it over a whole round, and so stays past it.
 fn stays_past(lane: Lane, other: Lane) -> bool
     requires order { other.by ≤ℤ lane.by }
     requires low { neg_ℤ (pos (2 ^ 49)) ≤ℤ lane.by }
@@ -128,7 +128,8 @@ fn stays_past(lane: Lane, other: Lane) -> bool
     false
 }
 
-/// In which rounds the two can be near along an axis, or nothing if both move equally fast and their places are near.
+/// The rounds in which the two can be near along an axis, or `None` if both move equally fast and their places are
+/// near.
 pub fn rounds_along(lane: Lane, other: Lane) -> Option<Span>
     requires low { neg_ℤ (pos (2 ^ 49)) ≤ℤ lane.by }
     requires high { lane.by ≤ℤ pos (2 ^ 49) }

@@ -1,4 +1,4 @@
-//! Whether two sets that recur stay apart.
+//! Deciding whether two sets that recur stay apart.
 ghost use Rattle.std.specs.Prelude.{◌≡◌, ◌%◌, ◌<◌, ◌^◌, ◌↔◌, IsTrue};
 ghost use Rattle.life_model.specs.Evolution.{generation};
 ghost use Rattle.life_objects.specs.Apart.{AreApart, AreApartForEver};
@@ -18,7 +18,7 @@ fn phase_at(orbit: &Orbit, time: u128) -> &CellList
     orbit.phase((time % orbit.period() as u128) as u32)
 }
 
-/// Whether two sets are apart after `time` generations.
+/// True if two sets are apart after `time` generations.
 fn is_apart_at(orbit: &Orbit, hull: Hull, other: &Orbit, other_hull: Hull, time: u128) -> bool
     requires rule { orbit.now.rule ≡ other.now.rule }
     requires hull { IsHullOf hull orbit.now }
@@ -38,7 +38,7 @@ fn is_apart_at(orbit: &Orbit, hull: Hull, other: &Orbit, other_hull: Hull, time:
     )
 }
 
-/// Whether two sets that stay where they are have boxes that are far from each other.
+/// True if two sets stay where they are and their boxes are far from each other.
 fn rest_apart(orbit: &Orbit, other: &Orbit) -> bool
     requires { orbit.now.rule ≡ other.now.rule }
     ensures { IsTrue result → AreApartForEver orbit.now.rule orbit.now.set other.now.set }
@@ -53,7 +53,7 @@ fn rest_apart(orbit: &Orbit, other: &Orbit) -> bool
 }
 
 impl Orbit {
-    /// Whether the two sets stay apart for ever.
+    /// True if the two sets stay apart for ever.
     pub fn is_apart_for_ever_from(&self, other: &Orbit) -> bool
         requires { self.now.rule ≡ other.now.rule }
         ensures { IsTrue result ↔ AreApartForEver self.now.rule self.now.set other.now.set }

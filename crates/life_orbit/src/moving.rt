@@ -7,7 +7,7 @@ ghost use Rattle.life_cells.specs.Limits.{IsPlace, last_place};
 use life_cells::{COORDINATE_LIMIT, CellList};
 use std::alloc::{AllocError, Global};
 
-/// The number, moved, if it is then a coordinate of a place of a list of cells.
+/// The number moved, if a list of cells can hold it as a coordinate then.
 fn moved_number(number: i32, by: i32) -> Option<i32>
     ensures moved { IfSome result (λ n. n ≡ number +ℤ by) }
     ensures low { IfSome result (λ n. negsuc last_place ≤ℤ n) }
@@ -21,7 +21,7 @@ fn moved_number(number: i32, by: i32) -> Option<i32>
     None
 }
 
-/// The cell, moved, if it then has a place of a list of cells.
+/// The cell moved, if a list of cells can hold it then.
 fn moved_cell(cell: (i32, i32), by: (i32, i32)) -> Option<(i32, i32)>
     ensures moved { IfSome result (λ place. place ≡ plus cell by) }
     ensures placed { IfSome result IsPlace }
@@ -31,7 +31,7 @@ fn moved_cell(cell: (i32, i32), by: (i32, i32)) -> Option<(i32, i32)>
     Some((x, y))
 }
 
-/// The cells, moved, if they then all have places of a list of cells.
+/// The cells moved, if a list of cells can hold them all then.
 fn moved_cells(
     alloc: Global,
     cells: &CellList,
@@ -50,7 +50,7 @@ fn moved_cells(
     Ok(Some(CellList::from_ordered(items)))
 }
 
-/// The sets, each moved, if all their cells then have places of a list of cells.
+/// The sets, each moved, if lists of cells can hold all their cells then.
 pub fn moved_sets(
     alloc: Global,
     sets: &[CellList],

@@ -5,7 +5,7 @@ ghost use Rattle.life_model.specs.Generation.{is_rising};
 ghost use Rattle.life_orbit.specs.Clear.{AreClear, IsClearOf, IsFree, comes_before};
 ghost use Rattle.life_orbit.specs.Reach.{IsReach};
 
-/// Whether a cell is in a row before that one, or in that row and before the column.
+/// True if a cell is in a row before this one, or in this row and before the column.
 fn comes_before(cell: (i32, i32), row: i128, column: i128) -> bool
     ensures { result ≡ comes_before row column cell }
 {
@@ -15,7 +15,7 @@ fn comes_before(cell: (i32, i32), row: i128, column: i128) -> bool
     (cell.1 as i128) < row
 }
 
-/// Whether none of the cells, which are in order, is in a row from one column to another.
+/// True if none of the cells, which are in order, is in a row from the left column to the right one.
 fn is_free(cells: &[(i32, i32)], row: i128, left: i128, right: i128) -> bool
     requires { T (is_rising cells.now) }
     ensures { IsTrue result ↔ IsFree row left right cells.now }
@@ -34,7 +34,7 @@ fn is_free(cells: &[(i32, i32)], row: i128, left: i128, right: i128) -> bool
     false
 }
 
-/// Whether a cell, moved, is near none of the cells, which are in order: those of five rows are looked up.
+/// True if a cell, moved, is near none of the cells, which are in order: those of five rows are looked up.
 fn is_clear_of(cell: (i32, i32), by: (i128, i128), others: &[(i32, i32)]) -> bool
     requires reach { IsReach (2 ^ 126) by }
     requires rising { T (is_rising others.now) }
@@ -50,7 +50,7 @@ fn is_clear_of(cell: (i32, i32), by: (i128, i128), others: &[(i32, i32)]) -> boo
     true
 }
 
-/// Whether no cell of the first list, moved, is near one of the second, each looked up in the second.
+/// True if no cell of the first list, moved, is near one of the second. Each is looked up in the second.
 fn each_is_clear(cells: &[(i32, i32)], by: (i128, i128), others: &[(i32, i32)]) -> bool
     requires reach { IsReach (2 ^ 126) by }
     requires rising { T (is_rising others.now) }
@@ -64,7 +64,7 @@ fn each_is_clear(cells: &[(i32, i32)], by: (i128, i128), others: &[(i32, i32)]) 
     true
 }
 
-/// Whether no cell of the first list, moved, is near one of the second. Both are in order, and each cell of the shorter
+/// True if no cell of the first list, moved, is near one of the second. Both are in order, and each cell of the shorter
 /// one is looked up in the other.
 pub fn are_clear(cells: &[(i32, i32)], by: (i128, i128), others: &[(i32, i32)]) -> bool
     requires reach { IsReach (2 ^ 126) by }

@@ -19,7 +19,7 @@ use std::marker::Model;
 /// The greatest number of generations within which sets are checked for recurrence.
 pub const BOUND_LIMIT: u32 = 100_000;
 
-/// A set of cells that recurs: its generations over one period, how far it has moved then, and a box around them.
+/// A set of cells that recurs: its generations over one period, its displacement after that, and a box around them.
 #[derive(Drop)]
 pub struct Orbit {
     rule: Rule,
@@ -52,7 +52,7 @@ impl Model for Orbit {
 }
 
 impl Orbit {
-    /// The orbit of a set, where it recurs within the bound.
+    /// The orbit of a set, if it recurs within the bound.
     pub fn of<P: Plane>(
         alloc: Global,
         rule: &Rule,
@@ -87,7 +87,8 @@ impl Orbit {
         Ok(None)
     }
 
-    /// The orbit of some cells, if they are the set, moved as a whole, and all its generations, moved likewise, have places.
+    /// The orbit of some cells, if they are the set moved as a whole and lists of cells can hold all its generations moved
+    /// likewise.
     pub fn moved_to(&self, alloc: Global, cells: &CellList) -> Result<Option<Orbit>, AllocError>
         ensures rule { IfOk result (λ found. IfSome found (λ orbit. orbit.rule ≡ self.now.rule)) }
         ensures set { IfOk result (λ found. IfSome found (λ orbit. orbit.set ≡ cells.now)) }
@@ -124,7 +125,7 @@ impl Orbit {
         &self.phases[0]
     }
 
-    /// After how many generations it first recurs.
+    /// The number of generations after which it first recurs.
     pub fn period(&self) -> u32
         ensures value { result ≡ self.now.period }
         ensures recurs { IsCourse self.now }
@@ -133,14 +134,14 @@ impl Orbit {
         self.phases.len() as u32
     }
 
-    /// How far it has moved after a period.
+    /// The displacement after a period.
     pub fn displacement(&self) -> (i32, i32)
         ensures { result ≡ self.now.displacement }
     {
         self.displacement
     }
 
-    /// A box that has all cells of its generations until it recurs.
+    /// A box around all cells of its generations until it recurs.
     pub fn hull(&self) -> Hull
         ensures hull { IsHullOf result self.now }
         ensures recurs { IsCourse self.now }

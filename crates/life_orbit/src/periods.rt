@@ -1,4 +1,4 @@
-//! After how many periods two sets both stand as they began.
+//! The numbers of periods after which two sets are both in their first phase again.
 ghost use Rattle.std.specs.Prelude.{◌≡◌, ℕ, ◌*◌, ◌≤◌};
 ghost use Rattle.std.specs.Int.{IsGcd};
 
@@ -18,7 +18,7 @@ fn common_divisor(first: u32, second: u32) -> u32
     divisor
 }
 
-/// After how many periods of each of two sets both stand as they began, for the first time.
+/// The least numbers of periods of two sets after which both are in their first phase again.
 pub fn rounds_together(first: u32, second: u32) -> (u32, u32)
     requires first { 1 ≤ first × first ≤ BOUND_LIMIT }
     requires second { 1 ≤ second × second ≤ BOUND_LIMIT }

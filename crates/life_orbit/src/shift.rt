@@ -1,4 +1,4 @@
-//! Moves made again and again.
+//! Repeated moves.
 ghost use Rattle.std.specs.Prelude.{◌≡◌, ◌*◌, ◌/◌, ◌<◌, ◌^◌};
 ghost use Rattle.life_model.specs.Cell.{opposite, plus};
 ghost use Rattle.life_objects.specs.Drift.{multiple_of};
@@ -7,7 +7,7 @@ ghost use Rattle.life_orbit.specs.Reach.{IsReach};
 
 use crate::orbit::Orbit;
 
-/// `count` moves.
+/// A move made `count` times.
 pub fn repeated(count: u128, by: (i32, i32)) -> (i128, i128)
     requires { count < 2 ^ 94 }
     ensures value { result ≡ multiple_of count by }
@@ -17,7 +17,7 @@ pub fn repeated(count: u128, by: (i32, i32)) -> (i128, i128)
     (count * by.0 as i128, count * by.1 as i128)
 }
 
-/// How far a set has moved after `time` generations, by whole periods.
+/// The displacement of a set after `time` generations, by whole periods.
 fn shift_at(orbit: &Orbit, time: u128) -> (i128, i128)
     requires { time < 2 ^ 94 }
     ensures value { result ≡ multiple_of (time / orbit.now.period) orbit.now.displacement }
@@ -27,7 +27,7 @@ fn shift_at(orbit: &Orbit, time: u128) -> (i128, i128)
     repeated(time / orbit.period() as u128, orbit.displacement())
 }
 
-/// How much further than the other one set has moved after `time` generations, by whole periods of each.
+/// The displacement of one set less that of the other after `time` generations, by whole periods of each.
 pub fn offset_at(orbit: &Orbit, other: &Orbit, time: u128) -> (i128, i128)
     requires { time < 2 ^ 94 }
     ensures value { result ≡ plus (multiple_of (time / orbit.now.period) orbit.now.displacement)

@@ -9,7 +9,7 @@ use life_cells::{CellList, Rule};
 use life_plane::{AGE_LIMIT, Plane, offset_between};
 use std::alloc::{AllocError, Global};
 
-/// Another list of the same cells.
+/// A copy of a list of cells.
 pub fn copied(alloc: Global, cells: &CellList) -> Result<CellList, AllocError>
     ensures { IfOk result (λ copy. copy ≡ cells.now) }
 {
@@ -34,7 +34,7 @@ pub fn next_list<P: Plane>(
     Ok(later)
 }
 
-/// How far the second set is from the first, if it is the first moved as a whole. The empty set isn't moved.
+/// The move from the first set to the second, if the second is the first moved as a whole. The empty set isn't moved.
 pub fn offset(from: &CellList, to: &CellList) -> Option<(i32, i32)>
     ensures offset { IfSome result (λ d. IsOffset from.now to.now d) }
     ensures apart { IfNone result (AreNotTranslates from.now to.now) }

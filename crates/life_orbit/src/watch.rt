@@ -1,4 +1,4 @@
-//! When two sets that recur have to be watched.
+//! The generations in which two sets that recur have to be watched.
 ghost use Rattle.std.specs.Prelude.{◌≡◌, ◌*◌, ◌<◌, ◌≤◌, ◌^◌};
 ghost use Rattle.life_objects.specs.Apart.{AreApartForEver};
 ghost use Rattle.life_orbit.specs.Hulls.{IsHullOf};
@@ -11,8 +11,8 @@ use crate::orbit::Orbit;
 use crate::periods::rounds_together;
 use crate::shift::repeated;
 
-/// In which rounds two boxes can be near, where they move by these steps in each: when they can be near along both axes. Where
-/// both move equally far and are near along both, one round decides for all.
+/// The rounds in which two boxes can be near, where they move by these steps in each: those in which they can be near along
+/// both axes. Where both move equally far and are near along both, one round decides for all.
 pub fn rounds_near(hull: Hull, by: (i128, i128), other_hull: Hull, other_by: (i128, i128)) -> Span
     requires reach { IsReach (2 ^ 49) by }
     requires other_reach { IsReach (2 ^ 49) other_by }
@@ -66,7 +66,7 @@ pub fn rounds_near(hull: Hull, by: (i128, i128), other_hull: Hull, other_by: (i1
     }
 }
 
-/// Some generations: two sets that are apart in each of them stay apart for ever.
+/// The generations to watch: two sets that are apart in each of them stay apart for ever.
 pub fn watch(orbit: &Orbit, hull: Hull, other: &Orbit, other_hull: Hull) -> Span
     requires rule { orbit.now.rule ≡ other.now.rule }
     requires hull { IsHullOf hull orbit.now }
