@@ -1,4 +1,4 @@
--- Up to four steps, as the machine holds them.
+-- Up to four steps, in machine integers.
 use Rattle.std.specs.Prelude.{List, [], ◌∷◌}
 use Rattle.life_growth.specs.Meeting.Sums.{Step}
 use Rattle.life_things.specs.Lattice.Short.{IsStride}
@@ -12,7 +12,7 @@ list_of (Two u v) = u ∷ v ∷ []
 list_of (Three u v w) = u ∷ v ∷ w ∷ []
 list_of (Four u v w z) = u ∷ v ∷ w ∷ z ∷ []
 
--- each takes time, and neither too much nor too far
+-- each step takes time, and goes neither too long nor too far
 abbrev pub AreStrides : Steps → Type 0
 AreStrides Zero = Unit {0}
 AreStrides (One u) = IsStride u

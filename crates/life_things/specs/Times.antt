@@ -1,4 +1,4 @@
--- What divides the times of all steps.
+-- The numbers that divide the times of all steps.
 use Rattle.std.specs.Prelude.{List, [], ◌∷◌, ℕ, unsigned_abs}
 use Rattle.std.specs.Int.{◌∣◌}
 use Rattle.life_growth.specs.Meeting.Sums.{Step}

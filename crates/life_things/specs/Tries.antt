@@ -1,4 +1,5 @@
--- How often the first of four steps is made, where the others follow it, each made any number of times.
+-- The numbers of times that the first of four steps is made, where the others follow it, each made any number of
+-- times.
 use Rattle.std.specs.Prelude.{◌≡◌, ℕ, ◌<◌, ◌≤◌, ℤ, pos, ◌+ℤ◌, ◌-ℤ◌, ◌*ℤ◌, [], ◌∷◌}
 use Rattle.life_model.specs.Cell.{Cell}
 use Rattle.life_model.specs.Generation.{Generation}
@@ -18,15 +19,16 @@ pub record AreFit (t : Tries) : Type 0 where
   pub third : IsStride t.third
   pub few : t.until ≤ number_limit
 
--- it is clear where the step has been made n times, and then the others
+-- the sets stay clear where the step has been made n times, and then the others
 abbrev pub ClearAfter : Generation → Generation → Tries → ℕ → Type 0
 ClearAfter P Q t n = StaysClear P Q (and_then t.start (times n t.step)) (t.first ∷ t.second ∷ t.third ∷ [])
 
--- it is clear for each number that is tried
+-- the sets stay clear for each number that is tried
 abbrev pub AreClear : Generation → Generation → Tries → Type 0
 AreClear P Q t = (n : ℕ) → t.from ≤ n → n < t.until → ClearAfter P Q t n
 
--- it is clear for those numbers after which some number of the third of the others leads, along a gauge, to a place
+-- the sets stay clear for those numbers after which some number of the third of the others leads, along a gauge, to a
+-- place
 abbrev pub ClearTowards : Generation → Generation → Tries → Step → Cell → Type 0
 ClearTowards P Q t g d =
     (n : ℕ) (k : ℤ) → t.from ≤ n → n < t.until →

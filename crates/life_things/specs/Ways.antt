@@ -1,4 +1,4 @@
--- The ways of a thing, as the machine holds them, and a thing as what it is made of.
+-- The ways of a thing, in machine integers, and the coding of a thing by its fields.
 use Rattle.std.specs.Prelude.{ℕ, ◌≤◌, List, [], ◌∷◌, refl}
 use Rattle.std.specs.Coded.{Coded, code_by, coded_list, coded×, coded_ℕ, coded_ℤ}
 use Rattle.life_model.specs.Cell.{Cell}
@@ -18,7 +18,7 @@ ways_of Never = []
 ways_of (Once w) = way_of w ∷ []
 ways_of (Twice w v) = way_of w ∷ way_of v ∷ []
 
--- a way that takes time, and neither too much nor too far
+-- a way that takes time, and goes neither too long nor too far
 pub record IsFit (w : ℕ × Cell) : Type 0 where
   pub some : 1 ≤ w.0
   pub few : w.0 ≤ way_limit

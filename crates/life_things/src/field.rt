@@ -1,4 +1,4 @@
-//! Where one set can be near another.
+//! The places by which one set can be moved to be near another.
 ghost use Rattle.std.specs.Prelude.{◌≡◌, ◌≢◌, ℕ, ◌+◌, ◌<◌, ◌≤◌, ◌^◌, ◌↔◌, IfNone, IfSome, IsTrue, ℤ, pos, ◌*ℤ◌, ◌≤ℤ◌};
 ghost use Rattle.life_model.specs.Cell.{Cell};
 ghost use Rattle.life_model.specs.Generation.{Generation};
@@ -11,7 +11,7 @@ ghost use Rattle.life_things.specs.Lattice.Short.{AreShort, IsShort, IsWithin};
 use crate::lattice::{Span, Step, multiplied, product, span_to};
 use life_orbit::Hull;
 
-/// Places from one column to another, and from one row to another.
+/// The places from one column to another and from one row to another.
 #[derive(Clone, Copy)]
 pub struct Field {
     pub left: i128,
@@ -20,7 +20,7 @@ pub struct Field {
     pub bottom: i128,
 }
 
-/// Where a set can be moved to for it to be near the other, by the boxes of both.
+/// The places by which a set can be moved to be near the other, by the boxes of both.
 pub fn field_of(hull: Hull, other: Hull) -> Field
     ensures narrow { IsNarrow result }
     ensures field { (P Q : Generation) → HoldsAllCells hull P → HoldsAllCells other Q → IsFieldOf result P Q }
@@ -33,7 +33,7 @@ pub fn field_of(hull: Hull, other: Hull) -> Field
     }
 }
 
-/// Whether a place is in the field.
+/// True if a place is in the field.
 pub fn has_place(field: Field, place: (i128, i128)) -> bool
     ensures { IsTrue result ↔ IsInField field place }
 {
@@ -104,8 +104,8 @@ pub fn most_product(gauge: Step, field: Field) -> i128
     across + along
 }
 
-/// How often a step may be made from a start so that the product with the gauge is that of a place of the field, where
-/// this depends on how often it is made.
+/// The numbers of times that a step may be made from a start for the product with the gauge to be that of a place of
+/// the field. `None` if the product does not depend on them.
 pub fn span_by(gauge: Step, start: Step, step: Step, field: Field) -> Option<Span>
     requires gauge { IsShort (2 ^ 28) gauge }
     requires start { AreShort gauge start }

@@ -1,4 +1,4 @@
-//! What is reached by four steps, each made any number of times.
+//! The places reached by four steps, each made any number of times.
 ghost use Rattle.std.specs.Prelude.{◌↔◌, ◌≤◌, IsTrue, [], ◌∷◌};
 ghost use Rattle.life_things.specs.Clear.{StaysClear, StaysClearBetween};
 ghost use Rattle.life_things.specs.Fields.{IsFieldOf};
@@ -10,8 +10,8 @@ use crate::lattice::{Numbers, Span, Step, above, lightest, space_numbers};
 use crate::tries::{Tries, are_clear};
 use life_cells::CellList;
 
-/// Whether a set is never near the other, where one step is made each number of times in a span from the start, and three others
-/// any number of times.
+/// True if a set is never near the other, where one step is made each number of times in a span from the start, and three
+/// others any number of times.
 fn tried(
     one: &CellList,
     other: &CellList,
@@ -41,7 +41,7 @@ fn tried(
     are_clear(one, other, field, tries)
 }
 
-/// Whether a set is never near the other, from the start on by four steps that are related by some numbers.
+/// True if a set is never near the other, from the start on by four steps that these numbers relate.
 fn related(
     one: &CellList,
     other: &CellList,
@@ -120,7 +120,7 @@ fn related(
     )
 }
 
-/// Whether a set is never near the other, from the start on by four steps.
+/// True if a set is never near the other, from the start on by four steps.
 pub fn four_ways(
     one: &CellList,
     other: &CellList,

@@ -1,4 +1,4 @@
-//! Steps, each a number of generations and a move, and how often each has to be made.
+//! Steps, each a number of generations and a move, and the numbers of times that each has to be made.
 mod arrival;
 mod crossing;
 mod gauges;

@@ -1,4 +1,4 @@
-//! Things in space and time that the machine holds, whether two of them ever meet, and the lattice of their steps.
+//! Things in space and time in machine integers, whether two of them ever meet, and the lattice of their steps.
 //!
 //! Tested in `tests_objects`.
 #![tactic(auto)]

@@ -1,4 +1,4 @@
-//! Whether two things ever meet.
+//! Deciding whether two things ever meet.
 ghost use Rattle.std.specs.Prelude.{◌↔◌, IsTrue};
 ghost use Rattle.life_growth.specs.Things.{NeverMeet};
 ghost use Rattle.life_things.specs.Clear.{StaysClear};
@@ -18,7 +18,7 @@ use crate::together::are_never_together;
 use crate::ways::two_ways;
 use life_cells::CellList;
 
-/// Whether a set is never near the other, from the start on by some steps.
+/// True if a set is never near the other, from the start on by some steps.
 fn stays_clear(one: &CellList, other: &CellList, field: Field, start: Step, steps: Steps) -> bool
     requires start { IsShort four_start start }
     requires strides { AreStrides steps }
@@ -41,7 +41,7 @@ fn stays_clear(one: &CellList, other: &CellList, field: Field, start: Step, step
 }
 
 impl Thing {
-    /// Whether the two things never meet: whether at no time at which both stand the one is near the other.
+    /// True if the two things never meet: at no time at which both are there is one near the other.
     pub fn never_meets(&self, other: &Thing) -> bool
         ensures { IsTrue result ↔ NeverMeet self.now other.now }
     {

@@ -1,4 +1,4 @@
-//! What is reached by no step, and by one step made any number of times.
+//! The places reached by no step, and by one step made any number of times.
 ghost use Rattle.std.specs.Prelude.{◌≡◌, ◌↔◌, ◌≤◌, ◌^◌, IsTrue, [], ◌∷◌};
 ghost use Rattle.life_growth.specs.Meeting.Sums.{and_then, times};
 ghost use Rattle.life_things.specs.Clear.{IsClear, StaysClear};
@@ -10,7 +10,7 @@ use crate::lattice::{Step, moved, rounds_to_none};
 use life_cells::CellList;
 use life_orbit::are_clear;
 
-/// Whether no cell of a set, moved, is near one of the other.
+/// True if no cell of a set, moved, is near one of the other.
 fn is_clear(one: &CellList, by: (i128, i128), other: &CellList, field: Field) -> bool
     requires { IsFieldOf field one.now other.now }
     ensures { IsTrue result ↔ IsClear one.now by other.now }
@@ -21,7 +21,7 @@ fn is_clear(one: &CellList, by: (i128, i128), other: &CellList, field: Field) ->
     are_clear(one.as_slice(), by, other.as_slice())
 }
 
-/// Whether a set that is only at the start is not near the other there.
+/// True if a set that is only at the start is not near the other there.
 pub fn no_way(one: &CellList, other: &CellList, field: Field, start: Step) -> bool
     requires { IsFieldOf field one.now other.now }
     ensures { IsTrue result ↔ StaysClear one.now other.now start [] }
@@ -32,7 +32,7 @@ pub fn no_way(one: &CellList, other: &CellList, field: Field, start: Step) -> bo
     is_clear(one, start.1, other, field)
 }
 
-/// Whether a set that has gone from a start by `count` steps is not near the other.
+/// True if a set that has gone from a start by `count` steps is not near the other.
 fn is_clear_after(
     one: &CellList,
     other: &CellList,
@@ -55,7 +55,7 @@ fn is_clear_after(
     }
 }
 
-/// Whether a set is never near the other, from the start on by one step.
+/// True if a set is never near the other, from the start on by one step.
 pub fn one_way(one: &CellList, other: &CellList, field: Field, start: Step, step: Step) -> bool
     requires start { IsShort one_start start }
     requires step { IsStride step }

@@ -1,4 +1,4 @@
-//! What is decided at once: by times that never agree, and by steps that all lead further away.
+//! Quick decisions: by times that never agree, and by steps that all lead further away.
 ghost use Rattle.std.specs.Prelude.{◌≤ℤ◌, pos};
 ghost use Rattle.std.specs.Bool.{OnTrue};
 ghost use Rattle.life_growth.specs.Relations.Relations.{product};
@@ -12,7 +12,7 @@ use crate::field::{Field, most_product};
 use crate::lattice::{Step, across_gauge, along_gauge, cross, product, turned_gauge};
 use crate::steps::Steps;
 
-/// Whether a step does not lead back along a gauge.
+/// True if a step does not lead back along a gauge.
 fn rises(gauge: Step, step: Step) -> bool
     requires gauge { IsShort cross_limit gauge }
     requires step { IsStride step }
@@ -24,7 +24,7 @@ fn rises(gauge: Step, step: Step) -> bool
     true
 }
 
-/// Whether none of two steps leads back along a gauge.
+/// True if neither of two steps leads back along a gauge.
 fn two_rise(gauge: Step, first: Step, second: Step) -> bool
     requires gauge { IsShort cross_limit gauge }
     requires first { IsStride first }
@@ -37,7 +37,7 @@ fn two_rise(gauge: Step, first: Step, second: Step) -> bool
     rises(gauge, second)
 }
 
-/// Whether none of some steps leads back along a gauge.
+/// True if none of some steps leads back along a gauge.
 fn none_falls(gauge: Step, steps: Steps) -> bool
     requires gauge { IsShort cross_limit gauge }
     requires strides { AreStrides steps }
@@ -62,7 +62,7 @@ fn none_falls(gauge: Step, steps: Steps) -> bool
     }
 }
 
-/// Whether the start is past the field along a gauge, and no step leads back.
+/// True if the start is past the field along a gauge, and no step leads back.
 fn is_past(gauge: Step, start: Step, steps: Steps, field: Field) -> bool
     requires gauge { IsShort cross_limit gauge }
     requires start { IsShort four_start start }
@@ -76,7 +76,7 @@ fn is_past(gauge: Step, start: Step, steps: Steps, field: Field) -> bool
     none_falls(gauge, steps)
 }
 
-/// Whether the start is past the field on one side, along a gauge, and no step leads back.
+/// True if the start is past the field on one side, along a gauge, and no step leads back.
 fn is_beyond(gauge: Step, start: Step, steps: Steps, field: Field) -> bool
     requires gauge { IsShort cross_limit gauge }
     requires start { IsShort four_start start }
@@ -90,7 +90,7 @@ fn is_beyond(gauge: Step, start: Step, steps: Steps, field: Field) -> bool
     is_past(turned_gauge(gauge), start, steps, field)
 }
 
-/// Whether the start is past the field on one side, along a gauge of one step, and no step leads back.
+/// True if the start is past the field on one side, along a gauge of one step, and no step leads back.
 fn is_beyond_one(step: Step, start: Step, steps: Steps, field: Field) -> bool
     requires step { IsStride step }
     requires start { IsShort four_start start }
@@ -104,7 +104,7 @@ fn is_beyond_one(step: Step, start: Step, steps: Steps, field: Field) -> bool
     is_beyond(along_gauge(step), start, steps, field)
 }
 
-/// Whether the start is past the field on one side, along a gauge of one of three steps or of two of them, and no step leads
+/// True if the start is past the field on one side, along a gauge of one of three steps or of two of them, and no step leads
 /// back.
 fn is_beyond_three(three: (Step, Step, Step), start: Step, steps: Steps, field: Field) -> bool
     requires three { IsStride three.0 × IsStride three.1 × IsStride three.2 }
@@ -132,7 +132,7 @@ fn is_beyond_three(three: (Step, Step, Step), start: Step, steps: Steps, field: 
     is_beyond_one(c, start, steps, field)
 }
 
-/// Whether all steps lead further away from the field, as a gauge of one of them or of two shows.
+/// True if all steps lead further away from the field, as a gauge of one of them or of two shows.
 pub fn leads_away(start: Step, steps: Steps, field: Field) -> bool
     requires start { IsShort four_start start }
     requires strides { AreStrides steps }

@@ -1,4 +1,4 @@
-//! Up to four steps.
+//! Lists of up to four steps.
 ghost use Rattle.std.specs.Prelude.{◌≡◌, ◌++◌, ◌≤◌, All, length, map};
 ghost use Rattle.life_growth.specs.Meeting.Meeting as meetings;
 ghost use Rattle.life_things.specs.Steps.{AreStrides, list_of};
@@ -45,7 +45,7 @@ pub fn steps_back(ways: Ways) -> Steps
     }
 }
 
-/// Up to two steps, and then up to two others.
+/// Up to two steps, followed by up to two others.
 pub fn joined(first: Steps, second: Steps) -> Steps
     requires first { length (list_of first) ≤ 2 }
     requires second { length (list_of second) ≤ 2 }

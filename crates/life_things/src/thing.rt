@@ -1,4 +1,4 @@
-//! Things in space and time, as the machine holds them.
+//! Things in space and time, in machine integers.
 ghost use Rattle.std.specs.Prelude.{◌≡◌, ◌≤◌, All};
 ghost use Rattle.life_orbit.specs.Hulls.{HoldsAllCells};
 ghost use Rattle.life_things.specs.Ways.{IsFit, ways_of};
@@ -8,10 +8,10 @@ use life_cells::{CellList, corner};
 use life_orbit::{Hull, hull_of};
 use std::marker::Model;
 
-/// The greatest time at which a thing may stand first.
+/// The greatest time at which a thing may first be there.
 pub const TIME_LIMIT: u32 = 4_194_304;
 
-/// A set of cells that stands at a time, and again after each of its ways, made any number of times.
+/// A set of cells that is there at a time, and again after each of its ways, made any number of times.
 #[derive(Drop)]
 pub struct Thing {
     time: u32,
@@ -37,8 +37,8 @@ impl Model for Thing {
 }
 
 impl Thing {
-    /// A set of cells that stands at a time, up to `TIME_LIMIT`, with its ways. A way takes from 1 to `WAY_LIMIT`
-    /// generations, and goes no further than that along an axis.
+    /// A set of cells that is first there at a time, up to `TIME_LIMIT`, with its ways. A way takes from 1 to
+    /// `WAY_LIMIT` generations, and goes no further than that along an axis.
     pub fn new(time: u32, cells: CellList, ways: Ways) -> Thing
         requires time { time ≤ TIME_LIMIT }
         requires ways { All IsFit (ways_of ways) }
@@ -55,7 +55,7 @@ impl Thing {
         }
     }
 
-    /// The time at which it stands first.
+    /// The time at which it is first there.
     pub fn time(&self) -> u32
         ensures time { result ≡ self.now.time }
         ensures few { result ≤ TIME_LIMIT }
@@ -63,7 +63,7 @@ impl Thing {
         self.time
     }
 
-    /// Its cells, as they are then.
+    /// Its cells at that time.
     pub fn cells(&self) -> &CellList
         ensures { result.now ≡ self.now.set }
     {

@@ -1,4 +1,4 @@
-//! What is reached by three steps, each made any number of times.
+//! The places reached by three steps, each made any number of times.
 ghost use Rattle.std.specs.Prelude.{◌≡◌, ◌↔◌, ◌≤◌, IfNone, IfSome, IsTrue, [], ◌∷◌, pos};
 ghost use Rattle.life_model.specs.Generation.{Generation};
 ghost use Rattle.life_growth.specs.Relations.Relations.{spanned};
@@ -12,7 +12,7 @@ use crate::lattice::{Numbers, Span, Step, above, after, cross, lightest, plane_n
 use crate::ways::two_ways;
 use life_cells::CellList;
 
-/// Whether a set is never near the other, where one step is made each number of times in a span from the start, and two others
+/// True if a set is never near the other, where one step is made each number of times in a span from the start, and two others
 /// any number of times.
 fn tried(
     one: &CellList,
@@ -39,7 +39,7 @@ fn tried(
     true
 }
 
-/// Whether a set is never near the other, from the start on by three steps that are related by some numbers.
+/// True if a set is never near the other, from the start on by three steps that these numbers relate.
 fn related(
     one: &CellList,
     other: &CellList,
@@ -79,8 +79,8 @@ fn related(
     tried(one, other, field, start, third, (first, second), ups)
 }
 
-/// How often the first of three steps may be made from the start so that the set can be near the other after the others, made any
-/// number of times; or nothing, where the three lie in a plane.
+/// The numbers of times that the first of three steps may be made from the start for the set to be near the other after the
+/// other two, made any number of times; or `None` where the three lie in a plane.
 fn span_over(start: Step, first: Step, second: Step, third: Step, field: Field) -> Option<Span>
     requires start { IsShort three_start start }
     requires first { IsStride first }
@@ -95,7 +95,7 @@ fn span_over(start: Step, first: Step, second: Step, third: Step, field: Field) 
     span_by(cross(second, third), start, first, field)
 }
 
-/// Whether a set is never near the other, from the start on by three steps.
+/// True if a set is never near the other, from the start on by three steps.
 pub fn three_ways(
     one: &CellList,
     other: &CellList,

@@ -1,4 +1,4 @@
-//! Whether steps ever lead to a time, as far as what divides all their times shows.
+//! Steps that never lead to a time, as a common divisor of all their times shows.
 ghost use Rattle.std.specs.Prelude.{[], ◌∷◌};
 ghost use Rattle.std.specs.Bool.{OnTrue};
 ghost use Rattle.life_model.specs.Generation.{Generation};
@@ -29,7 +29,7 @@ fn common_time_of(steps: Steps) -> u128
     }
 }
 
-/// Whether what divides the times of all steps shows that none of them leads to the time of the other set.
+/// True if a common divisor of the times of all steps shows that none of them leads to the time of the other set.
 pub fn are_never_together(start: Step, steps: Steps) -> bool
     ensures { OnTrue result ((P Q : Generation) → StaysClear P Q start (list_of steps)) }
 {

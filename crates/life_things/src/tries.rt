@@ -1,4 +1,4 @@
-//! How often the first of four steps is made, where three others follow it.
+//! Trying each number of times that the first of four steps can be made, where three others follow it.
 ghost use Rattle.std.specs.Prelude.{◌≡◌, ◌≢◌, ℕ, ◌%◌, ◌<◌, ◌^◌, ◌↔◌, ◌≤◌, ◌≤ℤ◌, ◌+ℤ◌, IsTrue, pos};
 ghost use Rattle.life_growth.specs.Relations.Relations.{product};
 ghost use Rattle.life_things.specs.Lattice.Numbers.{number_limit};
@@ -11,7 +11,8 @@ use crate::lattice::{Step, Turn, after, cross, first_in_turn, product, turn_of};
 use crate::three::three_ways;
 use life_cells::CellList;
 
-/// A start, a step that is made some number of times from there, and three steps that follow it, each made any number of times.
+/// A start, a step that is made from there a number of times from `from` to before `until`, and three steps that follow it,
+/// each made any number of times.
 #[derive(Clone, Copy)]
 pub struct Tries {
     pub start: Step,
@@ -23,7 +24,7 @@ pub struct Tries {
     pub until: u128,
 }
 
-/// Whether a set is never near the other where the step is made `count` times.
+/// True if a set is never near the other where the step is made `count` times.
 fn is_clear_after(one: &CellList, other: &CellList, field: Field, tries: Tries, count: u128) -> bool
     requires tries { AreFit tries }
     requires count { count < tries.until }
@@ -42,7 +43,7 @@ fn is_clear_after(one: &CellList, other: &CellList, field: Field, tries: Tries, 
     )
 }
 
-/// Whether a set is never near the other, with each number tried, one after another.
+/// True if a set is never near the other, with each number tried, one after another.
 fn are_clear_each(one: &CellList, other: &CellList, field: Field, tries: Tries) -> bool
     requires tries { AreFit tries }
     requires field { IsFieldOf field one.now other.now }
@@ -56,7 +57,7 @@ fn are_clear_each(one: &CellList, other: &CellList, field: Field, tries: Tries) 
     true
 }
 
-/// Whether a set is never near the other, with the numbers of one turn tried.
+/// True if a set is never near the other, with the numbers of one turn tried.
 fn are_clear_in_turn(
     one: &CellList,
     other: &CellList,
@@ -84,7 +85,7 @@ fn are_clear_in_turn(
     true
 }
 
-/// Whether a set is never near the other, with those numbers tried that may lead to a place along a gauge.
+/// True if a set is never near the other, with those numbers tried that may lead to a place along a gauge.
 fn are_clear_towards(
     one: &CellList,
     other: &CellList,
@@ -112,7 +113,7 @@ fn are_clear_towards(
     }
 }
 
-/// How many places there are from the first to the last.
+/// The number of places from the first to the last.
 fn places_between(first: i128, last: i128) -> u128
     requires first { IsWithin (2 ^ 34) first }
     requires last { IsWithin (2 ^ 34) last }
@@ -135,7 +136,7 @@ fn place_at(field: Field, column: u128, row: u128) -> (i128, i128)
     (field.left + column as i128, field.top + row as i128)
 }
 
-/// Whether a set is never near the other, with those numbers tried that may lead to the places of a row along a gauge.
+/// True if a set is never near the other, with those numbers tried that may lead to the places of a row along a gauge.
 fn are_clear_in_row(
     one: &CellList,
     other: &CellList,
@@ -163,7 +164,7 @@ fn are_clear_in_row(
     true
 }
 
-/// Whether a set is never near the other, with those numbers tried that may lead to the places of the field along a gauge.
+/// True if a set is never near the other, with those numbers tried that may lead to the places of the field along a gauge.
 fn are_clear_in_field(
     one: &CellList,
     other: &CellList,
@@ -188,15 +189,15 @@ fn are_clear_in_field(
     true
 }
 
-/// How many places a field has.
+/// The number of places in a field.
 fn places_of(field: Field) -> u128
     requires { IsNarrow field }
 {
     places_between(field.left, field.right) * places_between(field.top, field.bottom)
 }
 
-/// Whether a set is never near the other, with each number that is to be tried: one by one, or place by place of the field
-/// where these are fewer.
+/// True if a set is never near the other, with each number that is to be tried: one by one, or place by place of the field
+/// where there are fewer of these.
 pub fn are_clear(one: &CellList, other: &CellList, field: Field, tries: Tries) -> bool
     requires tries { AreFit tries }
     requires field { IsFieldOf field one.now other.now }

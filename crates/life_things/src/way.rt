@@ -9,7 +9,7 @@ use crate::lattice::Step;
 /// The greatest number of generations that a way may take, and the greatest move along an axis.
 pub const WAY_LIMIT: u32 = 10_000;
 
-/// After how many generations a thing recurs, and how far it has moved then.
+/// The number of generations after which a thing recurs, and its displacement then.
 #[derive(Clone, Copy)]
 pub struct Way {
     pub generations: u32,
@@ -24,7 +24,7 @@ pub enum Ways {
     Twice(Way, Way),
 }
 
-/// Whether a way may go this far along an axis.
+/// True if a way may go this far along an axis.
 fn is_short(place: i32) -> bool
     ensures { IsTrue result ↔ IsWithin way_limit place }
 {
@@ -37,7 +37,7 @@ fn is_short(place: i32) -> bool
     true
 }
 
-/// Whether a way takes from 1 to `WAY_LIMIT` generations, and goes no further than that along an axis.
+/// True if a way takes from 1 to `WAY_LIMIT` generations, and goes no further than that along an axis.
 fn is_fit(way: Way) -> bool
     ensures { IsTrue result ↔ IsFit (way_of way) }
 {
@@ -53,7 +53,7 @@ fn is_fit(way: Way) -> bool
     is_short(way.by.1)
 }
 
-/// Whether each of the ways takes from 1 to `WAY_LIMIT` generations, and goes no further than that along an axis.
+/// True if each of the ways takes from 1 to `WAY_LIMIT` generations, and goes no further than that along an axis.
 pub fn are_fit(ways: Ways) -> bool
     ensures { IsTrue result ↔ All IsFit (ways_of ways) }
 {

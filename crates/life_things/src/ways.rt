@@ -1,4 +1,4 @@
-//! What is reached by two steps, each made any number of times.
+//! The places reached by two steps, each made any number of times.
 ghost use Rattle.std.specs.Prelude.{◌≡◌, ◌≢◌, ℕ, ◌+◌, ◌%◌, ◌<◌, ◌↔◌, ◌≤◌, IfNone, IfSome, IsTrue, [], ◌∷◌, pos};
 ghost use Rattle.life_model.specs.Generation.{Generation};
 ghost use Rattle.life_growth.specs.Meeting.Sums.{and_then, times};
@@ -17,7 +17,7 @@ use crate::lattice::{
 use crate::places::one_way;
 use life_cells::CellList;
 
-/// Whether a set is never near the other, where one step is made each number of times in a span from the start, and another any
+/// True if a set is never near the other, where one step is made each number of times in a span from the start, and another any
 /// number of times. Only the numbers of one turn are tried.
 fn tried_in_turn(
     one: &CellList,
@@ -52,7 +52,7 @@ fn tried_in_turn(
     true
 }
 
-/// Whether a set is never near the other, where one step is made each number of times in a span from the start, and another any
+/// True if a set is never near the other, where one step is made each number of times in a span from the start, and another any
 /// number of times.
 fn tried(
     one: &CellList,
@@ -77,7 +77,7 @@ fn tried(
     }
 }
 
-/// Whether a set is never near the other, from the start on by two steps that are related by some numbers.
+/// True if a set is never near the other, from the start on by two steps that these numbers relate.
 fn related(
     one: &CellList,
     other: &CellList,
@@ -111,8 +111,8 @@ fn related(
     tried(one, other, field, start, last, step, steps)
 }
 
-/// How often a step may be made from the start so that the set can be near the other in some column after another step, made any
-/// number of times; or nothing, where the one goes across as fast as the other.
+/// The numbers of times that a step may be made from the start for the set to be near the other in some column after another
+/// step, made any number of times; or `None` where one goes across as fast as the other.
 fn span_across(start: Step, step: Step, last: Step, field: Field) -> Option<Span>
     requires start { IsShort two_start start }
     requires step { IsStride step }
@@ -126,8 +126,8 @@ fn span_across(start: Step, step: Step, last: Step, field: Field) -> Option<Span
     span_by(across_gauge(last), start, step, field)
 }
 
-/// How often a step may be made from the start so that the set can be near the other in some row after another step, made any
-/// number of times; or nothing, where the one goes along as fast as the other.
+/// The numbers of times that a step may be made from the start for the set to be near the other in some row after another step,
+/// made any number of times; or `None` where one goes along as fast as the other.
 fn span_along(start: Step, step: Step, last: Step, field: Field) -> Option<Span>
     requires start { IsShort two_start start }
     requires step { IsStride step }
@@ -141,8 +141,8 @@ fn span_along(start: Step, step: Step, last: Step, field: Field) -> Option<Span>
     span_by(along_gauge(last), start, step, field)
 }
 
-/// How often a step may be made from the start so that the set can be near the other in some place after another step, made any
-/// number of times; or nothing, where the one step goes as fast as the other.
+/// The numbers of times that a step may be made from the start for the set to be near the other in some place after another
+/// step, made any number of times; or `None` where one step goes as fast as the other.
 fn span_beside(start: Step, step: Step, last: Step, field: Field) -> Option<Span>
     requires start { IsShort two_start start }
     requires step { IsStride step }
@@ -166,7 +166,7 @@ fn span_beside(start: Step, step: Step, last: Step, field: Field) -> Option<Span
     }
 }
 
-/// Whether a set is never near the other, from the start on by two steps.
+/// True if a set is never near the other, from the start on by two steps.
 pub fn two_ways(
     one: &CellList,
     other: &CellList,

@@ -1,10 +1,10 @@
--- Gauges: steps whose products with other steps tell these apart.
+-- Gauges: steps whose products with other steps distinguish these.
 use Rattle.std.specs.Prelude.{pos, neg_ℤ, ◌≤ℤ◌, List, [], ◌∷◌}
 use Rattle.life_growth.specs.Meeting.Sums.{Step}
 use Rattle.life_growth.specs.Relations.Relations.{product}
 
--- the product with these gauges is 0 for the step, and says how far another step deviates from its direction along each
--- axis
+-- the product with these gauges is 0 for the step itself; for another step it is the deviation from the step's
+-- direction along each axis
 abbrev pub across_gauge : Step → Step
 across_gauge u = (neg_ℤ u.1.0, (u.0, pos 0))
 

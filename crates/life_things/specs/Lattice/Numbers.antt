@@ -1,4 +1,4 @@
--- How often each of up to four steps is made, or made back.
+-- The number of times that each of up to four steps is made, or made back.
 use Rattle.std.specs.Prelude.{◌≡◌, ℕ, ◌+◌, ℤ, pos, neg_ℤ, List, [], ◌∷◌}
 use Rattle.std.specs.Int.{◌∣◌}
 use Rattle.std.specs.Prelude.{unsigned_abs}
@@ -10,7 +10,7 @@ use Rattle.life_things.specs.Lattice.Short.{IsWithin}
 abbrev pub numbers_of : Numbers → List ℤ
 numbers_of n = n.first ∷ n.second ∷ n.third ∷ n.fourth ∷ []
 
--- the steps, made these numbers of times, add up to staying
+-- the steps, made these numbers of times, cancel out
 abbrev pub StayBy : List Step → Numbers → Type 0
 StayBy us n = combination us (numbers_of n) ≡ stay
 
@@ -49,7 +49,7 @@ turned n = record { first = neg_ℤ n.first; second = neg_ℤ n.second; third = 
 abbrev pub total_above : Numbers → ℕ
 total_above n = above n.first + (above n.second + (above n.third + above n.fourth))
 
--- Steps that stay with the many numbers also stay with the few.
+-- Steps that cancel out with the many numbers also do with the few.
 pub record IsLighter (few many : Numbers) : Type 0 where
   pub stays : (us : List Step) → StayBy us many → StayBy us few
   pub third : many.third ≡ pos 0 → few.third ≡ pos 0

@@ -1,4 +1,4 @@
--- Numbers and steps that are not too long for the machine.
+-- Numbers and steps that fit machine integers.
 use Rattle.std.specs.Prelude.{◌≢◌, ℕ, ◌*◌, ◌≤◌, ◌^◌, ℤ, pos, neg_ℤ, ◌≤ℤ◌}
 use Rattle.life_growth.specs.Meeting.Sums.{Step}
 
@@ -13,7 +13,7 @@ pub record IsShort (n : ℕ) (u : Step) : Type 0 where
   pub across : IsWithin n u.1.0
   pub along : IsWithin n u.1.1
 
--- two steps with a product that fits the machine
+-- two steps whose product fits a machine integer
 pub record AreShort (u v : Step) : Type 0 where
   pub first : ℕ
   pub second : ℕ
@@ -30,7 +30,7 @@ pub record IsStride (u : Step) : Type 0 where
   pub short : IsShort way_limit u
   pub later : u.0 ≢ pos 0
 
--- how far a start may be, along each axis and in time, for one step, two, three and four to be made from it
+-- the distance of a start, along each axis and in time, up to which one step, two, three and four can be made from it
 abbrev pub one_start : ℕ
 one_start = 2 ^ 126
 
@@ -43,14 +43,14 @@ three_start = 61 * 10 ^ 15
 abbrev pub four_start : ℕ
 four_start = 4194304
 
--- how often a step may be made from there
+-- the number of times that a step may be made from there
 abbrev pub count_limit : ℕ
 count_limit = 737 * 10 ^ 31
 
--- how often the first of three steps may be made from the start of three
+-- the number of times that the first of three steps may be made from the start of three
 abbrev pub three_count : ℕ
 three_count = 367 * 10 ^ 23
 
--- the most that a coordinate of a cross product can be
+-- the greatest coordinate of a cross product
 abbrev pub cross_limit : ℕ
 cross_limit = 200000000

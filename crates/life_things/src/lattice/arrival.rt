@@ -1,8 +1,8 @@
-//! How often a step has to be made to reach a time, and where it leads by then.
+//! The number of times that a step has to be made to reach a time, and the place where it leads by then.
 ghost use Rattle.std.specs.Prelude.{◌≡◌, ◌≢◌, ℕ, ◌*◌, ◌≤◌, ◌^◌, ◌+ℤ◌, ◌*ℤ◌, pos, IfNone, IfSome};
 ghost use Rattle.life_things.specs.Lattice.Short.{IsWithin, way_limit};
 
-/// How often `gain` has to be added so that `start` becomes 0, if ever.
+/// The number of times that `gain` has to be added for `start` to become 0, if there is one.
 fn rounds_up(start: i128, gain: u128) -> Option<u128>
     requires start { IsWithin (2 ^ 126) start }
     requires gain { 1 ≤ gain }
@@ -20,7 +20,7 @@ fn rounds_up(start: i128, gain: u128) -> Option<u128>
     Some(distance / gain)
 }
 
-/// How often `gain`, which may be negative, has to be added so that `start` becomes 0, if ever.
+/// The number of times that `gain`, which may be negative, has to be added for `start` to become 0, if there is one.
 pub fn rounds_to_none(start: i128, gain: i128) -> Option<u128>
     requires start { IsWithin (2 ^ 126) start }
     requires gain { IsWithin way_limit gain }
@@ -35,7 +35,7 @@ pub fn rounds_to_none(start: i128, gain: i128) -> Option<u128>
     rounds_up(-start, (-gain) as u128)
 }
 
-/// Where a place is after it is moved `count` times by `by` along an axis; nothing if that is far away.
+/// The place after it is moved `count` times by `by` along an axis, or `None` if that is far away.
 pub fn moved(place: i128, count: u128, by: i128) -> Option<i128>
     requires place { IsWithin (2 ^ 126) place }
     requires count { count ≤ 2 ^ 126 }

@@ -1,4 +1,4 @@
-//! Cross products, and the numbers with which four steps, or three in a plane, add up to staying.
+//! Cross products, and the numbers with which four steps, or three in a plane, cancel out.
 ghost use Rattle.std.specs.Prelude.{◌≡◌, ◌+◌, ◌≤◌, ◌*ℤ◌, ◌-ℤ◌, [], ◌∷◌, pos};
 ghost use Rattle.life_growth.specs.Relations.Relations.{cross, product, spanned};
 ghost use Rattle.life_things.specs.Lattice.Gauges.{across_gauge, along_gauge};
@@ -9,7 +9,8 @@ use crate::lattice::gauges::{across_gauge, along_gauge};
 use crate::lattice::numbers::Numbers;
 use crate::lattice::step::{Step, multiplied, product};
 
-/// The difference of two products: the first number times the last, and the second times the third.
+/// The determinant of two by two numbers: the product of the first and the last less that of the second and the
+/// third.
 fn determinant(first: i128, second: i128, third: i128, fourth: i128) -> i128
     requires first { IsWithin way_limit first }
     requires second { IsWithin way_limit second }
@@ -67,7 +68,7 @@ fn four_numbers(first: Step, second: Step, third: Step, fourth: Step) -> Numbers
     }
 }
 
-/// Numbers with which two steps add up to staying, if neither goes faster than the other.
+/// Numbers with which two steps cancel out, if neither is faster than the other.
 pub fn parallel_numbers(step: Step, last: Step) -> Numbers
     requires step { IsStride step }
     requires last { IsStride last }
@@ -86,7 +87,7 @@ pub fn parallel_numbers(step: Step, last: Step) -> Numbers
     }
 }
 
-/// Numbers with which three steps in a plane add up to staying.
+/// Numbers with which three steps in a plane cancel out.
 pub fn plane_numbers(first: Step, second: Step, third: Step) -> Numbers
     requires first { IsStride first }
     requires second { IsStride second }
@@ -106,7 +107,7 @@ pub fn plane_numbers(first: Step, second: Step, third: Step) -> Numbers
     parallel_numbers(first, second)
 }
 
-/// Numbers with which four steps add up to staying.
+/// Numbers with which four steps cancel out.
 pub fn space_numbers(first: Step, second: Step, third: Step, fourth: Step) -> Numbers
     requires first { IsStride first }
     requires second { IsStride second }

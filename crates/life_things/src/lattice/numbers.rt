@@ -1,11 +1,11 @@
-//! Numbers with which steps add up to staying.
+//! Numbers with which steps cancel out.
 ghost use Rattle.std.specs.Prelude.{◌≡◌, ◌+◌, ◌≤◌, ◌*ℤ◌, pos, unsigned_abs};
 ghost use Rattle.std.specs.Int.{◌∣◌, IsGcd};
 ghost use Rattle.life_growth.specs.Relations.Relations.{above};
 ghost use Rattle.life_things.specs.Lattice.Numbers.{AreFew, DividesAll, IsLighter, number_limit, total_above, turned};
 ghost use Rattle.life_things.specs.Lattice.Short.{IsWithin};
 
-/// How often each of up to four steps is made, or made back.
+/// The number of times that each of up to four steps is made; below 0 where it is made back.
 #[derive(Clone, Copy)]
 pub struct Numbers {
     pub first: i128,
@@ -14,7 +14,7 @@ pub struct Numbers {
     pub fourth: i128,
 }
 
-/// How far a number is above 0.
+/// The number itself where it is above 0, and otherwise 0.
 pub fn above(number: i128) -> u128
     requires { IsWithin number_limit number }
     ensures value { result ≡ above number }
@@ -63,7 +63,7 @@ pub fn common_divisor(first: u128, second: u128) -> u128
     divisor
 }
 
-/// How often a divisor goes into a number.
+/// The quotient of a number and one of its divisors.
 fn divided(number: i128, divisor: u128) -> i128
     requires number { IsWithin number_limit number }
     requires some { 1 ≤ divisor }
@@ -78,7 +78,7 @@ fn divided(number: i128, divisor: u128) -> i128
     quotient
 }
 
-/// A number that divides all.
+/// A number that divides all of them: their greatest common divisor.
 fn divisor_of(numbers: Numbers) -> u128
     requires few { AreFew numbers }
     requires some { 1 ≤ total_above numbers + total_above (turned numbers) }
@@ -90,7 +90,7 @@ fn divisor_of(numbers: Numbers) -> u128
     common_divisor(front, back)
 }
 
-/// The numbers, divided by what divides them all.
+/// The numbers, divided by a common divisor.
 fn reduced(numbers: Numbers) -> Numbers
     requires few { AreFew numbers }
     requires some { 1 ≤ total_above numbers + total_above (turned numbers) }
@@ -107,8 +107,8 @@ fn reduced(numbers: Numbers) -> Numbers
     }
 }
 
-/// The least numbers with which steps add up to staying as they do with these. Of the two choices of sign it takes the
-/// one with fewer steps to be made.
+/// The least numbers with which steps cancel out as they do with these. Of the two choices of sign, the one with fewer
+/// steps to be made.
 pub fn lightest(numbers: Numbers) -> Numbers
     requires few { AreFew numbers }
     requires some { 1 ≤ total_above numbers + total_above (turned numbers) }

@@ -2,14 +2,14 @@
 ghost use Rattle.std.specs.Prelude.{◌≡◌, ◌≢◌, ℕ, ◌+◌, ◌*◌, ◌<◌, ◌≤◌, ◌^◌, ℤ, pos, neg_ℤ, ◌+ℤ◌, ◌*ℤ◌, ◌≤ℤ◌};
 ghost use Rattle.life_things.specs.Lattice.Short.{IsWithin};
 
-/// The numbers from `from` on that are below `until`. There may be none.
+/// The numbers from `from` to before `until`. There may be none.
 #[derive(Clone, Copy)]
 pub struct Span {
     pub from: u128,
     pub until: u128,
 }
 
-/// By how much the first number is greater, or 0 if it is less.
+/// The amount by which the first number is greater, or 0 if it is not.
 fn excess(greater: i128, less: i128) -> u128
     requires greater { IsWithin (2 ^ 124) greater }
     requires less { IsWithin (2 ^ 124) less }
@@ -22,7 +22,7 @@ fn excess(greater: i128, less: i128) -> u128
     (greater - less) as u128
 }
 
-/// How often a number may rise by `gain` to be from `low` to `high`.
+/// The numbers of times that a number may rise by `gain` to be from `low` to `high`.
 fn rising(start: i128, gain: u128, low: i128, high: i128) -> Span
     requires gain { 1 ≤ gain }
     requires start { IsWithin (2 ^ 124) start }
@@ -41,7 +41,7 @@ fn rising(start: i128, gain: u128, low: i128, high: i128) -> Span
     }
 }
 
-/// How often a number may change by `gain` to be from `low` to `high`.
+/// The numbers of times that a number may change by `gain` to be from `low` to `high`.
 pub fn span_to(start: i128, gain: i128, low: i128, high: i128) -> Span
     requires gain { gain ≢ pos 0 }
     requires gain_fits { IsWithin (2 ^ 124) gain }

@@ -15,7 +15,7 @@ pub fn multiplied(first: i128, second: i128) -> i128
     first * second
 }
 
-/// The product of two steps, coordinate by coordinate, added up.
+/// The scalar product of two steps.
 pub fn product(first: Step, second: Step) -> i128
     requires { AreShort first second }
     ensures { result ≡ product first second }
@@ -26,7 +26,7 @@ pub fn product(first: Step, second: Step) -> i128
     time + (across + along)
 }
 
-/// Where a first step leads, followed by another that is made `count` times.
+/// The sum of a first step and another that is made `count` times.
 pub fn after(start: Step, count: u128, step: Step) -> Step
     requires start { IsShort (10 ^ 30) start }
     requires count { count ≤ count_limit }

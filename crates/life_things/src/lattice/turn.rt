@@ -1,4 +1,4 @@
-//! How often one step may be made to agree with a time, if another follows it.
+//! The numbers of times that one step may be made to agree with a time, if another follows it.
 ghost use Rattle.std.specs.Prelude.{◌≡◌, ◌≢◌, ℕ, ◌%◌, ◌<◌, ◌≤◌, ◌^◌, ℤ, ◌+ℤ◌, ◌*ℤ◌, pos, IfNone, IfSome};
 ghost use Rattle.life_things.specs.Lattice.Alike.{AreAlike};
 ghost use Rattle.life_things.specs.Lattice.Numbers.{number_limit};
@@ -13,7 +13,7 @@ pub struct Turn {
     pub every: u128,
 }
 
-/// The number from 0 on and below a modulus that differs from a number by a multiple of the modulus.
+/// The number from 0 to below a modulus that differs from a number by a multiple of the modulus.
 fn residue(number: i128, modulus: u128) -> u128
     requires number { IsWithin two_start number }
     requires some { 1 ≤ modulus }
@@ -51,8 +51,8 @@ fn likely_factor(number: u128, modulus: u128) -> u128
     factor % modulus
 }
 
-/// A turn with every number of times that a step may be made to lead, with some number of another step, from a time to
-/// 0. `None` means that there is no such number.
+/// A turn that has every number of times that a step may be made to lead, with some number of another step, from a
+/// time to 0. `None` means that there is no such number.
 pub fn turn_of(start: i128, step: i128, last: i128) -> Option<Turn>
     requires start { IsWithin two_start start }
     requires step { IsWithin number_limit step }
