@@ -6,11 +6,11 @@ use Rattle.life_model.specs.Generation.{Generation, from_list}
 use Rattle.life_classes.specs.Forest.{root}
 use Rattle.life_islands.specs.Labels.{label_of}
 
--- those of ds whose places among the cells cs have the root k
+-- the cells of ds whose places among the cells cs have the root k
 abbrev pub of_root : List Cell → List ℕ → ℕ → List Cell → List Cell
 of_root cs forest k ds = filter (λ c. root forest (label_of cs (range_with_len 0 (length cs)) c) == k) ds
 
--- for each number k the list of those whose places have the root k
+-- for each number k, the list of the cells whose places have the root k
 abbrev pub by_roots : List Cell → List ℕ → List Cell → List (List Cell)
 by_roots cs forest ds = map (λ k. of_root cs forest k ds) (range_with_len 0 (length cs))
 

@@ -1,4 +1,4 @@
--- Which labels the cells of the next generation have.
+-- The labels of the cells of the next generation.
 use Rattle.std.specs.Prelude.{◌≡◌, ℕ, suc, ◌<◌, true, length, get_or}
 use Rattle.life_model.specs.Cell.{Cell, origin, plus}
 use Rattle.life_model.specs.Rule.{Rule}
@@ -16,8 +16,8 @@ pub record IsBorneBy (R : Rule) (G : Generation) (H : Generation) (P : Generatio
   pub has : contains H cell ≡ true
   pub tied : AreTied R P n cell (suc n) x
 
--- The cell would be live too if the label's set were alone, and wherever the cells of each set are tied, it is tied to one of
--- the label's set.
+-- The cell would also be live if the label's set were alone, and wherever the cells of each set are tied, it is tied to one
+-- of the label's set.
 pub record IsHeir (R : Rule) (G : Generation) (L : Labels) (x : Cell) (label : ℕ) : Type 0 where
   pub within : label < length L.forest.items
   pub lives : contains (next R (get_or (sets_of G L) (root L.forest.items label) empty)) x ≡ true

@@ -14,7 +14,7 @@ use Rattle.life_classes.specs.Forest.{root}
 use Rattle.life_islands.specs.Seats.{cell_at}
 use Rattle.life_islands.specs.Splits.{AreJoined}
 
--- the cells before a place have lesser numbers than this one, and those from it on have not
+-- the cells before a place have lesser numbers than this one, and those from it on do not
 pub record IsParting (cs : List Cell) (number : ℤ) (at : ℕ) : Type 0 where
   pub within : at ≤ length cs
   pub before : (k : ℕ) (d : Cell) → k < at → int_lt (place_number (get_or cs k d)) number ≡ true
@@ -26,18 +26,18 @@ label_of [] labels c = 0
 label_of (e ∷ cs) [] c = 0
 label_of (e ∷ cs) (l ∷ labels) c = cond (same_cell c e) l (label_of cs labels c)
 
--- the root of its label
+-- the root of the cell's label
 abbrev pub mark_of : Generation → List ℕ → List ℕ → Cell → ℕ
 mark_of G labels forest c = root forest (label_of (cells G) labels c)
 
--- for each number the cells of G whose labels have it as their root
+-- for each number, the cells of G whose labels have it as their root
 unfoldable pub sets_by : Generation → List ℕ → List ℕ → List Generation
 sets_by G labels forest = map (λ k. keep G (λ c. mark_of G labels forest c == k)) (range_with_len 0 (length forest))
 
 abbrev pub sets_of : Generation → Labels → List Generation
 sets_of G L = sets_by G L.labels.items L.forest.items
 
--- these sets, where each cell has its place as its label
+-- the same sets, where each cell has its place as its label
 abbrev pub joined_sets : Generation → List ℕ → List Generation
 joined_sets G forest = sets_by G (range_with_len 0 (length (cells G))) forest
 
@@ -51,7 +51,7 @@ pub record AreNumbered (G : Generation) (L : Labels) : Type 0 where
   pub labels : L.labels.items ≡ range_with_len 0 (length (cells G))
   pub long : length L.forest.items ≡ length (cells G)
 
--- The labels are unchanged, and more of them are joined: at least one where `is_new` says so.
+-- The labels are unchanged, and more of them are joined: at least one if `is_new`.
 pub record AreJoinedFurther (old new : Labels) (is_new : Bool) : Type 0 where
   pub labels : new.labels.items ≡ old.labels.items
   pub long : length new.forest.items ≡ length old.forest.items
@@ -59,7 +59,7 @@ pub record AreJoinedFurther (old new : Labels) (is_new : Bool) : Type 0 where
   pub same : is_new ≡ false → new.forest.items ≡ old.forest.items
   pub less : is_new ≡ true → sum new.forest.items < sum old.forest.items
 
--- labels are places among the first cells, and those that are joined are of cells that are tied
+-- labels are places among the first cells, and the cells of joined labels are tied
 abbrev pub AreTiedFirsts : Rule → Generation → List Cell → List ℕ → Type 0
 AreTiedFirsts R P firsts forest =
     (k l : ℕ) → k < length forest → l < length forest → root forest k ≡ root forest l →
@@ -71,21 +71,21 @@ AreTiedLabels R P firsts n moved G labels =
     (m : ℕ) → m < length (cells G) →
     AreTied R P 0 (get_or firsts (get_or labels m 0) origin) n (moved (get_or (cells G) m origin))
 
--- what is joined is tied, wherever G is generation n of a set, if it was so before
+-- wherever G is generation n of a set, the cells of joined labels are tied, if they were so before
 abbrev pub KeepsTied : Rule → Generation → Labels → Labels → Type 0
 KeepsTied R G old new =
     (P : Generation) (n : ℕ) (firsts : List Cell) → generation R P n ≡ G →
     AreTiedLabels R P firsts n (λ c. c) G old.labels.items → AreTiedFirsts R P firsts old.forest.items →
     AreTiedFirsts R P firsts new.forest.items
 
--- cells with joined labels are joined by touching
+-- touching cells connect any two cells whose labels are joined
 abbrev pub AreJoinedWithin : Generation → Labels → Type 0
 AreJoinedWithin G L =
     (m k : ℕ) → m < length (cells G) → k < length (cells G) →
     root L.forest.items (get_or L.labels.items m 0) ≡ root L.forest.items (get_or L.labels.items k 0) →
     AreJoined G (get_or (cells G) m origin) (get_or (cells G) k origin)
 
--- More labels of cells that touching joins are joined, and no others.
+-- More labels are joined, of cells that touching cells connect, and no others.
 pub record AreJoinedByTouch (G : Generation) (old new : Labels) (is_new : Bool) : Type 0 where
   pub further : AreJoinedFurther old new is_new
   pub tied : (R : Rule) → KeepsTied R G old new
@@ -95,12 +95,12 @@ pub record AreJoinedByTouch (G : Generation) (old new : Labels) (is_new : Bool) 
 abbrev pub AreOne : Labels → ℕ → ℕ → Type 0
 AreOne L m k = root L.forest.items (get_or L.labels.items m 0) ≡ root L.forest.items (get_or L.labels.items k 0)
 
--- the label of the cell in place n is joined with that of the cell with this number around it, wherever that is
+-- the label of the cell at place n is joined with that of the cell with this number around it, if that is in G
 abbrev pub HasMet : Generation → Labels → ℕ → ℕ → Type 0
 HasMet G L n number =
     (m : ℕ) → m < length (cells G) → get_or (cells G) m origin ≡ cell_at (get_or (cells G) n origin) number → AreOne L n m
 
--- those of the sets that have a cell, each once
+-- the non-empty ones of the sets, each once
 pub record AreThoseWithCells (Hs Ks : List Generation) : Type 0 where
   pub together : union_of Ks ≡ union_of Hs
   pub some : All (λ K. K ≢ empty) Ks

@@ -1,4 +1,4 @@
--- Cells of lists and what is around them.
+-- Cells of lists and the cells around them.
 use Rattle.std.specs.Prelude.{◌≤ℤ◌, ◌+ℤ◌, ◌-ℤ◌, pos, negsuc}
 use Rattle.life_model.specs.Cell.{Cell}
 

@@ -1,4 +1,4 @@
--- What is around a place, as eight seats, and ways to colour them.
+-- The cells around a place, as eight seats, and ways to colour them.
 use Rattle.std.specs.Prelude.{◌≡◌, ◌≢◌, ◌⊎◌, ℕ, zero, suc, ◌+◌, ◌<◌, ◌==◌, Bool, true, false, ◌&&◌, cond, List, length, get_or}
 use Rattle.life_model.specs.Cell.{Cell, around, origin}
 use Rattle.life_model.specs.Rule.{Rule, born}
@@ -11,16 +11,16 @@ nobody = record { live = false; island = 0; set = 0 }
 abbrev pub seat : List Seat → ℕ → Seat
 seat seats n = get_or seats n nobody
 
--- how many of the first n numbers pass the test
+-- the number of those among the first n numbers that pass the test
 abbrev pub count_to : ℕ → (ℕ → Bool) → ℕ
 count_to zero test = 0
 count_to (suc n) test = count_to n test + cond (test n) 1 0
 
--- how many live seats have a colour
+-- the number of live seats with a colour
 abbrev pub count_colour : List Seat → (ℕ → ℕ) → ℕ → ℕ
 count_colour seats colour k = count_to 8 (λ n. (seat seats n).live && (colour n == k))
 
--- whether a seat is live and its group bears
+-- true if a seat is live and its group bears: a cell is born of as many live cells as the group has
 abbrev pub bears_at : Rule → List Seat → (ℕ → ℕ) → ℕ → Bool
 bears_at R seats colour n = (seat seats n).live && born R (count_colour seats colour (colour n))
 
@@ -29,40 +29,40 @@ pub record Agree (seats : List Seat) (m n k l : ℕ) : Type 0 where
   pub islands : (seat seats m).island ≡ (seat seats n).island → k ≡ l
   pub sets : k ≡ l → (seat seats m).set ≡ (seat seats n).set
 
--- those of one island have one colour, and those of one colour are of one set
+-- seats of one island have one colour, and seats of one colour are of one set
 abbrev pub IsColouring : List Seat → (ℕ → ℕ) → Type 0
 IsColouring seats colour =
     (m n : ℕ) → m < n → n < 8 → (seat seats m).live ≡ true → (seat seats n).live ≡ true → Agree seats m n (colour m) (colour n)
 
--- One group alone bears where there is a birth, and none does where there is none.
+-- One group alone bears where there is a birth, and none where there is none.
 pub record IsFairAround (R : Rule) (seats : List Seat) (is_born : Bool) (colour : ℕ → ℕ) : Type 0 where
   pub only : (n : ℕ) → n < 8 → bears_at R seats colour n ≡ true → is_born ≡ true
   pub one : (m n : ℕ) → m < 8 → n < 8 → bears_at R seats colour m ≡ true → bears_at R seats colour n ≡ true → colour m ≡ colour n
   pub borne : is_born ≡ true → (n : ℕ) × (n < 8) × (bears_at R seats colour n ≡ true)
 
--- It is fair, and what is born is borne by this set.
+-- The colouring is fair, and the group that bears is of this set.
 pub record IsSound (R : Rule) (seats : List Seat) (is_born : Bool) (bearer : ℕ) (colour : ℕ → ℕ) : Type 0 where
   pub fair : IsFairAround R seats is_born colour
   pub set : (n : ℕ) → n < 8 → bears_at R seats colour n ≡ true → (seat seats n).set ≡ bearer
 
--- It is fair and another set than the bearer bears, or it isn't fair.
+-- The colouring is fair and the group of a set other than the bearer bears, or it isn't fair.
 abbrev pub IsFlaw : Rule → List Seat → Bool → ℕ → ℕ → (ℕ → ℕ) → ℕ → Type 0
 IsFlaw R seats is_born bearer other colour found =
     (IsFairAround R seats is_born colour × ((n : ℕ) × (n < 8) × (bears_at R seats colour n ≡ true)
     × ((seat seats n).set ≡ found) × (found ≢ bearer)))
     ⊎ ((found ≡ other) × (IsFairAround R seats is_born colour → ⊥))
 
--- the colours of a list
+-- the colours of a list, 0 past its end
 abbrev pub listed : List ℕ → ℕ → ℕ
 listed colours n = get_or colours n 0
 
--- colours as they are tried: each at most the seat's number, and 0 for seats that are not live
+-- a colouring that is tried: each colour is at most the seat's number, and 0 for seats that are not live
 pub record AreTried (seats : List Seat) (colour : ℕ → ℕ) : Type 0 where
   pub few : (n : ℕ) → n < 8 → colour n < n + 1
   pub rest : (n : ℕ) → n < 8 → (seat seats n).live ≡ false → colour n ≡ 0
   pub colouring : IsColouring seats colour
 
--- the first colours are these
+-- the first colours of a list are these
 abbrev pub BeginWith : List ℕ → ℕ → (ℕ → ℕ) → Type 0
 BeginWith colours at colour = (n : ℕ) → n < at → listed colours n ≡ colour n
 
@@ -76,7 +76,8 @@ IsBegun seats colours at =
 abbrev pub cell_at : Cell → ℕ → Cell
 cell_at x n = get_or (around x) n origin
 
--- The seat is of the cell by this number around x in G: whether it is live, and the places of its island and of its set.
+-- The seat is that of the cell with this number around x in G: whether it is live, and the places of its island and of
+-- its set.
 pub record IsSeat (G : Generation) (isles sets : List Generation) (x : Cell) (n : ℕ) (s : Seat) : Type 0 where
   pub live : s.live ≡ contains G (cell_at x n)
   pub island_within : s.live ≡ true → s.island < length isles
@@ -84,7 +85,7 @@ pub record IsSeat (G : Generation) (isles sets : List Generation) (x : Cell) (n 
   pub set_within : s.live ≡ true → s.set < length sets
   pub set : s.live ≡ true → contains (get_or sets s.set empty) (cell_at x n) ≡ true
 
--- The seats are of the eight cells around x in G.
+-- The seats are those of the eight cells around x in G.
 pub record AreSeats (G : Generation) (isles sets : List Generation) (x : Cell) (seats : List Seat) : Type 0 where
   pub long : length seats ≡ 8
   pub each : (n : ℕ) → n < 8 → IsSeat G isles sets x n (seat seats n)
@@ -104,15 +105,15 @@ abbrev pub AreOfOne : List Seat → Type 0
 AreOfOne seats =
     (m n : ℕ) → m < 8 → n < 8 → (seat seats m).live ≡ true → (seat seats n).live ≡ true → (seat seats m).set ≡ (seat seats n).set
 
--- whether a cell is born by all live seats together
+-- true if a cell is born of all live seats together
 abbrev pub is_born_by : Rule → List Seat → Bool
 is_born_by R seats = born R (count_to 8 (λ n. (seat seats n).live))
 
--- All colours that are tried are sound.
+-- All colourings that are tried are sound.
 pub record AreAllSound (R : Rule) (seats : List Seat) (is_born : Bool) (bearer : ℕ) : Type 0 where
   pub sound : (colour : ℕ → ℕ) → AreTried seats colour → IsSound R seats is_born bearer colour
 
--- Some colours are fair, and the group that bears is of this set.
+-- Some colouring is fair, and the group that bears is of this set.
 pub record IsBorneBy (R : Rule) (seats : List Seat) (is_born : Bool) (set : ℕ) : Type 0 where
   pub colour : ℕ → ℕ
   pub colouring : IsColouring seats colour
@@ -122,13 +123,13 @@ pub record IsBorneBy (R : Rule) (seats : List Seat) (is_born : Bool) (set : ℕ)
   pub bears : bears_at R seats colour by ≡ true
   pub is : (seat seats by).set ≡ set
 
--- Some colours are not fair.
+-- Some colouring is not fair.
 pub record IsUnfair (R : Rule) (seats : List Seat) (is_born : Bool) : Type 0 where
   pub colour : ℕ → ℕ
   pub colouring : IsColouring seats colour
   pub unfair : IsFairAround R seats is_born colour → ⊥
 
--- What joins two sets: colours that are not fair, or that what is born is borne by the one, and by the other.
+-- The reason why two sets are joined: some colouring is not fair, or either set bears in some fair one.
 abbrev pub AreTiedBy : Rule → List Seat → Bool → ℕ → ℕ → Type 0
 AreTiedBy R seats is_born i j = IsUnfair R seats is_born ⊎ (IsBorneBy R seats is_born i × IsBorneBy R seats is_born j)
 

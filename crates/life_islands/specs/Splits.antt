@@ -10,28 +10,28 @@ use Rattle.life_objects.specs.Union.{IsSubsetOf, union_of}
 use Rattle.life_parts.specs.Parts.Apart.{AreOfOneSet, HaveBoth, IsEachFair}
 use Rattle.life_parts.specs.Parts.Ties.{AreTied}
 
--- G is these sets, of which no two share a cell
+-- G is the union of these sets, of which no two share a cell
 pub record MakeUp (G : Generation) (Hs : List Generation) : Type 0 where
   pub together : union_of Hs ≡ G
   pub once : AllPairs AreDisjoint Hs
 
--- cells of G that touching joins, from cell to cell
+-- cells of G that a chain of touching cells connects
 pub data AreJoined (G : Generation) : Cell → Cell → Type 0 where
   alone : (c : Cell) → contains G c ≡ true → AreJoined G c c
   beside : (c e : Cell) → contains G c ≡ true → contains G e ≡ true → IsNear c e → AreJoined G c e
   turned : (c e : Cell) → AreJoined G c e → AreJoined G e c
   chained : (c e f : Cell) → AreJoined G c e → AreJoined G e f → AreJoined G c f
 
--- Some cells of G that touching joins.
+-- Some cells of G that chains of touching cells connect.
 pub record IsPiece (G A : Generation) : Type 0 where
   pub within : IsSubsetOf A G
   pub joined : (c e : Cell) → contains A c ≡ true → contains A e ≡ true → AreJoined G c e
 
--- no cell of the one touches a cell of the other
+-- no cell of A touches a cell of B
 abbrev pub AreUntouched : Generation → Generation → Type 0
 AreUntouched A B = (c e : Cell) → contains A c ≡ true → contains B e ≡ true → IsNear c e → ⊥
 
--- G is these islands
+-- G is the union of these islands
 pub record AreIslands (G : Generation) (As : List Generation) : Type 0 where
   pub together : union_of As ≡ G
   pub pieces : All (IsPiece G) As
@@ -41,7 +41,7 @@ pub record AreIslands (G : Generation) (As : List Generation) : Type 0 where
 abbrev pub AreOfWholeIslands : Generation → List Generation → Type 0
 AreOfWholeIslands G Hs = (c e : Cell) → contains G c ≡ true → contains G e ≡ true → IsNear c e → HaveBoth Hs c e
 
--- G is these islands, and it is these sets, each of them of whole islands.
+-- G is the union of these islands, and that of these sets, each of which has whole islands.
 pub record AreLaidOut (G : Generation) (isles Hs : List Generation) : Type 0 where
   pub islands : AreIslands G isles
   pub make_up : MakeUp G Hs
@@ -67,7 +67,7 @@ pub record IsLink (R : Rule) (G : Generation) (Hs : List Generation) (link : ℕ
   pub two : AreOfTwo Hs link.0 link.1 cell other
   pub tied : (P : Generation) (n : ℕ) → generation R P n ≡ G → AreTiedWithin R P n Hs → AreTied R P n cell n other
 
--- all around the place is of one set, or all ways to put it into groups of one set each are fair
+-- all cells around the place are of one set, or all ways to put them into groups of one set each are fair
 abbrev pub IsSettled : Rule → Generation → List Generation → Cell → Type 0
 IsSettled R G Hs x = AreOfOneSet G Hs x ⊎ IsEachFair R G Hs x
 

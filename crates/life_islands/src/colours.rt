@@ -1,4 +1,6 @@
-//! Ways to put what is around a place into groups.
+//! Ways to put the cells around a place into groups, each with a colour of its own.
+//!
+//! A group bears if a cell is born of as many live cells as it has.
 ghost use Rattle.std.specs.Prelude.{◌≡◌, ◌≢◌, ◌⊎◌, ◌↔◌, ℕ, ◌+◌, ◌<◌, ◌≤◌, ◌==◌, IfNone, IfSome, IsTrue, false, true, ◌&&◌, get_or, length};
 ghost use Rattle.life_model.specs.Rule.{born};
 ghost use Rattle.life_islands.specs.Seats.{Agree, AreTried, BeginWith, IsBegun, IsColouring, IsFlaw, IsSound};
@@ -6,7 +8,7 @@ ghost use Rattle.life_islands.specs.Seats.{bears_at, count_colour, count_to, lis
 
 use life_cells::Rule;
 
-/// How many cells are around a place.
+/// The number of cells around a place.
 pub const AROUND: usize = 8;
 
 /// One of the cells around a place: whether it is live, and the places of its island and of its set.
@@ -17,8 +19,8 @@ pub struct Seat {
     pub set: usize,
 }
 
-/// Whether two cells, with these two colours, are coloured rightly if both are live: cells of one island have one colour, and
-/// cells of one colour are of one set.
+/// True if two cells with these colours are coloured rightly, which they are unless both are live: cells of one island have
+/// one colour, and cells of one colour are of one set.
 fn agree(seats: &[Seat], m: usize, n: usize, colour: usize, other: usize) -> bool
     requires { (m < length seats.now) × (n < length seats.now) }
     ensures { IsTrue result ↔ ((seat seats.now m).live ≡ true → (seat seats.now n).live ≡ true →
@@ -36,7 +38,7 @@ fn agree(seats: &[Seat], m: usize, n: usize, colour: usize, other: usize) -> boo
     colour != other || seats[m].set == seats[n].set
 }
 
-/// Whether a cell may have a colour, given the colours of the cells before it.
+/// True if a cell may have a colour, given the colours of the cells before it.
 fn fits(seats: &[Seat], colours: &[usize], at: usize, colour: usize) -> bool
     requires { (length seats.now ≡ 8) × (length colours.now ≡ 8) × (at < 8) }
     ensures { IsTrue result ↔ ((m : ℕ) → m < at → (seat seats.now m).live ≡ true →
@@ -50,7 +52,7 @@ fn fits(seats: &[Seat], colours: &[usize], at: usize, colour: usize) -> bool
     true
 }
 
-/// How many live cells have a colour.
+/// The number of live cells with a colour.
 fn count_of(seats: &[Seat], colours: &[usize], colour: usize) -> u32
     requires { (length seats.now ≡ 8) × (length colours.now ≡ 8) }
     ensures value { result ≡ count_colour seats.now (λ n. get_or colours.now n 0) colour }
@@ -65,7 +67,7 @@ fn count_of(seats: &[Seat], colours: &[usize], colour: usize) -> u32
     count
 }
 
-/// Whether the group of a live cell bears.
+/// True if a cell is live and its group bears.
 fn bears(rule: &Rule, seats: &[Seat], colours: &[usize], n: usize) -> bool
     requires { (length seats.now ≡ 8) × (length colours.now ≡ 8) × (n < 8) }
     ensures { result ≡ bears_at rule.now seats.now (λ n. get_or colours.now n 0) n }
@@ -89,7 +91,7 @@ pub fn first_bearing(rule: &Rule, seats: &[Seat], colours: &[usize]) -> usize
     AROUND
 }
 
-/// Whether a live cell whose colour is not that of the cell `first` is in a group that bears.
+/// True if a live cell with another colour than the cell `first` is in a group that bears.
 fn is_borne_twice(rule: &Rule, seats: &[Seat], colours: &[usize], first: usize) -> bool
     requires { (length seats.now ≡ 8) × (length colours.now ≡ 8) × (first < 8) }
     ensures once { result ≡ false → (n : ℕ) → n < 8 →
@@ -107,7 +109,7 @@ fn is_borne_twice(rule: &Rule, seats: &[Seat], colours: &[usize], first: usize) 
     false
 }
 
-/// The set that belongs with the bearer: one that bears in its place, or `other` where the groups are not fair.
+/// The set to be joined with the bearer: one that bears in its place, or `other` if the groups are not fair.
 pub fn flaw(
     rule: &Rule,
     seats: &[Seat],
@@ -142,7 +144,7 @@ pub fn flaw(
     None
 }
 
-/// How many colours are tried for the cell with number `at`: `at + 1` for a live one, otherwise one.
+/// The number of colours that are tried for the cell with number `at`: `at + 1` for a live one, otherwise one.
 fn choices(seat: &Seat, at: usize) -> usize
     requires { at < 8 }
     ensures live { seat.now.live ≡ true → result ≡ at + 1 }
@@ -154,7 +156,7 @@ fn choices(seat: &Seat, at: usize) -> usize
     1
 }
 
-/// The set that belongs with the bearer by some way to colour the cells from `at` on.
+/// The set to be joined with the bearer by some way to colour the cells from `at` on.
 pub fn explore(
     rule: &Rule,
     seats: &[Seat],
@@ -188,7 +190,7 @@ pub fn explore(
     None
 }
 
-/// How many live cells there are.
+/// The number of live cells.
 pub fn count_live(seats: &[Seat]) -> u32
     requires { length seats.now ≡ 8 }
     ensures value { result ≡ count_to 8 (λ n. (seat seats.now n).live) }
@@ -203,7 +205,7 @@ pub fn count_live(seats: &[Seat]) -> u32
     count
 }
 
-/// Whether no cell is born of `count` live cells, nor of fewer.
+/// True if no cell is born of `count` live cells, nor of fewer.
 pub fn bears_none(rule: &Rule, count: u32) -> bool
     requires { count ≤ 8 }
     ensures { IsTrue result → (k : ℕ) → k ≤ count → born rule.now k ≡ false }

@@ -1,4 +1,4 @@
-//! What has become of labels a period later.
+//! The labels a period later.
 ghost use Rattle.std.specs.Prelude.{◌≡◌, ℕ, ◌<◌, All, IfOk, List, OnOk, false, get_or, length, map};
 ghost use Rattle.std.specs.Prelude.{Ok};
 ghost use Rattle.life_model.specs.Cell.{Cell, origin};
@@ -23,12 +23,12 @@ fn marks(alloc: Global, ends: &Labels) -> Result<Vec<usize>, AllocError>
     Ok(all)
 }
 
-/// Joins the places of labels that have one root, each with the first of them. Returns false where they are joined already.
+/// Joins the places of labels that have one root, each with the first of them. Returns false if they were joined already.
 pub fn join_ends(alloc: Global, ends: &mut Labels) -> Result<bool, AllocError>
     requires long { length ends.old.labels.items ≡ length ends.old.forest.items }
     requires below { All (λ l. l < length ends.old.forest.items) ends.old.labels.items }
     ensures further { IfOk result (AreJoinedFurther ends.old ends.new) }
-    // What is joined is tied if what has labels with one root is tied.
+    // The places that are joined are of tied cells, if the places of labels with one root are.
     ensures tied { (R : Rule) (P : Generation) (firsts : List Cell) →
         ((m k : ℕ) → m < length ends.old.labels.items → k < length ends.old.labels.items →
         root ends.old.forest.items (get_or ends.old.labels.items m 0) ≡ root ends.old.forest.items (get_or ends.old.labels.items k 0) →

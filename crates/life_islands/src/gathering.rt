@@ -10,7 +10,7 @@ use life_cells::CellList;
 use life_classes::root;
 use std::alloc::{AllocError, Global};
 
-/// `count` lists without a cell.
+/// `count` empty lists.
 fn empty_lists(alloc: Global, count: usize) -> Result<Vec<Vec<(i32, i32)>>, AllocError>
     ensures { IfOk result (λ lists. lists_of lists.items ≡ replicate count []) }
 {
@@ -21,7 +21,7 @@ fn empty_lists(alloc: Global, count: usize) -> Result<Vec<Vec<(i32, i32)>>, Allo
     Ok(lists)
 }
 
-/// Appends a cell to the list in a place.
+/// Appends a cell to the list at a place.
 fn put(lists: &mut Vec<Vec<(i32, i32)>>, place: usize, cell: (i32, i32)) -> Result<(), AllocError>
     requires { place < vec_len lists.old }
     ensures { OnOk result (lists_of lists.new.items ≡
@@ -62,7 +62,7 @@ fn some_of(alloc: Global, lists: Vec<Vec<(i32, i32)>>) -> Result<Vec<CellList>, 
     Ok(sets)
 }
 
-/// The sets of cells that are joined by their places, each once.
+/// The sets of cells whose places are joined, each once.
 pub fn gathered(
     alloc: Global,
     list: &CellList,

@@ -14,9 +14,9 @@ use crate::seating::{ROWS, colours_of, seats_around};
 use life_cells::{CellList, Rule};
 use std::alloc::{AllocError, Global};
 
-/// The label of a cell of the next generation: its own, where it stays, and otherwise that of a cell of the set that bears it.
-/// The cell is looked up near where the one before it was, and what is around it near where cells were last looked for in their
-/// rows.
+/// The label of a cell of the next generation: its own if it survives, and otherwise that of a cell of the set that bears it.
+/// The cell is looked up near where the one before it was found, and the cells around it near where cells were last looked up
+/// in their rows.
 fn heir(
     rule: &Rule,
     list: &CellList,
@@ -42,7 +42,7 @@ fn heir(
     seats[bearing].set
 }
 
-/// The cell, moved.
+/// The cell moved.
 fn moved(cell: (i32, i32), by: (i32, i32)) -> (i32, i32)
     requires { IsInReach (plus cell by) }
     ensures { result ≡ plus cell by }

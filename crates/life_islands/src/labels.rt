@@ -12,7 +12,7 @@ use life_cells::CellList;
 use life_classes::{place_number, root};
 use std::alloc::{AllocError, Global};
 
-/// A label for each cell of a generation, in their order, and which labels are joined.
+/// A label for each cell of a generation, in their order, and the labels that are joined.
 #[derive(Drop)]
 pub struct Labels {
     pub labels: Vec<usize>,
@@ -30,10 +30,10 @@ pub fn numbers(alloc: Global, count: usize) -> Result<Vec<usize>, AllocError>
     Ok(all)
 }
 
-/// How many places from the guessed one on are looked at.
+/// The number of places from the guessed one on that are looked at.
 const STEPS: usize = 3;
 
-/// Whether the cell right before a place has a lesser number than this one, if there is one.
+/// True if the cell right before a place has a lesser number than this one, or if there is none.
 fn is_past(all: &[(i32, i32)], number: i64, at: usize) -> bool
     requires { at ≤ length all.now }
     ensures { IsTrue result → (d : Cell) → 0 < at →
@@ -45,7 +45,7 @@ fn is_past(all: &[(i32, i32)], number: i64, at: usize) -> bool
     place_number(all[at - 1]) < number
 }
 
-/// Whether the cell in a place has a lesser number than this one.
+/// True if the cell at a place has a lesser number than this one.
 fn is_before(all: &[(i32, i32)], number: i64, at: usize) -> bool
     ensures { result ≡ false → (d : Cell) → at < length all.now →
         int_lt (place_number (get_or all.now at d)) number ≡ false }
@@ -56,7 +56,7 @@ fn is_before(all: &[(i32, i32)], number: i64, at: usize) -> bool
     place_number(all[at]) < number
 }
 
-/// Whether the cells before a place have lesser numbers than this one, and those from it on have not.
+/// True if the cells before a place have lesser numbers than this one, and those from it on do not.
 fn parts_at(all: &[(i32, i32)], number: i64, at: usize) -> bool
     requires rising { T (is_rising all.now) }
     requires placed { All IsPlace all.now }
@@ -71,8 +71,8 @@ fn parts_at(all: &[(i32, i32)], number: i64, at: usize) -> bool
     is_past(all, number, at)
 }
 
-/// The place before which the cells have lesser numbers than this one. It is found soon where it is the guessed place or one of
-/// the next, and otherwise by halving.
+/// The place before which the cells have lesser numbers than this one. It is found quickly if it is the guessed place or one of
+/// the next few, and otherwise by binary search.
 pub fn parting(all: &[(i32, i32)], number: i64, guess: usize) -> usize
     requires rising { T (is_rising all.now) }
     requires placed { All IsPlace all.now }
@@ -87,7 +87,8 @@ pub fn parting(all: &[(i32, i32)], number: i64, guess: usize) -> usize
     all.partition_point(|one| place_number(*one) < number)
 }
 
-/// The place of a cell in a list of cells. It is found soon near the guessed place. Where it was looked for is the next guess.
+/// The place of a cell in a list of cells. It is found quickly near the guessed place. The place where it was looked up is the
+/// next guess.
 pub fn index_near(list: &CellList, cell: (i32, i32), guess: &mut usize) -> Option<usize>
     ensures some { IfSome result
         (λ n. n < length (cells list.now) × get_or (cells list.now) n origin ≡ cell) }
@@ -102,8 +103,8 @@ pub fn index_near(list: &CellList, cell: (i32, i32), guess: &mut usize) -> Optio
     None
 }
 
-/// The place of a cell in a list of cells. It is looked up near where a cell was last looked for in its row, which has this
-/// number.
+/// The place of a cell in a list of cells. It is looked up near where a cell of its row, which has this number, was last looked
+/// up.
 pub fn index_in_row(
     list: &CellList,
     cell: (i32, i32),
@@ -130,7 +131,7 @@ pub fn index_of(list: &CellList, cell: (i32, i32)) -> Option<usize>
     index_near(list, cell, &mut guess)
 }
 
-/// Whether a set has a cell, which is looked up near where one was last looked for in its row, which has this number.
+/// True if a set has a cell, which is looked up near where one of its row, which has this number, was last looked up.
 pub fn has_in_row(list: &CellList, cell: (i32, i32), near: &mut [usize], row: usize) -> bool
     ensures { result ≡ contains list.now cell }
 {
@@ -141,7 +142,7 @@ pub fn has_in_row(list: &CellList, cell: (i32, i32), near: &mut [usize], row: us
 }
 
 impl Labels {
-    /// Each cell with its place as its label, and none joined.
+    /// The labels where each cell has its place as its label, and none are joined.
     pub fn each(alloc: Global, list: &CellList) -> Result<Labels, AllocError>
         ensures { IfOk result (λ all. AreNumbered list.now all
             × all.forest.items ≡ range_with_len 0 (length (cells list.now))) }
@@ -153,7 +154,7 @@ impl Labels {
         })
     }
 
-    /// The root of the label of the cell in a place.
+    /// The root of the label of the cell at a place.
     pub fn mark(&self, n: usize) -> usize
         requires { n < length self.now.labels.items }
         ensures { result ≡ root self.now.forest.items (get_or self.now.labels.items n 0) }

@@ -1,8 +1,8 @@
-//! Which of the sets that make up a generation are joined in it: its islands, and its places with the ways to put what is around
-//! them into groups.
+//! The sets that belong together in a generation, out of those that make it up: its islands, its places, and the ways to put
+//! the cells around them into groups.
 //!
-//! Each cell has a label, and sets are joined by joining labels. This is how `split` finds the independent parts of a set that
-//! recurs.
+//! Each cell has a label, and sets are joined by joining labels. `split` finds the independent parts of a set that recurs in
+//! this way.
 #![tactic(auto)]
 
 mod around;

@@ -1,4 +1,4 @@
-//! Which sets a generation joins.
+//! The sets that a generation joins.
 ghost use Rattle.std.specs.Prelude.{◌≡◌, ℕ, ◌<◌, ◌-◌, ◌^◌, ◌≤ℤ◌, ◌+ℤ◌, pos, IfOk, OnOk, false, get_or, length};
 ghost use Rattle.std.specs.Bool.{OnTrue};
 ghost use Rattle.life_model.specs.Cell.{origin};
@@ -20,7 +20,7 @@ use life_cells::{CellList, Rule};
 use life_classes::{ROW, join, place_number};
 use std::alloc::{AllocError, Global};
 
-/// Joins two sets that a place, in the row with this number, joins, if the place is none of the cells.
+/// Joins two of the sets that a place joins, if the place is none of the cells. Its row has this number.
 fn join_place(
     rule: &Rule,
     list: &CellList,
@@ -49,7 +49,7 @@ fn join_place(
     }
 }
 
-/// Where the cells of each of five rows around a cell were last looked for.
+/// The places where cells of each of the five rows around a cell were last looked up.
 #[derive(Drop)]
 struct Starts {
     further: usize,
@@ -71,7 +71,7 @@ impl Starts {
     }
 }
 
-/// Whether all cells whose numbers are from `low` to `low + 4` have a mark. They are looked for near a guessed place first.
+/// True if all cells whose numbers are from `low` to `low + 4` have a mark. They are looked for near a guessed place first.
 fn row_has(list: &CellList, sets: &Labels, low: i64, mark: usize, guess: &mut usize) -> bool
     requires fits { Fits list.now sets.now }
     requires low { low ≤ℤ pos (2 ^ 63 - 5) }
@@ -94,7 +94,7 @@ fn row_has(list: &CellList, sets: &Labels, low: i64, mark: usize, guess: &mut us
     true
 }
 
-/// Whether all cells at most two away from the one in a place have its mark.
+/// True if all cells at most two away from the cell at place `n` have its mark.
 fn is_of_one(list: &CellList, sets: &Labels, n: usize, starts: &mut Starts) -> bool
     requires fits { Fits list.now sets.now }
     requires within { n < length (generations.cells list.now) }
@@ -122,7 +122,7 @@ fn is_of_one(list: &CellList, sets: &Labels, n: usize, starts: &mut Starts) -> b
     true
 }
 
-/// Joins sets that a place around the cell in a place of a list joins.
+/// Joins sets that a place around the cell at place `n` of a list joins.
 fn join_around(
     rule: &Rule,
     list: &CellList,
@@ -155,7 +155,7 @@ fn join_around(
     joined
 }
 
-/// Joins sets that places join. Each place is looked at once around each cell.
+/// Joins the sets that places join. Each place around each cell is looked at once.
 fn join_places(rule: &Rule, list: &CellList, isles: &Labels, sets: &mut Labels) -> bool
     requires isles { Fits list.now isles.now }
     requires sets { Fits list.now sets.old }
@@ -175,7 +175,7 @@ fn join_places(rule: &Rule, list: &CellList, isles: &Labels, sets: &mut Labels) 
     joined
 }
 
-/// Whether all cells at most two away from each cell have its mark.
+/// True if all cells at most two away from each cell have its mark.
 fn are_of_one(list: &CellList, sets: &Labels) -> bool
     requires { Fits list.now sets.now }
     ensures { OnTrue result ((n : ℕ) → n < length (generations.cells list.now) →
@@ -192,7 +192,7 @@ fn are_of_one(list: &CellList, sets: &Labels) -> bool
     true
 }
 
-/// Whether all labels have one root.
+/// True if all labels have one root.
 fn is_one(sets: &Labels) -> bool
     ensures { OnTrue result ((k : ℕ) → k < length sets.now.labels.items →
         root sets.now.forest.items (get_or sets.now.labels.items k 0) ≡
@@ -206,8 +206,8 @@ fn is_one(sets: &Labels) -> bool
     true
 }
 
-/// Joins the sets that a generation, whose cells are all listed, joins, until all sets are held apart. Returns false where they
-/// are held apart already.
+/// Joins the sets that a generation joins, until all sets are held apart. All cells of the generation are listed. Returns false
+/// if the sets were held apart already.
 pub fn join_in(
     alloc: Global,
     rule: &Rule,

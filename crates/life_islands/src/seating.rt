@@ -1,4 +1,4 @@
-//! What is around a place, and which sets it joins.
+//! The cells around a place, and the sets that it joins.
 ghost use Rattle.std.specs.Prelude.{◌≡◌, ◌≢◌, ◌⊎◌, ℕ, ◌<◌, ◌≤◌, IfNone, IfSome, false, true, get_or, length};
 ghost use Rattle.life_islands.specs.Reach.{IsInReach};
 ghost use Rattle.life_islands.specs.Seats.{AreAllSound, AreOfOne, AreSeats, AreTiedBy, IsColouring, IsOf, IsSeat, IsSeatLink, IsSound};
@@ -17,10 +17,10 @@ const NOBODY: Seat = Seat {
     set: 0,
 };
 
-/// How many rows the cells around the places around a cell are in.
+/// The number of rows of the cells around the places around a cell.
 pub const ROWS: usize = 5;
 
-/// The number of the row of one of the cells around a place that is in the row with this number.
+/// The number of the row of one of the cells around a place whose own row has this number.
 pub fn row_of(row: usize, number: usize) -> usize {
     match number {
         0 | 1 | 2 => row.saturating_sub(1),
@@ -29,8 +29,8 @@ pub fn row_of(row: usize, number: usize) -> usize {
     }
 }
 
-/// The seat of one of the cells around a place in the row with this number. The cell is looked up near where one was last looked
-/// for in its own row.
+/// The seat of one of the cells around a place, whose row has this number. The cell is looked up near where one of its own row
+/// was last looked up.
 fn seat_at(
     list: &CellList,
     isles: &Labels,
@@ -56,8 +56,8 @@ fn seat_at(
     }
 }
 
-/// The seats of the eight cells around a place in the row with this number. They are looked up near where cells were last looked
-/// for in each row.
+/// The seats of the eight cells around a place, whose row has this number. They are looked up near where cells of each row were
+/// last looked up.
 pub fn seats_around(
     list: &CellList,
     isles: &Labels,
@@ -105,7 +105,7 @@ pub fn colours_of(seats: &[Seat]) -> [usize; 8]
     sets
 }
 
-/// The set of a seat whose group bears, where there is one, otherwise that of the live seat `first`.
+/// The set of a seat whose group bears, if there is one, otherwise that of the live seat `first`.
 fn bearer_of(rule: &Rule, seats: &[Seat], colours: &[usize], first: usize) -> usize
     requires long { length seats.now ≡ 8 × length colours.now ≡ 8 }
     requires first { first < 8 × (seat seats.now first).live ≡ true }
@@ -121,7 +121,7 @@ fn bearer_of(rule: &Rule, seats: &[Seat], colours: &[usize], first: usize) -> us
     seats[first].set
 }
 
-/// Whether a seat is live and not of this set.
+/// True if a seat is live and not of this set.
 fn is_other(seat: &Seat, set: usize) -> bool
     ensures yes { result ≡ true → seat.now.live ≡ true × seat.now.set ≢ set }
     ensures no { result ≡ false → seat.now.live ≡ true → seat.now.set ≡ set }
@@ -129,7 +129,7 @@ fn is_other(seat: &Seat, set: usize) -> bool
     seat.live && seat.set != set
 }
 
-/// The set of a live seat that is not of this one.
+/// The set of a live seat that is not of this set.
 fn other_set(seats: &[Seat], set: usize) -> Option<usize>
     requires { length seats.now ≡ 8 }
     ensures none { IfNone result
@@ -144,7 +144,7 @@ fn other_set(seats: &[Seat], set: usize) -> Option<usize>
     None
 }
 
-/// A set that is joined with the bearer, where these colours are those of the seats' sets.
+/// A set to be joined with the bearer, where the colours are the seats' sets.
 fn joined_with(
     rule: &Rule,
     seats: &[Seat],

@@ -1,4 +1,4 @@
-//! Which cells touching joins.
+//! Joining cells that touch.
 ghost use Rattle.std.specs.Prelude.{◌≡◌, ℕ, ◌<◌, IfOk, length};
 ghost use Rattle.life_model.specs.Generation.{cells};
 ghost use Rattle.life_islands.specs.Labels.{AreJoinedByTouch, AreJoinedFurther, AreJoinedWithin, AreNumbered, Fits, HasMet, KeepsTied, sets_of};
@@ -11,14 +11,14 @@ use life_cells::CellList;
 use life_classes::join;
 use std::alloc::{AllocError, Global};
 
-/// How many of the cells around a cell come before it.
+/// The number of the cells around a cell that come before it.
 const BEFORE: usize = 4;
 
-/// How many of these are in the row above.
+/// The number of these that are in the row above.
 const ABOVE: usize = 3;
 
-/// Where one of the cells around the cell in a place is looked for first: where one in the row above was looked for last,
-/// or right before the cell.
+/// The place where one of the cells around the cell at place `n` is looked for first: the place where one of the row
+/// above was last looked up, or the one right before the cell.
 fn guess(n: usize, number: usize, above: usize) -> usize {
     if number < ABOVE {
         return above;
@@ -26,14 +26,14 @@ fn guess(n: usize, number: usize, above: usize) -> usize {
     n.saturating_sub(1)
 }
 
-/// Keeps where a cell in the row above was looked for.
+/// Keeps the place where a cell of the row above was looked up.
 fn keep(above: &mut usize, number: usize, guess: usize) {
     if number < ABOVE {
         *above = guess;
     }
 }
 
-/// Joins the cell in a place with one of those around it, by its number, if it is live.
+/// Joins the cell at place `n` with the one of those around it that has this number, if it is live.
 fn join_neighbour(
     list: &CellList,
     all: &mut Labels,
@@ -61,7 +61,7 @@ fn join_neighbour(
     }
 }
 
-/// Joins the cell in a place with those around it that come before it.
+/// Joins the cell at place `n` with those around it that come before it.
 fn join_before(list: &CellList, all: &mut Labels, n: usize, above: &mut usize) -> bool
     requires fits { Fits list.now all.old }
     requires within { n < length (cells list.now) }
@@ -77,7 +77,7 @@ fn join_before(list: &CellList, all: &mut Labels, n: usize, above: &mut usize) -
     joined
 }
 
-/// Joins cells that touch. Returns false where they are joined already.
+/// Joins cells that touch. Returns false if they were joined already.
 pub fn join_touching(list: &CellList, all: &mut Labels) -> bool
     requires { Fits list.now all.old }
     ensures further { AreJoinedFurther all.old all.new result }

@@ -14,7 +14,7 @@ use life_orbit::{BOUND_LIMIT, Orbit};
 use life_plane::Plane;
 use std::alloc::{AllocError, Global};
 
-/// The orbit of a part of an orbit's set. A part that is the whole set is not followed again: its orbit is a copy.
+/// The orbit of a part of an orbit's set. The orbit of a part that is the whole set is copied and not computed again.
 fn part_orbit<P: Plane>(
     alloc: Global,
     orbit: &Orbit,
@@ -36,7 +36,7 @@ fn part_orbit<P: Plane>(
     Orbit::of::<P>(alloc, &rule, part, BOUND_LIMIT)
 }
 
-/// The orbits of parts of an orbit's set, in their order, where each of them recurs within 100,000 generations.
+/// The orbits of parts of an orbit's set, in their order, if each of them recurs within 100,000 generations.
 fn orbits_of<P: Plane>(
     alloc: Global,
     orbit: &Orbit,
@@ -61,7 +61,7 @@ fn orbits_of<P: Plane>(
 }
 
 /// The independent parts of the set of an orbit, each once, in no promised order, as orbits with their own least period and
-/// displacement. `None` exactly where one of them has a period of more than 100,000 generations, as parts that change places may
+/// displacement. `None` exactly if one of them has a period of more than 100,000 generations, as parts that change places may
 /// have.
 pub fn part_orbits<P: Plane>(alloc: Global, orbit: &Orbit) -> Result<Option<Vec<Orbit>>, AllocError>
     requires within { All (IsWithin orbit_age_limit) (generations.cells orbit.now.set) }

@@ -1,4 +1,4 @@
-//! Rounds of one period, in which cells that belong together are joined.
+//! Rounds over one period, in which cells that belong together are joined.
 ghost use Rattle.std.specs.Prelude.{◌≡◌, ℕ, suc, ◌-◌, ◌<◌, ◌≤◌, Bool, IfOk, ◌||◌, false, true, length};
 ghost use Rattle.std.specs.List.{sum};
 ghost use Rattle.life_model.specs.Cell.{origin};
@@ -19,15 +19,14 @@ use life_classes::root;
 use life_orbit::Orbit;
 use std::alloc::{AllocError, Global};
 
-/// The cells of a set that a round joins, by their places, and whether something was joined that earlier generations had not
-/// joined.
+/// The cells of a set that a round joins, by their places, and whether something new was joined after the first generation.
 #[derive(Drop)]
 struct Round {
     forest: Vec<usize>,
     is_joined: bool,
 }
 
-/// The labels of the first generation, joined as it joins them.
+/// The labels of the first generation, joined as that generation joins them.
 fn begun(alloc: Global, orbit: &Orbit, forest: Vec<usize>) -> Result<Labels, AllocError>
     requires { AreJoinedTied orbit.now.rule orbit.now.set forest.items }
     ensures walked { IfOk result (λ sets. HaveWalked orbit.now.rule orbit.now.set 0 sets false) }
@@ -62,7 +61,7 @@ fn later(alloc: Global, orbit: &Orbit, n: u32, sets: Labels) -> Result<Labels, A
     )
 }
 
-/// The labels a period later, of the cells of the set moved back, before anything is joined.
+/// The labels a period later, before anything is joined. The cells then are those of the set, moved.
 fn ended(alloc: Global, orbit: &Orbit, sets: Labels) -> Result<Labels, AllocError>
     requires fits { Fits (generation orbit.now.rule orbit.now.set (orbit.now.period - 1)) sets }
     requires held { AreHeldApart orbit.now.rule (generation orbit.now.rule orbit.now.set (orbit.now.period - 1))
@@ -77,7 +76,7 @@ fn ended(alloc: Global, orbit: &Orbit, sets: Labels) -> Result<Labels, AllocErro
     heirs(alloc, &rule, last, sets, orbit.set(), orbit.displacement())
 }
 
-/// Whether all numbers are joined.
+/// True if all numbers are joined.
 fn are_all_joined(forest: &[usize]) -> bool
     ensures { OnTrue result ((k : ℕ) → k < length forest.now → root forest.now k ≡ root forest.now 0) }
 {
@@ -89,7 +88,8 @@ fn are_all_joined(forest: &[usize]) -> bool
     true
 }
 
-/// What is joined after one more round, given what is joined already. The round ends once all is joined.
+/// The cells that are joined after one more round, starting from those that are joined already. The round ends once all are
+/// joined.
 fn joined_once(alloc: Global, orbit: &Orbit, forest: Vec<usize>) -> Result<Round, AllocError>
     requires { AreJoinedTied orbit.now.rule orbit.now.set forest.items }
     ensures tied { IfOk result (λ one. AreJoinedTied orbit.now.rule orbit.now.set one.forest.items) }
