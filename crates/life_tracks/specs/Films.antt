@@ -23,7 +23,8 @@ pub record IsReturnOf (film : Film) (r : Return) : Type 0 where
   pub within : r.generation ≤ last_of film
   pub place : r.place < length (classes_at film r.generation)
 
--- The path is that of a class of generation 0, which comes back along it, and its cores are classes of their generations.
+-- The path is that of a class of generation 0, which comes back along it, and the path's cores are classes of their
+-- generations.
 pub record IsTrackOf (R : Rule) (T : ℕ) (film : Film) (path : Path) : Type 0 where
   pub place : path.place < length (classes_at film 0)
   pub start : path.start ≡ get_or (classes_at film 0) path.place empty

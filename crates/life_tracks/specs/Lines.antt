@@ -6,13 +6,13 @@ use Rattle.life_model.specs.Symmetry.{translate_of}
 use Rattle.life_plane.specs.Offsets.{AreNotTranslates}
 use Rattle.life_tracks.specs.declared.lines.Line.{Line}
 
--- the class in place j is not the one in place i, but has the same parent
+-- the class at place j is not the one at place i, but has the same parent
 pub record IsSibling (places : List ℕ) (i j : ℕ) : Type 0 where
   pub within : j < length places
   pub other : j ≢ i
   pub same : get_or places j 0 ≡ get_or places i 0
 
--- the place in generation m of the class from which class k of generation n comes
+-- the place in generation m of the class that class k of generation n comes from
 unfoldable pub ancestor : (ℕ → List ℕ) → ℕ → ℕ → ℕ → ℕ
 ancestor parents zero k m = k
 ancestor parents (suc n) k m = cond (leb (suc n) m) k (ancestor parents n (get_or (parents n) k 0) m)
@@ -26,7 +26,7 @@ pub record AreLinked (classes : ℕ → List Generation) (parents : ℕ → List
   pub count : (t : ℕ) → t < T → length (parents t) ≡ length (classes (suc t))
   pub within : (t k : ℕ) → t < T → k < length (classes (suc t)) → get_or (parents t) k 0 < length (classes t)
 
--- some class of the line after the first is the first one, moved
+-- some class of the line after the first is the first one, moved or not
 pub record HasComeBack (classes : ℕ → List Generation) (parents : ℕ → List ℕ) (n k : ℕ) : Type 0 where
   pub step : ℕ
   pub later : 1 ≤ step
@@ -41,7 +41,7 @@ pub record HasLost (parents : ℕ → List ℕ) (n k : ℕ) : Type 0 where
   pub other : ℕ
   pub sibling : IsSibling (parents step) (ancestor parents n k (suc step)) other
 
--- The line comes back at its end, and not before, and something has left on the way.
+-- The line comes back at its end, and not earlier, and something has left on the way.
 pub record ComesToReturn (classes : ℕ → List Generation) (parents : ℕ → List ℕ) (n k : ℕ) : Type 0 where
   pub later : 1 ≤ n
   pub place : k < length (classes n)
@@ -51,7 +51,7 @@ pub record ComesToReturn (classes : ℕ → List Generation) (parents : ℕ → 
       core_of classes parents n k m ≡ translate_of (core_of classes parents n k 0) e → ⊥
   pub some : HasLost parents n k
 
--- What is known of the line to class k of generation n is right.
+-- All that is recorded of the line to class k of generation n is right.
 pub record IsLine (classes : ℕ → List Generation) (parents : ℕ → List ℕ) (n k : ℕ) (line : Line) : Type 0 where
   pub origin : line.origin ≡ ancestor parents n k 0
   pub back : line.is_back ≡ true → HasComeBack classes parents n k
@@ -66,7 +66,7 @@ pub record AreLines (classes : ℕ → List Generation) (parents : ℕ → List 
   pub count : length lines ≡ length (classes n)
   pub each : (k : ℕ) (d : Line) → k < length (classes n) → IsLine classes parents n k (get_or lines k d)
 
--- How a line goes on to the class LAST in a place. FIRST is the line's first class.
+-- The record of a line that goes on to the class `last` at a place, where `first` is the line's first class.
 pub record GoesOn (places : List ℕ) (first last : Generation) (place : ℕ) (before after : Line) : Type 0 where
   pub origin : after.origin ≡ before.origin
   pub back : after.is_back ≡ true → (before.is_back ≡ true) ⊎ ((e : Cell) × (last ≡ translate_of first e))

@@ -14,7 +14,7 @@ pub record IsInSibling (classes : List Generation) (places : List ℕ) (place n 
   pub sibling : IsSibling places place other
   pub has : contains (get_or classes other empty) c ≡ true
 
--- L is the cells of those of the first n classes that are siblings of the class in a place
+-- L has the cells of those of the first n classes that are siblings of the class at a place
 pub record AreLeftOf (classes : List Generation) (places : List ℕ) (place n : ℕ) (L : Generation) : Type 0 where
   pub from : (c : Cell) → contains L c ≡ true → IsInSibling classes places place n c
   pub all : (c : Cell) → IsInSibling classes places place n c → contains L c ≡ true
@@ -22,7 +22,7 @@ pub record AreLeftOf (classes : List Generation) (places : List ℕ) (place n : 
 abbrev pub AreLeft : List Generation → List ℕ → ℕ → Generation → Type 0
 AreLeft classes places place L = AreLeftOf classes places place (length places) L
 
--- `more` is L, and also the class in place OTHER if that is a sibling of the class in `place`.
+-- `more` is L, and also the class at place `other` if that is a sibling of the class at `place`.
 pub record IsWithSibling (classes : List Generation) (places : List ℕ) (place other : ℕ) (L more : Generation) : Type 0 where
   pub kept : (c : Cell) → contains L c ≡ true → contains more c ≡ true
   pub added : (c : Cell) → IsSibling places place other → contains (get_or classes other empty) c ≡ true →

@@ -9,7 +9,7 @@ use Rattle.life_tracks.specs.Lines.{ComesToReturn}
 abbrev pub return_at : ℕ → ℕ → Return
 return_at n k = record { generation = n; place = k }
 
--- the line in place k comes back
+-- the line at place k comes back
 abbrev pub IsBackIn : List Line → ℕ → Type 0
 IsBackIn lines k = (k < length lines) × ((d : Line) → (get_or lines k d).is_return ≡ true)
 

@@ -13,13 +13,13 @@ use Rattle.life_growth.specs.Engines.Tracks.{Step, way_along}
 use Rattle.life_growth.specs.Engine.{IsEngine, Way}
 use Rattle.life_growth.specs.Unsplit.{IsUnsplit}
 
--- The class in a place goes along a track. Each step has the core after it, and what left in it.
+-- The class at a place goes along a track. Each step has the core after it, and the cells that left in it.
 pub record Path : Type 0 where
   pub place : ℕ
   pub start : Generation
   pub steps : List Step
 
--- as what it is made of
+-- coded by its fields
 abbrev pub coded_path : Coded Path
 coded_path =
     code_by (ℕ × (Generation × List Step))
@@ -30,7 +30,8 @@ abbrev pub way_of : Path → Way
 way_of path = way_along path.start path.steps
 
 -- E comes back for the first time, moved or not, along this way within T generations. Each core is unsplit up to
--- generation T. A core and what left in its step are what the core before becomes. At least once something leaves.
+-- generation T. A core and the cells that left in its step are together what the core before becomes. At least once
+-- something leaves.
 pub record ComesBack (R : Rule) (T : ℕ) (E : Generation) (way : Way) : Type 0 where
   pub start : way.core 0 ≡ E
   pub later : 1 ≤ way.period
@@ -41,7 +42,7 @@ pub record ComesBack (R : Rule) (T : ℕ) (E : Generation) (way : Way) : Type 0 
   pub whole : (n : ℕ) → n ≤ way.period → IsUnsplit R (T - n) (way.core n)
   pub some : (n : ℕ) × (n < way.period) × (way.left n ≢ empty)
 
--- some track of the class in a place is the way of an engine
+-- some track of the class at a place is the way of an engine
 abbrev pub HasTrack : Rule → ℕ → Generation → ℕ → List Path → Type 0
 HasTrack R b E place paths =
     (path : Path) × Contains paths path × (path.place ≡ place) × IsEngine R b E (way_of path)

@@ -1,5 +1,5 @@
-//! The classes of a film's first generation that come back, moved or not, and what leaves them on the way. `frames` has the
-//! classes of each generation of a film.
+//! The classes of a film's first generation that come back, moved or not, and the cells that leave them on the way.
+//! `frames` has the classes of each generation of a film.
 //!
 //! Tested in `tests_objects`.
 #![tactic(auto)]

@@ -13,20 +13,20 @@ use life_cells::CellList;
 use life_plane::offset_between;
 use std::alloc::{AllocError, Global};
 
-/// What is known of the line that leads to a class of a film.
+/// The record of the line that leads to a class of a film.
 #[derive(Clone, Copy, Drop)]
 pub struct Line {
     /// The place of its first class.
     pub origin: usize,
-    /// Whether some class after the first is the first one, moved.
+    /// True if some class after the first is the first one, moved or not.
     pub is_back: bool,
-    /// Whether some class after the first, up to the one at which the line came back, has a sibling.
+    /// True if some class after the first, up to the one at which the line came back, has a sibling.
     pub has_left: bool,
-    /// Whether the last class is the first one, moved, no class in between is, and something has left.
+    /// True if the last class is the first one, moved or not, no class in between is, and something has left.
     pub is_return: bool,
 }
 
-/// The class in a place.
+/// The class at a place.
 pub fn class_in(classes: &[CellList], place: usize) -> &CellList
     requires { place < length classes.now }
     ensures { result.now ≡ get_or classes.now place empty }
@@ -34,7 +34,7 @@ pub fn class_in(classes: &[CellList], place: usize) -> &CellList
     &classes[place]
 }
 
-/// Whether another class has the same parent as this one.
+/// True if another class has the same parent as this one.
 fn has_sibling(parents: &[usize], place: usize) -> bool
     requires { place < length parents.now }
     ensures yes { result ≡ true → (j : ℕ) × IsSibling parents.now place j }
@@ -48,7 +48,7 @@ fn has_sibling(parents: &[usize], place: usize) -> bool
     false
 }
 
-/// Whether the second set is the first one, moved or not.
+/// True if the second set is the first one, moved or not.
 fn is_moved(from: &CellList, to: &CellList) -> bool
     ensures yes { result ≡ true → (e : Cell) × (to.now ≡ translate_of from.now e) }
     ensures no { result ≡ false → AreNotTranslates from.now to.now }
@@ -59,8 +59,8 @@ fn is_moved(from: &CellList, to: &CellList) -> bool
     }
 }
 
-/// The line that extends one from the class FIRST to the class LAST in a place. `parents` are the parents of LAST's
-/// generation.
+/// The line that extends one from the class `first` to the class `last` at a place. `parents` are the parents of the
+/// generation of `last`.
 fn line_on(
     first: &CellList,
     last: &CellList,

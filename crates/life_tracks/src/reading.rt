@@ -1,4 +1,4 @@
-//! Tracks, read off a film.
+//! Reading tracks off a film.
 ghost use Rattle.std.specs.Prelude.{◌≡◌, ℕ, suc, ◌+◌, ◌<◌, IfOk, get_or, length};
 ghost use Rattle.life_model.specs.Generation.{empty};
 ghost use Rattle.life_tracks.specs.Frames.Frames.{classes_at, parents_at};
@@ -13,14 +13,14 @@ use life_cells::CellList;
 use life_classes::union;
 use std::alloc::{AllocError, Global};
 
-/// A copy of the set.
+/// A copy of a set.
 fn copied(alloc: Global, cells: &CellList) -> Result<CellList, AllocError>
     ensures { IfOk result (λ copy. copy ≡ cells.now) }
 {
     Ok(CellList::from_ordered(cells.as_slice().to_vec(alloc)?))
 }
 
-/// A set, united with the class in a place if that is a sibling of a given class.
+/// A set, united with the class at `other` if that is a sibling of the class at `place`.
 fn with_sibling(
     alloc: Global,
     left: CellList,
@@ -62,7 +62,7 @@ fn left_beside(
     Ok(left)
 }
 
-/// The parent of the class in a place.
+/// The parent of the class at a place.
 fn parent_of(parents: &[usize], place: usize) -> usize
     requires { place < length parents.now }
     ensures { result ≡ get_or parents.now place 0 }
@@ -70,7 +70,7 @@ fn parent_of(parents: &[usize], place: usize) -> usize
     parents[place]
 }
 
-/// The places of the classes on the line that comes back, from the first on.
+/// The places of the classes on the line that comes back, from the first class on.
 fn line_places(alloc: Global, film: &Film, end: Return) -> Result<Vec<usize>, AllocError>
     requires film { IsLinkedFilm film.now }
     requires end { IsReturnOf film.now end }

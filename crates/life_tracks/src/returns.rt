@@ -1,4 +1,4 @@
-//! Where the lines of a film come back.
+//! The classes at which the lines of a film come back.
 ghost use Rattle.std.specs.Prelude.{◌≡◌, ℕ, ◌≤◌, IfOk, OnOk};
 ghost use Rattle.std.specs.List.{Contains};
 ghost use Rattle.life_tracks.specs.Frames.Frames.{classes_at, parents_at};
@@ -28,7 +28,8 @@ fn add_returns(found: &mut Vec<Return>, lines: &[Line], generation: usize) -> Re
     Ok(())
 }
 
-/// The classes at which the lines of a film come back for the first time, if something has left on the way.
+/// The classes at which the lines of a film come back for the first time, provided that something has left on the
+/// way.
 pub fn returns(alloc: Global, film: &Film) -> Result<Vec<Return>, AllocError>
     requires { IsLinkedFilm film.now }
     ensures { IfOk result (λ found. AreReturns (classes_at film.now) (parents_at film.now) (last_of film.now) found.items) }

@@ -7,7 +7,7 @@ use life_cells::{CellList, corner};
 use life_plane::move_between;
 use std::marker::Model;
 
-/// One step of a track: the core after it, and what left in it.
+/// One step of a track: the core after it, and the cells that left in it.
 #[derive(Drop)]
 pub struct Step {
     core: CellList,
@@ -41,7 +41,7 @@ impl Step {
         &self.core
     }
 
-    /// What left the core in the step.
+    /// The cells that left the core in the step.
     pub fn left(&self) -> &CellList
         ensures { result.now ≡ self.now.1 }
     {
@@ -78,7 +78,7 @@ impl Model for Track {
 }
 
 impl Track {
-    /// A track of the class in a place, through the steps.
+    /// A track of the class at a place, through the steps.
     pub fn new(place: usize, start: CellList, steps: Vec<Step>) -> Track
         ensures place { result.place ≡ place }
         ensures start { result.start ≡ start }
@@ -105,14 +105,14 @@ impl Track {
         &self.start
     }
 
-    /// The steps, from the class on until it comes back.
+    /// The steps, from the class until it comes back.
     pub fn steps(&self) -> &[Step]
         ensures { result.now ≡ self.now.steps }
     {
         self.steps.as_slice()
     }
 
-    /// After how many generations the class comes back.
+    /// The number of generations after which the class comes back.
     pub fn period(&self) -> usize
         ensures { result ≡ (way_of self.now).period }
     {

@@ -30,8 +30,8 @@ fn tracks_to(alloc: Global, film: &Film, found: &[Return]) -> Result<Vec<Track>,
 
 /// All tracks along which classes of a film's first generation come back within the film and leave something.
 ///
-/// Most of the time is spent on comparing, in each generation, each class that has not come back yet with the one from
-/// which it comes, and on looking for others with the same parent.
+/// Most of the time is spent on comparing, in each generation, each class that has not come back yet with the one that
+/// it comes from, and on looking for others with the same parent.
 pub fn tracks(alloc: Global, film: &Film) -> Result<Vec<Track>, AllocError>
     requires { (R : Rule) × (G : Generation) × (T : ℕ) × IsFilm R G T film.now }
     ensures right { IfOk result (λ tracks. (R : Rule) (G : Generation) (T : ℕ) → IsFilm R G T film.now →

@@ -12,7 +12,7 @@ pub record AreSameRoots (old new : List ℕ) : Type 0 where
   pub same : (k : ℕ) → root new k ≡ root old k
   pub less : sum new ≤ sum old
 
--- Two numbers are joined, and nothing more than that requires.
+-- Two numbers are joined, and nothing is joined beyond what that requires.
 pub record IsUnited (old new : List ℕ) (one other : ℕ) : Type 0 where
   pub long : length new ≡ length old
   pub coarser : (k l : ℕ) → root old k ≡ root old l → root new k ≡ root new l
@@ -20,12 +20,12 @@ pub record IsUnited (old new : List ℕ) (one other : ℕ) : Type 0 where
   pub only : (k l : ℕ) → root new k ≡ root new l →
       (root old k ≡ root old l) ⊎ (AreAs old k l one other ⊎ AreAs old k l other one)
 
--- more is joined
+-- at least as much is joined
 pub record IsFurther (old new : List ℕ) : Type 0 where
   pub long : length new ≡ length old
   pub coarser : (k l : ℕ) → root old k ≡ root old l → root new k ≡ root new l
 
--- Places of G are tied if their cells bear cells of the same set.
+-- Places of G are tied if their cells bear cells of the same set, or by a chain of such places.
 pub data AreTied (G : Generation) (Ss : List Generation) : ℕ → ℕ → Type 0 where
   itself : (m : ℕ) → AreTied G Ss m m
   swapped : (m k : ℕ) → AreTied G Ss m k → AreTied G Ss k m
@@ -33,7 +33,7 @@ pub data AreTied (G : Generation) (Ss : List Generation) : ℕ → ℕ → Type 
   bearing : (S : Generation) (c d : Cell) (m k : ℕ) → Contains Ss S → contains S c ≡ true → contains S d ≡ true →
       IsBearer G c m → IsBearer G d k → AreTied G Ss m k
 
--- what is joined is tied
+-- places that are joined are tied
 abbrev pub JoinsTied : Generation → List Generation → List ℕ → Type 0
 JoinsTied G Ss forest = (m k : ℕ) → root forest m ≡ root forest k → AreTied G Ss m k
 

@@ -12,10 +12,10 @@ use life_classes::{ROW, place_number};
 use life_islands::numbers;
 use std::alloc::{AllocError, Global};
 
-/// How many places around the guessed one are looked at.
+/// The number of places around the guessed one that are looked at.
 const STEPS: usize = 12;
 
-/// Whether the cell just before a place has a smaller number than this one, if there is such a cell.
+/// True if the cell just before a place has a smaller number than this one, or if there is no such cell.
 #[inline(always)]
 fn is_past(all: &[(i32, i32)], number: i64, at: usize) -> bool
     requires { at ≤ length all.now }
@@ -29,7 +29,7 @@ fn is_past(all: &[(i32, i32)], number: i64, at: usize) -> bool
     place_number(all[at - 1]) < number
 }
 
-/// Whether the cell in a place has a smaller number than this one.
+/// True if the cell at a place has a smaller number than this one.
 #[inline(always)]
 fn is_before(all: &[(i32, i32)], number: i64, at: usize) -> bool
     ensures not { result ≡ false → (d : Cell) → at < length all.now →
@@ -64,7 +64,7 @@ fn parting_near(all: &[(i32, i32)], number: i64, guess: usize) -> Option<usize>
     None
 }
 
-/// The place before which the cells have smaller numbers than this one, found by halving.
+/// The place before which the cells have smaller numbers than this one, found by binary search.
 fn halved(all: &[(i32, i32)], number: i64) -> usize
     requires rising { T (is_rising all.now) }
     requires placed { All IsPlace all.now }
@@ -73,8 +73,8 @@ fn halved(all: &[(i32, i32)], number: i64) -> usize
     all.partition_point(|one| place_number(*one) < number)
 }
 
-/// The place before which the cells have smaller numbers than this one. It is mostly found near the guess, and
-/// otherwise by halving. It is the next guess.
+/// The place before which the cells have smaller numbers than this one. It is usually found near the guess, and
+/// otherwise by binary search. It is the next guess.
 pub fn parting(all: &[(i32, i32)], number: i64, guess: &mut usize) -> usize
     requires rising { T (is_rising all.now) }
     requires placed { All IsPlace all.now }
@@ -105,8 +105,8 @@ fn first_between(all: &[(i32, i32)], low: i64, high: i64, guess: &mut usize) -> 
     Some(at)
 }
 
-/// The place of the first cell with a number from `low` to `high`. The search starts where a cell was last found in its
-/// row, whose place in the table is `row`.
+/// The place of the first cell with a number from `low` to `high`. The search starts where a cell of its row, whose
+/// entry in the table is `row`, was last found.
 fn first_in_row(
     all: &[(i32, i32)],
     low: i64,
@@ -128,16 +128,16 @@ fn first_in_row(
     }
 }
 
-/// For how many rows the table keeps where a cell was last found.
+/// The number of rows for which the table keeps where a cell was last found.
 const ROWS: i32 = 256;
 
-/// A new table of where a cell was last found in each of `ROWS` rows, with one more entry at each end. At first no entry
-/// says so: each is an arbitrary guess.
+/// A new table of where a cell was last found in each of `ROWS` rows, with one more entry at each end. At first each
+/// entry is an arbitrary guess.
 pub fn rows(alloc: Global) -> Result<Vec<usize>, AllocError> {
     numbers(alloc, ROWS as usize + 2)
 }
 
-/// The place of a cell's row in the table. The rows above and below have the places beside it, except at the ends of
+/// The place of a cell's row in the table. The rows above and below have the entries beside it, except at the ends of
 /// the table.
 #[inline(always)]
 fn row_of(cell: (i32, i32)) -> usize
@@ -147,7 +147,7 @@ fn row_of(cell: (i32, i32)) -> usize
     cell.1.rem_euclid(ROWS) as usize + 1
 }
 
-/// Whether a set has a cell.
+/// True if a set has a cell.
 pub fn has(list: &CellList, cell: (i32, i32)) -> bool
     requires { IsPlace cell }
     ensures { result ≡ contains list.now cell }
@@ -160,8 +160,8 @@ pub fn has(list: &CellList, cell: (i32, i32)) -> bool
     }
 }
 
-/// The place of a cell of a set that is at most one away from this one: of the cell itself, if the set has it. A table
-/// of rows says where cells were last found, and the search starts there.
+/// The place of a cell of a set that is at most one away from this one: that of the cell itself, if the set has it. The
+/// search starts where cells were last found, by a table of rows.
 pub fn bearer(list: &CellList, cell: (i32, i32), near: &mut [usize]) -> usize
     requires placed { IsPlace cell }
     requires touched { IsTouched list.now cell }

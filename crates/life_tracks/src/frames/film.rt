@@ -72,9 +72,9 @@ fn frames(alloc: Global, all: Vec<CellList>) -> Result<Vec<Frame>, AllocError>
 }
 
 impl Film {
-    /// The film of a plane's cells as generation 0 and of the generations up to LENGTH.
+    /// The film of a plane's cells as generation 0 and of the generations up to `length`.
     ///
-    /// The time is in proportion to the number of cells of all generations times its logarithm.
+    /// The time is proportional to the number of cells of all generations times its logarithm.
     pub fn of<P: Plane>(
         alloc: Global,
         plane: &P,
@@ -110,7 +110,7 @@ impl Film {
     }
 
     /// For each class of the generation after `t`, in their order, the place of the class of generation `t` that bears
-    /// it. The last generation has none.
+    /// it. None for the last generation.
     pub fn parents(&self, t: usize) -> &[usize]
         ensures lent { t < length self.now.frames.items → result.now ≡ parents_at self.now t }
         ensures parents { (R : ModelRule) (G : Generation) (T : ℕ) → IsFilm R G T self.now → t < T →

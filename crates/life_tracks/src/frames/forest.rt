@@ -1,11 +1,11 @@
-//! Numbers that are joined: a forest in which each number points to a smaller one, or is a root.
+//! Joined numbers: a forest in which each number points to a smaller one, or is a root.
 ghost use Rattle.std.specs.Prelude.{◌≡◌, ℕ, ◌<◌, ◌≤◌, IsTrue, length};
 ghost use Rattle.std.specs.List.{sum};
 ghost use Rattle.life_classes.specs.Forest.{moved, root};
 ghost use Rattle.life_tracks.specs.Frames.Ties.{AreSameRoots, IsUnited};
 
-/// The root of a number. On the way every second number is made to point to the next but one, so that later walks are
-/// short.
+/// The root of a number. On the way, every second number is made to point to the one after the next, so that later
+/// walks are short.
 pub fn find(forest: &mut Vec<usize>, number: usize) -> usize
     ensures value { result ≡ root forest.old.items number }
     ensures same { AreSameRoots forest.old.items forest.new.items }
@@ -27,7 +27,7 @@ pub fn find(forest: &mut Vec<usize>, number: usize) -> usize
     at
 }
 
-/// Lets a root point to a smaller one.
+/// Points a root at a smaller one.
 fn put(forest: &mut Vec<usize>, high: usize, low: usize)
     requires within { high < length forest.old.items }
     requires less { low < high }
@@ -40,7 +40,7 @@ fn put(forest: &mut Vec<usize>, high: usize, low: usize)
     forest[high] = low;
 }
 
-/// Whether two numbers point to the same number, which is not greater than either.
+/// True if two numbers point to the same number, which is not greater than either.
 #[inline(always)]
 fn are_siblings(forest: &[usize], one: usize, other: usize) -> bool
     requires { one < length forest.now × other < length forest.now }
@@ -60,7 +60,7 @@ fn are_siblings(forest: &[usize], one: usize, other: usize) -> bool
     true
 }
 
-/// Joins two numbers. Mostly both point to the same number already.
+/// Joins two numbers. Usually both point to the same number already.
 pub fn join(forest: &mut Vec<usize>, one: usize, other: usize)
     requires { one < length forest.old.items × other < length forest.old.items }
     ensures { IsUnited forest.old.items forest.new.items one other }
@@ -77,7 +77,7 @@ pub fn join(forest: &mut Vec<usize>, one: usize, other: usize)
     }
 }
 
-/// Lets each number point to its root.
+/// Points each number at its root.
 pub fn flatten(forest: &mut Vec<usize>)
     ensures { AreSameRoots forest.old.items forest.new.items }
 {

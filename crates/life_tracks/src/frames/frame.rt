@@ -30,8 +30,8 @@ pub fn last_frame(alloc: Global, list: &CellList) -> Result<Frame, AllocError>
     })
 }
 
-/// A generation, if these are the classes of the next one: its near pieces, joined wherever they bear cells of the same
-/// class. Cells are joined by their places.
+/// The frame of a generation, where `later` are the classes of the next one. Its classes are its near pieces, joined
+/// wherever they bear cells of the same class. Cells are joined by their places.
 pub fn frame_before(alloc: Global, list: &CellList, later: &[CellList]) -> Result<Frame, AllocError>
     requires { (R : Rule) × (b : ℕ) × AreClasses R b (next R list.now) later.now }
     ensures classes { IfOk result (λ frame. (R : Rule) (b : ℕ) → AreClasses R b (next R list.now) later.now →
@@ -39,7 +39,7 @@ pub fn frame_before(alloc: Global, list: &CellList, later: &[CellList]) -> Resul
     ensures parents { IfOk result (λ frame. (R : Rule) (b : ℕ) → AreClasses R b (next R list.now) later.now →
         AreParents R frame.classes.items later.now frame.parents.items) }
 {
-    // The law by which the joined pieces are classes.
+    // The theorem that the joined pieces are classes.
     classes_are_told_backwards();
     let forest = joined(alloc, list, later)?;
     let classes = gathered(alloc, list, forest.as_slice())?;

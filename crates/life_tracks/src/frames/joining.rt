@@ -1,4 +1,4 @@
-//! Places of a generation's cells are joined if the cells are near each other, or bear cells of the same set.
+//! Joining the places of a generation's cells if the cells are near each other, or bear cells of the same set.
 ghost use Rattle.std.specs.Prelude.{◌≡◌, ℕ, ◌<◌, IfOk, List, length, true};
 ghost use Rattle.std.specs.List.{Contains};
 ghost use Rattle.life_model.specs.Cell.{Cell};
@@ -14,7 +14,7 @@ use life_cells::CellList;
 use life_islands::numbers;
 use std::alloc::{AllocError, Global};
 
-/// Joins the cells that bear the cells of a set. A table of rows says where cells were last found.
+/// Joins the cells that bear the cells of a set. They are looked up where cells were last found, by a table of rows.
 fn join_set(forest: &mut Vec<usize>, list: &CellList, set: &CellList, near: &mut [usize])
     requires long { length forest.old.items ≡ length (cells list.now) }
     requires touched { (c : Cell) → contains set.now c ≡ true → IsTouched list.now c }

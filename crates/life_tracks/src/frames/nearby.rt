@@ -1,4 +1,4 @@
-//! Places of a generation's cells are joined if the cells are near each other.
+//! Joining the places of a generation's cells if the cells are near each other.
 ghost use Rattle.std.specs.Prelude.{◌≡◌, ◌+◌, ◌-◌, ◌<◌, ◌^◌, ◌+ℤ◌, ◌-ℤ◌, ◌≤ℤ◌, neg_ℤ, pos, get_or, length};
 ghost use Rattle.life_model.specs.Cell.{Cell, origin};
 ghost use Rattle.life_model.specs.Generation.{cells};
@@ -12,7 +12,7 @@ use crate::frames::forest::join;
 use life_cells::CellList;
 use life_classes::{ROW, place_number};
 
-/// Where cells were found that may be near the last one, in the two rows above it.
+/// The places where the last searches for near cells ended, in the two rows above a cell.
 #[derive(Drop)]
 struct Cursors {
     above: usize,
@@ -38,7 +38,7 @@ fn join_before(forest: &mut Vec<usize>, list: &CellList, n: usize)
     join(forest, n - 1, n);
 }
 
-/// Joins the place of a cell with that of the first cell whose number is not less than this one, if that is near.
+/// Joins the place of a cell with that of the first cell whose number is not less than this one, if that one is near.
 #[inline(always)]
 fn join_next(forest: &mut Vec<usize>, list: &CellList, n: usize, number: i64, at: usize)
     requires long { length forest.old.items ≡ length (cells list.now) }
@@ -61,7 +61,7 @@ fn join_next(forest: &mut Vec<usize>, list: &CellList, n: usize, number: i64, at
     join(forest, at, n);
 }
 
-/// Joins the place of a cell with that of the last cell whose number is less than this one, if that is near.
+/// Joins the place of a cell with that of the last cell whose number is less than this one, if that one is near.
 #[inline(always)]
 fn join_last(forest: &mut Vec<usize>, list: &CellList, n: usize, number: i64, at: usize)
     requires long { length forest.old.items ≡ length (cells list.now) }
@@ -84,8 +84,8 @@ fn join_last(forest: &mut Vec<usize>, list: &CellList, n: usize, number: i64, at
     join(forest, at - 1, n);
 }
 
-/// Joins the place of a cell with those of the cells next to this number, if they are near. The number is that of a
-/// place in a row above the cell.
+/// Joins the place of a cell with those of the cells whose numbers are next to this one, if they are near. The number
+/// is that of a place in a row above the cell.
 #[inline(always)]
 fn join_around(forest: &mut Vec<usize>, list: &CellList, n: usize, number: i64, guess: &mut usize)
     requires long { length forest.old.items ≡ length (cells list.now) }
@@ -101,7 +101,7 @@ fn join_around(forest: &mut Vec<usize>, list: &CellList, n: usize, number: i64, 
     join_last(forest, list, n, number, at);
 }
 
-/// Joins the place of a cell with those of the near cells before it.
+/// Joins the place of a cell with those of the cells near it and before it.
 #[inline(always)]
 fn join_at(forest: &mut Vec<usize>, list: &CellList, n: usize, cursors: &mut Cursors)
     requires long { length forest.old.items ≡ length (cells list.now) }

@@ -1,4 +1,4 @@
-//! Which class of a generation bears a class of the next.
+//! The classes of a generation that bear the classes of the next.
 ghost use Rattle.std.specs.Prelude.{◌≡◌, ◌≢◌, ℕ, ◌<◌, IfOk, get_or, length, true};
 ghost use Rattle.std.specs.List.{All, Contains};
 ghost use Rattle.life_model.specs.Cell.{Cell, origin};
@@ -14,8 +14,8 @@ use life_cells::CellList;
 use life_classes::root;
 use std::alloc::{AllocError, Global};
 
-/// For the place of each root of a forest, how many roots come before it. If classes come in the order of their roots,
-/// that is the place of the root's class. Nothing rests on it.
+/// For each place of a forest, the number of roots before it. If classes come in the order of their roots, that is,
+/// for a root, the place of its class. Correctness does not depend on it.
 fn class_places(alloc: Global, forest: &[usize]) -> Result<Vec<usize>, AllocError> {
     let mut places = Vec::with_capacity(alloc, forest.len())?;
     let mut count: usize = 0;
@@ -48,7 +48,7 @@ fn class_of(classes: &[CellList], cell: (i32, i32), guess: usize) -> usize
     0
 }
 
-/// The entry in a place of a table, or 0 beyond its end.
+/// The entry at a place of a table, or 0 beyond its end.
 fn guess_at(class_places: &[usize], place: usize) -> usize {
     match class_places.get(place) {
         Some(guess) => *guess,
@@ -56,7 +56,7 @@ fn guess_at(class_places: &[usize], place: usize) -> usize {
     }
 }
 
-/// The place of the class that bears a set. A table of rows says where cells were last found.
+/// The place of the class that bears a set. Cells are looked up where they were last found, by a table of rows.
 fn parent(
     list: &CellList,
     forest: &[usize],

@@ -9,7 +9,7 @@ use life_cells::CellList;
 use life_classes::{Class, first_classes};
 use std::alloc::{AllocError, Global};
 
-/// The sets that the classes were at first, of those classes that had a cell then.
+/// The first cells of each class that has any.
 fn some_of(alloc: Global, classes: Vec<Class>) -> Result<Vec<CellList>, AllocError>
     ensures { IfOk result (λ sets. sets.items ≡ with_cells (first_sets classes.items)) }
 {
