@@ -13,7 +13,7 @@ pub record IsCloser (n : ℕ) (c d : Cell) : Type 0 where
   pub above : d.1 <ℤ (c.1 +ℤ pos n)
   pub below : c.1 <ℤ (d.1 +ℤ pos n)
 
--- no cell of one set is less than n from a cell of the other
+-- no cell of P is less than n from a cell of Q in both directions
 abbrev pub AreFar : ℕ → Generation → Generation → Type 0
 AreFar n P Q = (c d : Cell) → contains P c ≡ true → contains Q d ≡ true → IsCloser n c d → ⊥
 
@@ -21,7 +21,7 @@ AreFar n P Q = (c d : Cell) → contains P c ≡ true → contains Q d ≡ true 
 abbrev pub others_of : Generation → Generation → Generation
 others_of G P = keep G (λ c. not (contains P c))
 
--- G is P and other cells, which stay apart from P for b generations, and in these P becomes the set `end`
+-- G is P and other cells, which stay apart from P for b generations, after which P has become the set `end`
 pub record IsEndAlone (R : Rule) (b : ℕ) (G P end : Generation) : Type 0 where
   pub others : Generation
   pub split : IsSplit R b G P others

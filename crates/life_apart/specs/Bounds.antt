@@ -1,4 +1,4 @@
--- The bounding box of a set, and how far other cells are from it.
+-- The bounding box of a set, and the distance of other cells from it.
 use Rattle.std.specs.Prelude.{ℕ, ℤ, pos, ◌≤ℤ◌}
 use Rattle.life_model.specs.Cell.{Cell}
 use Rattle.life_apart.specs.Alone.{IsCloser}

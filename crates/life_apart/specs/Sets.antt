@@ -8,6 +8,6 @@ use Rattle.life_orbit.specs.Course.{Course}
 abbrev pub sets_of : List Course → List Generation
 sets_of courses = map (λ o. o.set) courses
 
--- it recurs by this rule
+-- the set recurs by this rule
 abbrev pub IsCourseBy : Rule → Course → Type 0
 IsCourseBy R o = o.rule ≡ R

@@ -12,9 +12,9 @@ use life_cells::{CellList, Rule};
 use life_plane::{AGE_LIMIT, Plane};
 use std::alloc::{AllocError, Global};
 
-/// The generation before which no other cell is near a set. The plane `alone` has generation N of the set, and `all`
-/// that of all cells. The same is already known before generation `sure`, which is N or later. The result is N if
-/// another cell may be near.
+/// The generation before which no other cell is near a set. The plane `alone` is at generation `n` of the set, and
+/// `all` at that of all cells. The same is already known before generation `sure`, which is `n` or later. The result is
+/// `n` if another cell may be near.
 fn sure_until<P: Plane>(alone: &P, all: &P, n: u32, sure: u32) -> Result<u32, AllocError>
     requires { n ≤ AGE_LIMIT }
     ensures { IfOk result (λ until. (R : ModelRule) (G L : Generation) → IsSubsetOf L G →
@@ -27,9 +27,9 @@ fn sure_until<P: Plane>(alone: &P, all: &P, n: u32, sure: u32) -> Result<u32, Al
     Ok(n + room(&alone.cells()?, &all.cells()?))
 }
 
-/// What some of a plane's cells become in `bound` generations, if no other cell is seen to come near them until then. A
-/// negative answer means nothing: others may still stay away. All cells are looked at only in generations in which
-/// others may be near. The plane is unchanged.
+/// The set that some of a plane's cells become in `bound` generations, if no other cell is seen to come near them until
+/// then. `None` means nothing: others may still stay away. All cells are looked at only in generations in which others
+/// may be near. The plane is unchanged.
 pub fn end_alone<P: Plane>(
     alloc: Global,
     plane: &P,

@@ -1,4 +1,4 @@
-//! Whether sets that recur make up a set and stay apart for ever.
+//! Deciding whether sets that recur make up a set and stay apart for ever.
 ghost use Rattle.std.specs.Prelude.{◌≡◌, ◌≤◌, ◌↔◌, ◌++◌, All, AllPairs, IfOk, IsTrue, flat_map};
 ghost use Rattle.life_model.specs.Generation as generations;
 ghost use Rattle.life_model.specs.Rule.{Rule as ModelRule};
@@ -12,10 +12,10 @@ use life_cells::{CellList, put_in_order};
 use life_orbit::Orbit;
 use std::alloc::{AllocError, Global};
 
-/// Up to `FEW` sets are compared each with each, which takes fewer steps than putting them in order.
+/// Up to `FEW` sets are all compared with each other, which takes fewer steps than sorting them.
 const FEW: usize = 16;
 
-/// The cells of each of the sets.
+/// The cells of each of the sets, one set after another.
 fn all_cells(alloc: Global, orbits: &[Orbit]) -> Result<Vec<(i32, i32)>, AllocError>
     ensures cells { IfOk result
         (λ all. all.items ≡ flat_map generations.cells (sets_of orbits.now)) }
@@ -27,7 +27,7 @@ fn all_cells(alloc: Global, orbits: &[Orbit]) -> Result<Vec<(i32, i32)>, AllocEr
     Ok(all)
 }
 
-/// Whether the cells of the sets are these cells.
+/// True if the cells of the sets are these cells.
 pub fn are_together(alloc: Global, orbits: &[Orbit], cells: &CellList) -> Result<bool, AllocError>
     ensures { IfOk result (λ are. IsTrue are ↔ (union_of (sets_of orbits.now) ≡ cells.now)) }
 {
@@ -36,7 +36,7 @@ pub fn are_together(alloc: Global, orbits: &[Orbit], cells: &CellList) -> Result
     Ok(all.as_slice() == cells.as_slice())
 }
 
-/// Whether a set stays apart for ever from each of the others.
+/// True if a set stays apart for ever from each of the others.
 fn is_apart_from_all(orbit: &Orbit, others: &[Orbit]) -> bool
     requires { All (IsCourseBy orbit.now.rule) others.now }
     ensures { IsTrue result ↔ All (AreApartForEver orbit.now.rule orbit.now.set)
@@ -50,7 +50,7 @@ fn is_apart_from_all(orbit: &Orbit, others: &[Orbit]) -> bool
     true
 }
 
-/// Whether any two of the sets stay apart for ever, each compared with each.
+/// True if any two of the sets stay apart for ever. All are compared with each other.
 fn each_is_apart(orbits: &[Orbit]) -> bool
     requires { (R : ModelRule) × All (IsCourseBy R) orbits.now }
     ensures { (R : ModelRule) → All (IsCourseBy R) orbits.now →
@@ -64,9 +64,9 @@ fn each_is_apart(orbits: &[Orbit]) -> bool
     true
 }
 
-/// Whether any two of the sets stay apart for ever. If there are more than a few, those that stay where they are are
-/// compared only with those in the same band of rows whose columns are near. If there is no memory for that, each is
-/// compared with each.
+/// True if any two of the sets stay apart for ever. If there are more than a few, those that stay where they are are
+/// compared only with those in the same band of rows whose columns are near. If there is no memory for that, all are
+/// compared with each other.
 pub fn are_apart(alloc: Global, orbits: &[Orbit]) -> bool
     requires { (R : ModelRule) × All (IsCourseBy R) orbits.now }
     ensures { (R : ModelRule) → All (IsCourseBy R) orbits.now →

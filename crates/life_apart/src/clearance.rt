@@ -1,4 +1,4 @@
-//! For how many generations cells are known to stay away from a set.
+//! The number of generations for which cells are known to stay away from a set.
 ghost use Rattle.std.specs.Prelude.{◌≡◌, ℕ, ◌≤◌, ◌^◌, ◌-ℤ◌, ◌≤ℤ◌, All, pos};
 ghost use Rattle.std.specs.Int.{int_max};
 ghost use Rattle.life_model.specs.Generation.{Generation, cells, contains};
@@ -10,7 +10,7 @@ ghost use Rattle.life_apart.specs.Bounds.{IsFarOff, IsInBounds};
 
 use life_cells::CellList;
 
-/// Cells that are further away count as this far.
+/// Cells that are further away count as if at this distance.
 const FARTHEST: i64 = 1_048_576;
 
 /// The bounding box of a set.
@@ -41,7 +41,7 @@ fn bounds_of(set: &CellList) -> Bounds
     bounds
 }
 
-/// How far a place is from a range of places, and no more than 0 within it.
+/// The distance of a place from a range of places; at most 0 within it.
 fn distance_from(first: i32, last: i32, place: i32) -> i64
     ensures { result ≡ int_max (first -ℤ place) (place -ℤ last) }
 {
@@ -50,7 +50,7 @@ fn distance_from(first: i32, last: i32, place: i32) -> i64
 }
 
 impl Bounds {
-    /// How far a cell is from the box, in the direction in which it is further.
+    /// The distance of a cell from the box, in the direction in which it is further.
     fn distance(&self, cell: (i32, i32)) -> i64
         ensures { IsFarOff self.now result cell }
     {
@@ -60,15 +60,15 @@ impl Bounds {
     }
 }
 
-/// Whether a set has a cell. All its cells are searched.
+/// True if a set has a cell. All its cells are searched.
 fn has(set: &CellList, cell: (i32, i32)) -> bool
     ensures { result ≡ contains set.now cell }
 {
     set.as_slice().contains(&cell)
 }
 
-/// The distance from a box around a set to the nearest of the cells that the set has not, or 0 if one of them is near
-/// the box.
+/// The distance from a box around a set to the nearest of the cells that are not in the set, or 0 if one of them is
+/// near the box.
 fn distance(set: &CellList, cells: &CellList) -> i64
     ensures far { (n : ℕ) (Q : Generation) → pos n ≤ℤ result → IsSubsetOf Q cells.now →
         AreDisjoint set.now Q → AreFar n set.now Q }
@@ -89,8 +89,8 @@ fn distance(set: &CellList, cells: &CellList) -> i64
     least
 }
 
-/// For how many generations from now on no other of the cells is near one of a set, for certain. It is 0 if one may be
-/// near.
+/// A number of generations from now during which certainly no other of the cells is near one of a set. It is 0 if one
+/// may be near already.
 pub fn room(set: &CellList, cells: &CellList) -> u32
     ensures apart { (R : ModelRule) (Q : Generation) → IsSubsetOf Q cells.now → AreDisjoint set.now Q →
         AreApartBefore R result set.now Q }

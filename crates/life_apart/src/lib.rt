@@ -1,4 +1,5 @@
-//! Whether sets that recur make up a set, and stay apart for ever. `onsets` finds the generation from which on a pattern is ash.
+//! Deciding whether sets that recur make up a set, and stay apart for ever. `onsets` finds the first generation of a pattern
+//! that is ash.
 //!
 //! Tested in `tests_objects`, by `life_census`.
 #![tactic(auto)]

@@ -1,4 +1,4 @@
-//! The generation from which on a pattern is ash, if a later generation is ash of known parts.
+//! The first generation of a pattern that is ash, where a later generation is ash of known parts.
 //!
 //! Tested in `tests_objects`.
 

@@ -7,8 +7,8 @@ ghost use Rattle.life_apart.specs.Spans.{AreRisingSpans, AreSpans, HasBands, Has
 use life_orbit::{Hull, Orbit};
 use std::alloc::{AllocError, Global};
 
-/// A set that stays where it is, in one band of rows: the band, the first and the last column in which the set stays,
-/// and its place in a list.
+/// A set that stays where it is, in one band of rows: the band, the first and the last column of the set, and its
+/// place in a list.
 #[derive(Clone, Copy)]
 pub struct Span {
     pub band: u32,
@@ -46,7 +46,7 @@ fn span_at(hull: Hull, place: usize, band: u32) -> Span
     }
 }
 
-/// Whether a set recurs without moving.
+/// True if a set recurs without moving.
 pub fn rests(orbit: &Orbit) -> bool
     ensures { IsTrue result ↔ (orbit.now.displacement ≡ origin) }
 {
@@ -93,7 +93,7 @@ fn spans_of(alloc: Global, orbits: &[Orbit]) -> Result<Vec<Span>, AllocError>
     Ok(spans)
 }
 
-/// The spans of the sets that stay where they are, band after band, and in each band ordered by where they begin.
+/// The spans of the sets that stay where they are, band after band, and in each band ordered by their first columns.
 pub fn spans_in_order(alloc: Global, orbits: &[Orbit]) -> Result<Vec<Span>, AllocError>
     ensures spans { IfOk result (λ spans. AreSpans orbits.now spans.items) }
     ensures rising { IfOk result (λ spans. AreRisingSpans spans.items) }

@@ -1,4 +1,4 @@
-//! Sets that recur. Those that stay where they are are compared band by band.
+//! Comparing sets that recur: those that stay where they are band by band.
 ghost use Rattle.std.specs.Prelude.{◌<◌, ◌↔◌, All, AllPairs, IsTrue, length};
 ghost use Rattle.std.specs.Bool.{OnTrue};
 ghost use Rattle.life_model.specs.Rule.{Rule as ModelRule};
@@ -9,7 +9,7 @@ ghost use Rattle.life_apart.specs.Spans.{AreApartInOrder, AreMoversApart, ArePla
 use crate::span::{Span, rests};
 use life_orbit::Orbit;
 
-/// Whether the sets in two places stay apart for ever, or the places are the same.
+/// True if the sets at two places stay apart for ever, or the places are the same.
 fn are_places_apart(orbits: &[Orbit], first: usize, second: usize) -> bool
     requires rule { (R : ModelRule) × All (IsCourseBy R) orbits.now }
     requires first { first < length orbits.now }
@@ -23,7 +23,7 @@ fn are_places_apart(orbits: &[Orbit], first: usize, second: usize) -> bool
     orbits[first].is_apart_for_ever_from(&orbits[second])
 }
 
-/// Whether a set stays apart for ever from all others.
+/// True if a set stays apart for ever from all others.
 fn is_apart_from_others(orbits: &[Orbit], place: usize) -> bool
     requires rule { (R : ModelRule) × All (IsCourseBy R) orbits.now }
     requires place { place < length orbits.now }
@@ -38,7 +38,7 @@ fn is_apart_from_others(orbits: &[Orbit], place: usize) -> bool
     true
 }
 
-/// Whether a set stays where it is, or apart for ever from all others.
+/// True if a set stays where it is, or apart for ever from all others.
 fn rests_or_is_apart(orbits: &[Orbit], place: usize) -> bool
     requires rule { (R : ModelRule) × All (IsCourseBy R) orbits.now }
     requires place { place < length orbits.now }
@@ -53,7 +53,7 @@ fn rests_or_is_apart(orbits: &[Orbit], place: usize) -> bool
     is_apart_from_others(orbits, place)
 }
 
-/// Whether each set that moves stays apart for ever from all others.
+/// True if each set that moves stays apart for ever from all others.
 fn are_movers_apart(orbits: &[Orbit]) -> bool
     requires rule { (R : ModelRule) × All (IsCourseBy R) orbits.now }
     ensures apart { (R : ModelRule) → All (IsCourseBy R) orbits.now → IsTrue result →
@@ -69,7 +69,7 @@ fn are_movers_apart(orbits: &[Orbit]) -> bool
     true
 }
 
-/// Whether the other is in a later band, or begins more than two columns after the end of the first.
+/// True if `other` is in a later band, or begins more than two columns after the end of `span`.
 fn is_past(span: Span, other: Span) -> bool
     ensures { OnTrue result (IsPast span other) }
 {
@@ -82,7 +82,7 @@ fn is_past(span: Span, other: Span) -> bool
     false
 }
 
-/// Whether the set of a span stays apart for ever from those of the spans after it that are near it.
+/// True if the set of a span stays apart for ever from those of the later spans that are near it.
 fn is_apart_from_later(orbits: &[Orbit], spans: &[Span], n: usize) -> bool
     requires rule { (R : ModelRule) × All (IsCourseBy R) orbits.now }
     requires placed { All (IsPlacedIn (length orbits.now)) spans.now }
@@ -104,7 +104,7 @@ fn is_apart_from_later(orbits: &[Orbit], spans: &[Span], n: usize) -> bool
     true
 }
 
-/// Whether any two sets with spans that are near each other stay apart for ever.
+/// True if any two sets with spans that are near each other stay apart for ever.
 fn are_apart_in_order(orbits: &[Orbit], spans: &[Span]) -> bool
     requires rule { (R : ModelRule) × All (IsCourseBy R) orbits.now }
     requires spans { AreSpans orbits.now spans.now }
@@ -122,7 +122,7 @@ fn are_apart_in_order(orbits: &[Orbit], spans: &[Span]) -> bool
     true
 }
 
-/// Whether any two of the sets stay apart for ever. `spans` are the spans of those that stay where they are. Each set
+/// True if any two of the sets stay apart for ever. `spans` are the spans of those that stay where they are. Each set
 /// that moves is compared with all others.
 pub fn are_apart_by_bands(orbits: &[Orbit], spans: &[Span]) -> bool
     requires rule { (R : ModelRule) × All (IsCourseBy R) orbits.now }

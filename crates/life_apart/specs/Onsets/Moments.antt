@@ -11,12 +11,12 @@ pub record Moment : Type 0 where
   pub cells : Generation
   pub number : ℕ
 
--- as a pair
+-- coded as a pair
 abbrev pub coded_moment : Coded Moment
 coded_moment =
     code_by (Generation × ℕ) (coded× coded_generation coded_ℕ) (λ m. (m.cells, m.number))
     (λ p. record { cells = p.0; number = p.1 }) (λ _. refl)
 
--- it is the generation of G that has its number
+-- the moment is the generation of G that has its number
 abbrev pub IsMomentOf : Rule → Generation → Moment → Type 0
 IsMomentOf R G m = m.cells ≡ generation R G m.number

@@ -1,4 +1,4 @@
--- What sets that recur were some generations ago.
+-- Sets that recur, some generations ago.
 use Rattle.std.specs.Prelude.{◌≡◌, ℕ, ◌+◌, ◌-◌, ◌*◌, List, [], ◌∷◌, map}
 use Rattle.life_model.specs.Cell.{opposite}
 use Rattle.life_model.specs.Evolution.{generation}
@@ -12,20 +12,20 @@ use Rattle.life_orbit.specs.Course.{Course}
 abbrev pub sets_of : List Course → List Generation
 sets_of courses = map (λ o. o.set) courses
 
--- it recurs by this rule
+-- the set recurs by this rule
 abbrev pub IsCourseBy : Rule → Course → Type 0
 IsCourseBy R o = o.rule ≡ R
 
--- what a set that has always recurred was n generations ago: the set n periods ago, and from there n * period - n
+-- a set that has always recurred, as it was n generations ago: the set n periods ago, and from there n * period - n
 -- generations on
 abbrev pub past_of : ℕ → Course → Generation
 past_of n o = translate_of (generation o.rule o.set (n * o.period - n)) (opposite (multiple_of n o.displacement))
 
--- what each set was then
+-- each of the sets, as it was then
 abbrev pub pasts : ℕ → List Course → List Generation
 pasts n courses = map (past_of n) courses
 
--- how many cells sets have together, counted set by set
+-- the number of cells of all sets, counted set by set
 abbrev pub total : List Generation → ℕ
 total [] = 0
 total (P ∷ Ps) = size P + total Ps

@@ -20,11 +20,11 @@ use life_orbit::Orbit;
 use life_plane::{AGE_LIMIT, Plane};
 use std::alloc::{AllocError, Global};
 
-/// How many generations the walk makes from one look to the next.
+/// The number of generations that the walk makes from one look to the next.
 const BETWEEN_LOOKS: u32 = 32;
 
-/// Whether a plane's cells, which are generation `now`, are ash already. The generation of this age is ash of these
-/// parts, which are apart since generation `since`.
+/// True if a plane's cells, which are generation `now`, are ash already. The generation of this age is ash of these
+/// parts, which have been apart since generation `since`.
 fn is_ash_already<P: Plane>(
     alloc: Global,
     plane: &P,
@@ -48,8 +48,8 @@ fn is_ash_already<P: Plane>(
     were_together(alloc, plane, parts, age - now)
 }
 
-/// A plane of a kept generation, if it is before the one of this age, which is ash of these parts, and is not ash
-/// itself.
+/// A plane at a kept generation, if that is no ash itself and is before the one of this age, which is ash of these
+/// parts.
 fn plane_before_ash<P: Plane>(
     alloc: Global,
     kept: &Kept,
@@ -81,7 +81,7 @@ fn plane_before_ash<P: Plane>(
     Ok(Some(plane))
 }
 
-/// A plane of a generation of a pattern before which none is ash: the last kept generation that is not ash itself, or
+/// A plane at a generation of a pattern before which none is ash: the last kept generation that is not ash itself, or
 /// else generation 0. The generation of this age is ash of these parts.
 fn plane_before_onset<P: Plane>(
     alloc: Global,
@@ -112,8 +112,8 @@ fn plane_before_onset<P: Plane>(
     P::from_cells(alloc, cells)
 }
 
-/// The onset of a pattern's ash, if a plane has generation `start`, before which none is ash, and generation `end` is
-/// ash. The later generation of this age is ash of these parts, which are apart since generation `since`.
+/// The onset of a pattern's ash, if a plane is at generation `start`, before which none is ash, and generation `end` is
+/// ash. The later generation of this age is ash of these parts, which have been apart since generation `since`.
 fn onset_between<P: Plane>(
     alloc: Global,
     rule: &Rule,
@@ -147,10 +147,10 @@ fn onset_between<P: Plane>(
     Ok(end)
 }
 
-/// The onset of a pattern's ash, if the generation of this age is ash of these parts. It follows the parts back to when
-/// the last two of them were near, and the pattern forward to the first generation after that with as many cells as the
-/// parts then had, and the same ones. All later generations are ash too. So it begins with the last generation of the
-/// trail that is not ash, and looks at every generation only after the last look that found no ash.
+/// The onset of a pattern's ash, if the generation of this age is ash of these parts. The parts are followed back to
+/// when the last two of them were near, and the pattern forward to the first generation after that with as many cells
+/// as the parts had then, and the same ones. All later generations are ash too. So the walk begins with the last
+/// generation of the trail that is not ash, and looks at every generation only after the last look that found no ash.
 pub fn onset<P: Plane>(
     alloc: Global,
     rule: &Rule,

@@ -1,4 +1,4 @@
-//! Since when any two of several sets that recur are apart.
+//! The generation since which any two of several sets that recur are apart.
 ghost use Rattle.std.specs.Prelude.{◌≡◌, ℕ, ◌<◌, ◌≤◌, ◌↔◌, IsTrue, length};
 ghost use Rattle.life_model.specs.Cell.{origin};
 ghost use Rattle.life_model.specs.Rule.{Rule as ModelRule};
@@ -7,7 +7,7 @@ ghost use Rattle.life_apart.specs.Onsets.Since.{AreAllApartSince, AreApartCourse
 
 use life_orbit::Orbit;
 
-/// Whether a set recurs without moving.
+/// True if a set recurs without moving.
 fn rests(orbit: &Orbit) -> bool
     ensures { IsTrue result ↔ (orbit.now.displacement ≡ origin) }
 {
@@ -23,7 +23,7 @@ fn later(one: u32, other: u32) -> u32
     one.max(other)
 }
 
-/// Since when the sets in two places are apart, or 0 if the places are the same.
+/// The generation since which the sets at two places are apart, or 0 if the places are the same.
 fn places_apart_since(parts: &[Orbit], place: usize, other: usize, age: u32) -> u32
     requires parts { (R : ModelRule) × AreApartCourses R parts.now }
     requires place { place < length parts.now }
@@ -40,7 +40,7 @@ fn places_apart_since(parts: &[Orbit], place: usize, other: usize, age: u32) -> 
     parts[place].apart_since(&parts[other], age)
 }
 
-/// Since when a set is apart from all others.
+/// The generation since which a set is apart from all others.
 fn place_apart_since(parts: &[Orbit], place: usize, age: u32) -> u32
     requires parts { (R : ModelRule) × AreApartCourses R parts.now }
     requires place { place < length parts.now }
@@ -57,7 +57,7 @@ fn place_apart_since(parts: &[Orbit], place: usize, age: u32) -> u32
     since
 }
 
-/// Since when a set that moves is apart from all others, and 0 for a set that stays where it is.
+/// The generation since which a set that moves is apart from all others, or 0 for a set that stays where it is.
 fn mover_apart_since(parts: &[Orbit], place: usize, age: u32) -> u32
     requires parts { (R : ModelRule) × AreApartCourses R parts.now }
     requires place { place < length parts.now }
@@ -73,8 +73,8 @@ fn mover_apart_since(parts: &[Orbit], place: usize, age: u32) -> u32
     place_apart_since(parts, place, age)
 }
 
-/// The generation from which on any two of the sets are apart for ever, if they are so at this age and each has always
-/// recurred as it does now. Two sets that stay where they are have never been near.
+/// The first generation from which any two of the sets are apart for ever, if they are so at this age and each has
+/// always recurred as it does now. Two sets that stay where they are have never been near.
 pub fn all_apart_since(parts: &[Orbit], age: u32) -> u32
     requires { (R : ModelRule) × AreApartCourses R parts.now }
     ensures since { (R : ModelRule) → AreApartCourses R parts.now →

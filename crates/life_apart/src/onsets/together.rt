@@ -1,4 +1,4 @@
-//! Whether sets that recur made up a set some generations ago.
+//! Deciding whether sets that recur made up a set some generations ago.
 ghost use Rattle.std.specs.Prelude.{◌≡◌, ◌≤◌, ◌↔◌, All, AllPairs, IfNone, IfOk, IfSome, IsTrue, flat_map};
 ghost use Rattle.life_model.specs.Generation as generations;
 ghost use Rattle.life_cells.specs.Limits.{IsPlace};
@@ -12,7 +12,7 @@ use life_orbit::Orbit;
 use life_plane::{AGE_LIMIT, Plane};
 use std::alloc::{AllocError, Global};
 
-/// Whether the sets had `population` cells in all, `ago` generations ago.
+/// True if the sets had `population` cells in all, `ago` generations ago.
 fn were_as_many(parts: &[Orbit], ago: u32, population: u64) -> bool
     requires ago { 1 ≤ ago }
     requires courses { All IsCourse parts.now }
@@ -28,7 +28,7 @@ fn were_as_many(parts: &[Orbit], ago: u32, population: u64) -> bool
     left == 0
 }
 
-/// The cells of each of the sets as it was `ago` generations ago, if all of them had places of a list of cells.
+/// The cells of each of the sets as it was `ago` generations ago, if a list of cells can hold all of them.
 fn cells_ago(
     alloc: Global,
     parts: &[Orbit],
@@ -51,7 +51,7 @@ fn cells_ago(
     Ok(Some(all))
 }
 
-/// Whether a plane's cells are what the sets were `ago` generations ago, and the sets had no cell in common.
+/// True if a plane's cells are those that the sets had `ago` generations ago. The sets had no cell in common then.
 pub fn were_together<P: Plane>(
     alloc: Global,
     plane: &P,
@@ -68,7 +68,7 @@ pub fn were_together<P: Plane>(
     if !were_as_many(parts, ago, plane.population()) {
         return Ok(false);
     }
-    // (at its age no cell is too far out)
+    // (at its age no cell of the plane is too far out)
     let _age = plane.age();
     let Some(mut all) = cells_ago(alloc, parts, ago)? else {
         return Ok(false);

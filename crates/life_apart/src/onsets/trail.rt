@@ -10,10 +10,10 @@ use life_plane::{AGE_LIMIT, Plane};
 use std::alloc::{AllocError, Global};
 use std::marker::Model;
 
-/// The most generations that are kept.
+/// The greatest number of generations that are kept.
 const MOST: usize = 3;
 
-/// The least number of generations between two that are kept, in addition to an eighth of the age.
+/// The least number of generations from one that is kept to the next, in addition to an eighth of the age.
 const BETWEEN: u32 = 48;
 
 /// The cells of a generation, and its number.
@@ -66,7 +66,7 @@ impl Kept {
     }
 }
 
-/// A few generations of a pattern, the last first. How many, and which, is only a matter of speed.
+/// A few generations of a pattern, the last one first. Their number and choice matter only for speed.
 #[derive(Drop)]
 pub struct Trail {
     kept: Vec<Kept>,
@@ -86,7 +86,7 @@ impl Model for Trail {
 }
 
 impl Trail {
-    /// The trail without a generation.
+    /// The empty trail.
     pub fn new(alloc: Global) -> Trail
         ensures { result ≡ [] }
     {
@@ -96,9 +96,9 @@ impl Trail {
         }
     }
 
-    /// Keeps the generation that a plane has come to, if the last that is kept is some time ago. If many are kept, it
-    /// takes the place of the earliest. Nothing rests on whether it does. After an `Err`, too, those that are kept are
-    /// right.
+    /// Keeps the generation that a plane is at, if the last one that was kept is some time ago. If many are kept, it
+    /// takes the place of the earliest. Correctness does not depend on whether it is kept. Even after an `Err`, those
+    /// that are kept are right.
     pub fn note<P: Plane>(&mut self, plane: &P) -> Result<(), AllocError>
         ensures { (R : ModelRule) (G : Generation) →
             P.members plane.now ≡ generation R G (P.steps_made plane.now) →
