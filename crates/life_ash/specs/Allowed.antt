@@ -1,4 +1,4 @@
--- Generations that have no more cells than they may have.
+-- Generations that do not exceed a limit on the number of cells.
 use Rattle.std.specs.Prelude.{ℕ, ◌<◌, Option}
 use Rattle.life_model.specs.Evolution.{generation}
 use Rattle.life_model.specs.Generation.{Generation, size}

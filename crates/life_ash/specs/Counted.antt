@@ -6,7 +6,7 @@ use Rattle.life_model.specs.Rule.{Rule}
 use Rattle.life_strays.specs.Totals.{AreTotals, total}
 use Rattle.life_ash.specs.declared.stretches.Totals.{Totals}
 
--- the cells of the first n generations of H are counted, also up to each stretch of b generations
+-- the cells of the first n generations of H are counted, and also those before each stretch of b generations
 pub record IsCounted (R : Rule) (b : ℕ) (H : Generation) (n : ℕ) (t : Totals) : Type 0 where
   pub counted : t.total ≡ total R H n
   pub before : AreTotals R b H t.before.items

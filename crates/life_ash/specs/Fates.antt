@@ -1,4 +1,4 @@
--- What becomes of a pattern of which no generation may have more than some number of cells.
+-- The fate of a pattern whose generations may have no more than some number of cells.
 use Rattle.std.specs.Prelude.{◌≡◌, ℕ, ◌*◌, ◌≤◌, List, None, Option, Some}
 use Rattle.std.specs.Bool.{OnTrue}
 use Rattle.std.specs.List.{All}
@@ -20,9 +20,8 @@ IsSmallEnough R G b limit = first_past limit R G (3 * b) ≡ None
 abbrev pub EndsLater : Rule → Generation → Type 0
 EndsLater R G = (b : ℕ) × (n : ℕ) × (parts : List Generation) × IsAsh R b (generation R G n) parts
 
--- What becomes of G within b: it falls apart, a generation up to b being ash of these parts, and the trail has some of its
--- generations; or it doesn't, and where it is seen to end it falls apart later; or the first generation past the limit is this
--- one.
+-- The fate of G within b: it falls apart, and then a generation up to b is ash of these parts, and the trail has some of its
+-- generations; or it doesn't, and if `ends` it falls apart later; or this generation is the first past the limit.
 abbrev pub IsFate : Rule → Generation → ℕ → Option ℕ → Fate → Type 0
 IsFate R G b limit (Ash parts age trail) =
     IsSmallEnough R G b limit × (age ≤ b) × IsAsh R b (generation R G age) (sets_of parts) × All (IsCourseBy R) parts ×

@@ -4,7 +4,7 @@ use Rattle.life_model.specs.Evolution.{generation}
 use Rattle.life_model.specs.Generation.{size}
 use Rattle.life_orbit.specs.Course.{Course}
 
--- how many cells they have together then, counted one by one
+-- the number of cells that they have together then, counted set by set
 abbrev pub total_later : ℕ → List Course → ℕ
 total_later n [] = 0
 total_later n (o ∷ os) = size (generation o.rule o.set n) + total_later n os

@@ -5,7 +5,7 @@ use Rattle.life_model.specs.Rule.{Rule}
 use Rattle.life_objects.specs.Union.{IsSubsetOf}
 use Rattle.life_objects.specs.Whole.{StaysWhole}
 
--- P is some of G's cells, and in whichever two sets G splits that stay apart for b generations, it lies in one of them
+-- P has some of G's cells, and however G splits into two sets that stay apart for b generations, P lies in one of them
 pub record IsWholeIn (R : Rule) (b : ℕ) (G P : Generation) : Type 0 where
   pub within : IsSubsetOf P G
   pub whole : StaysWhole R b G P

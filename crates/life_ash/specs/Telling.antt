@@ -1,4 +1,4 @@
--- What later generations say about a set.
+-- The conclusions from later generations about a set.
 use Rattle.std.specs.Prelude.{ℕ, ◌≤◌, List}
 use Rattle.std.specs.Bool.{OnTrue}
 use Rattle.std.specs.List.{All}
@@ -20,13 +20,13 @@ IsTold R b H (Parts parts ago) = (ago ≤ ash_age_limit) × IsAshThen R b H ago 
 IsTold R b H Never = (parts : List Generation) → IsAsh R b H parts → ⊥
 IsTold R b H Nothing = Unit {0}
 
--- this holds where neither is known
+-- this holds if neither is known
 abbrev pub IfUntold : Told → Type 0 → Type 0
 IfUntold (Parts parts ago) A = Unit {0}
 IfUntold Never A = Unit {0}
 IfUntold Nothing A = A
 
--- H is ash of these parts within b; or H is no ash, and where it is seen to end it becomes ash later
+-- H is ash of these parts within b; or H is no ash, and if `ends` it becomes ash later
 abbrev pub IsAtBound : Rule → ℕ → Generation → AtBound → Type 0
 IsAtBound R b H (Ash parts) = IsAsh R b H (sets_of parts) × All (IsCourseBy R) parts
 IsAtBound R b H (NoAsh ends) = ((parts : List Generation) → IsAsh R b H parts → ⊥) × OnTrue ends (EndsLater R H)

@@ -1,4 +1,4 @@
-//! Whether sets recur, without keeping the generations on the way.
+//! Deciding whether sets recur, without keeping the generations on the way.
 ghost use Rattle.std.specs.Prelude.{◌≡◌, ◌≤◌, All, IfOk, IsTrue};
 ghost use Rattle.life_model.specs.Cell.{Cell};
 ghost use Rattle.life_model.specs.Generation as generations;
@@ -15,7 +15,7 @@ use std::alloc::{AllocError, Global};
 /// The age of the plane on which a set is followed.
 const AGE: u32 = 4_000_000;
 
-/// Whether a plane's cells are those of another, moved as a whole.
+/// True if a plane's cells are those of another, moved as a whole.
 fn are_moved<P: Plane>(later: &P, first: &P) -> Result<bool, AllocError>
     ensures { IfOk result (λ are. (d : Cell) →
         P.members later.now ≡ translate_of (P.members first.now) d → IsTrue are) }
@@ -26,8 +26,8 @@ fn are_moved<P: Plane>(later: &P, first: &P) -> Result<bool, AllocError>
     Ok(later.offset_from_plane(first)?.is_some())
 }
 
-/// Whether a set recurs, moved as a whole, within `bound` generations. A set that does not is followed for all of them, but none
-/// of them is kept.
+/// True if a set recurs, moved as a whole, within `bound` generations. A set that does not is followed for all of them, but
+/// none of them is kept.
 pub fn comes_again<P: Plane>(
     alloc: Global,
     cells: &CellList,

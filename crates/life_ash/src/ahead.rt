@@ -1,4 +1,4 @@
-//! What is found of patterns on their way from generation to generation.
+//! Walking from generation to generation, in search of ash.
 ghost use Rattle.std.specs.Prelude.{◌≡◌, ◌+◌, ◌<◌, ◌≤◌, ℕ, All, IfOk, IfSome};
 ghost use Rattle.life_model.specs.Evolution.{generation};
 ghost use Rattle.life_model.specs.Generation.{Generation};
@@ -20,7 +20,7 @@ use life_plane::{AGE_LIMIT, Observer, Plane};
 use life_strays::Pace;
 use std::alloc::{AllocError, Global};
 
-/// Parts of which a plane's cells are ash, where a look at this age is due and finds them.
+/// Parts of which a plane's cells are ash, if a look at this age is due and finds them.
 pub fn parts_if_due<P: Plane>(
     alloc: Global,
     plane: &P,
@@ -43,8 +43,8 @@ pub fn parts_if_due<P: Plane>(
     guessed_parts(alloc, plane, met, pace.looks())
 }
 
-/// What is found of the generation on a plane, of this age, where a look at it is due: ash, where no generation up to the last is
-/// past the limit, or the first generation that is.
+/// The finding about the generation of this age, which a plane is at, if a look at it is due: ash, if no generation up to the
+/// last is past the limit, or else the first generation that is.
 pub fn found_if_due<P: Plane>(
     alloc: Global,
     plane: &P,
@@ -79,13 +79,13 @@ pub fn found_if_due<P: Plane>(
     ))
 }
 
-/// Walks on to the age `end`, and checks now and then whether the plane's cells are ash. The generation of the end itself is not
-/// checked. No generation that the walk comes to may have more cells than the limit; where ash is found, none up to the last may.
-/// Some generations are kept on a trail. The rule and the bound are those of what is known. Each generation on the way is
-/// reported to an observer.
+/// Walks on to the age `end`, and checks now and then whether the plane's cells are ash. The generation at the end itself is
+/// not checked. No generation that the walk comes to may have more cells than the limit; if ash is found, none up to the last
+/// may. Some generations are kept on a trail. The rule and the bound are those of `met`. Each generation on the way is reported
+/// to an observer.
 ///
-/// Where `Nothing` is found, the plane is as old as the end. One may walk on from there, with a greater end and the same plane,
-/// knowledge, pace, trail, limit and last. A plane's age may be the end already. The end is at most 400,000 and at most one more
+/// If `Nothing` is found, the plane is as old as the end. The walk may go on from there, with a greater end and the same plane,
+/// `met`, pace, trail, limit and last. A plane's age may be the end already. The end is at most 400,000 and at most one more
 /// than the last.
 pub fn walk_on<P: Plane, W: Observer>(
     alloc: Global,

@@ -1,4 +1,4 @@
-//! What ash a set of cells is, if it is ash at all.
+//! The ash that a set of cells is, if it is ash at all.
 ghost use Rattle.std.specs.Prelude.{◌≡◌, ℕ, ◌≤◌, ◌↔◌, All, IfNone, IfOk, IfSome, IsTrue, List};
 ghost use Rattle.life_model.specs.Generation.{Generation};
 ghost use Rattle.life_objects.specs.Ash.{IsAsh};
@@ -39,7 +39,7 @@ impl Model for Ash {
 }
 
 impl Ash {
-    /// The sets of these orbits, whose cells are places at age 400,000.
+    /// The sets of these orbits, all of whose cells are in the field at age 400,000.
     pub fn of(orbits: Vec<Orbit>) -> Ash
         requires placed { All IsPlaced orbits.items }
         requires courses { All IsCourse orbits.items }
@@ -58,7 +58,7 @@ impl Ash {
     }
 }
 
-/// Whether a plane's cells are ash of these parts.
+/// True if a plane's cells are ash of these parts.
 pub fn is_ash<P: Plane>(
     alloc: Global,
     plane: &P,
@@ -81,7 +81,7 @@ pub fn is_ash<P: Plane>(
     are_objects::<P>(alloc, parts, rule, bound)
 }
 
-/// The ash that a plane's cells are within the bound of what is known, where they are ash of these parts.
+/// The ash that a plane's cells are within the bound of `known`, if they are ash of these parts.
 fn ash_if<P: Plane>(
     alloc: Global,
     plane: &P,
@@ -104,7 +104,7 @@ fn ash_if<P: Plane>(
     Ok(Some(Ash::of(parts)))
 }
 
-/// The ash that a plane's cells are within the bound of what is known, where they are ash at all.
+/// The ash that a plane's cells are within the bound of `known`, if they are ash at all.
 pub fn ash_by<P: Plane>(
     alloc: Global,
     plane: &P,
@@ -124,8 +124,8 @@ pub fn ash_by<P: Plane>(
     }
 }
 
-/// The ash that a plane's cells are within the bound of what is known, where they are ash at all. After `ago` generations they
-/// become ash of the parts `later`.
+/// The ash that a plane's cells are within the bound of `known`, if they are ash at all. After `ago` generations they become
+/// ash of the parts `later`.
 pub fn ash_before<P: Plane>(
     alloc: Global,
     plane: &P,
@@ -152,7 +152,7 @@ pub fn ash_before<P: Plane>(
     }
 }
 
-/// The ash that a plane's cells are within the bound, where they are ash at all.
+/// The ash that a plane's cells are within the bound, if they are ash at all.
 pub fn ash_of<P: Plane>(
     alloc: Global,
     plane: &P,

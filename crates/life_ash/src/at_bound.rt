@@ -1,7 +1,7 @@
-//! What the generation of a bound may be.
+//! The result for the generation of a bound.
 use crate::ash_orbits::Ash;
 
-/// Whether the cells of a plane that is as old as the bound are ash.
+/// The cells of a plane that is as old as the bound, by whether they are ash.
 #[derive(Drop)]
 pub enum AtBound {
     /// They are.
@@ -11,7 +11,7 @@ pub enum AtBound {
     },
     /// They are not.
     NoAsh {
-        /// Whether they are seen to become ash later.
+        /// True if they are seen to become ash later.
         ends: bool,
     },
 }

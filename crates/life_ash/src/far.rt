@@ -1,4 +1,4 @@
-//! Walks far past the bound, for what later generations say about the generation of the bound.
+//! Walks far past the bound, for conclusions from later generations about the generation of the bound.
 ghost use Rattle.std.specs.Prelude.{◌≡◌, ◌+◌, ◌*◌, ◌<◌, ◌≤◌, ◌^◌, IfOk, length};
 ghost use Rattle.life_model.specs.Evolution.{generation};
 ghost use Rattle.life_model.specs.Generation.{Generation};
@@ -19,24 +19,24 @@ use std::alloc::{AllocError, Global};
 /// A pattern is followed to at most this many times the bound.
 const LATE: u32 = 8;
 
-/// After this many times the bound, islands are asked where there are few cells.
+/// After this many times the bound, islands are followed where there are few cells.
 const FIRST: u32 = 4;
 
 /// No generation of this age or later is looked at.
 const END: u32 = 400_001;
 
-/// Islands are asked before the walk where all generations up to the bound have about this many cells together, or fewer. With
-/// more cells it takes long to refuse growth too, which ash that a pattern becomes does at once.
+/// Islands are followed before the walk goes further if all generations up to the bound have about this many cells together, or
+/// fewer. With more cells it takes long to refute growth too, which ash that a pattern becomes does at once.
 const FEW: u64 = 20_000_000;
 
-/// How many cells the stretch has that ends with the total in a place.
+/// The number of cells in the stretch that ends with the total at a place.
 fn stretch_to(totals: &[u128], place: usize) -> u128
     requires { 1 ≤ place × place < length totals.now }
 {
     totals[place].saturating_sub(totals[place - 1])
 }
 
-/// Whether a further stretch costs much and promises little: the last one has more than `FEW` cells, and less than a tenth more
+/// True if a further stretch costs much and promises little: the last one has more than `FEW` cells, and less than a tenth more
 /// than the one before it. The totals are those before each stretch and after the last.
 fn is_dear(totals: &[u128]) -> bool {
     let count = totals.len();
@@ -47,8 +47,8 @@ fn is_dear(totals: &[u128]) -> bool {
     u128::from(FEW) < last && last / 11 < stretch_to(totals, count - 2) / 10
 }
 
-/// Walks on for a stretch of `bound` generations. Only where there is no ash does one stretch have many more cells than another. On
-/// the way checks now and then whether the cells are ash.
+/// Walks on for a stretch of `bound` generations. One stretch has many more cells than another only if there is no ash. On the
+/// way it checks now and then whether the cells are ash.
 fn told_by_stretch<P: Plane>(
     alloc: Global,
     plane: &mut P,
@@ -91,7 +91,7 @@ fn told_by_stretch<P: Plane>(
     Ok(Told::Nothing)
 }
 
-/// Walks on, stretch by stretch. Ends early where a further stretch is dear.
+/// Walks on, stretch by stretch. Ends early where a further stretch is expensive.
 fn told_until<P: Plane>(
     alloc: Global,
     plane: &mut P,
@@ -119,14 +119,14 @@ fn told_until<P: Plane>(
     Ok(Told::Nothing)
 }
 
-/// Whether the generations up to the bound have few cells together, if each has about as many as this one.
+/// True if the generations up to the bound have few cells together, in case that each has about as many as this one.
 fn are_few<P: Plane>(plane: &P, bound: u32) -> bool {
     plane.population().saturating_mul(u64::from(bound)) <= FEW
 }
 
-/// What later generations say about a plane's cells, which are as old as the bound: by how many they are, by what depends on an
-/// island of theirs, by the ash that they become, and by what stands alone and is new. The generation after three times the bound
-/// is on a plane of its own, and those before it are counted.
+/// The conclusion from later generations about a plane's cells, which are as old as the bound: from the numbers of their cells,
+/// from what hangs on one of the islands, from the ash that they become, and from sets that are alone and new. The generation
+/// after three times the bound is on a plane of its own, and those before it are counted.
 pub fn told_later<P: Plane>(
     alloc: Global,
     plane: &P,

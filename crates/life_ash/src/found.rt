@@ -1,7 +1,7 @@
-//! What may be found of a pattern on its way from generation to generation.
+//! The possible findings about a pattern on its way from generation to generation.
 use life_orbit::Orbit;
 
-/// What is found on the way.
+/// The finding on the way.
 #[derive(Drop)]
 pub enum Found {
     /// The generation of this age is ash of these parts.
@@ -16,6 +16,6 @@ pub enum Found {
         /// The first such generation.
         generation: u32,
     },
-    /// Neither, up to the end of the way.
+    /// Neither was found up to the end of the walk.
     Nothing,
 }

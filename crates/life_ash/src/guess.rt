@@ -1,4 +1,4 @@
-//! Parts that are guessed, and then checked.
+//! Guessing parts, and then checking them.
 ghost use Rattle.std.specs.Prelude.{◌≡◌, ◌≤◌, All, IfOk, IfSome};
 ghost use Rattle.life_model.specs.Generation as generations;
 ghost use Rattle.life_cells.specs.Limits.{IsWithin};
@@ -15,17 +15,17 @@ use life_orbit::Orbit;
 use life_plane::Plane;
 use std::alloc::{AllocError, Global};
 
-/// How far a guess looks.
+/// The limits of a guess.
 #[derive(Clone, Copy)]
 struct Effort {
-    /// For how many generations the cells are followed.
+    /// The number of generations for which the cells are followed.
     followed: u32,
-    /// Within how many generations each part must recur.
+    /// The number of generations within which each part must recur.
     recurs: u32,
 }
 
-/// The efforts of the guesses, each made where those before it found nothing. Most objects recur within four generations, and the
-/// islands of most that have several come near each other as soon.
+/// The efforts of the guesses, each made if those before it found nothing. Most objects recur within four generations, and
+/// within as many do the islands of most objects that have several come near each other.
 const EFFORTS: [Effort; 4] = [
     Effort {
         followed: 0,
@@ -48,7 +48,7 @@ const EFFORTS: [Effort; 4] = [
 /// A set with more cells than this is checked for recurrence before any of its generations is kept.
 const LARGE: usize = 4096;
 
-/// The orbits of the classes as they were at first, where each recurs within `tried` generations or was met before.
+/// The orbits of the first cells of the classes, if each recurs within `tried` generations or is known already.
 fn orbits_of<P: Plane>(
     alloc: Global,
     known: &mut Known,
@@ -79,7 +79,7 @@ fn orbits_of<P: Plane>(
     Ok(Some(orbits))
 }
 
-/// Parts of which a plane's cells are ash within the bound of what is known, where one effort finds them.
+/// Parts of which a plane's cells are ash within the bound of `known`, if one effort finds them.
 fn parts_by_effort<P: Plane>(
     alloc: Global,
     plane: &P,
@@ -111,9 +111,9 @@ fn parts_by_effort<P: Plane>(
     Ok(None)
 }
 
-/// Parts of which a plane's cells are ash within the bound of what is known, where they are found at once: cells that belong
-/// together come near each other within a while, and each part recurs within a while or was met before. Finding none means
-/// nothing. At most `most` efforts are made, each greater than those before it.
+/// Parts of which a plane's cells are ash within the bound of `known`, if they are found quickly: cells that belong together
+/// come near each other within a while, and each part recurs within a while or is known already. `None` means nothing. At most
+/// `most` efforts are made, each greater than those before it.
 pub fn guessed_parts<P: Plane>(
     alloc: Global,
     plane: &P,

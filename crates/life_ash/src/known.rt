@@ -1,4 +1,4 @@
-//! Sets that were met, so that none that is one of them, moved as a whole, is followed again.
+//! Known sets. A set that is one of them, moved as a whole, is not followed again.
 ghost use Rattle.std.specs.Prelude.{◌≡◌, ◌≤◌, All, IfNone, IfOk, IfSome};
 ghost use Rattle.life_model.specs.Generation as generations;
 ghost use Rattle.life_cells.specs.Limits.{IsWithin};
@@ -13,16 +13,16 @@ use life_plane::Plane;
 use std::alloc::{AllocError, Global};
 use std::marker::Model;
 
-/// How many orbits are kept at most.
+/// The greatest number of orbits that are kept.
 const MOST: usize = 64;
 
 /// The greatest period of an orbit that is kept.
 const LONGEST: u32 = 64;
 
-/// How many cells a set has at most that is kept.
+/// The greatest number of cells of a set that is kept.
 const LARGEST: usize = 256;
 
-/// Orbits of sets that recur by one rule within one bound. Each is right; not all that were met are kept.
+/// Orbits of sets that recur by one rule within one bound. Each is right, but not all that were found are kept.
 #[derive(Drop)]
 pub struct Known {
     rule: Rule,
@@ -42,7 +42,7 @@ impl Model for Known {
     ghost invariant = { λ k. AreKnown (record { rule = k.rule; bound = k.bound }) k.orbits.items };
 }
 
-/// The orbit of a set that is one of some sets, moved as a whole. Finding none means nothing.
+/// The orbit of a set that is one of these sets, moved as a whole. `None` means nothing.
 fn moved_orbit(
     alloc: Global,
     orbits: &[Orbit],
@@ -60,7 +60,7 @@ fn moved_orbit(
     Ok(None)
 }
 
-/// Keeps an orbit, where it is small and there is room for it.
+/// Keeps an orbit, if it is small and there is room for it.
 fn keep(alloc: Global, orbits: &mut Vec<Orbit>, orbit: &Orbit) -> Result<(), AllocError>
     ensures { (t : Terms) → All (IsMet t) orbits.old.items → IsMet t orbit.now →
         All (IsMet t) orbits.new.items }
@@ -74,7 +74,7 @@ fn keep(alloc: Global, orbits: &mut Vec<Orbit>, orbit: &Orbit) -> Result<(), All
 }
 
 impl Known {
-    /// No orbit yet, of sets that recur by this rule within `bound` generations.
+    /// No orbits yet, of sets that recur by this rule within `bound` generations.
     pub fn new(alloc: Global, rule: &Rule, bound: u32) -> Known
         requires { 1 ≤ bound × bound ≤ BOUND_LIMIT }
         ensures rule { result.rule ≡ rule.now }
@@ -87,7 +87,7 @@ impl Known {
         }
     }
 
-    /// Within how many generations the sets recur.
+    /// The number of generations within which the sets recur.
     pub fn bound(&self) -> u32
         ensures value { result ≡ self.now.bound }
         ensures some { 1 ≤ result }
@@ -103,8 +103,8 @@ impl Known {
         self.rule
     }
 
-    /// The orbit of a set, where it recurs within `tried` generations, which are no more than the bound. It is worked out where
-    /// no orbit of this set, moved as a whole, is kept; one that is kept may have a longer period, but within the bound.
+    /// The orbit of a set, if it recurs within `tried` generations, which are no more than the bound. It is computed if no
+    /// orbit of this set, moved as a whole, is kept; one that is kept may have a longer period, but within the bound.
     pub fn orbit_of<P: Plane>(
         &mut self,
         alloc: Global,

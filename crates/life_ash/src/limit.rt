@@ -1,4 +1,4 @@
-//! Generations that have more cells than they may have.
+//! Generations that exceed a limit on the number of cells.
 ghost use Rattle.std.specs.Prelude.{◌≡◌, ◌+◌, ◌<◌, ◌≤◌, ◌↔◌, ℕ, All, IfNone, IfOk, IfSome, IsTrue};
 ghost use Rattle.life_model.specs.Evolution.{generation};
 ghost use Rattle.life_model.specs.Generation.{Generation, size};
@@ -16,7 +16,7 @@ use life_plane::{AGE_LIMIT, Plane};
 use life_strays::{Pace, STRIDE};
 use std::alloc::AllocError;
 
-/// Whether this population is allowed.
+/// True if this population is allowed.
 pub fn is_allowed(limit: Option<u32>, population: u64) -> bool
     ensures { IsTrue result ↔ IsAllowed limit population }
 {
@@ -26,9 +26,9 @@ pub fn is_allowed(limit: Option<u32>, population: u64) -> bool
     }
 }
 
-/// For how many generations, from a set of `population` cells on, certainly none has more cells than are allowed: 0 where the set
-/// itself has more, and 4 at most. Three generations later there are at most 49 times as many cells, as none is further than three
-/// cells from one of these.
+/// The number of generations, from a set of `population` cells on, of which certainly none has more cells than are allowed: 0
+/// if the set itself has more, and at most 4. Three generations later there are at most 49 times as many cells, as none is
+/// further than three cells from one of these.
 fn few_for(limit: Option<u32>, population: u64) -> u32
     ensures few { (R : ModelRule) (G : Generation) → size G ≡ population →
         AreAllowedBefore R G limit result }
@@ -47,8 +47,8 @@ fn few_for(limit: Option<u32>, population: u64) -> u32
     1
 }
 
-/// The age before which certainly no generation has more cells than are allowed: later than that of the plane, or nothing where
-/// its own cells are more. That none before the age `known` has more is known already. The cells are counted only where that age
+/// An age before which certainly no generation has more cells than are allowed: later than that of the plane, or `None` if its
+/// own cells are more. It is known already that none before the age `known` has more. The cells are counted only once that age
 /// is reached, and at least at each age at which the pace needs it.
 pub fn few_until<P: Plane>(
     limit: Option<u32>,
@@ -77,8 +77,8 @@ pub fn few_until<P: Plane>(
     Some(age + more.min(STRIDE - age % STRIDE))
 }
 
-/// The first generation past the limit, from a plane's own cells, which are generation 0, to the last. No generation after
-/// it is looked at, and none where there is no limit.
+/// The first generation past the limit, from a plane's own cells, which are generation 0, to the last. No generation after it
+/// is looked at, and none if there is no limit.
 pub fn first_past<P: Plane>(
     plane: &P,
     rule: &Rule,
@@ -104,7 +104,7 @@ pub fn first_past<P: Plane>(
     Ok(None)
 }
 
-/// The first generation of ash past the limit, from a plane's own cells, which are generation 0, to the last. The parts mostly
+/// The first generation of ash past the limit, from a plane's own cells, which are generation 0, to the last. The parts usually
 /// decide it without a walk.
 pub fn first_past_of_ash<P: Plane>(
     plane: &P,

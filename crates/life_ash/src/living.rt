@@ -7,14 +7,14 @@ use life_cells::CellList;
 use life_classes::Class;
 use std::alloc::{AllocError, Global};
 
-/// Whether there is a cell.
+/// True if there is a cell.
 fn has_cells(cells: &CellList) -> bool
     ensures { result ≡ has_cells cells.now }
 {
     cells.len() != 0
 }
 
-/// What has become of the classes that live on.
+/// The last cells of the classes that live on.
 pub fn living(alloc: Global, classes: Vec<Class>) -> Result<Vec<CellList>, AllocError>
     ensures { IfOk result (λ sets. sets.items ≡ filter has_cells (last_sets classes.items)) }
 {

@@ -1,4 +1,4 @@
-//! Sets that stand by themselves long after the bound, and were not there before: where there is one, there is no ash.
+//! Sets that are by themselves long after the bound, and were not there before: if there is one, there is no ash.
 ghost use Rattle.std.specs.Prelude.{◌≡◌, ℕ, ◌*◌, ◌+◌, ◌<◌, ◌≤◌, All, IfOk, IfSome, IsTrue, List, length};
 ghost use Rattle.std.specs.List.{list_all};
 ghost use Rattle.life_model.specs.Evolution.{generation};
@@ -21,23 +21,23 @@ use life_classes::{classes_of, reaches};
 use life_plane::Plane;
 use std::alloc::{AllocError, Global};
 
-/// For how many generations cells are followed to see which belong together: first none, then as many as most spaceships of
-/// several pieces need.
+/// The numbers of generations for which cells are followed to see which belong together: first none, then as many as most
+/// spaceships of several pieces need.
 const FOLLOWED: [u32; 2] = [0, 64];
 
-/// Within how many generations a set must recur.
+/// The number of generations within which a set must recur.
 const TRIED: u32 = 64;
 
-/// How many cells a set has at most.
+/// The greatest number of cells that a set may have.
 const LARGEST: usize = 512;
 
-/// How many sets are looked at more closely.
+/// The number of sets that are looked at more closely.
 const MANY: usize = 32;
 
-/// How many of them are followed to see whether they stay alone.
+/// The number of these that are followed to see whether they stay alone.
 const TRIES: usize = 4;
 
-/// Whether each cell of a set is one of these cells.
+/// True if each cell of a set is one of these cells.
 fn is_within(set: &CellList, cells: &CellList) -> bool
     ensures { result ≡ list_all (reaches 0 cells.now) (generations.cells set.now) }
 {
@@ -47,7 +47,7 @@ fn is_within(set: &CellList, cells: &CellList) -> bool
         .all(|cell| reaches(0, cells, cell))
 }
 
-/// Whether a set recurs, and what it was `known.bound()` generations ago is not among these cells.
+/// True if a set recurs and the set that it was `known.bound()` generations ago is not among these cells.
 fn is_new<P: Plane>(
     alloc: Global,
     known: &mut Known,
@@ -70,7 +70,7 @@ fn is_new<P: Plane>(
     }
 }
 
-/// Another list of these cells.
+/// A copy of a set.
 fn copied(alloc: Global, set: &CellList) -> Result<CellList, AllocError>
     ensures { IfOk result (λ list. list ≡ set.now) }
 {
@@ -121,8 +121,8 @@ fn loneliest(sets: &[CellList], cells: &CellList) -> usize
     best
 }
 
-/// Whether a set of a plane's cells, which no split for the bound tears, shows that the generation of one bound before is no ash:
-/// the set stays alone, and what must have become it was not there.
+/// True if a set of a plane's cells, which no split for the bound tears, shows that the generation of one bound before is no
+/// ash: the set stays alone, and the set that must have become it was not there.
 fn tells<P: Plane>(
     alloc: Global,
     plane: &P,
@@ -154,7 +154,7 @@ fn tells<P: Plane>(
     }
 }
 
-/// Whether one of some sets of a plane's cells shows this. The loneliest are tried first, and only a few.
+/// True if one of some sets of a plane's cells shows this. The loneliest are tried first, and only a few.
 fn some_tells<P: Plane>(
     alloc: Global,
     plane: &P,
@@ -185,8 +185,8 @@ fn some_tells<P: Plane>(
     Ok(false)
 }
 
-/// Whether a plane's cells, which are as old as the bound, are seen to be no ash by what stands alone once they are twice as old.
-/// A negative answer means nothing.
+/// True if a plane's cells, which are as old as the bound, are seen to be no ash by a set that is alone once they are twice as
+/// old. A negative answer means nothing.
 pub fn is_no_ash<P: Plane>(alloc: Global, plane: &P, known: &mut Known) -> Result<bool, AllocError>
     requires age { P.steps_made plane.now ≡ known.old.bound }
     ensures same { known.new ≡ known.old }

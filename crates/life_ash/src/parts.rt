@@ -1,4 +1,4 @@
-//! What must be the parts of ash, if there is ash at all.
+//! The only possible parts of ash, if there is ash at all.
 ghost use Rattle.std.specs.Prelude.{◌≡◌, ◌≤◌, All, IfNone, IfOk, IfSome, List};
 ghost use Rattle.life_model.specs.Evolution.{generation};
 ghost use Rattle.life_model.specs.Generation.{Generation};
@@ -20,7 +20,7 @@ use life_orbit::Orbit;
 use life_plane::Plane;
 use std::alloc::{AllocError, Global};
 
-/// The only set that may have become this one after `ago` generations and that recurs within the bound.
+/// The only set that can have become this one after `ago` generations and that recurs within the bound, if there is one.
 pub fn part_of<P: Plane>(
     alloc: Global,
     known: &mut Known,
@@ -47,7 +47,7 @@ pub fn part_of<P: Plane>(
     known.orbit_of::<P>(alloc, &set, bound)
 }
 
-/// The only sets that may have become these ones. No generations are kept of a set that does not recur.
+/// The only sets that can have become these. For a set that does not recur no generations are kept.
 fn parts_of<P: Plane>(
     alloc: Global,
     known: &mut Known,
@@ -80,7 +80,7 @@ fn parts_of<P: Plane>(
     Ok(Some(parts))
 }
 
-/// The only parts of which the cells of a plane may be ash within the bound of what is known.
+/// The only parts of which the cells of a plane can be ash within the bound of `known`.
 pub fn only_parts<P: Plane>(
     alloc: Global,
     plane: &P,
@@ -118,8 +118,8 @@ fn sets(alloc: Global, orbits: &[Orbit]) -> Result<Vec<CellList>, AllocError>
     Ok(sets)
 }
 
-/// The only parts of which the cells of a plane may be ash within the bound of what is known, where they become ash of the parts
-/// `later` after `ago` generations: what these parts were before.
+/// The only parts of which the cells of a plane can be ash within the bound of `known`, if they become ash of the parts `later`
+/// after `ago` generations: the sets that these parts were before.
 pub fn parts_before<P: Plane>(
     alloc: Global,
     plane: &P,

@@ -1,4 +1,4 @@
-//! Walks on from the bound, on which cells are counted.
+//! Walking on from the bound, and counting the cells.
 ghost use Rattle.std.specs.Prelude.{◌≡◌, ◌*◌, ◌+◌, ◌<◌, ◌≤◌, ◌^◌, IfOk};
 ghost use Rattle.life_model.specs.Evolution.{generation};
 ghost use Rattle.life_model.specs.Generation.{Generation};
@@ -16,8 +16,8 @@ use life_plane::{AGE_LIMIT, Observer, Plane};
 use life_strays::Pace;
 use std::alloc::{AllocError, Global};
 
-/// Walks on to the age `end` from a generation that is no earlier than that of the bound, as `walk_on` does, and counts the cells
-/// of each generation before the end.
+/// Walks on to the age `end` as `walk_on` does, from a generation that is no earlier than that of the bound, and counts the
+/// cells of each generation before the end.
 pub fn count_on<P: Plane, W: Observer>(
     alloc: Global,
     observer: &W,

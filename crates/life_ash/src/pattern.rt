@@ -1,4 +1,4 @@
-//! What becomes of patterns.
+//! The fate of patterns.
 ghost use Rattle.std.specs.Prelude.{◌≡◌, ℕ, ◌≤◌, All, IfNone, IfOk, IfSome, List, Option};
 ghost use Rattle.life_model.specs.Evolution.{generation};
 ghost use Rattle.life_model.specs.Generation.{Generation};
@@ -29,8 +29,8 @@ use life_plane::{Observer, Plane};
 use life_strays::Pace;
 use std::alloc::{AllocError, Global};
 
-/// What becomes of a pattern, by what its generation of the bound is. No generation up to three times the bound is past the
-/// limit. Some generations on the way are on a trail.
+/// The fate of a pattern, from the result for its generation of the bound. No generation up to three times the bound is past
+/// the limit. Some generations on the way are on a trail.
 fn fate_of(found: AtBound, bound: u32, trail: Trail) -> Fate
     ensures { (R : ModelRule) (G : Generation) (limit : Option ℕ) →
         IsSmallEnough R G bound limit → All (IsMomentOf R G) trail →
@@ -46,10 +46,10 @@ fn fate_of(found: AtBound, bound: u32, trail: Trail) -> Fate
     }
 }
 
-/// What becomes of a pattern whose generation of the bound is on a plane, where no ash was found before and no generation before
-/// has more cells than it may have. This is the case where `walk_on`, from generation 0 to the bound, finds `Nothing`. The rule
-/// and the bound are those of what is known. The trail has some of the pattern's generations. The plane is unchanged. It may be
-/// known already that its cells are no ash within the bound.
+/// The fate of a pattern whose generation of the bound is on a plane, if no ash was found before and no generation before has
+/// more cells than it may have. This is the case where `walk_on`, from generation 0 to the bound, finds `Nothing`. The rule and
+/// the bound are those of `met`. The trail has some of the pattern's generations. The plane is unchanged. `is_no_ash` may be
+/// set if its cells are known to be no ash within the bound.
 pub fn fate_past<P: Plane, W: Observer>(
     alloc: Global,
     observer: &W,
@@ -93,9 +93,9 @@ pub fn fate_past<P: Plane, W: Observer>(
     )
 }
 
-/// What becomes of a pattern within the bound. On the way to the bound it is checked now and then whether the pattern is ash,
-/// since ash stays ash. With a limit no generation from 0 to three times the bound may have more cells; generations after the one
-/// at which ash is found are mostly not looked at, since the parts give their sizes. The generations on the way are reported to
+/// The fate of a pattern within the bound. On the way to the bound it is checked now and then whether the pattern is ash, since
+/// ash stays ash. With a limit, no generation from 0 to three times the bound may have more cells; generations after the one at
+/// which ash is found are usually not looked at, since the parts give their sizes. The generations on the way are reported to
 /// an observer.
 pub fn fate<P: Plane, W: Observer>(
     alloc: Global,

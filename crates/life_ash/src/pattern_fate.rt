@@ -1,8 +1,8 @@
-//! What may become of a pattern.
+//! The possible fates of a pattern.
 use crate::ash_orbits::Ash;
 use life_apart::Trail;
 
-/// What becomes of a pattern within a bound, if no generation may have more cells than some number.
+/// The fate of a pattern within a bound, if no generation may have more than some number of cells.
 #[derive(Drop)]
 pub enum Fate {
     /// It falls apart.
@@ -16,7 +16,7 @@ pub enum Fate {
     },
     /// It has not fallen apart by the bound.
     Unresolved {
-        /// Whether it is seen to fall apart later.
+        /// True if it is seen to fall apart later.
         ends: bool,
     },
     /// Some generation from 0 to three times the bound has more cells than it may have.

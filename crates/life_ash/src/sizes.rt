@@ -1,4 +1,4 @@
-//! How many cells sets that recur have at most.
+//! Upper bounds on the numbers of cells of sets that recur.
 ghost use Rattle.std.specs.Prelude.{◌≤◌, ℕ, IsTrue};
 ghost use Rattle.life_model.specs.Evolution.{generation};
 ghost use Rattle.life_model.specs.Generation.{size};
@@ -6,7 +6,7 @@ ghost use Rattle.life_ash.specs.Later.{total_later};
 
 use life_orbit::Orbit;
 
-/// How many cells the largest generation of a set that recurs has.
+/// The number of cells in the largest generation of a set that recurs.
 fn largest(orbit: &Orbit) -> u64
     ensures { (n : ℕ) → size (generation orbit.now.rule orbit.now.set n) ≤ result }
 {
@@ -17,7 +17,7 @@ fn largest(orbit: &Orbit) -> u64
     most
 }
 
-/// Whether the largest generations of sets that recur have no more cells together than `most`. A negative answer means nothing
+/// True if the largest generations of sets that recur have no more cells together than `most`. A negative answer means nothing
 /// for any one generation.
 pub fn are_few(orbits: &[Orbit], most: u32) -> bool
     ensures { IsTrue result → (n : ℕ) → total_later n orbits.now ≤ most }

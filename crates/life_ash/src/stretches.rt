@@ -1,4 +1,4 @@
-//! How many cells generations have together.
+//! The numbers of cells that generations have together.
 ghost use Rattle.std.specs.Prelude.{◌≡◌, ◌+◌, ◌<◌, ◌≤◌, ◌^◌, ℕ, OnOk};
 ghost use Rattle.life_model.specs.Evolution.{generation};
 ghost use Rattle.life_model.specs.Generation.{Generation, size};
@@ -7,7 +7,7 @@ ghost use Rattle.life_ash.specs.Counted.{IsCounted};
 
 use std::alloc::{AllocError, Global};
 
-/// How many cells the generations from that of the bound on have together, up to some generation, which is not counted yet. A
+/// The number of cells of the generations from that of the bound on, up to some generation, which is not counted yet. A
 /// stretch is as many generations as the bound.
 #[derive(Drop)]
 pub struct Totals {
@@ -15,12 +15,12 @@ pub struct Totals {
     pub before: Vec<u128>,
     /// The total so far.
     pub total: u128,
-    /// How many generations of the stretch are left.
+    /// The number of generations of the stretch that are left.
     pub left: u32,
 }
 
 impl Totals {
-    /// Before any generation is counted.
+    /// The totals before any generation is counted.
     pub fn new(alloc: Global) -> Totals
         ensures total { result.total ≡ 0 }
         ensures counted { (R : ModelRule) (b : ℕ) (H : Generation) → IsCounted R b H 0 result }

@@ -1,4 +1,4 @@
-//! What ash the cells of the bound are, as later generations show.
+//! The ash that the cells of the bound are, as later generations show.
 ghost use Rattle.std.specs.Prelude.{◌≡◌, ℕ, ◌*◌, ◌+◌, ◌^◌, ◌≤◌, All, IfNone, IfOk, IfSome, List};
 ghost use Rattle.std.specs.Bool.{OnTrue};
 ghost use Rattle.life_model.specs.Evolution.{generation};
@@ -23,7 +23,7 @@ use life_plane::Plane;
 use life_strays::Pace;
 use std::alloc::{AllocError, Global};
 
-/// What cells are, by the ash that they are or none. If they are none, `ends` says whether they are seen to become ash later.
+/// The result for cells that are this ash, or none. If they are none, `ends` says whether they are seen to become ash later.
 fn at_bound(ash: Option<Ash>, ends: bool) -> AtBound
     ensures { (R : ModelRule) (b : ℕ) (H : Generation) →
         IfSome ash (λ ash. IsAsh R b H (sets_of ash)) → IfSome ash (All (IsCourseBy R)) →
@@ -36,7 +36,7 @@ fn at_bound(ash: Option<Ash>, ends: bool) -> AtBound
     }
 }
 
-/// What a plane's cells are, where they become ash of the parts `later` after `ago` generations.
+/// The result for a plane's cells, which become ash of the parts `later` after `ago` generations.
 pub fn ash_by_later<P: Plane>(
     alloc: Global,
     plane: &P,
@@ -53,8 +53,9 @@ pub fn ash_by_later<P: Plane>(
     Ok(at_bound(ash, true))
 }
 
-/// What a plane's cells are, which are as old as the bound. Later generations mostly decide it: the one after three times the bound
-/// is on a plane of its own, and those before it are counted. It may be known already that they are no ash.
+/// The result for a plane's cells, which are as old as the bound. Later generations usually decide it: the one after three
+/// times the bound is on a plane of its own, and those before it are counted. `is_no_ash` may be set if they are known to be no
+/// ash.
 pub fn ash_told<P: Plane>(
     alloc: Global,
     plane: &P,

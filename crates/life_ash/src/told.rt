@@ -1,14 +1,14 @@
-//! What later generations say about a plane's cells.
+//! Conclusions from later generations about a plane's cells.
 use life_orbit::Orbit;
 
-/// What ash a set becomes, or that it is no ash.
+/// The ash that a set becomes, or that it is no ash.
 #[derive(Drop)]
 pub enum Told {
     /// It becomes ash of these parts.
     Parts {
         /// The parts, in some order.
         parts: Vec<Orbit>,
-        /// After how many generations.
+        /// The number of generations after which it does.
         ago: u32,
     },
     /// It is no ash within the bound.

@@ -1,4 +1,4 @@
-//! Whether sets that recur are objects.
+//! Deciding whether sets that recur are objects.
 ghost use Rattle.std.specs.Prelude.{◌≡◌, ◌≤◌, ◌<◌, ◌↔◌, All, IfOk, IsTrue};
 ghost use Rattle.life_model.specs.Generation as generations;
 ghost use Rattle.life_cells.specs.Limits.{IsWithin};
@@ -12,8 +12,8 @@ use life_orbit::{BOUND_LIMIT, Orbit};
 use life_plane::Plane;
 use std::alloc::{AllocError, Global};
 
-/// Whether the cells split into no two sets that both live on. Mostly the cells are near each other, which is seen without a
-/// plane.
+/// True if the cells don't split into two sets that both live on. Usually the cells are near each other, which is seen without
+/// a plane.
 fn is_undivided<P: Plane>(
     alloc: Global,
     cells: &CellList,
@@ -31,9 +31,9 @@ fn is_undivided<P: Plane>(
     life_classes::is_undivided(alloc, plane, rule, bound)
 }
 
-/// Whether no generation of a set that recurs is divided. If a generation is undivided within some generations, the one before it
-/// is undivided within one more, so a few phases mostly decide for all. The last of as many phases as possible is looked at, and
-/// where that doesn't decide, of half as many.
+/// True if no generation of a set that recurs is divided. If a generation is undivided within some generations, the one before
+/// it is undivided within one more, so a few phases usually decide for all. The last of as many phases as possible is looked
+/// at, and if that doesn't decide, the last of half as many.
 fn is_one_piece<P: Plane>(
     alloc: Global,
     orbit: &Orbit,
@@ -60,7 +60,7 @@ fn is_one_piece<P: Plane>(
     Ok(true)
 }
 
-/// Whether a set that recurs is an object.
+/// True if a set that recurs is an object.
 fn is_object<P: Plane>(
     alloc: Global,
     orbit: &Orbit,
@@ -74,7 +74,7 @@ fn is_object<P: Plane>(
     Ok(!orbit.set().is_empty() && is_one_piece::<P>(alloc, orbit, rule, bound)?)
 }
 
-/// Whether sets that recur are objects, all of them.
+/// True if sets that recur are objects, all of them.
 pub fn are_objects<P: Plane>(
     alloc: Global,
     orbits: &[Orbit],
