@@ -8,12 +8,12 @@ use Rattle.life_growth.specs.Growth.{IsGrowth}
 use Rattle.life_growing.specs.Settled.Settling.{IsSettling, Settling, coded_settling}
 use Rattle.life_growing.specs.Emissions.{Emission, IsEmission, coded_emission}
 
--- the engines, and what becomes of the debris
+-- the engines, and the outcome of the debris
 pub record Growth : Type 0 where
   pub engines : List Emission
   pub debris : Settling
 
--- as the pair of its fields
+-- coded as the pair of its fields
 abbrev pub coded_growth : Coded Growth
 coded_growth =
     code_by (List Emission × Settling) (coded× (coded_list coded_emission) coded_settling) (λ g. (g.engines, g.debris))
@@ -26,11 +26,11 @@ start_of e = e.path.start
 abbrev pub starts_of : List Emission → List Generation
 starts_of engines = map start_of engines
 
--- it is an engine within b
+-- the set is an engine within b
 abbrev pub IsEngineFound : Rule → ℕ → Emission → Type 0
 IsEngineFound R b e = IsEmission R b (start_of e) e
 
--- G grows by these engines within b, and `debris` is what its debris becomes.
+-- G grows by these engines within b, and `debris` is the outcome of its debris.
 pub record IsGrowthOf (R : Rule) (b : ℕ) (G : Generation) (g : Growth) : Type 0 where
   pub set : Generation
   pub growth : IsGrowth R b G (starts_of g.engines) set

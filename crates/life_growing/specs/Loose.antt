@@ -1,4 +1,4 @@
--- A class that shows by itself that nothing grows with it.
+-- A class that shows by itself that nothing grows if it is present.
 use Rattle.std.specs.Prelude.{ℕ, ◌*◌, List}
 use Rattle.std.specs.List.{Contains}
 use Rattle.life_model.specs.Generation.{Generation}

@@ -7,8 +7,8 @@ use Rattle.life_growth.specs.Engine.{IsEngineWithin}
 use Rattle.life_growing.specs.Emissions.{Emission}
 use Rattle.life_growing.specs.Growths.{IsEngineFound, starts_of}
 
--- Of the classes, `engines` are found as engines within b, each once, and `others` are the rest. None of the rest is an
--- engine, if far is at least twice b.
+-- Of the classes, `engines` are found to be engines within b, each once, and `others` are the rest. None of the rest is
+-- an engine, if `far` is at least twice b.
 pub record ArePicks (R : Rule) (b far : ℕ) (classes : List Generation) (engines : List Emission)
     (others : List Generation) : Type 0 where
   pub found : All (IsEngineFound R b) engines

@@ -1,4 +1,4 @@
-//! Whether engines and debris stay apart for ever.
+//! Deciding whether engines and debris stay apart for ever.
 ghost use Rattle.std.specs.Prelude.{◌↔◌, ℕ, ◌<◌, IfOk, IsTrue, length, map};
 ghost use Rattle.life_growing.specs.Emissions.{NoneMeets};
 ghost use Rattle.life_growing.specs.Meeting.{AreThingsOfEach, GoApart, list_in};
@@ -25,7 +25,7 @@ fn things_of_each(
     Ok(lists)
 }
 
-/// Whether the things of the list in a place never meet those of the lists before it.
+/// True if the things of the list at a place never meet those of the lists before it.
 fn meet_none_before(lists: &[Vec<Thing>], n: usize) -> bool
     requires { n < length lists.now }
     ensures { IsTrue result ↔ ((m : ℕ) → m < n → NoneMeets (list_in (map (λ l. l.items) lists.now) m)
@@ -39,7 +39,7 @@ fn meet_none_before(lists: &[Vec<Thing>], n: usize) -> bool
     true
 }
 
-/// Whether the debris and the engines never meet each other.
+/// True if the debris and the engines never meet each other.
 pub fn stay_apart(alloc: Global, engines: &[Engine], debris: &Settled) -> Result<bool, AllocError>
     ensures { IfOk result (λ go. IsTrue go ↔ GoApart engines.now debris.now) }
 {

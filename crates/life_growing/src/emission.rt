@@ -12,7 +12,7 @@ use life_tracks::Track;
 use std::alloc::{AllocError, Global};
 use std::marker::Model;
 
-/// An engine: the track along which it comes back, and what becomes of the cells that leave in each step.
+/// An engine: the track along which it comes back, and the outcome of the cells that leave in each step.
 #[derive(Drop)]
 pub struct Engine {
     track: Track,
@@ -37,7 +37,7 @@ impl Model for Engine {
 }
 
 impl Engine {
-    /// An engine that comes back along a track. `lefts` says what becomes of the cells that leave in each step.
+    /// An engine that comes back along a track. `lefts` are the outcomes of the cells that leave in each step.
     pub fn of(track: Track, lefts: Vec<Settled>) -> Engine
         requires count { length lefts.items ≡ (way_of track).period }
         requires fit { IsFit ((way_of track).period, (way_of track).displacement) }
@@ -54,7 +54,7 @@ impl Engine {
         &self.track
     }
 
-    /// What becomes of the cells that leave in each step.
+    /// The outcomes of the cells that leave in each step.
     pub fn lefts(&self) -> &[Settled]
         ensures { result.now ≡ self.now.lefts }
     {

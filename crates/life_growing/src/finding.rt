@@ -1,4 +1,4 @@
-//! Whether a class of a film that comes back is an engine.
+//! Deciding whether a class of a film that comes back is an engine.
 ghost use Rattle.std.specs.Prelude.{◌≡◌, ◌≢◌, ◌↔◌, ℕ, ◌+◌, ◌<◌, ◌≤◌, [], IfNone, IfOk, IfSome, IsTrue, length};
 ghost use Rattle.life_ash.specs.Parts.{ash_age_limit};
 ghost use Rattle.life_growth.specs.Engine.{IsEngine};
@@ -17,7 +17,7 @@ use life_things::WAY_LIMIT;
 use life_tracks::Track;
 use std::alloc::{AllocError, Global};
 
-/// Whether something that leaves lasts for ever.
+/// True if something that leaves lasts for ever.
 fn emit(lefts: &[Settled]) -> bool
     ensures { IsTrue result ↔ ((n : ℕ) × (n < length lefts.now) × ((left_at lefts.now n).parts ≢ [])) }
 {

@@ -1,4 +1,4 @@
-//! Whether what leaves a track stays away for ever.
+//! Deciding whether what leaves a track stays away for ever.
 ghost use Rattle.std.specs.Prelude.{◌≡◌, ◌↔◌, ◌<◌, ◌≤◌, [], ◌∷◌, IfOk, IsTrue, length, map};
 ghost use Rattle.life_growth.specs.Things.{NeverMeetAgain, a_period_later, core_thing, left_thing, listed};
 ghost use Rattle.life_growing.specs.Settled.Things.{first_things};
@@ -12,7 +12,7 @@ use life_things::Thing;
 use life_tracks::Track;
 use std::alloc::{AllocError, Global};
 
-/// Whether the thing never meets one of the others.
+/// True if the thing never meets one of the others.
 fn meets_none(thing: &Thing, others: &[Thing]) -> bool
     ensures { IsTrue result ↔ NoneMeets (thing.now ∷ []) others.now }
 {
@@ -24,7 +24,7 @@ fn meets_none(thing: &Thing, others: &[Thing]) -> bool
     true
 }
 
-/// Whether none of the things ever meets one of the others.
+/// True if none of the things ever meets one of the others.
 pub fn none_meets(things: &[Thing], others: &[Thing]) -> bool
     ensures { IsTrue result ↔ NoneMeets things.now others.now }
 {
@@ -36,8 +36,8 @@ pub fn none_meets(things: &[Thing], others: &[Thing]) -> bool
     true
 }
 
-/// What leaves in step K, as things that recur after each period: from the period of step N on, if K is later than N,
-/// and else from the next period on.
+/// The things that leave in step `k`, made to recur after each period: from the period of step `n` on, if `k` is
+/// later than `n`, and otherwise from the next period on.
 fn later_things(
     alloc: Global,
     track: &Track,
@@ -60,7 +60,7 @@ fn later_things(
     lefts[k].things(alloc, k as u32 + 1 + way.generations, way.by, Some(way))
 }
 
-/// Whether what leaves in a step never meets the cores, nor what leaves later.
+/// True if the things that leave in a step never meet the cores, nor any that leave later.
 fn goes_away(
     alloc: Global,
     track: &Track,
@@ -87,7 +87,7 @@ fn goes_away(
     Ok(true)
 }
 
-/// Whether what leaves in the steps of a track never meets the cores again, nor what leaves later.
+/// True if the things that leave in the steps of a track never meet the cores again, nor any that leave later.
 pub fn leave_for_ever(alloc: Global, track: &Track, lefts: &[Settled]) -> Result<bool, AllocError>
     requires count { length lefts.now ≡ (way_of track.now).period }
     requires fit { IsFit ((way_of track.now).period, (way_of track.now).displacement) }

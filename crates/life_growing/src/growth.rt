@@ -18,7 +18,7 @@ use life_things::WAY_LIMIT;
 use std::alloc::{AllocError, Global};
 use std::marker::Model;
 
-/// What grows: its engines, and what becomes of the debris beside them.
+/// A growth: its engines, and the outcome of the debris beside them.
 #[derive(Drop)]
 pub struct Growth {
     engines: Vec<Engine>,
@@ -44,7 +44,7 @@ impl Growth {
         self.engines.as_slice()
     }
 
-    /// What becomes of its debris.
+    /// The outcome of its debris.
     pub fn debris(&self) -> &Settled
         ensures { result.now ≡ self.now.debris }
     {
@@ -52,12 +52,12 @@ impl Growth {
     }
 }
 
-/// The growth of a plane's cells within the bound, found from `length` generations of them. What is found is a
-/// growth. If `length` is at least twice the bound and none is found, there is none.
+/// The growth of a plane's cells within the bound, found from `length` generations of them. If `length` is at least
+/// twice the bound and none is found, there is none.
 ///
-/// The cells are split into classes, and each class that may be an engine is followed alone. So at any time one
-/// generation of all cells is held, and all generations of one class. Before that the largest classes are checked: one
-/// of them alone may show that there is no growth.
+/// The cells are split into classes, and each class that may be an engine is followed alone. So at any time only one
+/// generation of all cells is in memory, and all generations of one class. Before that, the largest classes are
+/// checked: one of them alone may show that there is no growth.
 pub fn growth_of<P: Plane>(
     alloc: Global,
     plane: &P,

@@ -1,4 +1,4 @@
-//! The cores of a track as things, and what becomes of the cells that leave along it.
+//! The cores of a track as things, and the outcomes of the cells that leave along it.
 ghost use Rattle.std.specs.Prelude.{◌≡◌, ℕ, ◌+◌, ◌<◌, ◌≤◌, All, IfNone, IfOk, IfSome, length};
 ghost use Rattle.life_model.specs.Generation as generations;
 ghost use Rattle.life_model.specs.Generation.{Generation};
@@ -20,7 +20,7 @@ use life_things::{Thing, WAY_LIMIT, Way, Ways};
 use life_tracks::Track;
 use std::alloc::{AllocError, Global};
 
-/// How a track's class comes back: its period in generations, and its displacement.
+/// The way in which a track's class comes back: its period in generations, and its displacement.
 pub fn way_along(track: &Track) -> Way
     requires { IsFit ((way_of track.now).period, (way_of track.now).displacement) }
     ensures { fit_way_of result ≡ ((way_of track.now).period, (way_of track.now).displacement) }
@@ -58,7 +58,7 @@ pub fn core_things(alloc: Global, track: &Track) -> Result<Vec<Thing>, AllocErro
     Ok(things)
 }
 
-/// What becomes of the cells that leave in each step of a track, if all of them fall apart within the bound. The
+/// The outcomes of the cells that leave in each step of a track, if all of them fall apart within the bound. The
 /// track's first core is of this age.
 pub fn lefts_along<P: Plane>(
     alloc: Global,

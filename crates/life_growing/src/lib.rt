@@ -1,7 +1,7 @@
-//! What a set falls apart into within a bound, as things in space and time, and the growth of a generation.
+//! The ash that a set falls apart into within a bound, as things in space and time, and the growth of a generation.
 //!
-//! `settling` has the first. The second has the engines among the classes of a generation, what becomes of what they emit,
-//! and of the debris beside them.
+//! `settling` has the former. The latter are the engines among the classes of a generation, and the outcomes of the cells
+//! that leave them and of the debris beside them.
 //!
 //! Tested in `tests_objects`.
 #![tactic(auto)]

@@ -15,11 +15,11 @@ use life_plane::Plane;
 use life_things::WAY_LIMIT;
 use std::alloc::{AllocError, Global};
 
-/// Of the classes with the most cells, `FEW` are looked at: what never falls apart is mostly among them.
+/// Of the classes with the most cells, `FEW` are looked at: cells that never fall apart are usually among them.
 const FEW: u32 = 4;
 
-/// Whether the cells, of this age, are seen to be no engine within the bound and not to fall apart in twice as many
-/// generations. If twice the bound is more than `WAY_LIMIT`, the answer is false.
+/// True if the cells, of this age, are seen to be no engine within the bound and not to fall apart within twice as
+/// many generations. False if twice the bound is more than `WAY_LIMIT`.
 fn is_loose<P: Plane>(
     alloc: Global,
     rule: &Rule,
@@ -58,9 +58,9 @@ fn largest_below(classes: &[Class], count: usize) -> Option<usize>
     largest
 }
 
-/// Whether one of the largest classes of a set of this age shows that the set doesn't grow within the bound: in a
-/// growth, the class would be an engine or fall apart beside the engines. Of classes with equally many cells one is
-/// looked at.
+/// True if one of the largest classes of a set of this age shows that the set doesn't grow within the bound: in a
+/// growth, the class would be an engine or fall apart beside the engines. Of classes with equally many cells only one
+/// is looked at.
 pub fn one_is_loose<P: Plane>(
     alloc: Global,
     rule: &Rule,

@@ -23,8 +23,8 @@ pub struct Picked {
     pub others: Vec<CellList>,
 }
 
-/// Which of the classes of a set of this age are engines within the bound. Each is looked at alone, for `length`
-/// generations.
+/// The classes of a set of this age, sorted into those that are engines within the bound and the others. Each is
+/// looked at alone, for `length` generations.
 pub fn picks<P: Plane>(
     alloc: Global,
     rule: &Rule,

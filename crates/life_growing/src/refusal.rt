@@ -1,4 +1,4 @@
-//! How cells show that they are no engine.
+//! Cells that are seen to be no engine.
 ghost use Rattle.std.specs.Prelude.{◌≡◌, ℕ, ◌+◌, ◌<◌, ◌≤◌, All, IfOk};
 ghost use Rattle.std.specs.Bool.{OnTrue};
 ghost use Rattle.life_model.specs.Cell.{Cell};
@@ -17,10 +17,10 @@ use life_plane::Plane;
 use life_things::WAY_LIMIT;
 use std::alloc::{AllocError, Global};
 
-/// A recurrence within `SOON` generations is found first, since much of what doesn't grow recurs that soon.
+/// A recurrence within `SOON` generations is looked for first, since many sets that don't grow recur within them.
 const SOON: u32 = 64;
 
-/// The population of some cells of this age, and those of the next `length` generations.
+/// The populations of some cells of this age and of the next `length` generations.
 fn populations<P: Plane>(
     alloc: Global,
     rule: &Rule,
@@ -42,7 +42,7 @@ fn populations<P: Plane>(
     Ok(counts)
 }
 
-/// Whether one of the numbers is no less than the one `places` places later.
+/// True if one of the numbers is no less than the one `places` places later.
 pub fn falls_back(counts: &[u64], places: usize) -> bool
     ensures { OnTrue result (FallsBack counts.now places) }
 {
@@ -54,7 +54,7 @@ pub fn falls_back(counts: &[u64], places: usize) -> bool
     false
 }
 
-/// Whether, for each number of places from 1 to the bound, one of the counts is no less than the one that many places
+/// True if, for each number of places from 1 to the bound, one of the counts is no less than the one that many places
 /// later.
 fn keep_falling_back(counts: &[u64], bound: usize) -> bool
     ensures { OnTrue result ((places : ℕ) → 1 ≤ places → places ≤ bound → FallsBack counts.now places) }
@@ -67,7 +67,7 @@ fn keep_falling_back(counts: &[u64], bound: usize) -> bool
     true
 }
 
-/// Whether the cells are seen to recur soon.
+/// True if the cells are seen to recur within `SOON` generations.
 fn come_again_soon<P: Plane>(
     alloc: Global,
     rule: &Rule,
@@ -83,9 +83,9 @@ fn come_again_soon<P: Plane>(
     }
 }
 
-/// Whether cells of this age are seen to be no engine within the bound: they recur soon; or, for every period, some
-/// generation has no fewer cells than the one a period later; or the cells don't come back a period later and leave
-/// what falls apart.
+/// True if cells of this age are seen to be no engine within the bound: they recur within `SOON` generations; or, for
+/// every period, some generation has no fewer cells than the one a period later; or the cells don't come back a
+/// period later with the rest falling apart.
 pub fn are_no_engine<P: Plane>(
     alloc: Global,
     rule: &Rule,

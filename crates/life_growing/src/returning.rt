@@ -1,4 +1,4 @@
-//! Whether cells come back in a later generation, and whether what is left of that falls apart.
+//! Deciding whether cells come back in a later generation, with the rest of it falling apart.
 ghost use Rattle.std.specs.Prelude.{◌≡◌, ℕ, ◌+◌, ◌<◌, ◌≤◌, ◌+ℤ◌, ◌≤ℤ◌, neg_ℤ, pos, All, IfOk, false, length};
 ghost use Rattle.std.specs.Bool.{OnTrue};
 ghost use Rattle.life_model.specs.Cell.{Cell, opposite, plus};
@@ -20,8 +20,8 @@ use life_plane::{Plane, move_between};
 use life_things::WAY_LIMIT;
 use std::alloc::{AllocError, Global};
 
-/// How many sets that are left are tested for falling apart, for all periods together. After that the answer is left
-/// open.
+/// The number of remainders that are tested for falling apart, for all periods together. After that the answer is
+/// left open.
 const TRIES: u32 = 16;
 
 /// The places of two cells of a list.
@@ -51,7 +51,7 @@ fn longest_run(cells: &[(i32, i32)]) -> Ends
     longest
 }
 
-/// The cell, moved.
+/// The cell moved.
 fn moved(cell: (i32, i32), by: (i32, i32)) -> (i32, i32)
     requires placed { IsPlace cell }
     requires by { IsMove by }
@@ -60,7 +60,7 @@ fn moved(cell: (i32, i32), by: (i32, i32)) -> (i32, i32)
     (cell.0 + by.0, cell.1 + by.1)
 }
 
-/// Whether all the cells, moved, are among those of a later generation. Each is looked up near the cell before it.
+/// True if all the cells, moved, are among those of a later generation. Each is looked up near the cell before it.
 fn are_among(cells: &CellList, by: (i32, i32), later: &CellList) -> bool
     requires by { IsMove by }
     ensures no { result ≡ false → IsSubsetOf (translate_of cells.now by) later.now → ⊥ }
@@ -75,7 +75,7 @@ fn are_among(cells: &CellList, by: (i32, i32), later: &CellList) -> bool
     true
 }
 
-/// The opposite move.
+/// The reverse of a move.
 fn back(by: (i32, i32)) -> (i32, i32)
     requires { IsMove by }
     ensures fits { IsMove result }
@@ -84,7 +84,7 @@ fn back(by: (i32, i32)) -> (i32, i32)
     (-by.0, -by.1)
 }
 
-/// Whether a place is that of one of the cells, moved. The search starts near the last one.
+/// True if a place is that of one of the cells, moved. The search starts near the last one.
 fn is_moved_cell(cells: &CellList, by: (i32, i32), place: (i32, i32), guess: &mut usize) -> bool
     requires by { IsMove by }
     requires placed { IsPlace place }
@@ -96,7 +96,7 @@ fn is_moved_cell(cells: &CellList, by: (i32, i32), place: (i32, i32), guess: &mu
     }
 }
 
-/// What is left of a later generation beside the cells, moved.
+/// The cells of a later generation other than these cells, moved.
 fn left_beside(
     alloc: Global,
     cells: &CellList,
@@ -117,7 +117,8 @@ fn left_beside(
     Ok(CellList::from_ordered(items))
 }
 
-/// Whether all the cells, moved, may be among those of a later generation of this age, with the rest falling apart.
+/// False only if the cells, moved, are not all among those of a later generation of this age with the rest falling
+/// apart.
 fn may_come_back_by<P: Plane>(
     alloc: Global,
     rule: &Rule,
@@ -145,8 +146,8 @@ fn may_come_back_by<P: Plane>(
     falls_apart::<P>(alloc, rule, &left, age, bound)
 }
 
-/// Whether, for some move, all the cells may be among those of a later generation of this age, with the rest falling
-/// apart. Only moves that lead two of the cells to cells of the later generation are tried.
+/// False only if there is no move for which all the cells are among those of a later generation of this age, with the
+/// rest falling apart. Only moves that take two of the cells to cells of the later generation are tried.
 fn may_come_back<P: Plane>(
     alloc: Global,
     rule: &Rule,
@@ -180,7 +181,7 @@ fn may_come_back<P: Plane>(
     Ok(false)
 }
 
-/// Whether cells of this age, with these populations, are seen never to come back within the bound with the rest then
+/// True if cells of this age, with these populations, are seen never to come back within the bound with the rest then
 /// falling apart. An engine does so after a period. Each cell of each generation is looked at.
 pub fn never_come_back<P: Plane>(
     alloc: Global,

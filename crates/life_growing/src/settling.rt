@@ -1,5 +1,5 @@
-//! What a set falls apart into within a bound, as things in space and time: its generations before it is ash, and the
-//! phases of the parts of that ash.
+//! The ash that a set falls apart into within a bound, as things in space and time: the set's generations before it
+//! is ash, and the phases of the parts of that ash.
 //!
 //! Tested in `tests_objects`.
 mod laws;

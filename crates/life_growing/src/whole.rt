@@ -1,4 +1,4 @@
-//! Whether the cores of a track are unsplit within a bound.
+//! Deciding whether the cores of a track are unsplit within a bound.
 ghost use Rattle.std.specs.Prelude.{◌≡◌, ◌↔◌, ℕ, ◌+◌, ◌≤◌, All, IfNone, IfOk, IfSome, IsTrue};
 ghost use Rattle.std.specs.Bool.{OnTrue};
 ghost use Rattle.std.specs.List.{Contains};
@@ -18,7 +18,7 @@ use life_plane::{AGE_LIMIT, Plane};
 use life_tracks::{Film, Track};
 use std::alloc::{AllocError, Global};
 
-/// Whether one of the classes of a film's generation has exactly these cells.
+/// True if one of the classes of a film's generation has exactly these cells.
 fn has_class(film: &Film, n: usize, cells: &CellList) -> bool
     requires { (R : ModelRule) × (G : Generation) × (T : ℕ) × IsFilm R G T film.now }
     ensures { OnTrue result ((R : ModelRule) (G : Generation) (T : ℕ) → IsFilm R G T film.now →
@@ -57,15 +57,15 @@ pub fn film_if_whole<P: Plane>(
     Ok(Some(film))
 }
 
-/// A film of a core up to the bound. It also answers for each later core that is among its classes.
+/// A film of a core up to the bound. It also decides for each later core that is among its classes.
 #[derive(Drop)]
 struct Seen {
     from: usize,
     film: Film,
 }
 
-/// Whether each core of a track is unsplit within the bound. The first core is of this age. The film of a core also
-/// answers for later cores, as long as they are classes of it, so one film is mostly enough.
+/// True if each core of a track is unsplit within the bound. The first core is of this age. The film of a core also
+/// decides for later cores, as long as they are classes of it, so one film is usually enough.
 pub fn are_whole<P: Plane>(
     alloc: Global,
     rule: &Rule,

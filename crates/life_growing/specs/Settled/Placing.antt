@@ -1,4 +1,4 @@
--- Where things are placed.
+-- Things that are placed later, and elsewhere.
 use Rattle.std.specs.Prelude.{ℕ, ◌≤◌, None, Some, IfSome, List, [], ◌∷◌, Option}
 use Rattle.life_model.specs.Cell.{Cell}
 use Rattle.life_growth.specs.Things.{Thing}
@@ -8,11 +8,11 @@ use Rattle.life_things.specs.Ways.{IsFit, way_of}
 use Rattle.life_growing.specs.declared.settling.placing.Placing.{Placing}
 use Rattle.life_growing.specs.Settled.Things.{placed}
 
--- by how many generations later things are placed at most
+-- the greatest number of generations by which things are placed later
 abbrev pub delay_limit : ℕ
 delay_limit = 100000
 
--- the age at which the cells that are placed have places, before they are moved
+-- an age within whose places the cells are before they are moved
 abbrev pub placed_age_limit : ℕ
 placed_age_limit = 410000
 
@@ -24,7 +24,7 @@ ways_of_one (Some w) = way_of w ∷ []
 abbrev pub IsFitWay : Option Way → Type 0
 IsFitWay way = IfSome way (λ w. IsFit (way_of w))
 
--- no further along each axis than a way goes
+-- the move goes no further along each axis than a way does
 pub record IsNearby (by : Cell) : Type 0 where
   pub across : IsWithin way_limit by.0
   pub along : IsWithin way_limit by.1

@@ -1,4 +1,4 @@
--- What a set falls apart into.
+-- The ash that a set falls apart into.
 use Rattle.std.specs.Prelude.{◌≡◌, ℕ, ◌<◌, ◌≤◌, List, get_or, length, refl}
 use Rattle.std.specs.Coded.{Coded, code_by, coded_list, coded×}
 use Rattle.std.specs.List.{All}
@@ -14,7 +14,7 @@ use Rattle.life_ash.specs.Parts.{ash_age_limit}
 use Rattle.life_things.specs.Lattice.Short.{way_limit}
 use Rattle.life_things.specs.Ways.{IsFit}
 
--- the generations before it is ash, and the courses of the parts of that ash
+-- the generations before the set is ash, and the courses of the parts of that ash
 pub record Settling : Type 0 where
   pub early : List Generation
   pub parts : List Course
@@ -24,7 +24,7 @@ coded_settling =
     code_by (List Generation × List Course) (coded× (coded_list coded_generation) (coded_list coded_course))
     (λ s. (s.early, s.parts)) (λ p. record { early = p.0; parts = p.1 }) (λ _. refl)
 
--- the generations of P before one of them
+-- the list has the first generations of P
 abbrev pub AreFirstGenerations : Rule → Generation → List Generation → Type 0
 AreFirstGenerations R P early = (n : ℕ) → n < length early → get_or early n empty ≡ generation R P n
 
@@ -36,11 +36,11 @@ pub record IsSettling (R : Rule) (b : ℕ) (P : Generation) (s : Settling) : Typ
   pub rule : All (IsCourseBy R) s.parts
   pub courses : All IsCourse s.parts
 
--- its cells have places of age 400,000
+-- its cells are in the field at age 400,000
 abbrev pub IsInField : Generation → Type 0
 IsInField P = All (IsWithin ash_age_limit) (cells P)
 
--- its period and its displacement are a way that a thing may have
+-- its period and its displacement make a way that a thing may have
 abbrev pub HasFitWay : Course → Type 0
 HasFitWay o = IsFit (o.period, o.displacement)
 
@@ -53,7 +53,7 @@ pub record AreShortParts (parts : List Course) : Type 0 where
   pub ash : IsAsh rule bound set (sets_of parts)
   pub by : All (IsCourseBy rule) parts
 
--- What is kept: few generations, in the field, and parts whose ways things may have.
+-- The limits on what is kept: few generations, in the field, and parts whose ways things may have.
 pub record IsKept (s : Settling) : Type 0 where
   pub few : length s.early ≤ way_limit
   pub early : All IsInField s.early

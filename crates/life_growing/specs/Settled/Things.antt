@@ -1,4 +1,4 @@
--- The things in space and time that what falls apart is made of.
+-- The things in space and time that make up a set that falls apart.
 use Rattle.std.specs.Prelude.{ℕ, zero, suc, ◌+◌, List, [], ◌∷◌, ◌++◌, flat_map, get_or, length}
 use Rattle.life_model.specs.Cell.{Cell}
 use Rattle.life_model.specs.Evolution.{generation}
@@ -13,15 +13,15 @@ abbrev pub first_things : (ℕ → Thing) → ℕ → List Thing
 first_things f zero = []
 first_things f (suc n) = first_things f n ++ f n ∷ []
 
--- a generation before it is ash, which is there once
+-- a generation before the set is ash, as a thing that is there once
 abbrev pub early_thing : List Generation → ℕ → Thing
 early_thing early n = record { time = n; set = get_or early n empty; ways = [] }
 
--- each generation before it is ash, as a thing
+-- each generation before the set is ash, as a thing
 abbrev pub early_things : List Generation → List Thing
 early_things early = first_things (early_thing early) (length early)
 
--- a phase of a part that is there from the generation `since` on; it recurs
+-- a phase of a part that is there from the generation `since` on, as a thing that recurs
 abbrev pub phase_thing : ℕ → Course → ℕ → Thing
 phase_thing since o m = record {
   time = since + m;
@@ -37,7 +37,7 @@ phase_things since o = first_things (phase_thing since o) o.period
 abbrev pub part_things : ℕ → List Course → List Thing
 part_things since parts = flat_map (phase_things since) parts
 
--- each generation before it is ash, and each phase of each part
+-- each generation before the set is ash, and each phase of each part
 abbrev pub things_of : Settling → List Thing
 things_of s = early_things s.early ++ part_things (length s.early) s.parts
 

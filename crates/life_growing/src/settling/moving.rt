@@ -1,4 +1,4 @@
-//! Sets that are moved as a whole, and not far.
+//! Moving sets as a whole, and not far.
 ghost use Rattle.std.specs.Prelude.{◌≡◌, All, IfOk};
 ghost use Rattle.life_model.specs.Cell.{plus};
 ghost use Rattle.life_model.specs.Generation as generations;
@@ -9,7 +9,7 @@ ghost use Rattle.life_growing.specs.Settled.Placing.{IsNearby, placed_age_limit}
 use life_cells::CellList;
 use std::alloc::{AllocError, Global};
 
-/// The cell, moved.
+/// The cell moved.
 fn moved_cell(cell: (i32, i32), by: (i32, i32)) -> (i32, i32)
     requires within { IsWithin placed_age_limit cell }
     requires by { IsNearby by }
@@ -19,7 +19,7 @@ fn moved_cell(cell: (i32, i32), by: (i32, i32)) -> (i32, i32)
     (cell.0 + by.0, cell.1 + by.1)
 }
 
-/// The cells, moved.
+/// The cells moved.
 pub fn moved(alloc: Global, cells: &CellList, by: (i32, i32)) -> Result<CellList, AllocError>
     requires within { All (IsWithin placed_age_limit) (generations.cells cells.now) }
     requires by { IsNearby by }

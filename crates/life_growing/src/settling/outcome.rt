@@ -1,4 +1,4 @@
-//! What a set falls apart into.
+//! The ash that a set falls apart into.
 ghost use Rattle.std.specs.Prelude.{◌≡◌, ◌++◌, ◌≤◌, All, IfOk, OnOk, length, map};
 ghost use Rattle.life_cells.specs.Limits.{IsWithin};
 ghost use Rattle.life_orbit.specs.Course.{IsCourse};
@@ -16,7 +16,7 @@ use life_things::{Thing, Way};
 use std::alloc::{AllocError, Global};
 use std::marker::Model;
 
-/// What falls apart: its generations before it is ash, and the orbits of the parts of that ash.
+/// A set that falls apart: its generations before it is ash, and the orbits of the parts of that ash.
 #[derive(Drop)]
 pub struct Settled {
     early: Vec<CellList>,
@@ -82,7 +82,7 @@ fn add_phases(
 }
 
 impl Settled {
-    /// What falls apart after these generations into this ash.
+    /// A set that falls apart after these generations into this ash.
     pub(crate) fn of(early: Vec<CellList>, ash: Ash) -> Settled
         requires few { length early.items ≤ way_limit }
         requires within { All IsInField early.items }
@@ -91,7 +91,7 @@ impl Settled {
         ensures parts { result.parts ≡ ash }
         ensures courses { All IsCourse result.parts }
     {
-        // Each part recurs so, and not sooner.
+        // Each part recurs in this way, and not earlier.
         let _ = ash.orbits();
         Settled { early, ash }
     }
@@ -112,7 +112,7 @@ impl Settled {
     }
 
     /// Its things, `time` generations later, which is up to `DELAY_LIMIT`, moved by no more than 10,000 along each axis, and
-    /// each with a way before its own.
+    /// with `way`, if there is one, before each one's own.
     pub fn things(
         &self,
         alloc: Global,

@@ -1,4 +1,4 @@
-//! Where things are placed.
+//! Placing things later, and elsewhere.
 ghost use Rattle.std.specs.Prelude.{◌≡◌, ◌++◌, ◌*◌, ◌≤◌, All, IfOk};
 ghost use Rattle.life_model.specs.Generation as generations;
 ghost use Rattle.life_cells.specs.Limits.{IsWithin};
@@ -11,10 +11,10 @@ use life_cells::CellList;
 use life_things::{Thing, Way, Ways};
 use std::alloc::{AllocError, Global};
 
-/// By how many generations later things are placed at most.
+/// The greatest number of generations by which things are placed later.
 pub const DELAY_LIMIT: u32 = 100_000;
 
-/// How things are placed: `time` generations later, moved, and with a way before a thing's own.
+/// The placing of things: `time` generations later, moved, and with a way before a thing's own.
 #[derive(Clone, Copy)]
 pub struct Placing {
     pub time: u32,
@@ -22,7 +22,7 @@ pub struct Placing {
     pub way: Option<Way>,
 }
 
-/// One way and then the other, as far as they are given.
+/// The first way and then the second, where they are there.
 fn both(way: Option<Way>, own: Option<Way>) -> Ways
     ensures { ways_of result ≡ ways_of_one way ++ ways_of_one own }
 {

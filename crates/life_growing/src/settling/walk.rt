@@ -1,4 +1,4 @@
-//! Generations that are looked at until one of them is ash.
+//! Looking at generations until one of them is ash.
 ghost use Rattle.std.specs.Prelude.{◌+◌, ◌≤◌, ◌↔◌, All, IfNone, IfOk, IfSome, IsTrue};
 ghost use Rattle.life_model.specs.Generation as generations;
 ghost use Rattle.life_cells.specs.Limits.{IsWithin};
@@ -14,11 +14,11 @@ use life_strays::are_no_ash;
 use life_things::WAY_LIMIT;
 use std::alloc::{AllocError, Global};
 
-/// For sets with more than `FEW` cells the generation of the bound is looked at first; it decides.
+/// For sets with more than `FEW` cells the generation of the bound is looked at first, which decides.
 const FEW: usize = 128;
 
-/// Whether a set of cells falls apart within the bound, which the generation of the bound decides. Its cells have places of this
-/// age.
+/// True if a set of cells falls apart within the bound, which the generation of the bound decides. Its cells are within the
+/// places of this age.
 pub fn falls_apart<P: Plane>(
     alloc: Global,
     rule: &Rule,
@@ -44,8 +44,9 @@ pub fn falls_apart<P: Plane>(
     }
 }
 
-/// What a set of cells falls apart into within the bound, if it does. Its cells have places of this age. Generations 0, 1, 2, 4
-/// and so on are looked at, and at last that of the bound. For more than `FEW` cells that of the bound is looked at first.
+/// The ash that a set of cells falls apart into within the bound, if it does, and the generations before that. Its cells are
+/// within the places of this age. Generations 0, 1, 2, 4 and so on are looked at, and finally that of the bound. For more than
+/// `FEW` cells that of the bound is looked at first.
 pub fn settled<P: Plane>(
     alloc: Global,
     rule: &Rule,
