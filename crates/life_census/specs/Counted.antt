@@ -1,4 +1,4 @@
--- What sets that recur count as.
+-- The parts that sets that recur count as.
 use Rattle.std.specs.Prelude.{◌≡◌, ℕ, Bool, List, [], ◌∷◌}
 use Rattle.std.specs.List.{All}
 use Rattle.life_model.specs.Cell.{Cell}
@@ -14,8 +14,8 @@ use Rattle.life_answer.specs.declared.part.Part.{Part}
 use Rattle.life_apart.specs.Sets.{IsCourseBy, sets_of}
 use Rattle.life_orbit.specs.Course.{Course}
 
--- Wherever P is moved to, each of its later generations counts as objects with these codes, within each bound within which
--- it is an object.
+-- However P is moved, each of its later generations counts as objects with these codes, within each bound within which it
+-- is an object.
 abbrev pub CountsAs : Bool → Rule → Generation → List (List ℕ) → Type 0
 CountsAs near R P codes =
     (d : Cell) (b n : ℕ) → IsObject R b (generation R (translate_of P d) n) →

@@ -22,6 +22,6 @@ pub record IsGrownWithin (R : Rule) (G : Generation) (c horizon : ℕ) (g : Grow
 abbrev pub NeverGrows : Rule → ℕ → Generation → Type 0
 NeverGrows R horizon G = (Es : List Generation) (S : Generation) → IsGrowth R horizon G Es S → ⊥
 
--- generation c of G has none within the horizon, nor within c
+-- generation c of G has no growth within the horizon, nor within c
 abbrev pub NeverGrowsThen : Rule → Generation → ℕ → ℕ → Type 0
 NeverGrowsThen R G c horizon = NeverGrows R (min horizon c) (generation R G c)

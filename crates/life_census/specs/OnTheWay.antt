@@ -1,4 +1,4 @@
--- What is seen of patterns on the way to a bound.
+-- The observations about patterns on the way to a bound.
 use Rattle.std.specs.Prelude.{◌≡◌, ℕ, List, Option}
 use Rattle.std.specs.List.{All}
 use Rattle.life_model.specs.Evolution.{generation}
@@ -20,7 +20,7 @@ pub record IsOnTheWay (R : Rule) (G : Generation) (limit : Option ℕ) (H : Gene
   pub few : AreAllowedBefore R G limit n
   pub trail : All (IsMomentOf R G) kept
 
--- G grows within the horizon, or this becomes of it within b, or neither does it fall apart by then nor grow
+-- G grows within the horizon, or this is its fate within b, or neither does it fall apart by then nor grow
 abbrev pub IsSeen : Rule → Generation → ℕ → Option ℕ → ℕ → Seen → Type 0
 IsSeen R G b limit horizon (Grows growth) = IsGrownWithin R G (allowed_bound limit R G b) horizon growth
 IsSeen R G b limit horizon (Becomes fate) = IsFate R G b limit fate

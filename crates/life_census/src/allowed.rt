@@ -1,4 +1,4 @@
-//! Within which bound a pattern may be searched for growth, where no generation may have more than some number of cells.
+//! The bound within which a pattern may be searched for growth, where no generation may have more than some number of cells.
 ghost use Rattle.std.specs.Prelude.{◌≡◌, ◌≤◌, All, IfOk};
 ghost use Rattle.life_model.specs.Generation as generations;
 ghost use Rattle.life_cells.specs.Limits.{IsWithin};
@@ -10,7 +10,7 @@ use life_plane::Plane;
 use std::alloc::{AllocError, Global};
 
 /// The greatest bound from 1 to this one such that no generation up to four times that bound has more cells than it may have,
-/// or 0 where there is none. No generation after the first that has more is looked at, and none where there is no limit.
+/// or 0 if there is none. No generation after the first that has more is looked at, and none if there is no limit.
 pub fn allowed_bound<P: Plane>(
     alloc: Global,
     rule: &Rule,

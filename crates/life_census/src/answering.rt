@@ -1,4 +1,4 @@
-//! What is found of a text.
+//! The answer to a text.
 ghost use Rattle.std.specs.Prelude.{◌≡◌, ◌≤◌, IfOk, IsOk, OnErr};
 ghost use Rattle.life_answer.specs.declared.question.Question.TheVariants.{Objects};
 ghost use Rattle.life_answer.specs.Questions.{answer_to_question};
@@ -13,7 +13,7 @@ use life_text::read_rle;
 use life_things::WAY_LIMIT;
 use std::alloc::{AllocError, Global};
 
-/// The objects that the pattern of an RLE text falls apart into within the bound, over planes of one kind.
+/// The answer to an RLE text, as `answer` gives it, over planes of one kind.
 fn answer_on<P: Plane, W: Observer>(
     alloc: Global,
     observer: &W,
@@ -48,13 +48,13 @@ fn answer_on<P: Plane, W: Observer>(
     }
 }
 
-/// What is found of an RLE text within the bound: the rule, and how the pattern that it means recurs, where that falls apart
-/// into one object, or what its objects count as, by codes, where it falls apart into none or several, or the engines by which
-/// it grows within the horizon; or the number of its fault. The bound is 1 to 100,000 generations, and the horizon 1 to 10,000.
-/// With a limit no generation from 0 to three times the bound may have more cells. What is near one another counts as one
-/// object where that is asked for; otherwise the independent parts of each object count.
+/// The answer to an RLE text within the bound: the rule and a finding, or the number of the text's fault. The finding is how
+/// the pattern recurs, if it falls apart into one object; the objects' counts by codes, if it falls apart into none or several;
+/// or the engines by which it grows within the horizon. The bound is 1 to 100,000 generations, and the horizon 1 to 10,000.
+/// With a limit, no generation from 0 to three times the bound may have more cells. With `near`, cells that are near one
+/// another count as one object; otherwise the independent parts of each object count.
 ///
-/// It may look at generations past the bound, up to four times the bound. Those on the way, up to three times the bound, are
+/// Generations past the bound may be looked at, up to four times the bound. Those on the way, up to three times the bound, are
 /// reported to an observer.
 pub fn answer<W: Observer>(
     alloc: Global,

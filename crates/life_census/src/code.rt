@@ -39,7 +39,7 @@ fn least_body(alloc: Global, orbit: &Orbit) -> Result<Vec<u8>, AllocError>
     Ok(least.into_text())
 }
 
-/// The code of a set that recurs, whose cells are places at age 400,000.
+/// The code of a set that recurs, whose cells are in the field at age 400,000.
 pub fn code_of(alloc: Global, orbit: &Orbit) -> Result<Code, AllocError>
     requires within { All (IsWithin ash_age_limit) (cells orbit.now.set) }
     ensures { IfOk result (λ code.

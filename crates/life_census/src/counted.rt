@@ -1,4 +1,4 @@
-//! What sets that recur count as.
+//! The codes that sets that recur count as.
 ghost use Rattle.std.specs.Prelude.{◌≡◌, All, IfOk, [], ◌∷◌, map};
 ghost use Rattle.life_ash.specs.Parts.{IsPlaced};
 ghost use Rattle.life_orbit.specs.Course.{IsCourse};
@@ -12,7 +12,7 @@ use life_islands::part_orbits;
 use life_orbit::Orbit;
 use std::alloc::{AllocError, Global};
 
-/// The code of an orbit's set, alone in a list.
+/// A list with only the code of an orbit's set.
 fn one_code(alloc: Global, orbit: &Orbit) -> Result<Vec<Code>, AllocError>
     requires within { IsPlaced orbit.now }
     ensures { IfOk result (λ codes. codes.items ≡ course_code orbit.now ∷ []) }
@@ -35,9 +35,9 @@ fn codes_in_order(alloc: Global, orbits: &[Orbit]) -> Result<Vec<Code>, AllocErr
     Ok(codes)
 }
 
-/// The codes of what an orbit's set counts as, whose cells are places at age 400,000. Where what is near one another is one
-/// object, it is the set's own code, and otherwise those of its independent parts. But if one of these takes more than 100,000
-/// generations to recur, it is the set's own.
+/// The codes that an orbit's set counts as, whose cells are in the field at age 400,000. With `near`, that is the set's own
+/// code, and otherwise the codes of its independent parts. But if one of these takes more than 100,000 generations to recur,
+/// it is the set's own.
 pub fn codes_of(alloc: Global, orbit: &Orbit, near: bool) -> Result<Vec<Code>, AllocError>
     requires within { IsPlaced orbit.now }
     requires course { IsCourse orbit.now }

@@ -1,4 +1,4 @@
-//! What an engine emits in a period, counted by codes.
+//! The objects that an engine emits in a period, counted by codes.
 ghost use Rattle.std.specs.Prelude.{◌++◌, IfOk, List, OnOk};
 ghost use Rattle.life_orbit.specs.Course.{Course};
 ghost use Rattle.life_census.specs.Counted.{AreCounted};
@@ -10,7 +10,7 @@ use life_answer::Parts;
 use life_growing::Settled;
 use std::alloc::{AllocError, Global};
 
-/// Counts the objects that a set falls apart into, in addition to what was counted.
+/// Counts the objects that a set falls apart into, in addition to those in `parts`.
 fn count_left(
     alloc: Global,
     known: &mut KnownSets,
@@ -22,7 +22,7 @@ fn count_left(
         AreCounted near (before ++ left.now.parts) parts.new) }
 {
     for orbit in left.parts() {
-        // A plane has no other cells.
+        // No plane has cells elsewhere.
         if !is_placed(orbit) {
             return Err(AllocError);
         }
@@ -31,7 +31,8 @@ fn count_left(
     Ok(())
 }
 
-/// The objects that an engine emits in a period, counted by codes, from what becomes of what leaves in each step.
+/// The objects that an engine emits in a period, counted by codes. `lefts` are the outcomes of the cells that leave
+/// in each step.
 pub fn emitted(
     alloc: Global,
     known: &mut KnownSets,

@@ -1,4 +1,4 @@
-//! Whether a pattern grows within a bound.
+//! Deciding whether a pattern grows within a bound.
 ghost use Rattle.std.specs.Prelude.{◌≡◌, ℕ, ◌*◌, ◌+◌, ◌≤◌, All, IfNone, IfOk, IfSome, List};
 ghost use Rattle.life_model.specs.Evolution.{generation};
 ghost use Rattle.life_model.specs.Generation.{Generation};
@@ -19,13 +19,13 @@ use life_plane::Plane;
 use life_things::WAY_LIMIT;
 use std::alloc::{AllocError, Global};
 
-/// How many generations the first film has. Each further one has twice as many as the one before it.
+/// The number of generations of the first film. Each further film has twice as many as the one before it.
 const FIRST_LENGTH: u32 = 32;
 
 /// Below this horizon short films are looked at in any case.
 const SHORT: u32 = 64;
 
-/// The plane of a generation of a pattern.
+/// A plane at a generation of a pattern.
 fn plane_at<P: Plane>(
     alloc: Global,
     rule: &Rule,
@@ -69,8 +69,8 @@ fn growth_soon<P: Plane>(
     growth_of(alloc, plane, rule, horizon, horizon)
 }
 
-/// The growth of a plane's cells that a short film shows, if one does. Films are looked at only where the population seems to
-/// rise steadily over `length` generations or the horizon is short, as they are dear where nothing grows.
+/// The growth of a plane's cells that a short film shows, if one does. Films are looked at only if the population seems to rise
+/// steadily over `length` generations or the horizon is short, as they are expensive where nothing grows.
 fn growth_if_rising<P: Plane>(
     alloc: Global,
     plane: &P,
@@ -89,9 +89,9 @@ fn growth_if_rising<P: Plane>(
     growth_soon(alloc, plane, rule, horizon)
 }
 
-/// The growth that a generation on the way to some bound shows soon, if one does. It is that of the pattern within each bound, 1
-/// to 100,000, that is no less than the age of this generation. It is `None` where some generation up to four times that age has
-/// more cells than the limit. The horizon is 1 to 10,000.
+/// The growth that short films show for a generation on the way to some bound, if one does. It is that of the pattern within
+/// each bound, 1 to 100,000, that is no less than the age of this generation. `None` if some generation up to four times that
+/// age has more cells than the limit. The horizon is 1 to 10,000.
 pub fn growth_on_the_way<P: Plane>(
     alloc: Global,
     plane: &P,
@@ -138,7 +138,7 @@ fn growth_up_to<P: Plane>(
     growth_of(alloc, plane, rule, 2 * horizon, horizon)
 }
 
-/// The growth that the generation of an age shows within the horizon and within that age, if there is one.
+/// The growth within the horizon and within an age that the generation of that age shows, if there is one.
 fn growth_at<P: Plane>(
     alloc: Global,
     rule: &Rule,
@@ -157,9 +157,9 @@ fn growth_at<P: Plane>(
     growth_up_to(alloc, &plane, rule, horizon.min(age))
 }
 
-/// The growth of a pattern, searched for within the horizon in the generation of the greatest bound up to which it is small
-/// enough: no generation up to four times that bound may have more cells than the limit. The bound is 1 to 100,000 generations,
-/// and the horizon 1 to 10,000, of which no more than that bound count.
+/// The growth of a pattern, searched for within the horizon in the generation of the greatest bound up to which the pattern is
+/// small enough: no generation up to four times that bound may have more cells than the limit. The bound is 1 to 100,000
+/// generations, and the horizon 1 to 10,000, but no more than that bound counts.
 pub fn growth_within<P: Plane>(
     alloc: Global,
     rule: &Rule,
@@ -188,8 +188,8 @@ pub fn growth_within<P: Plane>(
     growth_up_to(alloc, &plane, rule, least)
 }
 
-/// What `growth_within` finds, sooner where nothing grows: the generation of the bound is looked at first, and the sizes of later
-/// ones only where it grows. What grows earlier grows there too.
+/// The growth that `growth_within` finds, more quickly if there is none: the generation of the bound is looked at first, and
+/// the sizes of later ones only if it grows. A pattern that grows earlier grows there too.
 pub fn growth_at_bound<P: Plane>(
     alloc: Global,
     rule: &Rule,

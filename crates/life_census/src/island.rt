@@ -1,5 +1,5 @@
-//! Whether a pattern's cells are one island still after a while. What grows is not: a period later an engine has left something
-//! that is never near it again.
+//! Patterns whose cells are still one island after a while. They don't grow: a period later an engine has left something that
+//! is never near it again.
 ghost use Rattle.std.specs.Prelude.{◌≡◌, ◌+◌, ◌*◌, ◌≤◌, IfOk};
 ghost use Rattle.std.specs.Bool.{OnTrue};
 ghost use Rattle.life_model.specs.Evolution.{generation};
@@ -13,7 +13,7 @@ use life_plane::{AGE_LIMIT, Plane};
 use life_strays::never_grow;
 use std::alloc::{AllocError, Global};
 
-/// Whether a plane's cells are one island, or none.
+/// True if a plane's cells are one island, or none.
 fn is_one_island<P: Plane>(alloc: Global, plane: &P) -> Result<bool, AllocError>
     ensures { IfOk result (λ is_one. OnTrue is_one ((R : ModelRule) →
         StaysWhole R 0 (P.members plane.now) (P.members plane.now))) }
@@ -38,7 +38,8 @@ fn later_by<P: Plane>(plane: &P, rule: &Rule, count: u32) -> Result<P, AllocErro
     Ok(later)
 }
 
-/// Whether a plane's cells are one island, and so is what they have become after the horizon. What grows within it never is.
+/// True if a plane's cells are one island, and so is what they have become after the horizon. Cells that grow within it never
+/// are.
 fn stays_one_island<P: Plane>(
     alloc: Global,
     plane: &P,
@@ -59,7 +60,7 @@ fn stays_one_island<P: Plane>(
     Ok(true)
 }
 
-/// Whether it is shown that a plane's cells don't grow within the horizon: they stay one island, or islands of theirs that come
+/// True if it is shown that a plane's cells don't grow within the horizon: they stay one island, or islands of theirs that come
 /// back nowhere show it.
 pub fn never_grows<P: Plane>(
     alloc: Global,

@@ -1,4 +1,4 @@
-//! A set that was met, with the codes of what it counts as.
+//! A known set, with the codes that it counts as.
 ghost use Rattle.std.specs.Prelude.{◌≡◌, IsTrue};
 ghost use Rattle.life_census.specs.Counted.{CountsAs};
 
@@ -8,7 +8,7 @@ use life_orbit::Orbit;
 use life_plane::offset_between;
 use std::alloc::{AllocError, Global};
 
-/// A set that recurs, and the codes of what it counts as.
+/// A set that recurs, and the codes that it counts as.
 #[derive(Drop)]
 pub struct KnownSet {
     near: bool,
@@ -19,7 +19,7 @@ pub struct KnownSet {
 }
 
 impl KnownSet {
-    /// A copy of an orbit's set, with the codes of what it counts as.
+    /// A copy of an orbit's set, with the codes that it counts as.
     pub fn of(
         alloc: Global,
         orbit: &Orbit,
@@ -36,7 +36,7 @@ impl KnownSet {
         })
     }
 
-    /// Whether the set evolves by the rule of an orbit, and was counted with the same `near`.
+    /// True if the set evolves by the rule of an orbit, and was counted with the same `near`.
     fn evolves_as(&self, orbit: &Orbit, near: bool) -> bool
         ensures near { IsTrue result → self.now.near ≡ near }
         ensures rule { IsTrue result → self.now.rule ≡ orbit.now.rule }
@@ -44,7 +44,8 @@ impl KnownSet {
         self.near == near && self.rule == orbit.rule()
     }
 
-    /// Whether an orbit's set is this one, moved as a whole, and evolves by the same rule.
+    /// True if an orbit's set is this one, moved as a whole, and evolves by the same rule, and this one was counted
+    /// with the same `near`.
     pub fn is_of(&self, orbit: &Orbit, near: bool) -> bool
         ensures { IsTrue result → CountsAs near orbit.now.rule orbit.now.set self.now.codes.items }
     {

@@ -1,5 +1,4 @@
-//! Sets that were met, with the codes of what they count as, so that nothing is decided again of a set that is one of them,
-//! moved as a whole.
+//! Known sets, with the codes that they count as. For a set that is one of them, moved as a whole, nothing is computed again.
 ghost use Rattle.std.specs.Prelude.{◌≡◌, ◌<◌, [], ◌∷◌, ◌++◌, List, IfSome, OnOk, length, slice_index_or};
 ghost use Rattle.life_ash.specs.Parts.{IsPlaced};
 ghost use Rattle.life_answer.specs.Parts.{with_codes};
@@ -13,19 +12,19 @@ use life_answer::{Code, Parts};
 use life_orbit::Orbit;
 use std::alloc::{AllocError, Global};
 
-/// How many sets are kept at most.
+/// The greatest number of sets that are kept.
 const MOST: usize = 64;
 
-/// How many cells a set has at most that is kept.
+/// The greatest number of cells of a set that is kept.
 const LARGEST: usize = 256;
 
-/// Sets that recur, with the codes of what they count as. These are right; not all sets that were met are kept.
+/// Sets that recur, with the codes that they count as. These are right, but not all sets that were found are kept.
 #[derive(Drop)]
 pub struct KnownSets {
     sets: Vec<KnownSet>,
 }
 
-/// Where among the sets there is one that is an orbit's set, moved as a whole. Finding none means nothing.
+/// The place among the sets of one that is an orbit's set, moved as a whole. `None` means nothing.
 fn place_of(sets: &[KnownSet], orbit: &Orbit, near: bool) -> Option<usize>
     ensures inside { IfSome result (λ n. n < length sets.now) }
     ensures codes { IfSome result (λ n. (d : declared.KnownSet) →
@@ -50,14 +49,14 @@ fn add_codes(alloc: Global, parts: &mut Parts, codes: &[Code]) -> Result<(), All
 }
 
 impl KnownSets {
-    /// No set yet.
+    /// No sets yet.
     pub fn new(alloc: Global) -> KnownSets {
         KnownSets {
             sets: Vec::new(alloc),
         }
     }
 
-    /// Keeps an orbit's set, with the codes of what it counts as, if it is small and few are kept.
+    /// Keeps an orbit's set, with the codes that it counts as, if it is small and few are kept.
     fn keep(
         &mut self,
         alloc: Global,
@@ -73,8 +72,8 @@ impl KnownSets {
         Ok(())
     }
 
-    /// Counts what an orbit's set counts as, whose cells are places at age 400,000, in addition to what was counted. It is worked
-    /// out where this set, moved as a whole, is not kept.
+    /// Counts an orbit's set, whose cells are in the field at age 400,000, in addition to what was counted. Its codes are
+    /// computed if this set, moved as a whole, is not kept.
     pub fn count(
         &mut self,
         alloc: Global,

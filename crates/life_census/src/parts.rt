@@ -1,4 +1,4 @@
-//! What sets that recur count as, counted by codes.
+//! The parts that sets that recur count as, counted by codes.
 ghost use Rattle.std.specs.Prelude.{◌≡◌, All, IfOk};
 ghost use Rattle.life_ash.specs.Parts.{IsPlaced};
 ghost use Rattle.life_orbit.specs.Course.{IsCourse};
@@ -9,8 +9,8 @@ use life_answer::Parts;
 use life_orbit::Orbit;
 use std::alloc::{AllocError, Global};
 
-/// What the sets of orbits count as, counted by codes: each itself, where what is near one another is one object, and otherwise
-/// its independent parts. Their cells are places at age 400,000.
+/// The parts that the sets of orbits count as, counted by codes: with `near` each set itself, and otherwise its independent
+/// parts. The cells of the sets are in the field at age 400,000.
 pub fn parts_of(alloc: Global, orbits: &[Orbit], near: bool) -> Result<Parts, AllocError>
     requires within { All IsPlaced orbits.now }
     requires courses { All IsCourse orbits.now }

@@ -32,8 +32,8 @@ use life_plane::{Observer, Plane};
 use life_things::WAY_LIMIT;
 use std::alloc::{AllocError, Global};
 
-/// What becomes of a pattern, by the ash that its generation of this age is and some generations on a trail: the first generation
-/// that is ash, and what the objects count as, by codes; or how it recurs from that generation on, where they count as one. It is
+/// The fate of a pattern, from the ash that its generation of this age is and some generations on a trail: the first generation
+/// that is ash, and the counts of the objects by codes; or how it recurs from that generation on, if they count as one. It is
 /// the same within each bound that is no less than the age.
 fn outcome_of_ash<P: Plane>(
     alloc: Global,
@@ -62,7 +62,7 @@ fn outcome_of_ash<P: Plane>(
     recurring(alloc, onset, &orbits[0], &parts.as_slice()[0])
 }
 
-/// That a pattern recurs from this onset on, as an orbit's set does, which counts as this part.
+/// The outcome that a pattern recurs from this onset on, like the set of an orbit, which counts as this part.
 fn recurring(alloc: Global, onset: u32, orbit: &Orbit, part: &Part) -> Result<Outcome, AllocError>
     ensures { IfOk result (λ outcome. outcome
         ≡ Recurs onset orbit.now.period orbit.now.displacement.0 orbit.now.displacement.1 part.now.code) }
@@ -77,7 +77,7 @@ fn recurring(alloc: Global, onset: u32, orbit: &Orbit, part: &Part) -> Result<Ou
     })
 }
 
-/// What is reported of growth that was searched for within the greatest bound up to which a pattern is small enough.
+/// The report on growth that was searched for within the greatest bound up to which a pattern is small enough.
 fn engines_of(
     alloc: Global,
     growth: Option<Growth>,
@@ -104,7 +104,7 @@ fn growing_or(engines: Option<EngineList>, outcome: Outcome) -> Outcome
     }
 }
 
-/// The outcome of a pattern of which this becomes. Ash never grows, so no growth is searched for where a pattern is seen to end.
+/// The outcome of a pattern with this fate. Ash never grows, so no growth is searched for if a pattern is seen to end.
 fn outcome_of_fate<P: Plane>(
     alloc: Global,
     rule: &Rule,
@@ -140,16 +140,16 @@ fn outcome_of_fate<P: Plane>(
     }
 }
 
-/// What becomes of a pattern within the bound. `Recurs` exactly where it falls apart into one object: it recurs as that one
-/// does, from the first generation that is ash on. `Ash` exactly where it falls apart into none or several: that generation,
-/// and the objects, counted by codes. Otherwise the engines by which it grows, counted by what is reported of each, and with
-/// the codes of what it emits: `Grows` exactly where it grows within the horizon, as seen within the greatest bound, up to this
-/// one, such that no generation up to four times that bound has more cells than it may have. Otherwise `Large`, with the first
-/// such generation, where some generation from 0 to three times the bound has more cells than it may have; and that goes before
-/// `Recurs` and `Ash`. Otherwise `Unresolved`.
+/// The fate of a pattern within the bound. `Recurs` exactly if it falls apart into one object: it recurs as that one does, from
+/// the first generation that is ash on. `Ash` exactly if it falls apart into none or several: that generation, and the objects,
+/// counted by codes. Otherwise the engines by which it grows, counted by what is reported of each, and with the codes of what
+/// it emits: `Grows` exactly if it grows within the horizon, as seen within the greatest bound, up to this one, such that no
+/// generation up to four times that bound has more cells than it may have. Otherwise `Large`, with the first such generation,
+/// if some generation from 0 to three times the bound has more cells than it may have; and that takes precedence over `Recurs`
+/// and `Ash`. Otherwise `Unresolved`.
 ///
-/// The bound is 1 to 100,000 generations, and the horizon 1 to 10,000. What is near one another counts as one object where that
-/// is asked for; otherwise the independent parts of each object count. The generations on the way, up to three times the bound,
+/// The bound is 1 to 100,000 generations, and the horizon 1 to 10,000. With `near`, cells that are near one another count as
+/// one object; otherwise the independent parts of each object count. The generations on the way, up to three times the bound,
 /// are reported to an observer.
 pub fn census<P: Plane, W: Observer>(
     alloc: Global,

@@ -1,8 +1,8 @@
-//! What may be seen of a pattern on the way to the bound.
+//! The possible observations about a pattern on the way to the bound.
 use life_ash::Fate;
 use life_growing::Growth;
 
-/// What is seen of a pattern within a bound, if no generation may have more cells than some number.
+/// The observation about a pattern within a bound, if no generation may have more cells than some number.
 #[derive(Drop)]
 pub enum Seen {
     /// It grows.
@@ -10,7 +10,7 @@ pub enum Seen {
         /// Its growth.
         growth: Growth,
     },
-    /// This becomes of it, and whether it grows is open.
+    /// It has this fate, and whether it grows is open.
     Becomes {
         /// Its fate.
         fate: Fate,

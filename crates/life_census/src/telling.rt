@@ -1,4 +1,4 @@
-//! What is reported of growth.
+//! The report on growth.
 ghost use Rattle.std.specs.Prelude.{◌≡◌, ℕ, IfOk};
 ghost use Rattle.life_model.specs.Generation.{Generation};
 ghost use Rattle.life_model.specs.Rule.{Rule};
@@ -12,7 +12,7 @@ use life_answer::{EngineList, Parts, Tale};
 use life_growing::{Engine, Growth};
 use std::alloc::{AllocError, Global};
 
-/// What is reported of what recurs after `period` generations, moved by `by`, and emits these objects.
+/// The report on an engine that recurs after `period` generations, moved by `by`, and emits these objects.
 fn tale_of_way(period: u32, by: (i32, i32), emits: Parts) -> Tale
     ensures { result ≡ record { period = period; dx = by.0; dy = by.1; emits = emits } }
 {
@@ -25,7 +25,7 @@ fn tale_of_way(period: u32, by: (i32, i32), emits: Parts) -> Tale
     }
 }
 
-/// What is reported of an engine.
+/// The report on an engine.
 fn tale(
     alloc: Global,
     known: &mut KnownSets,
@@ -44,8 +44,8 @@ fn tale(
     Ok(tale_of_way(period, track.displacement(), emits))
 }
 
-/// What is reported of growth: its engines, with those of which the same is reported together. What an engine emits counts as the
-/// parts of ash do: what is near one another as one object, where that is asked for, and otherwise the independent parts of each
+/// The report on growth: its engines, where those with the same report are counted together. What an engine emits counts as the
+/// parts of ash do: with `near`, cells that are near one another as one object, and otherwise the independent parts of each
 /// object.
 pub fn told(alloc: Global, growth: &Growth, near: bool) -> Result<EngineList, AllocError>
     ensures { IfOk result (λ told. (R : Rule) (b : ℕ) (G : Generation) → IsGrowthOf R b G growth.now →

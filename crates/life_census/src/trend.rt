@@ -1,4 +1,4 @@
-//! Whether a pattern seems to grow steadily.
+//! Patterns that seem to grow steadily.
 ghost use Rattle.std.specs.Prelude.{◌+◌, ◌*◌, ◌≤◌, length};
 
 use life_cells::Rule;
@@ -8,7 +8,7 @@ use std::alloc::{AllocError, Global};
 /// The least number of generations in which to look for a trend.
 pub const LEAST_TREND: u32 = 128;
 
-/// Whether the counts rise by the same in each period, phase by phase.
+/// True if the counts rise by the same in each period, phase by phase.
 fn rise_alike(counts: &[u64], period: usize) -> bool
     requires { 2 * period ≤ length counts.now }
 {
@@ -21,7 +21,7 @@ fn rise_alike(counts: &[u64], period: usize) -> bool
     true
 }
 
-/// Whether the counts of the second period are more than those of the first together.
+/// True if the counts of the second period together are more than those of the first.
 fn have_risen(counts: &[u64], period: usize) -> bool
     requires { 2 * period ≤ length counts.now }
 {
@@ -34,8 +34,8 @@ fn have_risen(counts: &[u64], period: usize) -> bool
     first < second
 }
 
-/// Whether the counts rise steadily. With the least period, up to a third of their number, in which they rise by the same each
-/// time, phase by phase, they must have risen.
+/// True if the counts rise steadily: they have risen with the least period, up to a third of their number, in which they rise
+/// by the same each time, phase by phase.
 fn is_rising(counts: &[u64]) -> bool {
     for period in 1..counts.len() / 3 + 1 {
         if rise_alike(counts, period) {
@@ -45,8 +45,8 @@ fn is_rising(counts: &[u64]) -> bool {
     false
 }
 
-/// Whether the counts so far leave a period, up to a third of the `length` counts that there will be, in which they may rise by the
-/// same each time. There are at least as many counts as two such periods have.
+/// True if the counts so far leave a period, up to a third of the `length` counts that there will be, in which they may rise by
+/// the same each time. There are at least as many counts as two such periods have.
 fn may_rise(counts: &[u64], length: usize) -> bool {
     for period in 1..(length / 3).min(counts.len() / 2) + 1 {
         if rise_alike(counts, period) {
@@ -56,8 +56,8 @@ fn may_rise(counts: &[u64], length: usize) -> bool {
     false
 }
 
-/// Whether the population of a plane's cells seems to rise steadily over the next `length` generations. Neither answer is
-/// certain. Where three quarters of them show that it does not, the last quarter is spared.
+/// True if the population of a plane's cells seems to rise steadily over the next `length` generations. Neither answer is
+/// certain. If three quarters of them show that it does not, the last quarter is skipped.
 pub fn rises_steadily<P: Plane>(
     alloc: Global,
     plane: &P,

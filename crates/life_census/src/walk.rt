@@ -1,4 +1,4 @@
-//! The walk of a pattern to the bound, on which ash and growth are searched for.
+//! The walk of a pattern to the bound, during which ash and growth are searched for.
 ghost use Rattle.std.specs.Prelude.{◌≡◌, ℕ, ◌+◌, ◌≤◌, All, IfNone, IfOk, IfSome, List, Option, min};
 ghost use Rattle.life_model.specs.Evolution.{generation};
 ghost use Rattle.std.specs.Bool.{OnTrue};
@@ -23,15 +23,15 @@ use life_things::WAY_LIMIT;
 use std::alloc::{AllocError, Global};
 use std::mem;
 
-/// The first age at which the population is noted. At each further one, twice the one before it, growth is searched for where the
-/// population has risen since.
+/// The first age at which the population is recorded. At each further one, twice the one before it, growth is searched for if
+/// the population has risen since.
 const FIRST_LOOK: u32 = 256;
 
-/// After the bound, patterns are checked for falling apart late for this many times the horizon. That spares the search for their
-/// growth, which costs about as much.
+/// After the bound, patterns are checked for falling apart late for this many times the horizon. That saves the search for
+/// their growth, which costs about as much.
 const LATER: u32 = 8;
 
-/// Up to this many times the bound, it is looked whether a pattern falls apart, before it is looked for that alone.
+/// Up to this many times the bound, patterns are checked for falling apart before they are followed for that alone.
 const LOOKED_AT: u32 = 4;
 
 /// A pattern with more cells than this is not looked at after the bound.
@@ -40,7 +40,8 @@ const MANY: u64 = 20_000;
 /// For a pattern with fewer cells than this, one island alone is followed before the pattern is looked at after the bound.
 const FEW: u64 = 4_000;
 
-/// Walks on to an age up to the bound. Returns what becomes of the pattern, if that is found before. The trail is spent then.
+/// Walks on to an age up to the bound. Returns the fate of the pattern, if it is found before; the trail is empty then, if the
+/// fate has it.
 fn fate_before<P: Plane, W: Observer>(
     alloc: Global,
     observer: &W,
@@ -78,9 +79,9 @@ fn fate_before<P: Plane, W: Observer>(
     }
 }
 
-/// Whether a pattern is seen to fall apart in the generations after that of a plane: up to sixteen times the plane's age, but at
-/// most `LATER` times the horizon further, where that is more than `LOOKED_AT` times the age. A pattern that has more cells than
-/// `MANY`, or comes to have more, is not looked at further.
+/// True if a pattern is seen to fall apart in the generations after that of a plane: up to sixteen times the plane's age, but
+/// at most `LATER` times the horizon further, provided that this is more than `LOOKED_AT` times the age. A pattern that has
+/// more cells than `MANY`, or comes to have more, is not looked at further.
 fn ends_late<P: Plane>(
     alloc: Global,
     plane: P,
@@ -126,9 +127,9 @@ fn ends_late<P: Plane>(
     Ok(false)
 }
 
-/// Whether a plane's cells, of the age of the bound, are seen to be no ash within it and not to grow within the horizon. Cells
-/// that are fewer than the generations so far, and all where the horizon is shorter, are looked at after the bound first, which
-/// costs little.
+/// True if a plane's cells, of the age of the bound, are seen to be no ash within it and not to grow within the horizon. If
+/// they are fewer than the generations so far, or the horizon is shorter than the bound, the answer is false at once: the
+/// pattern is then looked at after the bound first, which costs little.
 fn are_refused<P: Plane>(
     alloc: Global,
     plane: &P,
@@ -152,8 +153,8 @@ fn are_refused<P: Plane>(
     never_grow(alloc, plane, rule, age)
 }
 
-/// What is seen of a pattern, by the plane of its generation of the bound and by its fate. A pattern that does not grow mostly
-/// shows it at little cost, if it is not known yet. Otherwise the pattern is checked for falling apart late.
+/// The observation about a pattern, from the plane of its generation of the bound and its fate. A pattern that does not grow
+/// usually shows it at little cost, if it is not known yet. Otherwise the pattern is checked for falling apart late.
 fn seen_at_bound<P: Plane>(
     alloc: Global,
     plane: P,
@@ -185,9 +186,9 @@ fn seen_at_bound<P: Plane>(
     }
 }
 
-/// What is seen of a pattern within the bound. On the way there it is checked now and then for having fallen apart, and each time
-/// that the age has doubled for growth, where its population has risen since then and rises steadily. The generations on the way
-/// are reported to an observer.
+/// The observation about a pattern within the bound. On the way there it is checked now and then for having fallen apart, and
+/// each time that the age has doubled for growth, if its population has risen since then and rises steadily. The generations on
+/// the way are reported to an observer.
 pub fn seen<P: Plane, W: Observer>(
     alloc: Global,
     observer: &W,
