@@ -1,4 +1,4 @@
--- Which patterns take memory to work, and which are not soon worked.
+-- Patterns that take memory to work, and patterns that take long.
 use Rattle.std.specs.Prelude.{◌≡◌, ◌<◌, true, false, IsOk}
 use Rattle.census_bundle.specs.declared.bundle.Entry.{Entry}
 use Rattle.life_answer.specs.Questions.{answer_to_question}
@@ -11,7 +11,7 @@ use Rattle.life_text.specs.Rle.{header_rule}
 abbrev pub TakesMemory : Entry → Type 0
 TakesMemory e = (e.is_lost ≡ false) × IsOk (header_rule e.text)
 
--- The entry's text is there, and what is asked of it is more than its first generations can answer, or is its objects.
+-- The entry's text is there, and the question asks for its objects, or its first generations do not answer it.
 abbrev pub IsLongWork : Question → Entry → Type 0
 IsLongWork (Settles bound cells) e =
     (e.is_lost ≡ false) × (soon_reach < bound) × (is_open (answer_to_question (Settles soon_reach cells) e.text) ≡ true)

@@ -1,4 +1,4 @@
--- What is read and written when a bundle text is run.
+-- The input and output of a run over a bundle text.
 use Rattle.std.specs.Prelude.{◌≡◌, ◌≢◌, ◌≤◌, ◌⊎◌, ℕ, Bool, true, false, List, length, Option, None, Some, Result, Ok, Err, IfSome}
 use Rattle.std.specs.Io.KnownBytes.{Consumes, IsAtEnd}
 use Rattle.watched.specs.Streams.{Streams}
@@ -37,7 +37,7 @@ pub record ReadsFolders (old new : Option (List ℕ)) (b : List Folder) : Type 0
   pub lawful : fault_of text ≡ None
   pub holds : b ≡ folders_of text
 
--- what was read, by what is returned
+-- the input that was read, by the result
 abbrev pub ReadsBundle : Option (List ℕ) → Option (List ℕ) → Result (List Folder) BytesFault → Type 0
 ReadsBundle old new (Ok b) = ReadsFolders old new b
 ReadsBundle old new (Err Read) = Unit {0}
@@ -59,7 +59,7 @@ pub record RunsFront (question : Question) (before after : Streams) : Type 0 whe
   pub read : ReadsFolders before.input.unread after.input.unread bundle
   pub front : WritesPrefix before.output.written after.output.written bundle question
 
--- what was read and written, by what is returned
+-- the input that was read and the output, by the result
 abbrev pub RunsBytes : Question → Streams → Streams → Result Tally BytesFault → Type 0
 RunsBytes question before after (Ok t) = RunsAll question before after t
 RunsBytes question before after (Err Read) = after.output.written ≡ before.output.written
@@ -77,13 +77,13 @@ FitsBytesFault (Err (Bundle f)) failed = failed ≡ false
 FitsBytesFault (Err Memory) failed = failed ≡ false
 FitsBytesFault (Err Write) failed = failed ≡ true
 
--- the gate was told of a run of the bundle that was read
+-- the gate heard of a run of the bundle that was read
 pub record HearsRun (before after : Streams) (old new : Option (List News)) : Type 0 where
   pub bundle : List Folder
   pub read : ReadsFolders before.input.unread after.input.unread bundle
   pub heard : Hears old new (news_of bundle)
 
--- what the gate was told, by what is returned: nothing, if no bundle was read
+-- the news that the gate heard, by the result: none if no bundle was read
 abbrev pub HearsBytes : Result Tally BytesFault → Streams → Streams → Option (List News) → Option (List News) → Type 0
 HearsBytes (Ok t) before after old new = HearsRun before after old new
 HearsBytes (Err Read) before after old new = new ≡ old

@@ -1,4 +1,4 @@
--- Which fault a run returns.
+-- The faults that a run returns.
 use Rattle.std.specs.Prelude.{◌≡◌, Bool, true, false, List, None, Some, Ok, Err, Result}
 use Rattle.census_bundle.specs.Tickets.{IsTicketOf}
 use Rattle.census_bundle.specs.declared.bundle.Folder.{Folder}

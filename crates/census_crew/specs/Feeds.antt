@@ -1,4 +1,4 @@
--- What is said of a feed and its hands.
+-- Statements about a feed and its hands.
 use Rattle.std.specs.Prelude.{◌≡◌, ℕ, true, Bool, cond, ◌+◌, ◌⊎◌, List, [], ◌∷◌, ◌++◌, length}
 use Rattle.std.specs.List.{All, AllByRecursion, flat_map, list_any}
 use Rattle.std.proofs.Common.{Global}
@@ -20,15 +20,15 @@ use Rattle.census_crew.specs.Rule.{Fed, AllMarks}
 abbrev pub list_of : Hand → List Item
 list_of h = (view h.pass).taken
 
--- what the feed of the hand was filled with
+-- the items that the feed of the hand was filled with
 abbrev pub filled_items : Hand → List Item
 filled_items h = (view h.pass).filled
 
--- what the feed was filled with
+-- the items that the feed was filled with
 abbrev pub items_of : Feed → List Item
 items_of f = (worker_view f.owner).filled
 
--- for how many hands the feed was filled
+-- the number of hands that the feed was filled for
 abbrev pub workers_of : Feed → ℕ
 workers_of f = (worker_view f.owner).begun
 
@@ -44,7 +44,7 @@ IsHandOfDeque owner h = (stealer_deque h.stealer ≡ worker_deque owner) × (fil
 abbrev pub IsNew : {P : Type 0} → Worker Item Global View P → Hand → Type 0
 IsNew owner h = IsHandOfDeque owner h × (list_of h ≡ [])
 
--- it is a hand of this feed
+-- the hand is one of this feed
 abbrev pub IsHandOf : Feed → Hand → Type 0
 IsHandOf f h = IsHandOfDeque f.owner h
 
@@ -60,11 +60,11 @@ DrawsFrom h bundle = (workers : ℕ) × (filled_items h ≡ items bundle workers
 abbrev pub IsTicketFor : Hand → Ticket → Type 0
 IsTicketFor h t = (bundle : List Folder) → DrawsFrom h bundle → IsTicketOf bundle t
 
--- it still has the same feed
+-- the hand still has the same feed
 abbrev pub SameHand : Hand → Hand → Type 0
 SameHand old new = (stealer_deque new.stealer ≡ stealer_deque old.stealer) × (filled_items new ≡ filled_items old)
 
--- it took an end mark, or had one and did nothing
+-- the hand took an end mark, or had one and did nothing
 abbrev pub TookMark : Hand → Hand → Type 0
 TookMark old new = ((k : ℕ) × (list_of new ≡ list_of old ++ Mark k ∷ [])) ⊎ ((ends_with_mark (list_of old) ≡ true) × (new ≡ old))
 

@@ -1,4 +1,4 @@
--- What is said of the owner of a feed's deque while it fills it, and of a hand's pass.
+-- Statements about the owner of a feed's deque while it fills it, and about a hand's pass.
 use Rattle.std.specs.Prelude.{◌≡◌, ◌<◌, ℕ, true, false, Bool, List, ◌++◌, length}
 use Rattle.crossbeam_deque.specs.Handles.{worker_flavor, worker_view}
 use Rattle.crossbeam_deque.specs.declared.handles.Worker.{Worker}
@@ -13,7 +13,7 @@ abbrev pub IsFilling : {A P : Type 0} → Worker Item A View P → ℕ → Type 
 IsFilling w begun =
     (worker_flavor w ≡ 0) × ((worker_view w).role ≡ Filler) × ((worker_view w).begun ≡ begun) × (length (worker_view w).taken ≡ 0) × (length (worker_view w).ended ≡ 0)
 
--- some feed has these items and then the next
+-- the items of some feed begin with these and then the next
 abbrev pub CanFollow : List Item → List Item → Type 0
 CanFollow filled next = (bundle : List Folder) × (workers : ℕ) × (behind : List Item) × (items bundle workers ≡ (filled ++ next) ++ behind)
 

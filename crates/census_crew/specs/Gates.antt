@@ -1,4 +1,4 @@
--- What a gate is told of runs.
+-- The news that a gate hears of runs.
 use Rattle.std.specs.Prelude.{◌≡◌, ℕ, ◌-◌, ◌^◌, List, [], ◌∷◌, ◌++◌, Option, None, Some, min}
 use Rattle.census_bundle.specs.declared.bundle.Folder.{Folder}
 use Rattle.census_format.specs.Lines.{pattern_count}
@@ -8,15 +8,16 @@ pub data News : Type 0 where
   Begun : (patterns : ℕ) → News
   Over : News
 
--- What a gate was told, in order, if it reports that. A gate that does was told this since.
+-- The news that a gate has heard, in order, if it keeps them. A gate that does has heard this since.
 abbrev pub Hears : Option (List News) → Option (List News) → List News → Type 0
 Hears None new news = Unit {0}
 Hears (Some heard) new news = new ≡ Some (heard ++ news)
 
--- how many patterns the bundle has, as far as 64 bits go
+-- the number of patterns in the bundle, as far as 64 bits go
 abbrev pub told_count : List Folder → ℕ
 told_count b = min (pattern_count b) (2 ^ 64 - 1)
 
--- what a gate is told of a run of the bundle: before it, how many patterns there are, and after it, that it has ended
+-- the news that a gate hears of a run of the bundle: before it, the number of patterns, and after it, that it has
+-- ended
 abbrev pub news_of : List Folder → List News
 news_of b = Begun (told_count b) ∷ Over ∷ []

@@ -26,7 +26,7 @@ abbrev pub end_marks : ℕ → List Item
 end_marks zero = []
 end_marks (suc n) = end_marks n ++ Mark (suc n) ∷ []
 
--- what a feed of this bundle for `workers` hands is filled with
+-- the items that a feed of this bundle for `workers` hands is filled with
 abbrev pub items : List Folder → ℕ → List Item
 items bundle workers = tickets bundle ++ end_marks workers
 
@@ -56,18 +56,18 @@ same_item (Work s) (Mark k) = false
 same_item (Mark j) (Work t) = false
 same_item (Mark j) (Mark k) = j == k
 
--- how often x is in the list
+-- the number of times that x is in the list
 abbrev pub occurrence_count : Item → List Item → ℕ
 occurrence_count x xs = count_by (same_item x) xs
 
--- x is in the list
+-- true if x is in the list
 abbrev pub has_item : List Item → Item → Bool
 has_item xs x = list_any (same_item x) xs
 
--- how many end marks are in the list
+-- the number of end marks in the list
 abbrev pub mark_count : List Item → ℕ
 mark_count xs = count_by is_mark xs
 
--- the last item is an end mark
+-- true if the last item is an end mark
 abbrev pub ends_with_mark : List Item → Bool
 ends_with_mark xs = fold (λ seen x. is_mark x) false xs

@@ -1,4 +1,4 @@
--- Which tickets were left, and how a bundle is copied.
+-- The tickets that were left, and the copying of a bundle.
 use Rattle.std.specs.Prelude.{List, [], ◌∷◌, All}
 use Rattle.census_bundle.specs.declared.bundle.Entry.{Entry}
 use Rattle.census_bundle.specs.declared.bundle.Folder.{Folder}

@@ -1,4 +1,4 @@
--- The rule of the feed: over the items in the deque, front first, and what each pass knows.
+-- The rule of the feed: over the items in the deque, front first, and the knowledge of each pass.
 use Rattle.std.specs.Prelude.{◌≡◌, ℕ, true, ◌+◌, ◌<◌, ◌≤◌, cond, List, [], ◌∷◌, ◌++◌, length}
 use Rattle.std.specs.List.{AllByRecursion, flat_map}
 use Rattle.census_bundle.specs.declared.bundle.Folder.{Folder}
@@ -8,11 +8,12 @@ use Rattle.census_crew.specs.declared.view.Role.TheVariants.{Filler, Holder, Spe
 use Rattle.census_crew.specs.declared.view.View.{View}
 use Rattle.census_crew.specs.Items.{items, Rises, has_item, is_mark, occurrence_count, mark_count}
 
--- what the filler knows: what it pushed and popped, how many hands have begun, and the lists of those that have ended
+-- the knowledge of the filler: the items that it pushed and popped, the number of hands that have begun, and the lists of those
+-- that have ended
 abbrev pub view_of_filler : List Item → List Item → ℕ → List (List Item) → View
 view_of_filler pushed popped begun ended = record { role = Filler; filled = pushed; taken = popped; begun = begun; ended = ended }
 
--- what a hand knows: what the feed was filled with, and what it took
+-- the knowledge of a hand: the items that the feed was filled with, and those that it took
 abbrev pub view_of_hand : List Item → List Item → View
 view_of_hand filled taken = record { role = Holder; filled = filled; taken = taken; begun = 0; ended = [] }
 
@@ -46,12 +47,12 @@ views_of_filler views = flat_map fillers_of views
 abbrev pub KnowsFilled : List Item → View → Type 0
 KnowsFilled pushed v = v.role ≡ Holder → v.filled ≡ pushed
 
--- The state of a feed of this bundle for `workers` hands: what was pushed, what was popped, the rest that the deque holds, and
--- a list for each hand, including the ended ones, of which there are `ended`.
--- What was pushed begins the bundle's items, and is all of them once a hand has begun. It is a prefix that the hands took, then
--- what was popped, then the rest. Each item, of this bundle or not, is once in the hands' lists together if it is in that
--- prefix, and otherwise not at all. Each hand's list rises and has at most one end mark. At most `workers` hands have begun,
--- and nothing is popped until `workers` hands have ended.
+-- The state of a feed of this bundle for `workers` hands: the items that were pushed, those that were popped, the rest that the
+-- deque holds, and a list for each hand, including the ended ones, of which there are `ended`.
+-- The pushed items are a prefix of the bundle's items, and all of them once a hand has begun. They are a front that the hands
+-- took, then the popped items, then the rest. Each item, of this bundle or not, is once in the hands' lists together if it is
+-- in that front, and otherwise not at all. Each hand's list rises and has at most one end mark. At most `workers` hands have
+-- begun, and nothing is popped until `workers` hands have ended.
 pub record IsSoundFeed (bundle : List Folder) (workers : ℕ) (pushed popped rest : List Item) (hands : List (List Item)) (ended : ℕ) : Type 0 where
   pub front : List Item
   pub behind : List Item
@@ -74,7 +75,7 @@ pub record Fed (rest : List Item) (views : List View) : Type 0 where
   pub known : AllByRecursion (KnowsFilled filler.filled) views
   pub sound : IsSoundFeed bundle workers filler.filled filler.taken rest (lists views) (length filler.ended)
 
--- how a step changes the view of the pass that makes it
+-- the view of a pass after each kind of step that it makes
 abbrev pub view_after_push : View → List Item → View
 view_after_push v xs = record v { filled = v.filled ++ xs }
 
@@ -90,18 +91,18 @@ new_hand v = view_of_hand v.filled []
 abbrev pub ends_one : View → View → View
 ends_one v w = record v { ended = v.ended ++ w.taken ∷ [] }
 
--- what a hand knows after a steal: its list still rises, and it took an item of the feed
+-- the knowledge of a hand after a steal: its list still rises, and it took an item of the feed
 abbrev pub Stole : View → List Item → View → Type 0
 Stole v xs w = (w ≡ view_after_take v xs) × Rises w.taken × AllByRecursion (λ x. has_item v.filled x ≡ true) xs
 
--- what the filler knows after a pop
+-- the knowledge of the filler after a pop
 abbrev pub Popped : View → List Item → View → Type 0
 Popped v xs w = (w ≡ view_after_take v xs) × (length w.taken ≤ length w.filled)
 
 abbrev pub AllMarks : List Item → Type 0
 AllMarks xs = AllByRecursion (λ x. is_mark x ≡ true) xs
 
--- what the filler knows once all hands have ended and the deque is empty: each item is in one list, once
+-- the knowledge of the filler once all hands have ended and the deque is empty: each item is in one list, once
 abbrev pub AllOut : View → Type 0
 AllOut v =
     ((x : Item) → occurrence_count x (all_items_of v.ended) + occurrence_count x v.taken ≡ cond (has_item v.filled x) 1 0)

@@ -15,7 +15,7 @@ pub record IsRunState (p : Progress) (t : Tally) : Type 0 where
   pub lawful : IsAnswered p.question
   pub counted : TalliesTaken t p.bundle p.question p.taken
 
--- it is so in one way at most
+-- there is at most one proof of it
 HasHorizon-prop : (question : Question) → IsProp (HasHorizon question)
 HasHorizon-prop (Settles bound cells) = Unit-prop
 HasHorizon-prop (Objects bound cells near horizon) = Prim.hlevel logic.props

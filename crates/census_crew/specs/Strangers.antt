@@ -1,4 +1,4 @@
--- Which results are strangers.
+-- Results that are strangers.
 use Rattle.std.specs.Prelude.{◌≡◌, ℕ, ◌+◌, ◌<◌, ◌^◌, ◌⊎◌, List, [], ◌∷◌}
 use Rattle.census_bundle.specs.declared.bundle.Folder.{Folder}
 use Rattle.census_book.specs.Collecting.{IsResultOf}

@@ -1,4 +1,4 @@
--- What is in a writer while a collector's text is written to it.
+-- The text in a writer while a collector's text is written to it.
 use Rattle.std.specs.Prelude.{◌≡◌, ℕ, List, ◌++◌, Option}
 use Rattle.std.specs.Io.KnownBytes.{Appends}
 use Rattle.census_bundle.specs.declared.bundle.Folder.{Folder}
@@ -19,7 +19,7 @@ pub record WritesPrefix (old new : Option (List ℕ)) (b : List Folder) (questio
   pub front : IsReportFront b question text
   pub written : Appends old new text
 
--- what was written, followed by what is unsent, is what the collector has released
+-- the text that was written, followed by the unsent text, is what the collector has released
 pub record IsInStep (old new : Option (List ℕ)) (p : Progress) : Type 0 where
   pub text : List ℕ
   pub released : IsReleased p.bundle p.question p.taken (text ++ p.unsent)

@@ -1,4 +1,4 @@
-//! What is found of an entry, and the work of a ticket.
+//! The answer to an entry, and the work of a ticket.
 ghost use Rattle.std.specs.Prelude.{◌≡◌, false, IfNone, IfOk, IfSome, OnErr};
 ghost use Rattle.life_answer.specs.Questions.{IsAnswered};
 ghost use Rattle.census_format.specs.Lines.{answer_to_entry};
@@ -11,7 +11,7 @@ use life_find::answer_soon;
 use life_plane::{Observer, Unobserved};
 use std::alloc::{AllocError, Global};
 
-// What is found of an entry, whatever is asked.
+// The answer to an entry, whatever the question.
 #[tactic(auto, unfolding(census_format::specs::Lines::answer_to_entry))]
 fn find<W: Observer>(
     alloc: Global,
@@ -40,7 +40,7 @@ fn find<W: Observer>(
     }
 }
 
-// What is found of an entry, if the first 256 generations of its pattern are enough and objects are not asked for, or if its
+// The answer to an entry, if the first 256 generations of its pattern are enough and objects are not asked for, or if its
 // text is lost.
 #[tactic(auto, unfolding(census_format::specs::Lines::answer_to_entry))]
 fn find_soon(alloc: Global, entry: &Entry, question: Question) -> Result<Option<Answer>, AllocError>
@@ -59,8 +59,8 @@ fn find_soon(alloc: Global, entry: &Entry, question: Question) -> Result<Option<
     }
 }
 
-/// Works a ticket: what is found of the entry's text. If that is lost, no work is done, and it is refused under the number
-/// 0. A bound is 1 to 1,000,000 generations; where objects are asked for, it is 1 to 100,000, and the horizon is 1 to
+/// Works a ticket: answers the question for the entry's text. If that is lost, no work is done, and it is refused with the
+/// number 0. A bound is 1 to 1,000,000 generations; if objects are asked for, it is 1 to 100,000, and the horizon is 1 to
 /// 10,000. Memory is taken only for a text that has a header.
 pub fn work<'a>(
     alloc: Global,
@@ -77,7 +77,7 @@ pub fn work<'a>(
     work_observed(alloc, &Unobserved, ticket, entry, question)
 }
 
-/// Does what `work` does, and reports to an observer which generation of the pattern was reached.
+/// Does what `work` does, and reports the generations of the pattern to an observer as they are reached.
 pub(crate) fn work_observed<'a, W: Observer>(
     alloc: Global,
     observer: &W,
@@ -95,9 +95,9 @@ pub(crate) fn work_observed<'a, W: Observer>(
     Done::of(alloc, ticket, entry, question, answer)
 }
 
-/// Does what `work` does if it is soon done: the entry's text is lost or no pattern, or the question is which generation
-/// recurs and the first 256 generations answer it. No later one is looked at. `None` says that it isn't soon done. No
-/// memory is taken if the text is lost.
+/// Does what `work` does if that is quick: the entry's text is lost or no pattern, or the question is which generation
+/// recurs and the first 256 generations answer it. No later one is looked at. `None` says that it isn't quick. No memory is
+/// taken if the text is lost.
 pub fn work_soon<'a>(
     alloc: Global,
     ticket: Ticket,

@@ -35,12 +35,12 @@ fn read_input<R: Read>(alloc: Global, reader: &mut Input<R>) -> Result<Bundle, B
     }
 }
 
-/// Reads a bundle up to the end of standard input and writes the report of what is asked of its patterns, by 1 to 16 workers,
-/// as `run` does, which tells the gate of the run. If no bundle was read, the gate is told nothing. A bound is 1 to 1,000,000
-/// generations. Neither standard input nor standard output has failed before, and nothing is written to standard error. `Ok`
-/// says that everything was written. The input is read to its end before the first byte is written. After `Read`, `TooLong` and
-/// `Bundle` nothing was written; after `Memory` and `Write` nothing or a prefix of a report of the bundle. `Read` is returned
-/// if and only if standard input has failed, and `Write` if and only if standard output has.
+/// Reads a bundle up to the end of standard input and writes the report that answers the question for its patterns, by 1 to 16
+/// workers, as `run` does, which reports the run to the gate. If no bundle was read, the gate hears nothing. A bound is 1 to
+/// 1,000,000 generations. Neither standard input nor standard output has failed before, and nothing is written to standard
+/// error. `Ok` says that everything was written. The input is read to its end before the first byte is written. After `Read`,
+/// `TooLong` and `Bundle` nothing was written; after `Memory` and `Write` nothing or a prefix of a report of the bundle. `Read`
+/// is returned if and only if standard input has failed, and `Write` if and only if standard output has.
 pub fn run_bytes<I: Read, O: Write, E: Write, G: Gate, R: Threads + Wait + Sync>(
     rt: &R,
     alloc: Global,

@@ -1,4 +1,4 @@
-//! How the owner of a deque takes its hands back and counts what is left.
+//! Taking back the hands of a deque, and counting the tickets that are left.
 ghost use Rattle.std.specs.Prelude.{◌≡◌, ◌<◌, ◌^◌, List, [], ◌∷◌, ◌++◌, length, map, All};
 ghost use Rattle.crossbeam_deque.specs.Handles.{stealer_deque, worker_deque, worker_view};
 ghost use Rattle.census_crew.specs.declared.item.Item.{Item};

@@ -15,7 +15,7 @@ use std::sync::Wait;
 use std::thread::Threads;
 use watched::{Failed, Output};
 
-/// What the caller does while its workers work: it takes what they send, and writes what that releases.
+/// The caller's task while its workers work: it takes what they send, and writes what that releases.
 struct CollectTask<'c, 'a, W: Write> {
     state: RunState<'a>,
     results: Receiver<Batch<'a>, Global>,
@@ -73,15 +73,15 @@ impl<'c, 'a, W: Write> Task for CollectTask<'c, 'a, W> {
     }
 }
 
-/// `BLOCK_LEN` bytes are written even if more results are in the channel.
+/// Once `BLOCK_LEN` bytes are unsent, they are written even if more results are in the channel.
 const BLOCK_LEN: usize = 65_536;
 
-/// At most `CHANNEL_LEN` batches are in the channel. A worker that has one more waits until the caller takes one, so that what
-/// was found takes no more memory if workers are faster than their caller. The caller waits for none of them while a batch is
+/// At most `CHANNEL_LEN` batches are in the channel. A worker that has one more waits until the caller takes one, so that
+/// results don't pile up in memory if workers are faster than their caller. The caller waits for none of them while a batch is
 /// there. A caller that takes no more drops its end, and then each send fails at once.
 const CHANNEL_LEN: usize = 1_024;
 
-// Ties a reference that came back to the one that was lent.
+// Ties a reference that came back to the one that was borrowed.
 fn take_back<T>(lent: &mut T)
     ensures { lent.new ≡ lent.old }
 {}

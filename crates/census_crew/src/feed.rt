@@ -1,4 +1,4 @@
-//! How a feed is filled and closed.
+//! Filling and closing a feed.
 ghost use Rattle.std.specs.Prelude.{◌≡◌, ◌↔◌, ◌≤◌, true, List, [], length, All, IfOk};
 ghost use Rattle.census_bundle.specs.declared.ticket.Ticket.{Ticket};
 ghost use Rattle.census_bundle.specs.Tickets.{IsTicketOf};
@@ -40,8 +40,8 @@ impl Feed {
         Ok((Feed { owner }, hands))
     }
 
-    /// The number of tickets that no hand took; they are dropped. The hands are all those of this feed. If one of them was told
-    /// that no ticket is left, the number is 0. It takes no memory.
+    /// The number of tickets that no hand took; they are dropped. The hands are all those of this feed. If one of them has
+    /// found that no ticket is left, the number is 0. It takes no memory.
     pub fn close(self, hands: Vec<Hand>) -> usize
         requires { AreHandsOf self hands.items }
         ensures left { (left : List Item) × (length left ≡ result) ×

@@ -1,4 +1,4 @@
-//! How the owner of a deque pushes the items of a feed and deals its hands.
+//! Pushing the items of a feed, and dealing its hands.
 ghost use Rattle.std.specs.Prelude.{◌≡◌, ℕ, ◌+◌, ◌<◌, List, [], ◌∷◌, ◌++◌, length, All, IfOk, OnOk};
 ghost use Rattle.crossbeam_deque.specs.Handles.{worker_deque, worker_view};
 ghost use Rattle.census_bundle.specs.declared.bundle.Folder.{Folder};

@@ -1,20 +1,20 @@
-//! What workers pass before they work, and what is told of runs.
+//! The gate that workers pass before they work, and that hears of runs.
 ghost use Rattle.std.specs.Prelude.{◌≡◌, ◌∷◌, [], List, Option, None};
 ghost use Rattle.census_bundle.specs.declared.ticket.Ticket.{Ticket};
 ghost use Rattle.census_crew.specs.Gates.{Begun, Hears, News, Over};
 
 use census_bundle::Ticket;
 
-/// Each worker passes it with a ticket that it took, before it works. It may hold the worker. It is told when a run begins and
-/// when the run has ended, and how far the workers have come with their patterns.
+/// A gate that each worker passes with a ticket that it took, before it works. It may hold the worker. It hears when a run
+/// begins and when the run has ended, and how far the workers have come with their patterns.
 pub trait Gate: Sync {
-    /// What the gate gives to a worker that passes.
+    /// The pass that the gate gives to a worker.
     type Pass: Drop + Send + Sync;
 
-    // What it was told of runs, in order, if it reports that.
+    // The news of runs that it has heard, in order, if it keeps them.
     ghost heard: { Self → Option (List News) } = { λ _. None };
 
-    // Whether this pass is given to a worker with this ticket.
+    // The tickets with which a worker may be given this pass.
     ghost admits: { Self.Pass → Ticket → Type 0 };
 
     /// A run of `patterns` patterns is about to begin.
@@ -29,21 +29,21 @@ pub trait Gate: Sync {
     fn end(&mut self)
         ensures { Hears (heard self.old) (heard self.new) (Over ∷ []) };
 
-    /// Of what has this name, generation `_generation` of `_last` was reached.
+    /// Generation `_generation` of `_last` was reached of the pattern with this name.
     fn reached(&self, _name: &[u8], _generation: u32, _last: u32) {}
 
-    /// A worker passed, and works a pattern from now on. Workers of a run have the numbers from 0 on.
+    /// A worker passed, and works a pattern from now on. Workers of a run are numbered from 0.
     fn started(&self, _worker: u32, _collection: &[u8], _name: &[u8]) {}
 
     /// A worker has come to a generation of its pattern that is a multiple of 64. It may start again, and then early
     /// generations are reported again.
     fn advanced(&self, _worker: u32, _generation: u32) {}
 
-    /// A worker has finished with its pattern, whether or not it was found what becomes of it.
+    /// A worker has finished with its pattern, with or without an answer.
     fn finished(&self, _worker: u32) {}
 }
 
-/// Holds no worker, and ignores what it is told.
+/// A gate that holds no worker, and ignores what it hears.
 #[derive(Drop)]
 pub struct OpenGate;
 
@@ -59,7 +59,7 @@ impl Gate for OpenGate {
     fn end(&mut self) {}
 }
 
-/// A ticket with which a worker passed the gate, and what that gave. Only `pass` makes one.
+/// A ticket with which a worker passed the gate, and the pass that it was given. Only `pass` makes one.
 #[derive(Drop)]
 pub(crate) struct Passed<P: Drop> {
     ticket: Ticket,

@@ -1,4 +1,4 @@
-//! What a hand does.
+//! The operations of a hand.
 ghost use Rattle.std.specs.Prelude.{◌≡◌, true, [], ◌∷◌, ◌++◌, None, IfSome, IfNone};
 ghost use Rattle.crossbeam_deque.specs.Handles.{view, IsPassOf, SamePass, stealer_deque, stealer_flavor};
 ghost use Rattle.census_crew.specs.declared.item.Item.TheVariants.{Work};

@@ -7,8 +7,8 @@ ghost use Rattle.census_crew.specs.Fillings.{IsFilling, Finishes};
 
 use crate::turns::{HandPass, Owner, Thief};
 
-/// What a worker draws tickets with. It can be moved into a thread. A hand that is dropped leaves its feed as it is, but
-/// such a feed can no longer be closed.
+/// The end of a feed that a worker draws tickets from. It can be moved into a thread. A hand that is dropped leaves its
+/// feed as it is, but such a feed can no longer be closed.
 #[derive(Drop)]
 pub struct Hand {
     pub(crate) stealer: Thief,

@@ -1,4 +1,4 @@
-//! What the deque of a feed holds.
+//! The items in the deque of a feed.
 use census_bundle::Ticket;
 
 /// A ticket or an end mark. One end mark for each hand comes after all tickets.

@@ -1,4 +1,4 @@
-//! Runs that continue where memory is refused for a pattern, which is then lost.
+//! Runs that continue when memory is refused for a pattern, which is then lost.
 ghost use Rattle.std.specs.Prelude.{◌≡◌, ◌≤◌, true, false, [], All, MatchResult, IfErr, IfOk, IfSome, OnErr, OnOk, Some, slice_get};
 ghost use Rattle.life_answer.specs.Questions.{IsAnswered};
 ghost use Rattle.census_bundle.specs.Sizes.{worker_limit};
@@ -36,8 +36,8 @@ fn first_of(tickets: &[Ticket]) -> Option<Ticket>
 }
 
 impl<'a> RunState<'a> {
-    // Works those of these tickets that are missing, and writes what they release. One for which memory is refused is still
-    // missing afterwards.
+    // Works those of these tickets that are missing, and writes what they release. A ticket for which memory is refused is
+    // still missing afterwards.
     fn try_each<W: Write>(
         &mut self,
         alloc: Global,
@@ -66,8 +66,8 @@ impl<'a> RunState<'a> {
         Ok(())
     }
 
-    // Works what is missing, and writes what it releases. The list becomes the tickets for which memory was refused, and which
-    // are still missing.
+    // Works the missing tickets, and writes what they release. The list becomes the tickets for which memory was refused, and
+    // which are still missing.
     fn try_and_list<W: Write>(
         &mut self,
         alloc: Global,
@@ -133,8 +133,8 @@ impl<'a> RunState<'a> {
     }
 }
 
-// Makes an empty bundle the copy of a bundle, in which the texts of these tickets are lost. Where memory is refused for it, none is
-// lost, and the fault has the first of the tickets.
+// Makes an empty bundle the copy of a bundle, in which the texts of these tickets are lost. If memory is refused for it, none
+// is lost, and the fault has the first of the tickets.
 fn copy_or_clear(copy: &mut Bundle, bundle: &Bundle, lost: &mut Vec<Ticket>) -> Result<(), RunFault>
     requires empty { copy.old ≡ [] }
     requires of_bundle { All (IsTicketOf bundle.now) lost.old.items }
@@ -154,10 +154,11 @@ fn copy_or_clear(copy: &mut Bundle, bundle: &Bundle, lost: &mut Vec<Ticket>) -> 
     }
 }
 
-/// Does what `run` does, but continues where memory is refused for a pattern: its text counts as lost, so that it is reported
-/// as `bad 0`. The list becomes the tickets of these patterns, in rising order, and the report is that of the bundle in which
-/// their texts are lost. Workers leave a ticket for which memory is refused to the caller, who works it at the end, when no other
-/// pattern takes memory, and then copies the bundle if any is lost. `Memory` says that memory was refused for anything else.
+/// Does what `run` does, but continues when memory is refused for a pattern: its text counts as lost, so that it is reported as
+/// `bad 0`. The list becomes the tickets of these patterns, in rising order, and the report is that of the bundle in which
+/// their texts are lost. Workers leave a ticket for which memory is refused to the caller, who works it at the end, when no
+/// other pattern takes memory, and then copies the bundle if any is lost. `Memory` says that memory was refused for anything
+/// else.
 pub fn run_keeping<G: Gate, W: Write, R: Threads + Wait + Sync>(
     rt: &R,
     alloc: Global,
@@ -188,7 +189,7 @@ pub fn run_keeping<G: Gate, W: Write, R: Threads + Wait + Sync>(
     written
 }
 
-/// Does what `run_keeping` does, but doesn't tell the gate how many patterns there are, nor that the run has ended.
+/// Does what `run_keeping` does, but doesn't report to the gate how many patterns there are, nor that the run has ended.
 pub fn run_keeping_untold<G: Gate, W: Write, R: Threads + Wait + Sync>(
     rt: &R,
     alloc: Global,

@@ -51,15 +51,15 @@ pub(crate) fn list_missing(
     Ok(())
 }
 
-// Whether a ticket is among these.
+// True if a ticket is among these.
 fn is_among(tickets: &[Ticket], ticket: Ticket) -> bool
     ensures { result ≡ has_ticket (tickets_of tickets.now) ticket }
 {
     tickets.contains(&ticket)
 }
 
-// Adds an entry at the end of the last folder, as lost, or as it is. In a bundle an entry that is lost has no text; one that had
-// would not be added.
+// Adds an entry at the end of the last folder, as lost, or as it is. An entry of a bundle that is lost has no text; one that
+// had would not be added.
 fn add_entry(copy: &mut Bundle, entry: &Entry, is_lost: bool) -> Result<(), AddFault>
     ensures { OnOk result (copy.new ≡ with_entry copy.old (lose_if is_lost entry.now)) }
 {

@@ -22,7 +22,7 @@ use std::alloc::{AllocError, Global};
 use std::io::Write;
 use watched::{Failed, Output};
 
-/// The state of a run: which of its results were taken, the text that they release, and what was counted.
+/// The state of a run: the results that were taken, the text that they release, and the counts.
 #[derive(Drop)]
 pub(crate) struct RunState<'a> {
     pub(crate) collector: Collector<'a>,
@@ -30,7 +30,7 @@ pub(crate) struct RunState<'a> {
     ghost sound: { IsRunState collector tally } by { IsRunState-prop collector tally },
 }
 
-/// A bundle is small.
+/// The bundle is small, as each bundle is.
 pub(crate) fn is_small(bundle: &Bundle)
     ensures { IsWithinCounts bundle.now }
 {
@@ -38,7 +38,7 @@ pub(crate) fn is_small(bundle: &Bundle)
 }
 
 impl<'a> RunState<'a> {
-    /// Nothing was taken.
+    /// The state before any result is taken.
     pub(crate) fn new(
         alloc: Global,
         bundle: &'a Bundle,
@@ -85,7 +85,7 @@ impl<'a> RunState<'a> {
         }
     }
 
-    /// Writes what is unsent.
+    /// Writes the text that is unsent.
     pub(crate) fn send<W: Write>(&mut self, out: &mut Output<W>) -> Result<(), Failed>
         ensures failed { MatchResult result (λ _. out.new.stream.failed ≡ false)
             (λ _. out.new.stream.failed ≡ true) }
@@ -251,7 +251,7 @@ impl<'a> RunState<'a> {
         Ok(())
     }
 
-    /// Works what is missing, writes the rest of the report, and returns what was counted.
+    /// Works the missing tickets, writes the rest of the report, and returns the counts.
     pub(crate) fn finish<W: Write>(
         mut self,
         alloc: Global,

@@ -22,7 +22,7 @@ use std::sync::Wait;
 use std::thread::Threads;
 use watched::Output;
 
-/// How many patterns a bundle has, as far as 64 bits go.
+/// The number of patterns in a bundle, as far as 64 bits go.
 pub(crate) fn patterns_of(bundle: &Bundle) -> u64
     ensures { result ≡ told_count bundle.now }
 {
@@ -33,12 +33,12 @@ pub(crate) fn patterns_of(bundle: &Bundle) -> u64
     patterns
 }
 
-/// Writes the report of what is asked of the bundle's patterns to a writer that has not failed. A bound is 1 to 1,000,000
-/// generations. The patterns are worked by 1 to 16 workers. Each takes tickets and passes the gate with each before it works.
-/// The caller takes their results and writes, and then works what is missing itself. Before that the gate is told how many
-/// patterns there are, and after it that the run has ended, whatever is returned. `Ok` says that everything was written. After
-/// `Memory` or `Write` what was written is a prefix of a report. `Write` is returned if and only if the writer has failed. A
-/// ticket that `Memory` has is one of the bundle's.
+/// Writes the report that answers the question for the bundle's patterns to a writer that has not failed. A bound is 1 to
+/// 1,000,000 generations. The patterns are worked by 1 to 16 workers. Each takes tickets and passes the gate with each before
+/// it works. The caller takes their results and writes, and then works the missing tickets itself. Before that the gate hears
+/// how many patterns there are, and after it that the run has ended, whatever is returned. `Ok` says that everything was
+/// written. After `Memory` or `Write` the text that was written is a prefix of a report. `Write` is returned if and only if the
+/// writer has failed. A ticket that `Memory` has is one of the bundle's.
 pub fn run<G: Gate, W: Write, R: Threads + Wait + Sync>(
     rt: &R,
     alloc: Global,
@@ -67,7 +67,7 @@ pub fn run<G: Gate, W: Write, R: Threads + Wait + Sync>(
     written
 }
 
-/// Does what `run` does, but doesn't tell the gate how many patterns there are, nor that the run has ended.
+/// Does what `run` does, but doesn't report to the gate how many patterns there are, nor that the run has ended.
 pub fn run_untold<G: Gate, W: Write, R: Threads + Wait + Sync>(
     rt: &R,
     alloc: Global,
@@ -123,11 +123,11 @@ pub fn run_on<G: Gate, W: Write, R: Threads + Wait + Sync>(
     state.finish(alloc, out)
 }
 
-/// Writes the report of what is asked of the bundle's patterns to a writer that has not failed, by workers of the caller's own,
-/// or by none. A bound is 1 to 1,000,000 generations. The results are offered in their order, and each ticket that is then
-/// missing is worked here. `Ok` says that everything was written. After `Memory` or `Write` what was written is a prefix of a
-/// report. `Write` is returned if and only if the writer has failed. A ticket that `Memory` has is one of the bundle's. It
-/// waits for nobody.
+/// Writes the report that answers the question for the bundle's patterns to a writer that has not failed, by workers of the
+/// caller's own, or by none. A bound is 1 to 1,000,000 generations. The results are offered in their order, and each ticket
+/// that is then missing is worked here. `Ok` says that everything was written. After `Memory` or `Write` the text that was
+/// written is a prefix of a report. `Write` is returned if and only if the writer has failed. A ticket that `Memory` has is one
+/// of the bundle's. It waits for nobody.
 pub fn settle<'a, W: Write>(
     alloc: Global,
     bundle: &'a Bundle,

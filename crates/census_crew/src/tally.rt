@@ -1,4 +1,4 @@
-//! What a run counts.
+//! The counts of a run.
 ghost use Rattle.std.specs.Prelude.{◌≡◌, ◌<◌, ◌^◌};
 ghost use Rattle.census_crew.specs.Tallying.{tally_with, no_tally};
 
@@ -6,14 +6,14 @@ use census_format::class_of;
 use census_rows::Class;
 use life_answer::Answer;
 
-/// What a run counts.
+/// The counts of a run.
 #[derive(Clone, Copy, Debug, PartialEq, Eq)]
 pub struct Tally {
     /// All patterns.
     pub patterns: u64,
     /// The patterns with an `ok` or an `ash` line, which recur, or have fallen apart, within the bound.
     pub resolved: u64,
-    /// The patterns with a `none` line, which don't.
+    /// The patterns with a `none` line, which do not.
     pub unresolved: u64,
     /// The patterns with a `bad` line, which are lost or whose texts have a fault.
     pub refused: u64,
@@ -26,7 +26,7 @@ pub struct Tally {
 }
 
 impl Tally {
-    /// Nothing was counted.
+    /// The tally before anything is counted.
     pub(crate) fn new() -> Tally
         ensures { result ≡ no_tally }
     {
@@ -41,7 +41,7 @@ impl Tally {
         }
     }
 
-    /// One more pattern, of which this was found.
+    /// The tally with one more pattern, which has this answer.
     pub(crate) fn with(self, answer: &Answer) -> Tally
         requires patterns { self.patterns < 2 ^ 63 }
         requires resolved { self.resolved < 2 ^ 63 }

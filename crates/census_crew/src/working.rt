@@ -16,7 +16,7 @@ use std::sync::{Mutex, Wait};
 use std::thread::Threads;
 use std::{mem, thread};
 
-/// What the caller does beside its workers. It is handed in by value, and what it borrowed comes back.
+/// The caller's task beside its workers. It is passed by value, and what it borrowed comes back.
 pub(crate) trait Task: Drop {
     type Output;
 
@@ -38,7 +38,7 @@ const BATCH_LEN: usize = 64;
 /// A pattern whose onset and period are at most this was quick work.
 const QUICK: u32 = 64;
 
-// Whether this was found by quick work. The next result of a collection is then likely to be found so too.
+// True if this was found by quick work. The next result of a collection is then likely to be found like this too.
 fn was_quick(answer: &Answer) -> bool {
     match answer {
         Answer::Found { finding, .. } => match &finding.outcome {
@@ -87,13 +87,13 @@ fn new_batch<'a>(alloc: Global) -> Batch<'a> {
     }
 }
 
-/// How often a worker checks whether it may begin, which takes some tenths of a millisecond in all.
+/// The number of times that a worker checks whether it may begin, which takes some tenths of a millisecond in all.
 const LOOKS: u32 = 4096;
 
 // The first batch of a worker. It makes the batch once all workers are started, and while no other makes its own. The first
-// growth in a thread maps memory for its later ones, as does the start of a thread, and a system lets in one thread at a time
-// there. Threads that meet there fall asleep, and may be woken on one processor and share it while another has nothing to do. A
-// worker that has checked `LOOKS` times begins anyway.
+// growth in a thread maps memory for its later ones, as does the start of a thread, and the system lets in only one thread at a
+// time there. Threads that meet there fall asleep, and may be woken on one processor and share it while another has nothing to
+// do. A worker that has checked `LOOKS` times begins anyway.
 fn first_batch<'a>(alloc: Global, beginning: &Mutex<()>) -> Batch<'a> {
     for _ in 0..LOOKS {
         if let Some(turn) = beginning.try_lock() {
@@ -106,8 +106,8 @@ fn first_batch<'a>(alloc: Global, beginning: &Mutex<()>) -> Batch<'a> {
     new_batch(alloc)
 }
 
-// Sends a batch and empties it, and returns whether anybody is there to take it. If the channel is full, it waits until a batch
-// is taken.
+// Sends a batch and empties it. Returns true if anybody is there to take it. If the channel is full, it waits until a batch is
+// taken.
 fn send_batch<'a, R: Wait>(
     rt: &R,
     alloc: Global,
@@ -118,14 +118,14 @@ fn send_batch<'a, R: Wait>(
     results.send(rt, full).is_ok()
 }
 
-// Puts a result into a batch, and returns whether it may wait there: it is kept, and was quick work.
+// Puts a result into a batch. Returns true if it may wait there: it is kept, and was quick work.
 fn put_in<'a>(batch: &mut Batch<'a>, done: Done<'a>) -> bool {
     let waits = was_quick(done.answer());
     batch.push(done).is_ok() && waits
 }
 
 // Works a pattern whose worker passed the gate, if its first generations are enough and results wait. If none waits, the
-// pattern may take as long as it needs. The result goes into the batch. `None` also when out of memory.
+// pattern may take as long as it needs. The result goes into the batch. Also `None` when out of memory.
 fn work_soon<'a, P: Drop>(
     alloc: Global,
     bundle: &'a Bundle,
@@ -164,9 +164,9 @@ fn work_long<'a, W: Observer, P: Drop>(
     }
 }
 
-// Takes tickets until none is left, works them, and sends what was found: the results of quick work several together, any other
-// at once. No result waits while a pattern goes beyond its first 256 generations. These are looked at twice if results waited.
-// A ticket that ran out of memory is left to the caller.
+// Takes tickets until none is left, works them, and sends the results: those of quick work several together, any other at once.
+// No result waits while a pattern goes beyond its first 256 generations. These are looked at twice if results waited. A ticket
+// that ran out of memory is left to the caller.
 fn work<'a, G: Gate, R: Wait>(
     rt: &R,
     alloc: Global,
@@ -208,8 +208,8 @@ fn work<'a, G: Gate, R: Wait>(
 }
 
 /// Gives each hand to a worker, and runs the task beside them. The workers' results come through the channel, which closes when
-/// the last of them has ended. It returns when they all have. If no more workers can be started, those that were work alone,
-/// and if there is none, only the task runs.
+/// the last of them has ended. It returns when they all have. If no more workers can be started, those that were started work
+/// alone, and if there are none, only the task runs.
 pub(crate) fn work_beside<'a, G: Gate, R: Threads + Wait + Sync, S: Task>(
     rt: &R,
     alloc: Global,
