@@ -1,4 +1,4 @@
--- How a proof tells apart what a collector is seen as.
+-- The codes by which proofs distinguish the values that a collector is seen as.
 use Rattle.std.specs.Coded.{Coded, codes}
 use Rattle.census_bundle.specs.Coded.{folder_code, tickets_code}
 use Rattle.life_answer.specs.Questions.{question_code}

@@ -1,4 +1,4 @@
--- What a collector does with a result.
+-- The effect of a result on a collector.
 use Rattle.std.specs.Prelude.{◌≡◌, ◌≢◌, ℕ, true, false, List, Some}
 use Rattle.std.specs.declared.cmp.Ordering.TheVariants.{Less}
 use Rattle.census_bundle.specs.declared.bundle.Entry.{Entry}
@@ -29,11 +29,11 @@ pub record IsResult (b : List Folder) (question : Question) (t : Ticket) (w : Wo
 abbrev pub HasCollection : List Folder → Tickets → ℕ → Type 0
 HasCollection b taken c = (t : Ticket) → IsTicketOf b t → t.folder ≡ c → has_ticket taken t ≡ true
 
--- it was worked for a ticket of this bundle, on the text of that ticket, for this question
+-- the result was worked for a ticket of this bundle, on the text of that ticket, for this question
 abbrev pub IsResultOf : List Folder → Question → Work → Type 0
 IsResultOf b question w = Belongs b question w.ticket w.entry w.question
 
--- what is returned for a result if these tickets were taken
+-- the offer that is returned for a result if these tickets were taken
 abbrev pub Judged : List Folder → Question → Tickets → Work → Offer → Type 0
 Judged b question taken w Stranger = IsResultOf b question w → ⊥
 Judged b question taken w Double = IsResultOf b question w × (has_ticket taken w.ticket ≡ true)
@@ -45,7 +45,7 @@ after_offer p t Stranger = p
 after_offer p t Double = p
 after_offer p t Taken = with_taken p t
 
--- a collector before a result is offered, the result, the collector afterwards, and what is returned
+-- a collector before a result is offered, the result, the collector afterwards, and the offer that is returned
 abbrev pub Offered : Progress → Work → Progress → Offer → Type 0
 Offered before w after o = Judged before.bundle before.question before.taken w o × (after ≡ after_offer before w.ticket o)
 

@@ -15,30 +15,30 @@ abbrev pub AreNew : List Folder → Tickets → List Ticket → Type 0
 AreNew b taken [] = Unit {0}
 AreNew b taken (t ∷ ts) = IsTicketOf b t × (has_ticket taken t ≡ false) × AreNew b (with_ticket taken t) ts
 
--- what taking the tickets one after another releases
+-- the text that is released by taking the tickets one after another
 abbrev pub texts_released : List Folder → Question → Tickets → List Ticket → List ℕ
 texts_released b question taken [] = []
 texts_released b question taken (t ∷ ts) = text_released b question taken t ++ texts_released b question (with_ticket taken t) ts
 
--- these, and then the tickets one after another
+-- these tickets, and then the others one after another
 abbrev pub with_all : Tickets → List Ticket → Tickets
 with_all taken [] = taken
 with_all taken (t ∷ ts) = with_all (with_ticket taken t) ts
 
--- whatever the order of arrival, what is released begins a report, and it is one if all tickets arrived
+-- whatever the order of arrival, the text that is released begins a report, and it is one if all tickets arrived
 abbrev pub OrdersAreLawful : Type 0
 OrdersAreLawful =
     (b : List Folder) (question : Question) (ts : List Ticket) → AreNew b no_tickets ts
     → IsReportFront b question (text_at_start b question ++ texts_released b question no_tickets ts)
     × (HasAllTickets b (with_all no_tickets ts) → IsReport b question (text_at_start b question ++ texts_released b question no_tickets ts))
 
--- the second is what becomes of the first if these results are offered to it one after another
+-- the second is what the first becomes if these results are offered to it one after another
 abbrev pub OfferedAll : Progress → List Work → Progress → Type 0
 OfferedAll p [] r = r ≡ p
 OfferedAll p (w ∷ ws) r = (q : Progress) × (o : Offer) × Offered p w q o × OfferedAll q ws r
 
--- Whatever results are offered, in whatever order, some of them twice or of another bundle or question: what is released begins
--- a report, and it is one if no ticket is missing.
+-- Whatever results are offered, in whatever order, some of them twice or of another bundle or question: the text that is
+-- released begins a report, and it is one if no ticket is missing.
 abbrev pub ArrivalsAreLawful : Type 0
 ArrivalsAreLawful =
     (b : List Folder) (question : Question) (ws : List Work) (p : Progress) → OfferedAll (initial_progress b question) ws p

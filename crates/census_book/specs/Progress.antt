@@ -1,4 +1,4 @@
--- What a collector is seen as.
+-- The values that a collector is seen as.
 use Rattle.std.specs.Prelude.{ℕ, List, ◌++◌, drop}
 use Rattle.census_bundle.specs.declared.bundle.Folder.{Folder}
 use Rattle.census_bundle.specs.declared.ticket.Ticket.{Ticket}
@@ -15,7 +15,7 @@ pub record Taken : Type 0 where
 abbrev pub taken_of : List Folder → Question → Tickets → Taken
 taken_of b question taken = record { bundle = b; question = question; taken = taken }
 
--- the tickets that are taken once one more arrives, and its collection
+-- the tickets that are taken once one more arrives, and that one's collection
 pub record Arrived : Type 0 where
   pub bundle : List Folder
   pub question : Question
@@ -43,6 +43,6 @@ with_taken p t = record {
   unsent = p.unsent ++ text_released p.bundle p.question p.taken t;
 }
 
--- without the first n bytes of the text
+-- the progress without the first n bytes of the text
 abbrev pub sent_of : Progress → ℕ → Progress
 sent_of p n = record { bundle = p.bundle; question = p.question; taken = p.taken; unsent = drop n p.unsent }

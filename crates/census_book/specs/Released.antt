@@ -1,4 +1,4 @@
--- What a collector has released.
+-- The text that a collector has released.
 use Rattle.std.specs.Prelude.{◌≡◌, ℕ, List, [], ◌∷◌, ◌++◌, Option, None, Some, take, length, ◌==◌}
 use Rattle.census_bundle.specs.declared.bundle.Folder.{Folder}
 use Rattle.census_bundle.specs.Tickets.{Tickets, element_at}

@@ -1,4 +1,4 @@
--- Slots in which results are kept: for each collection one for each of its patterns.
+-- Slots in which results are kept: for each collection, one for each of its patterns.
 use Rattle.std.specs.Prelude.{◌≡◌, ℕ, suc, ◌-◌, ◌<◌, ◌≤◌, Bool, true, false, List, [], ◌∷◌, ◌++◌, length, map, replicate, is_some, Option, None, Some, slice_get, slice_index_or, slice_set}
 use Rattle.census_bundle.specs.declared.bundle.Folder.{Folder}
 use Rattle.census_bundle.specs.declared.ticket.Ticket.{Ticket}
@@ -7,7 +7,7 @@ use Rattle.census_book.specs.Collecting.{IsResult}
 use Rattle.census_book.specs.Work.{Work}
 use Rattle.life_answer.specs.declared.question.Question.{Question}
 
--- what is in a slot that is taken: a result, or nothing more if it was dropped
+-- the content of a slot that is taken: a result, or nothing more if the result was dropped
 abbrev pub Taking : Type 0
 Taking = Option Work
 
@@ -29,17 +29,17 @@ abbrev pub dropped : Option Taking → Option Taking
 dropped None = None
 dropped (Some taking) = Some None
 
--- the slots of a collection of which these results are kept, or all results were dropped
+-- the slots of a collection of which these results are kept, or whose results were all dropped
 abbrev pub row_of : Bool → ℕ → List (Option Work) → Row
 row_of true len results = replicate len (Some None)
 row_of false len results = map kept (padded_row len results)
 
--- what is in a slot, if there is one
+-- the content of a slot, if there is one
 abbrev pub work_in : {A : Type 0} → Option (Option A) → Option A
 work_in None = None
 work_in (Some slot) = slot
 
--- what is in the slot of this number, from 1
+-- the content of the slot of this number, from 1
 abbrev pub work_at : Row → ℕ → Option Taking
 work_at row i = work_in (element_at row i)
 
@@ -47,7 +47,7 @@ abbrev pub slot_in : Option Row → ℕ → Option Taking
 slot_in None i = None
 slot_in (Some row) i = work_at row i
 
--- what is in the slot of a ticket
+-- the content of the slot of a ticket
 abbrev pub taking_at : List Row → Ticket → Option Taking
 taking_at rows t = slot_in (element_at rows t.folder) t.number
 
@@ -63,13 +63,13 @@ IsFull row = (i : ℕ) → 0 < i → i ≤ length row → is_some (work_at row i
 abbrev pub HasSlot : List Row → Ticket → Type 0
 HasSlot rows t = (row : Row) × (element_at rows t.folder ≡ Some row) × (0 < t.number) × (t.number ≤ length row)
 
--- with a result in the slot of its ticket
+-- the slots with a result put into the slot of its ticket
 abbrev pub with_result : List Row → Work → List Row
 with_result rows w =
     let row = slice_index_or rows (w.ticket.folder - 1) [] in
     slice_set rows (w.ticket.folder - 1) (slice_set row (w.ticket.number - 1) (Some (Some w)))
 
--- without the results of the collection c
+-- the slots without the results of the collection c
 abbrev pub without_results : List Row → ℕ → List Row
 without_results rows c = slice_set rows (c - 1) (map dropped (slice_index_or rows (c - 1) []))
 
@@ -95,8 +95,8 @@ rows_tickets c (row ∷ rows) = row_tickets c 1 row ++ rows_tickets (suc c) rows
 abbrev pub taken_in : List Row → Tickets
 taken_in rows = tickets_of (rows_tickets 1 rows)
 
--- each ticket of the bundle has a slot, each result in a slot is that of its ticket, and if one was dropped each slot of its
--- collection is taken
+-- each ticket of the bundle has a slot, each result in a slot is that of its ticket, and if one was dropped, each slot of
+-- its collection is taken
 pub record KeepsResults (b : List Folder) (question : Question) (rows : List Row) : Type 0 where
   pub slots : (k : ℕ) (f : Folder) → slice_get b k ≡ Some f → (row : Row) × (slice_get rows k ≡ Some row) × (length row ≡ length f.entries)
   pub results : (t : Ticket) (w : Work) → result_at rows t ≡ Some w → IsResult b question t w

@@ -1,4 +1,4 @@
--- What was worked.
+-- The work that was done.
 use Rattle.std.specs.Coded.{Coded, codes}
 use Rattle.census_bundle.specs.contracts.bundle.Entry as entry_row
 use Rattle.census_bundle.specs.Coded.{ticket_code}

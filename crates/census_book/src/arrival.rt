@@ -10,7 +10,8 @@ use census_bundle::{Bundle, Ticket};
 use life_answer::Question;
 use std::marker::Model;
 
-/// A result that is to be taken, in addition to those that were. It is seen as the tickets of all of them, and its collection.
+/// A result that is to be taken, in addition to those that were. It is seen as the tickets of all of them, and its own
+/// collection.
 #[derive(Drop)]
 pub struct Arrival<'r, 'a> {
     results: &'r Results<'a>,
@@ -51,14 +52,14 @@ impl<'r, 'a> Arrival<'r, 'a> {
         self.results.bundle()
     }
 
-    /// What was asked.
+    /// The question.
     pub fn question(&self) -> Question
         ensures { result ≡ self.now.question }
     {
         self.results.question()
     }
 
-    /// Whether this ticket was taken or is to be taken.
+    /// True if this ticket was taken or is to be taken.
     pub fn holds(&self, ticket: Ticket) -> bool
         ensures { result ≡ has_ticket self.now.taken ticket }
     {

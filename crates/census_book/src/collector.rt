@@ -21,15 +21,15 @@ use std::alloc::{AllocError, Global};
 use std::marker::Model;
 use std::mem::swap;
 
-/// Takes the results of a bundle and a question in any order, and releases the lines of its report: those of each
-/// collection in their order, and the last line of all when nothing is missing. It is seen as the tickets taken and the
-/// text that was released and not yet sent.
+/// A collector takes the results of a bundle and a question in any order, and releases the lines of its report: those of each
+/// collection in their order, and the last line of all when nothing is missing. It is seen as the tickets taken and the text
+/// that was released and not yet sent.
 #[derive(Drop)]
 pub struct Collector<'a> {
     results: Results<'a>,
     front: Front,
     unsent: Vec<u8>,
-    // What a result releases is made here. Between two results only its room counts.
+    // A buffer in which the text that a result releases is made. Between two results only its capacity matters.
     text: Vec<u8>,
     alloc: Global,
 }
@@ -54,8 +54,8 @@ impl<'a> Model for Collector<'a> {
         s.front.runs.items s.front.first_open };
 }
 
-// Takes a result that belongs and is new, with what it releases, and drops the results of its collection if that has arrived
-// whole. All growths come before any change that stays. If nothing is unsent, the text is not copied.
+// Takes a result that belongs and is new, with the text that it releases, and drops the results of its collection if that has
+// arrived whole. Memory is allocated before anything changes for good. If nothing is unsent, the text is not copied.
 fn accept<'a>(
     results: &mut Results<'a>,
     front: &mut Front,
@@ -134,7 +134,7 @@ impl<'a> Collector<'a> {
 
     /// Offers a result. `Stranger` and `Double` change nothing and take no memory. `Taken` releases the lines of the patterns
     /// up to the end of the longest run of its collection that has arrived. At the collection's end it also releases its `code`
-    /// lines and its closing line, and once nothing is missing any more the last line. `NoRoom` is out of memory: it hands back
+    /// lines and its closing line, and once nothing is missing any more the last line. `NoRoom` is out of memory: it gives back
     /// a result that would have been `Taken`, and changes nothing.
     pub fn offer(&mut self, done: Done<'a>) -> Result<Offer, NoRoom<'a>>
         ensures ok { IfOk result
@@ -177,7 +177,7 @@ impl<'a> Collector<'a> {
         self.results.bundle()
     }
 
-    /// What was asked.
+    /// The question.
     pub fn question(&self) -> Question
         ensures { result ≡ self.now.question }
     {
@@ -199,8 +199,8 @@ impl<'a> Collector<'a> {
         self.unsent.drain(..count);
     }
 
-    /// Continues with a bundle in which the texts of tickets that were not taken are lost. What was released of it is the same,
-    /// and so is all else. It takes no memory.
+    /// Continues with a bundle in which the texts of tickets that were not taken are lost. The text that was released of it is
+    /// the same, and so is all else. It takes no memory.
     pub fn lose(&mut self, bundle: &'a Bundle)
         requires { Loses self.old.bundle self.old.taken bundle.now }
         ensures { self.new ≡ over bundle.now self.old }
@@ -208,7 +208,7 @@ impl<'a> Collector<'a> {
         self.results.lose(bundle);
     }
 
-    /// Whether this ticket was taken.
+    /// True if this ticket was taken.
     pub fn holds(&self, ticket: Ticket) -> bool
         ensures { result ≡ has_ticket self.now.taken ticket }
     {
@@ -230,7 +230,7 @@ impl<'a> Collector<'a> {
         })
     }
 
-    /// Whether no ticket is missing.
+    /// True if no ticket is missing.
     pub fn is_whole(&self) -> bool
         ensures whole { result ≡ true → HasAllTickets self.now.bundle self.now.taken }
         ensures missing { HasAllTickets self.now.bundle self.now.taken → result ≡ true }

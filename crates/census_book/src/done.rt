@@ -10,13 +10,13 @@ use life_answer::{Answer, Question};
 use std::alloc::{AllocError, Global};
 use std::marker::Model;
 
-/// How many bytes of room a line's head gets at first. Most heads fit.
+/// The number of bytes that a line's head gets room for at first. Most heads fit.
 const HEAD_LEN: usize = 64;
 
-/// The most bytes of a line's head that is made where the pattern is worked.
+/// The greatest number of bytes of a line's head that is made where the pattern is worked.
 const LONGEST_HEAD: usize = 4096;
 
-/// The work of one ticket: a ticket, the entry that was worked, what was asked, and what was found. What was found is what the
+/// The work of one ticket: the ticket, the entry that was worked, the question, and the answer, which is the one that the
 /// definition gives for the question and the entry. The report's lines of the pattern, except for the name, are made here, and
 /// so alongside other work if one thread collects the results. Those of a pattern that is refused are made where they are
 /// written, so that it takes no memory here.
@@ -47,8 +47,8 @@ impl<'a> Model for Done<'a> {
         × (d.tail.items ≡ line_tail d.ticket d.answer) };
 }
 
-// The line of a pattern of which this was found, up to its name. None if it is refused, or has more than `LONGEST_HEAD` bytes,
-// which would be held in addition to its own code.
+// The line of a pattern with this answer, up to its name. None if it is refused, or has more than `LONGEST_HEAD` bytes, which
+// would be held in addition to its own code.
 fn head_of(alloc: Global, ticket: Ticket, answer: &Answer) -> Result<Option<Text>, AllocError>
     ensures head { IfOk result
         (λ made. IfSome made (λ head. head ≡ line_head ticket answer.now)) }
@@ -67,7 +67,7 @@ fn head_of(alloc: Global, ticket: Ticket, answer: &Answer) -> Result<Option<Text
     }
 }
 
-// The lines after that of a pattern of which this was found.
+// The lines after that of a pattern with this answer.
 #[tactic(auto, unfolding(census_format::specs::Heads::line_tail))]
 fn tail_of(alloc: Global, ticket: Ticket, answer: &Answer) -> Result<Vec<u8>, AllocError>
     ensures tail { IfOk result
@@ -83,7 +83,7 @@ fn tail_of(alloc: Global, ticket: Ticket, answer: &Answer) -> Result<Vec<u8>, Al
 }
 
 impl<'a> Done<'a> {
-    /// The work of a ticket that found this of its entry. Memory is taken only for a pattern that is not refused.
+    /// The work of a ticket with this answer to its entry. Memory is taken only for a pattern that is not refused.
     pub fn of(
         alloc: Global,
         ticket: Ticket,
@@ -123,14 +123,14 @@ impl<'a> Done<'a> {
         self.entry
     }
 
-    /// What was asked.
+    /// The question.
     pub fn question(&self) -> Question
         ensures { result ≡ self.now.question }
     {
         self.question
     }
 
-    /// What was found: `Refused` of 0 if the entry is lost.
+    /// The answer: `Refused` of 0 if the entry is lost.
     pub fn answer(&self) -> &Answer
         ensures { result.now ≡ answer_to_entry self.now.question self.now.entry }
     {

@@ -1,4 +1,4 @@
-//! How far each collection has come.
+//! The progress of each collection.
 ghost use Rattle.std.specs.Prelude.{◌≡◌, ◌≤◌, ◌<◌, length, IfOk};
 ghost use Rattle.census_bundle.specs.Sizes.{IsWithinCounts};
 ghost use Rattle.census_bundle.specs.Tickets.{no_tickets};
@@ -7,15 +7,15 @@ ghost use Rattle.census_book.specs.Front.{IsFront, IsNextOpen};
 use census_bundle::Folder;
 use std::alloc::{AllocError, Global};
 
-/// For each collection how many of its patterns have arrived before the first that has not; and the first collection that has
-/// not arrived whole, or how many collections there are.
+/// For each collection, the number of its patterns that have arrived before the first that has not; and the first collection
+/// that has not arrived whole, or the number of collections.
 #[derive(Drop)]
 pub struct Front {
     pub runs: Vec<u32>,
     pub first_open: usize,
 }
 
-// The first collection from `from` on that is not whole, if the collection c has come to m.
+// The first collection from `from` on that is not whole, if the run of the collection c is m.
 pub fn next_open(runs: &[u32], folders: &[Folder], c: u32, m: u32, from: usize) -> usize
     requires each { length runs.now ≡ length folders.now }
     requires within { from ≤ length folders.now }
@@ -32,7 +32,7 @@ pub fn next_open(runs: &[u32], folders: &[Folder], c: u32, m: u32, from: usize) 
 }
 
 impl Front {
-    /// Nothing has arrived.
+    /// The front before anything has arrived.
     pub fn new(alloc: Global, folders: &[Folder]) -> Result<Front, AllocError>
         requires { IsWithinCounts folders.now }
         ensures { IfOk result (λ f. IsFront folders.now no_tickets f.runs.items f.first_open) }

@@ -1,5 +1,5 @@
-//! What was found about patterns, and the collector, which takes results in any order and releases the report's lines in order:
-//! a reorder buffer.
+//! The answers for patterns, and the collector, which takes results in any order and releases the report's lines in order: a
+//! reorder buffer.
 //!
 //! Tested in `tests_program`.
 #![tactic(auto)]

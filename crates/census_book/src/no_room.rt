@@ -2,7 +2,7 @@
 
 use crate::done::Done;
 
-/// Out of memory for taking a result, which is handed back.
+/// Out of memory for taking a result, which is given back.
 #[derive(Drop)]
 pub struct NoRoom<'a> {
     pub done: Done<'a>,

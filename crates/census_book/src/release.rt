@@ -1,4 +1,4 @@
-//! What a result releases.
+//! The text that a result releases.
 ghost use Rattle.std.specs.Prelude.{◌≡◌, ◌≤◌, ◌<◌, ◌++◌, ◌-◌, ◌+◌, ℕ, true, false, [], ◌∷◌, length, take, drop, map, OnOk, IfOk, Some};
 ghost use Rattle.census_bundle.specs.Sizes.{IsWithinCounts, count_limit};
 ghost use Rattle.census_bundle.specs.Tickets.{has_ticket, element_at, ticket};
@@ -16,7 +16,7 @@ use census_format::{push_closing, push_end, push_open};
 use life_answer::{Answer, Question};
 use std::alloc::{AllocError, Global};
 
-// How many patterns of the collection have arrived before the first that has not, if the first `from` have.
+// The number of patterns of the collection that have arrived before the first that has not, if the first `from` have.
 fn run_count(arrival: &Arrival, c: u32, folder: &Folder, from: usize) -> usize
     requires small { length folder.now.entries ≤ count_limit }
     requires within { from ≤ length folder.now.entries }
@@ -68,7 +68,7 @@ fn push_patterns(
     Ok(())
 }
 
-// What was found of the patterns of a collection that has arrived whole.
+// The answers for the patterns of a collection that has arrived whole.
 fn folder_answers<'r>(
     alloc: Global,
     arrival: &Arrival<'r, '_>,
@@ -94,7 +94,7 @@ fn folder_answers<'r>(
     Ok(found)
 }
 
-/// Appends what is released before any ticket is taken.
+/// Appends the text that is released before any ticket is taken.
 pub fn push_start(
     alloc: Global,
     text: &mut Vec<u8>,
@@ -120,8 +120,8 @@ pub fn push_start(
     Ok(())
 }
 
-// Appends the lines of a collection that has come from k patterns to m. If m is all of them, also appends what ends its
-// section.
+// Appends the lines of a collection whose run grows from k patterns to m. If m is all of them, also appends the lines that
+// end its section.
 fn push_folder(
     alloc: Global,
     text: &mut Vec<u8>,
@@ -148,8 +148,8 @@ fn push_folder(
     Ok(())
 }
 
-/// What a result brings about in addition to its text: how far its collection has come then, and the first collection that is
-/// then open.
+/// The effect of a result in addition to its text: the run of its collection then, and the first collection that is then
+/// open.
 #[derive(Clone, Copy)]
 pub struct Release {
     pub run: u32,
@@ -166,7 +166,7 @@ pub fn folder_at(folders: &[Folder], c: u32) -> &Folder
     &folders[c as usize - 1]
 }
 
-/// Replaces the text by what this result releases in addition to those that were taken.
+/// Replaces the text by the one that this result releases in addition to those that were taken.
 pub fn released<'a>(
     alloc: Global,
     results: &Results<'a>,

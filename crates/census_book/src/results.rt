@@ -14,8 +14,8 @@ use life_answer::Question;
 use std::alloc::{AllocError, Global};
 use std::marker::Model;
 
-/// The results of a bundle's tickets that were taken, of one question. Those of a collection that has arrived whole may be
-/// dropped.
+/// The results of a bundle's tickets that were taken, for one question. Those of a collection that has arrived whole may
+/// be dropped.
 #[derive(Drop)]
 pub struct Results<'a> {
     bundle: &'a Bundle,
@@ -41,7 +41,7 @@ impl<'a> Model for Results<'a> {
     ghost invariant = { λ r. KeepsResults r.bundle.now r.question r.slots };
 }
 
-// Whether two texts are the same.
+// True if two texts are the same.
 fn same_bytes(one: &[u8], other: &[u8]) -> bool
     ensures { MatchBool result (one.now ≡ other.now) (one.now ≢ other.now) }
 {
@@ -49,7 +49,7 @@ fn same_bytes(one: &[u8], other: &[u8]) -> bool
 }
 
 impl<'a> Results<'a> {
-    /// No result yet.
+    /// No results yet.
     pub fn new(
         alloc: Global,
         bundle: &'a Bundle,
@@ -72,21 +72,21 @@ impl<'a> Results<'a> {
         self.bundle
     }
 
-    /// What was asked.
+    /// The question.
     pub fn question(&self) -> Question
         ensures { result ≡ self.now.question }
     {
         self.question
     }
 
-    /// Whether this ticket was taken.
+    /// True if this ticket was taken.
     pub fn holds(&self, ticket: Ticket) -> bool
         ensures { result ≡ has_ticket self.now.taken ticket }
     {
         self.slots.holds(ticket)
     }
 
-    /// The result of this ticket, if it was taken and another of its collection was not.
+    /// The result of this ticket, if it was taken. It may be gone once all tickets of its collection are taken.
     pub fn get(&self, ticket: Ticket) -> Option<&Done<'a>>
         ensures found { IfSome result
             (λ d. IsResult self.now.bundle self.now.question ticket d.now) }
@@ -97,7 +97,7 @@ impl<'a> Results<'a> {
         self.slots.get(ticket)
     }
 
-    /// What becomes of a result that is offered.
+    /// The fate of a result that is offered.
     pub fn judge(&self, done: &Done) -> Offer
         ensures { Judged self.now.bundle self.now.question self.now.taken done.now result }
     {
@@ -121,7 +121,7 @@ impl<'a> Results<'a> {
         }
     }
 
-    /// Takes a result. When out of memory, the result is handed back.
+    /// Takes a result. When out of memory, the result is given back.
     pub fn add(&mut self, done: Done<'a>) -> Result<(), NoRoom<'a>>
         requires belongs { IsResultOf self.old.bundle self.old.question done }
         requires new { has_ticket self.old.taken done.ticket ≡ false }

@@ -9,9 +9,9 @@ use census_bundle::{Folder, Ticket};
 use std::alloc::{AllocError, Global};
 use std::marker::Model;
 
-/// The slots of a collection. They are seen as what is in each: a result, or only that it was taken. Room for all of them is
-/// made with the first result, and memory is first touched where a result is put. Once each is taken the results may be
-/// dropped.
+/// The slots of a collection. They are seen as the content of each: a result, or only that it was taken. Room for all of
+/// them is made with the first result, and memory is first touched where a result is put. Once each is taken the results may
+/// be dropped.
 #[derive(Drop)]
 pub struct Row<'a> {
     slots: Vec<Option<Done<'a>>>,
@@ -71,7 +71,7 @@ impl<'a> Row<'a> {
         }
     }
 
-    /// Whether the slot of this number, from 1, is taken.
+    /// True if the slot of this number, from 1, is taken.
     pub fn holds(&self, number: u32) -> bool
         ensures { result ≡ is_some (work_at self.now number) }
     {
@@ -89,7 +89,7 @@ impl<'a> Row<'a> {
         result_in(self.slots.as_slice(), number)
     }
 
-    /// Puts a result into the slot of this number, from 1, which is empty. When out of memory, the result is handed back.
+    /// Puts a result into the slot of this number, from 1, which is empty. When out of memory, the result is given back.
     pub fn put(&mut self, number: u32, done: Done<'a>) -> Result<(), NoRoom<'a>>
         requires within { (0 < number) × (number ≤ length self.old) }
         requires empty { work_at self.old number ≡ None }
@@ -121,7 +121,7 @@ impl<'a> Row<'a> {
     }
 }
 
-/// A slot for each pattern of a bundle. They are seen as what is in each, collection by collection.
+/// A slot for each pattern of a bundle. They are seen as the content of each, collection by collection.
 #[derive(Drop)]
 pub struct Slots<'a> {
     rows: Vec<Row<'a>>,
@@ -159,7 +159,7 @@ impl<'a> Slots<'a> {
         self.rows.get(folder as usize - 1)
     }
 
-    /// Whether the slot of this ticket is taken.
+    /// True if the slot of this ticket is taken.
     pub fn holds(&self, ticket: Ticket) -> bool
         ensures { result ≡ is_some (taking_at self.now ticket) }
     {
@@ -180,7 +180,7 @@ impl<'a> Slots<'a> {
         }
     }
 
-    /// Puts a result into the slot of its ticket, which is empty. When out of memory, the result is handed back.
+    /// Puts a result into the slot of its ticket, which is empty. When out of memory, the result is given back.
     pub fn put(&mut self, done: Done<'a>) -> Result<(), NoRoom<'a>>
         requires slot { HasSlot self.old done.ticket }
         requires empty { taking_at self.old done.ticket ≡ None }
