@@ -1,4 +1,4 @@
--- What was found of a pattern, as the rows of a report have it.
+-- The answer for a pattern, as the rows of a report have it.
 use Rattle.std.specs.Prelude.{ℕ, Bool, List}
 use Rattle.std.specs.Borrow.{Bor}
 use Rattle.life_answer.specs.declared.finding.Answer.{Answer}
@@ -19,7 +19,7 @@ use Rattle.census_rows.specs.Kinds.{said, same_class}
 abbrev pub lent : List ℕ → Bor (List ℕ)
 lent bytes = record { ref_ptr = (0, 0); now = bytes }
 
--- what was found, one line for each kind
+-- the outcome, as a row has it: one line here for each kind
 abbrev pub finding_of : Outcome → row.Finding
 finding_of (Recurs onset period dx dy code) = finding.Ok onset period dx dy (lent code)
 finding_of (Ash onset parts) = finding.Ash onset (objects_in parts)
@@ -27,15 +27,16 @@ finding_of Unresolved = finding.Unresolved
 finding_of (Large generation) = finding.Large generation
 finding_of (Grows engines) = finding.Grows (engines_in engines)
 
--- with the rule and the population of generation 0; if the text is refused, the number of its fault, or 0
+-- the answer, as a row has it, with the rule and the population of generation 0; if the text is refused, the number
+-- of its fault, or 0
 abbrev pub outcome_of : Answer → rows.Outcome
 outcome_of (Found rule found) = outcome.Found (lent (rule_text rule)) found.population (finding_of found.outcome)
 outcome_of (Refused number) = outcome.Bad number
 
--- the class of a pattern of which this was found
+-- the class of a pattern with this answer
 abbrev pub class_of : Answer → Class
 class_of answer = (said (outcome_of answer)).class
 
--- whether it is of this class
+-- true if the answer is of this class
 abbrev pub is_of : Class → Answer → Bool
 is_of class answer = same_class (class_of answer) class

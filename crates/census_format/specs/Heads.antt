@@ -1,4 +1,4 @@
--- What comes before the name of a pattern in its lines, and what comes after it.
+-- The parts of a pattern's lines before its name and after it.
 use Rattle.std.specs.Prelude.{ℕ, List, ◌∷◌, ◌++◌, codes, decimal}
 use Rattle.census_bundle.specs.declared.bundle.Entry.{Entry}
 use Rattle.census_bundle.specs.declared.ticket.Ticket.{Ticket}
@@ -7,11 +7,11 @@ use Rattle.life_answer.specs.declared.finding.Answer.{Answer}
 use Rattle.census_format.specs.Found.{outcome_of}
 use Rattle.census_format.specs.Lines.{rows_behind}
 
--- the line of a pattern of which this was found, up to its name
+-- the line of a pattern with this answer, up to its name
 unfoldable pub line_head : Ticket → Answer → List ℕ
 line_head t found = codes "line" ++ fields_text (decimal t.folder ∷ decimal t.number ∷ outcome_fields (outcome_of found))
 
--- the lines after that of a pattern of which this was found
+-- the lines after that of a pattern with this answer
 unfoldable pub line_tail : Ticket → Answer → List ℕ
 line_tail t found = text_of (rows_behind t.folder t.number found)
 

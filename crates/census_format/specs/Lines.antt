@@ -20,17 +20,17 @@ use Rattle.census_format.specs.Found.{is_of, lent, outcome_of}
 abbrev pub Group : Type 0
 Group = List Row
 
--- What is said of a pattern: its name, and what is found of it.
+-- The report on a pattern: its name, and its answer.
 pub record Saying : Type 0 where
   pub name : List ℕ
   pub found : Answer
 
--- what is said of a collection: its name, and what is said of its patterns, in their order
+-- the report on a collection: its name, and the reports on its patterns, in their order
 pub record Collection : Type 0 where
   pub name : List ℕ
   pub sayings : List Saying
 
--- what is found of each pattern
+-- the answer for each pattern
 abbrev pub found_of : List Saying → List Answer
 found_of sayings = map (λ (s : Saying). s.found) sayings
 
@@ -39,28 +39,29 @@ abbrev pub groups_text : List Group → List ℕ
 groups_text [] = []
 groups_text (group ∷ groups) = text_of group ++ groups_text groups
 
--- the collection, how many patterns it has, its name
+-- the collection, the number of its patterns, and its name
 abbrev pub opening_line : ℕ → ℕ → List ℕ → Group
 opening_line c patterns name = row.Open c patterns (lent name) ∷ []
 
 unfoldable pub open_line : ℕ → Folder → Group
 open_line c f = opening_line c (length f.entries) f.name
 
--- the collection, the pattern's number, and what is found of it
+-- the collection, the pattern's number, its answer, and its name
 abbrev pub pattern_row : ℕ → ℕ → Answer → List ℕ → Row
 pattern_row c i found name = row.Line c i (outcome_of found) (lent name)
 
--- the collection, the pattern's number, the code of an object, and how many parts are that object
+-- the collection, the pattern's number, the code of an object, and the number of parts that are that object
 abbrev pub part_row : ℕ → ℕ → Part → Row
 part_row c i part = row.Part c i (lent part.code) part.count
 
--- The collection, the pattern's number, that of these engines among the pattern's, the way of each, and how many they are.
+-- The collection, the pattern's number, that of these engines among the pattern's, the way of each, and the number of these
+-- engines.
 abbrev pub engine_row : ℕ → ℕ → ℕ → Engines → Row
 engine_row c i e engines =
     row.Engine c i e engines.tale.period engines.tale.dx engines.tale.dy engines.count
 
--- the collection, the pattern's number, that of these engines, the code of an object, and how often each of them emits it in
--- a period
+-- the collection, the pattern's number, that of these engines, the code of an object, and the number of such objects that each
+-- of them emits in a period
 abbrev pub emits_row : ℕ → ℕ → ℕ → Part → Row
 emits_row c i e part = row.Emits c i e (lent part.code) part.count
 
@@ -73,23 +74,23 @@ abbrev pub rows_of_engines : ℕ → ℕ → ℕ → List Engines → List Row
 rows_of_engines c i e [] = []
 rows_of_engines c i e (engines ∷ lines) = engine_rows c i e engines ++ rows_of_engines c i (suc e) lines
 
--- the rows that say more of what becomes of a pattern: the `part` rows of what has fallen apart, and the `engine` and `emits`
--- rows of what grows
+-- the further rows of an outcome: the `part` rows of a pattern that has fallen apart, and the `engine` and `emits` rows of one
+-- that grows
 abbrev pub outcome_rows : ℕ → ℕ → Outcome → List Row
 outcome_rows c i (Ash onset parts) = map (part_row c i) parts
 outcome_rows c i (Grows engines) = rows_of_engines c i 1 engines
 outcome_rows c i _ = []
 
--- the rows that say more of a pattern of which this was found
+-- the further rows of a pattern with this answer
 abbrev pub rows_behind : ℕ → ℕ → Answer → List Row
 rows_behind c i (Found rule finding) = outcome_rows c i finding.outcome
 rows_behind c i (Refused number) = []
 
--- what is found of an entry: one whose text is lost is refused under the number 0, which no fault of a text has
+-- the answer for an entry: one whose text is lost is refused with the number 0, which no fault of a text has
 unfoldable pub answer_to_entry : Question → Entry → Answer
 answer_to_entry question e = if e.is_lost then Refused 0 else answer_to_question question e.text
 
--- the `line` row of a pattern, and after it the rows that say more
+-- the `line` row of a pattern, and after it the further rows
 unfoldable pub saying_rows : ℕ → ℕ → Saying → Group
 saying_rows c i s = pattern_row c i s.found s.name ∷ rows_behind c i s.found
 
@@ -98,7 +99,7 @@ abbrev pub saying_lines : ℕ → ℕ → List Saying → List Group
 saying_lines c i [] = []
 saying_lines c i (s ∷ ss) = saying_rows c i s ∷ saying_lines c (suc i) ss
 
--- what is said of an entry
+-- the report on an entry
 abbrev pub saying_to : Question → Entry → Saying
 saying_to question e = record { name = e.name; found = answer_to_entry question e }
 
@@ -110,41 +111,41 @@ pattern_rows question c i e = saying_rows c i (saying_to question e)
 abbrev pub pattern_lines : Question → ℕ → ℕ → List Entry → List Group
 pattern_lines question c i es = saying_lines c i (map (saying_to question) es)
 
--- what is found of each of these patterns
+-- the answers for each of these patterns
 abbrev pub answers : Question → List Entry → List Answer
 answers question es = map (answer_to_entry question) es
 
--- it recurs, has fallen apart or grows
+-- the pattern recurs, has fallen apart or grows
 abbrev pub is_resolved : Answer → Bool
 is_resolved = is_of class.Resolved
 
--- it does none of these within the bound
+-- the pattern does none of these within the bound
 abbrev pub is_unresolved : Answer → Bool
 is_unresolved = is_of class.Unresolved
 
--- it is lost, or its text has a fault
+-- the pattern is lost, or its text has a fault
 abbrev pub is_refused : Answer → Bool
 is_refused = is_of class.Refused
 
--- the collection, how many patterns it has, and how many of them are reported as `ok`, `ash` or `grows`, as `none` or `large`,
--- and as `bad`
+-- the collection, the number of its patterns, and the numbers of those that are reported as `ok`, `ash` or `grows`, as `none`
+-- or `large`, and as `bad`
 abbrev pub closing_line : ℕ → ℕ → List Answer → Group
 closing_line c patterns found = row.Close c patterns (count_by is_resolved found) (count_by is_unresolved found) (count_by is_refused found) ∷ []
 
 unfoldable pub close_line : Question → ℕ → Folder → Group
 close_line question c f = closing_line c (length f.entries) (answers question f.entries)
 
--- how many patterns these collections have
+-- the number of patterns in these collections
 abbrev pub pattern_count : List Folder → ℕ
 pattern_count [] = 0
 pattern_count (f ∷ fs) = length f.entries + pattern_count fs
 
--- how many patterns these collections have, of which this is said
+-- the number of patterns in the collections of these reports
 abbrev pub sayings_count : List Collection → ℕ
 sayings_count [] = 0
 sayings_count (f ∷ fs) = length f.sayings + sayings_count fs
 
--- how many collections there are, and how many patterns in all
+-- the number of collections, and the number of patterns in all
 abbrev pub ending_line : ℕ → ℕ → Group
 ending_line collections patterns = row.End collections patterns ∷ []
 

@@ -1,4 +1,4 @@
--- What the counts of a closing say of objects.
+-- The meaning of the counts of a closing for objects.
 use Rattle.std.specs.Prelude.{◌≡◌, ℕ, Bool, false, List, Option, Ok, count_by}
 use Rattle.std.specs.Bool.{Decides}
 use Rattle.std.specs.List.{All, Contains}
@@ -26,7 +26,7 @@ pub record Resolves (bound : ℕ) (most : Option ℕ) (e : Entry) : Type 0 where
   pub settles : Settles rule cells bound recurrence
   pub small : StaysWithin most rule cells bound
 
--- what it settles into
+-- the set that it settles into
 abbrev pub settled_cells : (bound : ℕ) (most : Option ℕ) (e : Entry) → Resolves bound most e → Generation
 settled_cells bound most e r = generation r.rule r.cells r.recurrence.onset
 
@@ -41,8 +41,8 @@ pub record SettlesInto (bound : ℕ) (most : Option ℕ) (e : Entry) (R : Rule) 
   pub same_rule : resolves.rule ≡ R
   pub one : AreOneObject R (settled_cells bound most e resolves) H
 
--- The line has the rule and code of one of the patterns, and its number is how many of the patterns settle, under this rule,
--- into the object of that one.
+-- The line has the rule and code of one of the patterns, and its number is that of the patterns that settle, under this
+-- rule, into the object of that one.
 pub record CountsObject (bound : ℕ) (most : Option ℕ) (es : List Entry) (line : Object × ℕ) : Type 0 where
   pub pattern : Entry
   pub among : Contains es pattern

@@ -1,4 +1,4 @@
--- Two objects are the same exactly if they are one.
+-- Two objects are the same exactly if they are equal.
 use Rattle.std.proofs.Common.{◌≡◌, true, ◌++◌, refl, ap, Decides}
 use Rattle.std.proofs.lemmas.Bool.Decides.{Decides-and, Decides-eqb, Decides-like}
 use Rattle.std.specs.Cmp.Lexicographic.{bytes_decides}
@@ -19,7 +19,7 @@ same_object-is k l =
     (λ e i. record { rule = e.0 i; code = e.1 i }) (λ e. (ap (λ o. o.rule) e, ap (λ o. o.code) e))
     (Decides-and _ _ (same_rule-is k.rule l.rule) (bytes_decides k.code l.code))
 
--- objects that are the same are one
+-- objects that are the same are equal
 pub one_object : (k l : Object) → same_object k l ≡ true → k ≡ l
 one_object k l = (same_object-is k l).0
 
@@ -32,10 +32,10 @@ same_object_equivalence = decided same_object same_object-is
 pub same_object_partial : IsPartialEquivalence same_object
 same_object_partial = partial_equiv_from_equiv same_object_equivalence
 
--- what an object feeds a hasher: the two sets of its rule, and the bytes of its code
+-- the input of a hasher for an object: the two sets of its rule, and the bytes of its code
 abbrev pub fed_object : Object → fed.HashWrites
 fed_object o = (fed.u16 o.rule.birth ++ fed.u16 o.rule.survival) ++ fed.slice fed.u8 o.code
 
--- objects that are the same feed a hasher alike
+-- objects that are the same give a hasher the same input
 pub same_object_fed : (k l : Object) → same_object k l ≡ true → fed_object k ≡ fed_object l
 same_object_fed k l e = ap fed_object (one_object k l e)

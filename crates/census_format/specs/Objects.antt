@@ -29,7 +29,7 @@ same_rule r s = (r.birth == s.birth) && (r.survival == s.survival)
 abbrev pub same_object : Object → Object → Bool
 same_object k l = same_rule k.rule l.rule && pointwise nat_eq k.code l.code
 
--- the objects that these parts are, each as often as it is counted
+-- the objects that these parts are, each as many times as it is counted
 abbrev pub part_objects : Rule → List Part → List Object
 part_objects rule [] = []
 part_objects rule (part ∷ parts) = replicate part.count (object rule part.code) ++ part_objects rule parts
@@ -40,7 +40,7 @@ outcome_objects rule (Recurs onset period dx dy code) = object rule code ∷ []
 outcome_objects rule (Ash onset parts) = part_objects rule parts
 outcome_objects rule _ = []
 
--- the objects of the resolved ones among these, in their order
+-- the objects of the resolved ones among these answers, in their order
 abbrev pub objects : List Answer → List Object
 objects [] = []
 objects (Found rule finding ∷ found) = outcome_objects rule finding.outcome ++ objects found
@@ -51,7 +51,7 @@ abbrev pub distinct_elements : {A : Type 0} → (A → A → Bool) → List A �
 distinct_elements same [] = []
 distinct_elements same (x ∷ xs) = x ∷ filter (λ y. not (same x y)) (distinct_elements same xs)
 
--- each of these once, in the order of first appearance, and how often it occurs
+-- each of these once, in the order of first appearance, and the number of times that it occurs
 abbrev pub tally : {A : Type 0} → (A → A → Bool) → List A → List (A × ℕ)
 tally same xs = map (λ x. (x, count_by (same x) xs)) (distinct_elements same xs)
 
@@ -59,7 +59,7 @@ tally same xs = map (λ x. (x, count_by (same x) xs)) (distinct_elements same xs
 unfoldable pub code_line : ℕ → Object → ℕ → Group
 code_line c k count = Code c (lent (rule_text k.rule)) (lent k.code) count ∷ []
 
--- the `code` rows of a collection of whose patterns this is found
+-- the `code` rows of a collection whose patterns have these answers
 abbrev pub counted_lines : ℕ → List Answer → List Group
 counted_lines c found = map (λ e. code_line c e.0 e.1) (tally same_object (objects found))
 

@@ -1,5 +1,5 @@
--- What the counts of a closing say of the objects that patterns fall apart into, by what these count as, where objects are asked
--- for.
+-- The meaning of the counts of a closing for the objects that patterns fall apart into, by the parts that these count as, if
+-- objects are asked for.
 use Rattle.std.specs.Prelude.{◌≡◌, ℕ, ◌+◌, ◌≤◌, Bool, if◌then◌else◌, List, [], ◌∷◌, Option, count_by}
 use Rattle.std.specs.List.{All, sum_by}
 use Rattle.census_bundle.specs.declared.bundle.Entry.{Entry}
@@ -14,32 +14,32 @@ use Rattle.life_model.specs.Rule.{Rule}
 use Rattle.census_format.specs.Lines.{answer_to_entry, answers}
 use Rattle.census_format.specs.Objects.{Object, object, objects, same_object, tally}
 
--- how many objects among these parts have this rule and code
+-- the number of objects among these parts that have this rule and code
 abbrev pub parts_as : Object → Rule → List Part → ℕ
 parts_as k rule [] = 0
 parts_as k rule (part ∷ parts) = (if same_object k (object rule part.code) then part.count else 0) + parts_as k rule parts
 
--- how many objects with this rule and code an outcome counts as: what recurs is one object
+-- the number of objects with this rule and code that an outcome counts as: a pattern that recurs is one object
 abbrev pub outcome_as : Object → Rule → Outcome → ℕ
 outcome_as k rule (Recurs onset period dx dy code) = if same_object k (object rule code) then 1 else 0
 outcome_as k rule outcome = parts_as k rule (parts_found outcome)
 
--- how many objects with this rule and code are counted of a pattern of which this was found
+-- the number of objects with this rule and code that are counted of a pattern with this answer
 abbrev pub fallen_as : Object → Answer → ℕ
 fallen_as k (Found rule finding) = outcome_as k rule finding.outcome
 fallen_as k (Refused number) = 0
 
--- how many objects with this rule and code are counted of these patterns in all
+-- the number of objects with this rule and code that are counted of these patterns in all
 abbrev pub all_fallen_as : (bound : ℕ) (most : Option ℕ) (near : Bool) (horizon : ℕ) → List Entry → Object → ℕ
 all_fallen_as bound most near horizon es k = sum_by (λ (e : Entry). fallen_as k (answer_to_entry (question.Objects bound most near horizon) e)) es
 
--- The line's number is how many objects have its rule and code, of which there are some.
+-- The line's number is that of the objects that have its rule and code, of which there are some.
 pub record CountsParts (bound : ℕ) (most : Option ℕ) (near : Bool) (horizon : ℕ) (es : List Entry) (line : Object × ℕ) : Type 0 where
   pub count : line.1 ≡ all_fallen_as bound most near horizon es line.0
   pub some : 1 ≤ line.1
 
 -- Each `code` line of a collection counts the objects that have its rule and code, and each rule and code that an object has is
--- in one line, whether what is near one another is one object or not.
+-- in one line, whether cells that are near one another are one object or not.
 abbrev pub CodesCountParts : Type 0
 CodesCountParts =
     (bound : ℕ) (most : Option ℕ) (near : Bool) (horizon : ℕ) (es : List Entry)

@@ -1,4 +1,5 @@
--- What a report is: what is said of each pattern. The report of a bundle, and what each taken ticket releases.
+-- The definition of a report: what it says of each pattern, the report of a bundle, and the text that each taken ticket
+-- releases.
 use Rattle.std.specs.Prelude.{◌≡◌, ℕ, suc, ◌-◌, Bool, true, if◌then◌else◌, ◌==◌, ◌&&◌, List, [], ◌∷◌, ◌++◌, Some, None, Option, length, map, take, drop}
 use Rattle.census_bundle.specs.declared.ticket.Ticket.{Ticket}
 use Rattle.census_bundle.specs.declared.bundle.Folder.{Folder}
@@ -9,12 +10,12 @@ use Rattle.census_rows.specs.Lines.{text_of}
 use Rattle.census_format.specs.Objects.{code_lines, counted_lines}
 use Rattle.life_answer.specs.declared.question.Question.{Question}
 
--- what ends the section of a collection, when each of its patterns has arrived
+-- the rows that end the section of a collection, when each of its patterns has arrived
 unfoldable pub closing : Question → ℕ → Folder → List Group
 closing question c f = code_lines question c f ++ close_line question c f ∷ []
 
--- The lines of a collection of which this is said: the line that opens it, those of its patterns, one for each object that
--- these count, and the line that closes it.
+-- The lines of a collection with this report: the line that opens it, those of its patterns, one for each object that these
+-- count, and the line that closes it.
 abbrev pub section_of : ℕ → Collection → List Group
 section_of c said =
     let found = found_of said.sayings in
@@ -44,7 +45,7 @@ abbrev pub owned_text : List Owned → List ℕ
 owned_text [] = []
 owned_text (l ∷ ls) = text_of l.group ++ owned_text ls
 
--- the last row of a report that says this
+-- the last row of a report on these collections
 unfoldable pub end_of : List Collection → Group
 end_of said = ending_line (length said) (sayings_count said)
 
@@ -55,15 +56,15 @@ pub record IsReportOf (said : List Collection) (text : List ℕ) : Type 0 where
   pub sections : (c : ℕ) → lines_of c groups ≡ section said c
   pub whole : text ≡ owned_text groups ++ text_of (end_of said)
 
--- what is said of a collection of a bundle under a question
+-- the report on a collection of a bundle for a question
 abbrev pub collection_under : Question → Folder → Collection
 collection_under question f = record { name = f.name; sayings = map (saying_to question) f.entries }
 
--- what is said of a bundle under a question
+-- the report on a bundle for a question, collection by collection
 abbrev pub said_under : Question → List Folder → List Collection
 said_under question b = map (collection_under question) b
 
--- the text is a report of what is said of the bundle under the question
+-- the text is a report of the bundle for the question
 abbrev pub IsReport : List Folder → Question → List ℕ → Type 0
 IsReport b question text = IsReportOf (said_under question b) text
 
@@ -72,7 +73,7 @@ pub record IsReportFront (b : List Folder) (question : Question) (text : List �
   pub rest : List ℕ
   pub report : IsReport b question (text ++ rest)
 
--- how many of these patterns, the first of which has the number i, pass before the first that does not
+-- the number of these patterns, the first of which has the number i, that pass before the first that does not
 abbrev pub run_from : (ℕ → Bool) → ℕ → List Entry → ℕ
 run_from passes i [] = 0
 run_from passes i (e ∷ es) = if passes i then suc (run_from passes (suc i) es) else 0
@@ -102,7 +103,7 @@ opening question c [] = []
 opening question c (f ∷ fs) =
     text_of (open_line c f) ++ groups_text (closing_if (0 == length f.entries) question c f) ++ opening question (suc c) fs
 
--- what is released before any ticket is taken
+-- the text that is released before any ticket is taken
 abbrev pub text_at_start : List Folder → Question → List ℕ
 text_at_start b question = opening question 1 b ++ end_if (pattern_count b == 0) b
 
@@ -115,6 +116,6 @@ abbrev pub folder_text_released : Question → Option Folder → Tickets → Tic
 folder_text_released question None taken t = []
 folder_text_released question (Some f) taken t = groups_text (folder_out question t.folder f (run_of taken t.folder f) (run_of (with_ticket taken t) t.folder f))
 
--- what taking a ticket releases, if these were taken before
+-- the text that is released by taking a ticket, if these were taken before
 abbrev pub text_released : List Folder → Question → Tickets → Ticket → List ℕ
 text_released b question taken t = folder_text_released question (element_at b t.folder) taken t ++ end_if (has_all b (with_ticket taken t)) b

@@ -1,4 +1,4 @@
--- What a map of counts keeps.
+-- The invariant of a map of counts.
 use Rattle.std.specs.Prelude.{◌≡◌, ℕ, ◌≤◌, List, length}
 use Rattle.census_format.specs.Objects.{Object, same_object, tally}
 

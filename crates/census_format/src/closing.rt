@@ -118,7 +118,7 @@ fn count_parts<'a>(
     Ok(())
 }
 
-// Counts the objects that were found, if any.
+// Counts the objects of an answer, if any.
 fn count_answer<'a>(
     counts: &mut IndexMap<Object<'a>, u64>,
     answer: &'a Answer,
@@ -143,7 +143,7 @@ fn count_answer<'a>(
     }
 }
 
-// The objects that were found, in the order of first appearance, with their counts.
+// The objects of the answers, in the order of first appearance, with their counts.
 fn tally_of<'a>(
     alloc: Global,
     answers: &[&'a Answer],
@@ -172,7 +172,7 @@ fn push_code(text: &mut Vec<u8>, c: u32, object: &Object, count: u64) -> Result<
     Ok(())
 }
 
-// The lines of the objects that were found.
+// Appends the lines of the objects.
 fn push_codes(text: &mut Vec<u8>, c: u32, counts: &IndexMap<Object, u64>) -> Result<(), AllocError>
     ensures { OnOk result
         (text.new.items ≡
@@ -184,7 +184,7 @@ fn push_codes(text: &mut Vec<u8>, c: u32, counts: &IndexMap<Object, u64>) -> Res
     Ok(())
 }
 
-// How many of these are of this class.
+// The number of these answers that are of this class.
 fn count_of(answers: &[&Answer], class: Class) -> usize
     ensures { result ≡ count_by (is_of class) (map (λ a. a.now) answers.now) }
 {
@@ -194,7 +194,7 @@ fn count_of(answers: &[&Answer], class: Class) -> usize
         .count()
 }
 
-// The line that closes a section.
+// Appends the line that closes a section.
 #[tactic(auto, unfolding(crate::specs::Lines::close_line))]
 fn push_close(
     text: &mut Vec<u8>,
@@ -216,7 +216,7 @@ fn push_close(
     Ok(())
 }
 
-// The `code` lines of what was found.
+// Appends the `code` lines of these answers.
 fn push_objects(
     alloc: Global,
     text: &mut Vec<u8>,
@@ -234,7 +234,7 @@ fn push_objects(
     push_codes(text, c, &counts)
 }
 
-/// What ends the section of a collection, of whose patterns this was found.
+/// Appends the lines that end the section of a collection whose patterns have these answers.
 pub fn push_closing(
     alloc: Global,
     text: &mut Vec<u8>,

@@ -10,7 +10,7 @@ use itoa::Buffer;
 use life_answer::{Engines, Part, Tale};
 use std::alloc::AllocError;
 
-// A line's word, and the numbers of the collection, of the pattern and of the engines.
+// Appends a line's word, and the numbers of the collection, of the pattern and of the engines.
 fn push_start(
     text: &mut Vec<u8>,
     word: &[u8],
@@ -26,7 +26,7 @@ fn push_start(
     push_count(text, number)
 }
 
-// A blank and how far something has moved.
+// Appends a space and a displacement along one axis.
 fn push_moved(text: &mut Vec<u8>, moved: i32) -> Result<(), AllocError>
     ensures { OnOk result (text.new.items ≡ text.old.items ++ 32 ∷ signed_decimal moved) }
 {
@@ -34,7 +34,7 @@ fn push_moved(text: &mut Vec<u8>, moved: i32) -> Result<(), AllocError>
     push_field(text, buffer.format(moved).as_bytes())
 }
 
-// After how many generations an engine recurs, and how far to the right and down it is then.
+// Appends the number of generations after which an engine recurs, and its displacement to the right and down then.
 fn push_way(text: &mut Vec<u8>, tale: &Tale) -> Result<(), AllocError>
     ensures { OnOk result (text.new.items ≡ text.old.items ++ fields_text
         (decimal tale.now.period ∷ signed_decimal tale.now.dx ∷ signed_decimal tale.now.dy ∷ [])) }
@@ -44,7 +44,7 @@ fn push_way(text: &mut Vec<u8>, tale: &Tale) -> Result<(), AllocError>
     push_moved(text, tale.dy)
 }
 
-// The line of engines with the same tale.
+// Appends the line of engines with the same tale.
 fn push_engine(
     text: &mut Vec<u8>,
     ticket: Ticket,
@@ -61,7 +61,7 @@ fn push_engine(
     Ok(())
 }
 
-// The line of those parts of what an engine emits that are one object.
+// Appends the line of those parts of what an engine emits that are one object.
 fn push_emitted(
     text: &mut Vec<u8>,
     ticket: Ticket,
@@ -78,7 +78,7 @@ fn push_emitted(
     Ok(())
 }
 
-// The lines of all that an engine emits.
+// Appends the lines of all that an engine emits.
 fn push_emits(
     text: &mut Vec<u8>,
     ticket: Ticket,
@@ -94,7 +94,7 @@ fn push_emits(
     Ok(())
 }
 
-/// The lines of all engines, those with the same tale together.
+/// Appends the lines of all engines, those with the same tale together.
 pub(crate) fn push_engines(
     text: &mut Vec<u8>,
     ticket: Ticket,

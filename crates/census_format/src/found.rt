@@ -1,4 +1,4 @@
-//! What was found of a pattern, as the rows of a report have it.
+//! The answer for a pattern, as the rows of a report have it.
 ghost use Rattle.std.specs.Prelude.{◌≡◌};
 ghost use Rattle.census_format.specs.Found.{class_of, finding_of, is_of};
 ghost use Rattle.census_rows.specs.Kinds.{said_of, texts_of};
@@ -6,7 +6,7 @@ ghost use Rattle.census_rows.specs.Kinds.{said_of, texts_of};
 use census_rows::{Class, Finding};
 use life_answer::{Answer, Outcome};
 
-/// What was found, as a row has it: one arm for each kind.
+/// The outcome, as a row has it: one arm for each kind.
 #[inline(always)]
 pub(crate) fn finding_of<'a>(outcome: &'a Outcome) -> Finding<'a>
     ensures word { (said_of result).word ≡ (said_of (finding_of outcome.now)).word }
@@ -42,7 +42,7 @@ pub(crate) fn finding_of<'a>(outcome: &'a Outcome) -> Finding<'a>
     }
 }
 
-/// The class of a pattern of which this was found.
+/// The class of a pattern with this answer.
 pub fn class_of(answer: &Answer) -> Class
     ensures { result ≡ class_of answer.now }
 {
@@ -52,7 +52,7 @@ pub fn class_of(answer: &Answer) -> Class
     }
 }
 
-/// Whether it is of this class.
+/// True if the answer is of this class.
 pub(crate) fn is_of(class: Class, answer: &Answer) -> bool
     ensures { result ≡ is_of class answer.now }
 {

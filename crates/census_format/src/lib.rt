@@ -1,4 +1,5 @@
-//! The format of a report: its lines, the counts of its codes, and what a report of a bundle is (`specs/Reports.antt`).
+//! The format of a report: its lines, the counts of its codes, and the definition of a bundle's report
+//! (`specs/Reports.antt`).
 //!
 //! Tested in `tests_program`.
 #![tactic(auto)]

@@ -14,7 +14,7 @@ use life_answer::Answer;
 use life_cells::Rule;
 use std::alloc::AllocError;
 
-/// A blank and a rule.
+/// Appends a space and a rule.
 pub fn push_rule(text: &mut Vec<u8>, rule: &Rule) -> Result<(), AllocError>
     ensures { OnOk result (text.new.items ≡ text.old.items ++ 32 ∷ rule_text rule.now) }
 {
@@ -22,7 +22,7 @@ pub fn push_rule(text: &mut Vec<u8>, rule: &Rule) -> Result<(), AllocError>
     rule.text_into(text)
 }
 
-/// The line that opens a section.
+/// Appends the line that opens a section.
 #[tactic(auto, unfolding(crate::specs::Lines::open_line))]
 pub fn push_open(text: &mut Vec<u8>, c: u32, folder: &Folder) -> Result<(), AllocError>
     ensures { OnOk result (text.new.items ≡ text.old.items ++ text_of (open_line c folder.now)) }
@@ -35,7 +35,7 @@ pub fn push_open(text: &mut Vec<u8>, c: u32, folder: &Folder) -> Result<(), Allo
     Ok(())
 }
 
-// What was found of a pattern.
+// Appends the fields of the answer for a pattern.
 fn push_outcome(text: &mut Vec<u8>, answer: &Answer) -> Result<(), AllocError>
     ensures { OnOk result
         (text.new.items ≡
@@ -56,7 +56,7 @@ fn push_outcome(text: &mut Vec<u8>, answer: &Answer) -> Result<(), AllocError>
     }
 }
 
-/// The line of a pattern of which this was found, up to its name.
+/// Appends the line of a pattern with this answer, up to its name.
 #[tactic(auto, unfolding(crate::specs::Heads::line_head))]
 pub fn push_head(text: &mut Vec<u8>, ticket: Ticket, answer: &Answer) -> Result<(), AllocError>
     ensures { OnOk result
@@ -68,7 +68,7 @@ pub fn push_head(text: &mut Vec<u8>, ticket: Ticket, answer: &Answer) -> Result<
     push_outcome(text, answer)
 }
 
-/// The lines of a pattern, which begin with this head and end with this tail.
+/// Appends the lines of a pattern, which begin with this head and end with this tail.
 pub fn push_pattern(
     text: &mut Vec<u8>,
     head: &[u8],
@@ -87,7 +87,7 @@ pub fn push_pattern(
     Ok(())
 }
 
-// How many patterns there are.
+// The number of patterns.
 fn count_patterns(folders: &[Folder]) -> u64
     requires { IsWithinCounts folders.now }
     ensures { result ≡ pattern_count folders.now }
@@ -99,7 +99,7 @@ fn count_patterns(folders: &[Folder]) -> u64
     count
 }
 
-/// The last line of a report.
+/// Appends the last line of a report.
 #[tactic(auto, unfolding(crate::specs::Lines::end_line))]
 pub fn push_end(text: &mut Vec<u8>, folders: &[Folder]) -> Result<(), AllocError>
     requires { IsWithinCounts folders.now }

@@ -8,7 +8,7 @@ use census_rows::{push_count, push_field};
 use life_answer::Part;
 use std::alloc::AllocError;
 
-// The line of those parts that are one object.
+// Appends the line of those parts that are one object.
 fn push_part(text: &mut Vec<u8>, ticket: Ticket, part: &Part) -> Result<(), AllocError>
     ensures { OnOk result
         (text.new.items ≡ text.old.items ++ line_of (part_row ticket.folder ticket.number part.now)) }
@@ -22,7 +22,7 @@ fn push_part(text: &mut Vec<u8>, ticket: Ticket, part: &Part) -> Result<(), Allo
     Ok(())
 }
 
-/// The lines of all parts.
+/// Appends the lines of all parts.
 pub(crate) fn push_parts(
     text: &mut Vec<u8>,
     ticket: Ticket,

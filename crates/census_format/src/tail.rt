@@ -8,8 +8,8 @@ use census_bundle::Ticket;
 use life_answer::{Answer, Outcome};
 use std::alloc::AllocError;
 
-/// The lines after that of a pattern of which this was found: the `part` lines of what has fallen apart, and the `engine` and
-/// `emits` lines of what grows.
+/// Appends the lines after that of a pattern with this answer: the `part` lines of one that has fallen apart, and the
+/// `engine` and `emits` lines of one that grows.
 #[tactic(auto, unfolding(crate::specs::Heads::line_tail))]
 pub fn push_tail(text: &mut Vec<u8>, ticket: Ticket, answer: &Answer) -> Result<(), AllocError>
     ensures { OnOk result
