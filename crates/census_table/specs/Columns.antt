@@ -19,7 +19,7 @@ use Rattle.census_table.specs.Contents.{Content, Member, nothing, count, shift, 
 abbrev pub columns : List Column
 columns = column.Collection ∷ column.CollectionName ∷ column.Pattern ∷ column.Name ∷ column.Status ∷ column.Rule ∷ column.Population ∷ column.Onset ∷ column.Period ∷ column.Dx ∷ column.Dy ∷ column.Code ∷ column.CommonName ∷ column.Fault ∷ column.CollectionNameHex ∷ column.NameHex ∷ column.Objects ∷ column.Generation ∷ column.Engines ∷ column.FaultText ∷ []
 
--- those whose names come before `engines`, between it and `parts`, and after `parts`, in the order of their names
+-- the columns whose names come before `engines`, between it and `parts`, and after `parts`, in the order of their names
 abbrev pub first_columns : List Column
 first_columns = column.Code ∷ column.Collection ∷ column.CollectionName ∷ column.CollectionNameHex ∷ column.CommonName ∷ column.Dx ∷ column.Dy ∷ []
 
@@ -34,11 +34,11 @@ value_content (Number n) = count n
 value_content (Signed z) = shift z
 value_content (Text bytes) = text bytes.now
 
--- what the field with a label has
+-- the content of the field with a label
 abbrev pub field_content : Outcome → Label → Content
 field_content outcome label = option_map_or value_content (value_at label (said outcome).fields) nothing
 
--- what the way of its only engine has, or else the field with a label
+-- the content from the motion of the pattern's only engine, or else from the field with a label
 abbrev pub way_content : (EngineWay → Content) → Label → Entry → Content
 way_content content label entry = option_map_or content entry.way (field_content entry.outcome label)
 
@@ -46,12 +46,12 @@ abbrev pub fault_content : Option Value → Content
 fault_content (Some (Number n)) = text (fault_words n)
 fault_content _ = nothing
 
--- what a row has for the name of a code, where there is one
+-- the content for the name of a code, where there is one
 abbrev pub called_content : Names → Option Value → Content
 called_content names (Some (Text code)) = called names code.now
 called_content names _ = nothing
 
--- what a column is called, and what the row of a pattern has in it
+-- the name of a column, and the content of a pattern's row in it
 abbrev pub column_means : Column → List ℕ × (Names → Entry → Content)
 column_means column.Collection = (codes "collection", λ names entry. count entry.collection)
 column_means column.CollectionName = (codes "collection_name", λ names entry. text entry.collection_name.now)
@@ -85,6 +85,6 @@ abbrev pub is_shown : Names → Column → Bool
 is_shown None column.CommonName = false
 is_shown names column = true
 
--- what the row of a pattern has in these columns
+-- the row of a pattern in these columns
 abbrev pub entry_row : Names → List Column → Entry → List Member
 entry_row names columns entry = map (λ column. record { name = name_of column; content = content_in_column names column entry }) (filter (is_shown names) columns)

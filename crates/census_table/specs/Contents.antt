@@ -12,7 +12,8 @@ use Rattle.census_table.specs.declared.cell.Cell.TheVariants.{Empty, Count, Shif
 use Rattle.census_table.specs.declared.cell.Field.{Field}
 use Rattle.census_table.specs.declared.lists.Portion.{Portion}
 
--- nothing, a number, a signed number, a part of a whole in millionths, a text, the bytes of a text in hex where it isn't UTF-8, or a list of engines or parts
+-- nothing, a number, a signed number, a part of a whole in millionths, a text, the bytes of a text in hex where it isn't UTF-8,
+-- or a list of engines or parts
 pub data Content : Type 0 where
   nothing : Content
   count : ℕ → Content
@@ -32,7 +33,7 @@ content_of (Text bytes) = text bytes.now
 content_of (Hex bytes) = hex bytes.now
 content_of (Fault n) = text (fault_words n)
 
--- what a column is called, and what a row has in it
+-- the name of a column, and the content of a row in it
 pub record Member : Type 0 where
   pub name : List ℕ
   pub content : Content
@@ -47,12 +48,12 @@ row_of fields = map member_of fields
 abbrev pub hex_of : List ℕ → Option (List ℕ)
 hex_of bytes = if is_utf8 bytes then None else Some (encode_lower bytes)
 
--- a spreadsheet may take a text that begins like this for a formula
+-- true where a spreadsheet may take a text for a formula, by its first byte
 abbrev pub begins_formula : List ℕ → Bool
 begins_formula [] = false
 begins_formula (byte ∷ bytes) = list_any (λ sign. sign == byte) (codes "=+-@\t\r")
 
--- a text; if it is to be safe and a spreadsheet may take it for a formula, it has an apostrophe before it
+-- a text, with an apostrophe before it if it is to be safe and a spreadsheet may take it for a formula
 abbrev pub text_bytes : Bool → List ℕ → List ℕ
 text_bytes safe bytes = if safe && begins_formula bytes then 39 ∷ bytes else bytes
 
@@ -61,7 +62,7 @@ abbrev pub share_bytes : ℕ → List ℕ
 share_bytes n =
     decimal (n / 1000000) ++ (codes "." ++ (decimal (n / 100000 % 10) ++ (decimal (n / 10000 % 10) ++ (decimal (n / 1000 % 10) ++ (decimal (n / 100 % 10) ++ (decimal (n / 10 % 10) ++ decimal (n % 10)))))))
 
--- the text of a field, where texts are to be safe or not; lists occur only in JSON
+-- the text of a field, where texts are to be `safe` or not; lists occur only in JSON
 abbrev pub content_bytes : Bool → Content → List ℕ
 content_bytes safe (count n) = decimal n
 content_bytes safe (shift z) = signed_decimal z

@@ -14,7 +14,7 @@ use Rattle.census_table.specs.declared.engine.EngineTold.{EngineTold}
 use Rattle.census_table.specs.declared.engine.Last.{Last}
 use Rattle.census_table.specs.declared.entry.Entry.{Entry}
 
--- the code begins with `xq`
+-- true where the code begins with `xq`
 abbrev pub is_spaceship : List ℕ → Bool
 is_spaceship (first ∷ second ∷ rest) = (first == 120) && (second == 113)
 is_spaceship _ = false
@@ -26,26 +26,27 @@ emits_spaceship _ = false
 abbrev pub stays : ℤ → ℤ → Bool
 stays dx dy = int_eq dx (pos 0) && int_eq dy (pos 0)
 
--- a gun stays in its place; a rake moves and emits spaceships only, and any other is a puffer
+-- a gun stays in its place, a rake moves and emits only spaceships, and any other engine is a puffer
 abbrev pub engine_kind : ℤ → ℤ → List Row → EngineKind
 engine_kind dx dy emits = if stays dx dy then Gun else (if list_all emits_spaceship emits then Rake else Puffer)
 
--- the engines that a row reports, where the first of these rows after it say what each emits
+-- the engines that a row reports, where the first of these rows after it report what each emits
 abbrev pub engine_of_row : Row → List Row → Option EngineTold
 engine_of_row (Engine collection pattern number period dx dy count) rows =
     Some (record { number = number; kind = engine_kind dx dy (take_while is_emits rows); period = period; dx = dx; dy = dy; count = count })
 engine_of_row _ rows = None
 
--- before any row
+-- nothing, as before any row
 abbrev pub no_last : Last
 no_last = record { pattern = None; engine = None }
 
--- what was reported last, after a row with others behind it, in the collection that another row opens and that has this number
+-- the pattern and the engines reported last after a row that these follow, in the collection that `heading` opens and that has
+-- this number
 abbrev pub last_after : ℕ → Row → Last → Row → List Row → Last
 last_after number heading last row rows =
     record { pattern = option_or (entry_of_row number heading row) last.pattern; engine = option_or (engine_of_row row rows) last.engine }
 
--- what the last engines emit: objects of one code
+-- the objects of one code that a row reports as emitted by these engines
 abbrev pub emitted_by : Option Entry → Option EngineTold → Row → Option Emitted
 emitted_by (Some pattern) (Some engine) (Emits c i number code count) = Some (record { pattern = pattern; engine = engine; code = code; count = count })
 emitted_by _ _ row = None

@@ -14,7 +14,7 @@ use Rattle.census_table.specs.declared.engine_column.EngineColumn.TheVariants.{C
 abbrev pub engine_columns : List EngineColumn
 engine_columns = Collection ∷ CollectionName ∷ Pattern ∷ Name ∷ Rule ∷ Engine ∷ Kind ∷ Period ∷ Dx ∷ Dy ∷ Count ∷ Emits ∷ CommonName ∷ EmitsCount ∷ []
 
--- those in JSON, in the order of their names
+-- the columns in JSON, in the order of their names
 abbrev pub engine_columns_in_json : List EngineColumn
 engine_columns_in_json =
     Collection ∷ CollectionName ∷ CollectionNameHex ∷ CommonName ∷ Count ∷ Dx ∷ Dy ∷ Emits ∷ EmitsCount ∷ Engine ∷ Kind ∷ Name ∷ NameHex ∷ Pattern ∷ Period ∷ Rule ∷ []
@@ -24,7 +24,7 @@ word_of Gun = codes "gun"
 word_of Rake = codes "rake"
 word_of Puffer = codes "puffer"
 
--- what a column is called, and what the row of what engines emit has in it
+-- the name of a column, and the content of the row of emitted objects in it
 abbrev pub column_means : EngineColumn → List ℕ × (Names → Emitted → Content)
 column_means Collection = (codes "collection", λ names e. count e.pattern.collection)
 column_means CollectionName = (codes "collection_name", λ names e. text e.pattern.collection_name.now)
@@ -54,6 +54,6 @@ abbrev pub is_headed : Names → EngineColumn → Bool
 is_headed None CommonName = false
 is_headed names column = true
 
--- the row of what engines emit
+-- the row of emitted objects
 abbrev pub emitted_row : Names → List EngineColumn → Emitted → List Member
 emitted_row names columns emitted = map (λ column. record { name = heading_of column; content = content_of_emitted names column emitted }) (filter (is_headed names) columns)

@@ -19,34 +19,34 @@ entry_for number (Open collection patterns title) pattern outcome name =
     Some (record { collection = number; collection_name = title; pattern = pattern; name = name; outcome = outcome; way = None })
 entry_for number _ pattern outcome name = None
 
--- what a row says by itself about a pattern, in the collection that another row opens and that has this number
+-- the pattern that a row reports, from that row alone, in the collection that `heading` opens and that has this number
 abbrev pub entry_of_row : ℕ → Row → Row → Option Entry
 entry_of_row number heading (Line collection pattern outcome name) = entry_for number heading pattern outcome name
 entry_of_row number heading _ = None
 
--- how many engines a pattern has
+-- the number of a pattern's engines
 abbrev pub engines_in : Outcome → ℕ
 engines_in outcome = number_in (value_at label.Engines (said outcome).fields)
 
--- how the engine goes that a row reports
+-- the motion of the engine that a row reports
 abbrev pub way_in : Row → Option EngineWay
 way_in (Engine collection pattern number period dx dy count) = Some (record { period = period; dx = dx; dy = dy })
 way_in _ = None
 
--- how the engine goes that the first of these rows reports
+-- the motion of the engine that the first of these rows reports
 abbrev pub first_way : List Row → Option EngineWay
 first_way [] = None
 first_way (row ∷ rows) = way_in row
 
--- how the only engine of a pattern goes, where these rows come after its line
+-- the motion of the only engine of a pattern whose line these rows follow
 abbrev pub only_way : Outcome → List Row → Option EngineWay
 only_way outcome rows = if engines_in outcome == 1 then first_way rows else None
 
--- a pattern with what the rows after its line say of it
+-- a pattern with the motion of its engine, from the rows after its line
 abbrev pub with_way : Entry → List Row → Entry
 with_way entry rows = record entry { way = only_way entry.outcome rows }
 
--- the patterns of these rows, in the collection that another row opens and that has this number
+-- the patterns of these rows, in the collection that `heading` opens and that has this number
 abbrev pub entries_under : ℕ → Row → List Row → List Entry
 entries_under number heading [] = []
 entries_under number heading (row ∷ rows) =
@@ -57,7 +57,7 @@ abbrev pub section_entries : ℕ → List Row → List Entry
 section_entries number [] = []
 section_entries number (heading ∷ rows) = entries_under number heading rows
 
--- the patterns of each collection's rows, numbered from this number on
+-- the patterns of each collection's rows, numbered from `number` on
 abbrev pub all_entries : ℕ → List (List Row) → List Entry
 all_entries number sections = flat_map (λ s. section_entries s.0 s.1) (enumerate_from number sections)
 

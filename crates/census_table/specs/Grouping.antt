@@ -10,11 +10,11 @@ abbrev pub AreInKinds : List Object → Type 0
 AreInKinds [] = ⊤
 AreInKinds (o ∷ objects) = All (λ p. is_gt (kind_cmp o p) ≡ false) objects × AreInKinds objects
 
--- how many patterns an object adds that comes before those already counted
+-- the number of patterns that an object adds to its kind; it comes before the objects already counted
 abbrev pub step_of : Object → Object → ℕ
 step_of o kind = if same_pattern o.first kind.first then 0 else 1
 
--- an object before `count` others of its kind; together they occur in `patterns` patterns
+-- an object with `count` others of its kind after it; together they occur in `patterns` patterns
 abbrev pub before : Object → ℕ → ℕ → Object
 before o count patterns = record o { count = capped (o.count + count); patterns = patterns }
 
@@ -24,7 +24,7 @@ alone o = before o 0 1
 abbrev pub joined : Object → Object → Object
 joined o kind = before o kind.count (capped (step_of o kind + kind.patterns))
 
--- the kinds with one more object, which comes before those already counted
+-- the kinds with one more object, which comes before the objects already counted
 abbrev pub with_told : Object → List Object → List Object
 with_told o [] = alone o ∷ []
 with_told o (kind ∷ kinds) = if same_kind o kind then joined o kind ∷ kinds else alone o ∷ (kind ∷ kinds)

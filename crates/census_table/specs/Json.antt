@@ -18,23 +18,23 @@ use Rattle.census_table.specs.declared.lists.Portion.{Portion}
 abbrev pub string_json : List ℕ → List ℕ
 string_json characters = with_line_ends_escaped (compact_text (string characters))
 
--- bytes as a string; what is not UTF-8 becomes U+FFFD
+-- bytes as a string; those that are not UTF-8 become U+FFFD
 abbrev pub text_json : List ℕ → List ℕ
 text_json bytes = string_json (utf8_lossy bytes)
 
 -- # Items, with commas between them
 
--- a thing, if there is one, as an item that comes later than others or as the first one
+-- a thing, if there is one, as an item that comes after others or as the first one
 abbrev pub item_text : {A : Type 0} → (A → List ℕ) → Bool → Option A → List ℕ
 item_text text_of later None = []
 item_text text_of later (Some x) = comma_if later ++ text_of x
 
--- whether there is an item before what follows
+-- true where the next item has one before it
 abbrev pub is_later : {A : Type 0} → Bool → Option A → Bool
 is_later later None = later
 is_later later (Some x) = true
 
--- things, as items that come later than others or as the first ones
+-- things, as items that come after others or as the first ones
 abbrev pub items_text : {A : Type 0} → (A → List ℕ) → Bool → List A → List ℕ
 items_text text_of later [] = []
 items_text text_of later (x ∷ xs) = (comma_if later ++ text_of x) ++ items_text text_of true xs
@@ -51,7 +51,7 @@ pair_json x y = signed_decimal x ++ (codes "," ++ signed_decimal y)
 abbrev pub displacement_json : ℤ → ℤ → List ℕ
 displacement_json dx dy = codes ",\"displacement\":[" ++ (pair_json dx dy ++ codes "],\"emits\":[")
 
--- equal engines: what comes before the objects that they emit, what comes after these, and all of it
+-- the object of equal engines: its text before what they emit, its text after that, and all of it
 abbrev pub engine_head : ℤ → ℤ → ℕ → List ℕ
 engine_head dx dy number =
     codes "{\"count\":" ++ (decimal number ++ displacement_json dx dy)
@@ -62,12 +62,12 @@ engine_end period = codes "],\"period\":" ++ (decimal period ++ codes "}")
 abbrev pub engine_json : Engines → List ℕ
 engine_json told = engine_head told.dx told.dy told.count ++ (items_text portion_json false told.emits ++ engine_end told.period)
 
--- the same as an item, where these rows say what they emit
+-- the same as an item, where these rows report what they emit
 abbrev pub kind_text : ℕ → ℤ → ℤ → ℕ → List Row → Bool → List ℕ
 kind_text period dx dy number emits later =
     comma_if later ++ engine_json (record { count = number; dx = dx; dy = dy; emits = filter_map portion_of emits; period = period })
 
--- what a row has in one column: `null` for nothing
+-- the content of a row in one column: `null` for nothing
 abbrev pub content_json : Content → List ℕ
 content_json nothing = codes "null"
 content_json (count n) = decimal n
@@ -87,7 +87,7 @@ member_json member = codes "\"" ++ (member.name ++ (codes "\":" ++ content_json 
 abbrev pub json_line : List Member → List ℕ
 json_line row = codes "{" ++ (items_text member_json false row ++ codes "}\n")
 
--- of the object of a pattern the text before the engines, between them and the parts, and after the parts
+-- the text of the object of a pattern before the engines, between them and the parts, and after the parts
 abbrev pub head_of : Names → Entry → List ℕ
 head_of names entry = codes "{" ++ (items_text member_json false (entry_row names first_columns entry) ++ codes ",\"engines\":")
 

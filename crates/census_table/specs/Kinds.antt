@@ -10,7 +10,7 @@ use Rattle.census_table.specs.Called.{Names}
 use Rattle.census_table.specs.declared.entry.Entry.{Entry}
 use Rattle.census_table.specs.declared.object.Object.{Object}
 
--- the same code under the same rule
+-- true where two objects have the same code under the same rule
 abbrev pub same_kind : Object → Object → Bool
 same_kind o p = pointwise nat_eq o.code.now p.code.now && pointwise nat_eq o.rule.now p.rule.now
 
@@ -19,11 +19,11 @@ abbrev pub kind_cmp : Object → Object → Ordering
 kind_cmp o p =
     ordering_then (nat_cmp (length o.code.now) (length p.code.now)) (ordering_then (slice_cmp nat_cmp o.code.now p.code.now) (slice_cmp nat_cmp o.rule.now p.rule.now))
 
--- the greater comes first, or the rare one
+-- the order of two counts: the greater comes first, or under `rare` the smaller
 abbrev pub rank_cmp : Bool → ℕ → ℕ → Ordering
 rank_cmp rare m n = if rare then nat_cmp m n else nat_cmp n m
 
--- by falling count, or by rising count where the rare ones come first, and then in the order of kinds
+-- by falling count, or under `rare` by rising count, and then in the order of kinds
 abbrev pub count_cmp : Bool → Object → Object → Ordering
 count_cmp rare o p = ordering_then (rank_cmp rare o.count p.count) (kind_cmp o p)
 
@@ -49,20 +49,20 @@ pub record IsCounted (objects : List Object) (kind : Object) : Type 0 where
   pub told : filter (same_kind kind) objects ≡ first ∷ others
   pub is : kind ≡ counted first others
 
--- each of these counts the objects of its kind, each object has one of its kind, and they are ordered by falling count, or by
--- rising count where the rare ones come first, and then in the order of kinds
+-- each of these kinds counts the objects of its kind, each object has one kind, and kinds are sorted by falling count, or under
+-- `rare` by rising count, and then in the order of kinds
 pub record AreKinds (rare : Bool) (objects kinds : List Object) : Type 0 where
   pub each : All (IsCounted objects) kinds
   pub once : All (λ o. count_by (same_kind o) kinds ≡ 1) objects
   pub ordered : IsSorted (count_cmp rare) kinds
 
--- # Parts of all objects, and codes without a name
+-- # Shares of all objects, and codes without a name
 
--- how many objects these are together
+-- the number of objects of these kinds together, at most 2^64 - 1
 abbrev pub total_of : List Object → ℕ
 total_of kinds = capped (sum_by (λ kind. kind.count) kinds)
 
--- what part a number is of a total, in millionths: rounded to the nearest, a half up
+-- the share of a number in a total, in millionths, rounded to the nearest; a half is rounded up
 abbrev pub share_of : ℕ → ℕ → ℕ
 share_of count total = min ((2000000 * count + total) / (2 * total)) 1000000
 
@@ -72,7 +72,7 @@ with_share total kind = record kind { share = share_of kind.count total }
 abbrev pub has_no_name : List Named → Object → Bool
 has_no_name names kind = is_none (name_in names kind.code.now)
 
--- these kinds, or those without a name
+-- these kinds, or if they are to be unnamed and there are names, only those without a name
 abbrev pub left_in : Names → Bool → List Object → List Object
 left_in (Some names) true kinds = filter (has_no_name names) kinds
 left_in _ _ kinds = kinds

@@ -14,14 +14,14 @@ part_columns = Collection ∷ CollectionName ∷ Pattern ∷ Name ∷ Rule ∷ C
 abbrev pub code_columns : List ObjectColumn
 code_columns = Rule ∷ Code ∷ CommonName ∷ Count ∷ Patterns ∷ FirstCollectionName ∷ FirstName ∷ Share ∷ []
 
--- the same in the order of their names
+-- the columns in JSON, in the order of their names
 abbrev pub part_columns_in_json : List ObjectColumn
 part_columns_in_json = Code ∷ Collection ∷ CollectionName ∷ CommonName ∷ Count ∷ Name ∷ Pattern ∷ Rule ∷ []
 
 abbrev pub code_columns_in_json : List ObjectColumn
 code_columns_in_json = Code ∷ CommonName ∷ Count ∷ FirstCollectionName ∷ FirstName ∷ Patterns ∷ Rule ∷ Share ∷ []
 
--- what a column is called, and what the row of an object has in it
+-- the name of a column, and the content of an object's row in it
 abbrev pub column_means : ObjectColumn → List ℕ × (Names → Object → Content)
 column_means Collection = (codes "collection", λ names object. count object.first.collection)
 column_means CollectionName = (codes "collection_name", λ names object. text object.first.collection_name.now)

@@ -25,13 +25,14 @@ object_with (Some entry) number (Some code) =
     (text_in (value_at label.Rule (said entry.outcome).fields))
 object_with _ number _ = None
 
--- what a row says about the pattern of the last line: that it is an object, or how many of its parts are one
+-- the object that a row reports for the pattern of the last line: what the pattern is, or some of its parts
 abbrev pub object_of_row : Option Entry → Row → Option Object
 object_of_row entry (Line collection pattern outcome name) = object_with entry 1 (text_in (value_at label.Code (said outcome).fields))
 object_of_row entry (Part collection pattern code count) = object_with entry count (Some code)
 object_of_row entry _ = None
 
--- the objects of these rows, in the collection that a row opens and that has this number, where `last` is the last pattern
+-- the objects of these rows, in the collection that `heading` opens and that has this number, where `last` is the last pattern
+-- before them
 abbrev pub objects_under : ℕ → Row → Option Entry → List Row → List Object
 objects_under number heading last [] = []
 objects_under number heading last (row ∷ rows) =
@@ -48,7 +49,7 @@ abbrev pub section_objects : ℕ → List Row → List Object
 section_objects number [] = []
 section_objects number (heading ∷ rows) = objects_under number heading None rows
 
--- the objects of each collection's rows, numbered from this number on
+-- the objects of each collection's rows, numbered from `number` on
 abbrev pub all_objects : ℕ → List (List Row) → List Object
 all_objects number sections = flat_map (λ s. section_objects s.0 s.1) (enumerate_from number sections)
 

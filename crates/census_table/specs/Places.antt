@@ -25,7 +25,7 @@ row_in rows index = slice_index_or rows index (End 0 0)
 abbrev pub entry_at : ℕ → List Row → ℕ → Option Entry
 entry_at number rows index = entry_of_row number (row_in rows 0) (row_in rows index)
 
--- the object of that pattern that the row at another index reports
+-- the object that the row at index `row` reports for the pattern of the line at index `line`
 abbrev pub told_in : ℕ → List Row → ℕ → ℕ → Option Object
 told_in number rows line row = object_of_row (entry_at number rows line) (row_in rows row)
 
@@ -44,7 +44,7 @@ abbrev pub rule_in : Row → Option (Bor (List ℕ))
 rule_in (Line collection pattern outcome name) = text_in (value_at label.Rule (said outcome).fields)
 rule_in _ = None
 
--- an object with this code under this rule, as far as there is one
+-- an object with this code and this rule, as far as they are there
 abbrev pub with_key : Object → Option (Bor (List ℕ)) → Option (Bor (List ℕ)) → Object
 with_key o rule code = record o { rule = unwrap_or rule o.rule; code = unwrap_or code o.code }
 
@@ -66,7 +66,7 @@ with_counts o count patterns = record o { count = count; patterns = patterns }
 abbrev pub kind_at : Object → List Object → Kind → Object
 kind_at nothing objects kind = with_counts (slice_index_or objects kind.first nothing) kind.count kind.patterns
 
--- each is so related to all after it
+-- true where each is in this relation to all after it
 abbrev pub Rises : {X : Type 0} → (X → X → Type 0) → List X → Type 0
 Rises R [] = ⊤
 Rises R (x ∷ xs) = AllByRecursion (R x) xs × Rises R xs

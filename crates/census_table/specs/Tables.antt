@@ -1,4 +1,4 @@
--- Tables: what they have rows for, what each row has in each column, and how it is written.
+-- Tables: their rows, the content of each row in each column, and their text.
 use Rattle.std.specs.Prelude.{◌≡◌, ℕ, zero, suc, ◌+◌, List, [], ◌∷◌, ◌++◌, codes, drop, filter, length, map}
 use Rattle.std.specs.List.{flat_map}
 use Rattle.csv.specs.Writing.{default_writer, row_text}
@@ -24,7 +24,7 @@ use Rattle.census_table.specs.declared.thing.Item.TheVariants as item
 use Rattle.census_table.specs.declared.thing.Thing.{Thing}
 use Rattle.census_table.specs.declared.thing.Thing.TheVariants.{Pattern, Part, Emitted, Kind}
 
--- # What a table has rows for
+-- # The rows of a table
 
 -- a row for each of these things
 pub record Listing : Type 0 where
@@ -44,9 +44,9 @@ AreThingsOf (Codes choice) names rows things =
 abbrev pub IsListingOf : Subject → Names → List Row → Listing → Type 0
 IsListingOf subject names rows listing = (listing.subject ≡ subject) × AreThingsOf subject names rows listing.things
 
--- # What a row has in each column
+-- # The content of a row
 
--- what the columns are called; without names there is no column for them
+-- the names of the columns; without names of codes there is no column for these
 abbrev pub titles_of : Names → Subject → List (List ℕ)
 titles_of names Patterns = map name_of (filter (is_shown names) columns)
 titles_of names Parts = map title_of (filter (is_there names) part_columns)
@@ -69,14 +69,14 @@ thing_row names Json (Part object) = object_row names part_columns_in_json objec
 thing_row names Json (Emitted emitted) = emitted_row names engine_columns_in_json emitted
 thing_row names Json (Kind object) = object_row names code_columns_in_json object
 
--- # How it is written
+-- # The text of a table
 
 -- the record of a row, as the crate `csv` writes it by default, or its object in JSON
 abbrev pub row_line : Format → List Member → List ℕ
 row_line (Csv safe) row = row_text default_writer (map (λ member. content_bytes safe member.content) row)
 row_line Json row = json_line row
 
--- what a table has before its rows: a record of the columns' names, but nothing in JSON
+-- the text of a table before its rows: a record of the columns' names, but nothing in JSON
 abbrev pub head_text : Format → List (List ℕ) → List ℕ
 head_text (Csv safe) titles = row_text default_writer titles
 head_text Json titles = []
@@ -91,14 +91,14 @@ listing_text format names listing = head_text format (titles_of names listing.su
 
 -- # On the way
 
--- how many collections a table has, or 1 for all kinds
+-- the number of a table's collections, or 1 where it has kinds
 abbrev pub table_size : Table → ℕ
 table_size (table.Patterns sections) = length sections
 table_size (table.Parts sections) = length sections
 table_size (table.Engines sections) = length sections
 table_size (table.Codes choice kinds total) = 1
 
--- what a table has from the collection at an index on
+-- the things of a table from the collection at an index on
 abbrev pub table_from : Table → ℕ → List Thing
 table_from (table.Patterns sections) index = all_things item.Pattern (index + 1) (drop index sections)
 table_from (table.Parts sections) index = all_things item.Part (index + 1) (drop index sections)

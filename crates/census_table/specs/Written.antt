@@ -1,4 +1,4 @@
--- What a writer has written.
+-- The text that a writer has written.
 use Rattle.std.specs.Prelude.{ℕ, List, Result, MatchResult, ◌≡◌, ◌++◌, false}
 use Rattle.std.specs.List.{flat_map}
 use Rattle.std.specs.declared.alloc.Global.{Global}
@@ -8,11 +8,11 @@ use Rattle.csv.specs.Writing.{default_writer, fields_written, has_written, row_t
 use Rattle.csv.specs.declared.writer.Writer.{Writer}
 use Rattle.watched.specs.Telling.{Sheet, TellsAfter, TellsFront}
 
--- the text is put, or where memory is refused a prefix of it
+-- the text is put, or if memory runs out a prefix of it
 abbrev pub Puts : {A B : Type 0} → List ℕ → Result A B → Sheet → Sheet → Type 0
 Puts text result before after = MatchResult result (λ _. TellsAfter text before after) (λ _. TellsFront text before after)
 
--- the text is put but for its last bytes, which are still held
+-- the text is put except for its last bytes, which are still held
 pub record TellsBut (text held : List ℕ) (before after : Sheet) : Type 0 where
   pub done : List ℕ
   pub whole : text ≡ done ++ held
@@ -26,7 +26,7 @@ records_text records = flat_map (λ row. row_text default_writer (fields_of row)
 abbrev pub text_written : Writer (Vec ℕ Global) → List ℕ
 text_written writer = (writer_under writer).items ++ writer_pending writer
 
--- by default, and no record is begun
+-- with the default setup, and with no record begun
 pub record IsBetweenRecords (writer : Writer (Vec ℕ Global)) : Type 0 where
   pub fields : fields_written writer ≡ 0
   pub wrote : has_written writer ≡ false

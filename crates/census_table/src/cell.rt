@@ -1,4 +1,4 @@
-//! What a row of a table has in one column.
+//! The content of a row of a table in one column.
 ghost use Rattle.std.specs.Prelude.{◌≡◌, ◌++◌, ◌%◌, decimal, IfOk, OnOk, option_map, string_bytes};
 ghost use Rattle.std.specs.Str.Lossy.{utf8_lossy};
 ghost use Rattle.census_faults.specs.Rle.Reported.{fault_words};
@@ -30,7 +30,7 @@ pub enum Cell<'a> {
 /// The content of a row in a named column.
 #[derive(Clone, Copy)]
 pub struct Field<'a> {
-    /// What the column is called.
+    /// The column's name.
     pub name: &'static str,
     pub cell: Cell<'a>,
 }
@@ -45,7 +45,7 @@ pub fn hex_of(alloc: Global, bytes: &[u8]) -> Result<Option<String>, AllocError>
     }
 }
 
-// Whether a spreadsheet may take a text for a formula, by how it begins.
+// True where a spreadsheet may take a text for a formula, by its first byte.
 fn begins_formula(text: &[u8]) -> bool
     ensures { result ≡ begins_formula text.now }
 {
@@ -55,7 +55,7 @@ fn begins_formula(text: &[u8]) -> bool
     }
 }
 
-// A text. If it is to be safe and a spreadsheet may take it for a formula, it has an apostrophe before it.
+// A text, with an apostrophe before it if it is to be safe and a spreadsheet may take it for a formula.
 fn text_of(alloc: Global, safe: bool, text: String) -> Result<String, AllocError>
     ensures { IfOk result (λ told. string_bytes told ≡ text_bytes safe (string_bytes text)) }
 {

@@ -28,19 +28,19 @@ pub enum Column {
     Status,
     /// Its rule, unless it is `bad`.
     Rule,
-    /// How many live cells it has, unless it is `bad`.
+    /// The number of its live cells, unless it is `bad`.
     Population,
     /// The first generation of its cycle, where it is `ok`.
     Onset,
     /// The length of its cycle, where it is `ok`, or of that of its engine, where it has one.
     Period,
-    /// How far it or its engine moves to the right in a period, where it is `ok` or has one engine.
+    /// The distance that it or its engine moves to the right in a period, where it is `ok` or has one engine.
     Dx,
-    /// How far it or its engine moves down in a period, where it is `ok` or has one engine.
+    /// The distance that it or its engine moves down in a period, where it is `ok` or has one engine.
     Dy,
     /// Its code, where it is `ok`.
     Code,
-    /// What its code is called, if the given names have it.
+    /// The name of its code, if the given names have one.
     CommonName,
     /// The number of its fault, where it is `bad`.
     Fault,
@@ -48,17 +48,17 @@ pub enum Column {
     CollectionNameHex,
     /// The bytes of the pattern's name in hex, where it is not UTF-8.
     NameHex,
-    /// How many objects it has fallen apart into, where it is `ash`.
+    /// The number of objects that it has fallen apart into, where it is `ash`.
     Objects,
     /// The first generation with too many cells, where it is `large`.
     Generation,
-    /// How many engines it has, where it is `grows`.
+    /// The number of its engines, where it is `grows`.
     Engines,
-    /// What its fault is, where it is `bad`.
+    /// The meaning of its fault, where it is `bad`.
     FaultText,
 }
 
-// What a row has for a field.
+// The cell of a field's value.
 fn cell_of(value: Value) -> Cell
     ensures { content_of result ≡ value_content value.entry }
 {
@@ -69,7 +69,7 @@ fn cell_of(value: Value) -> Cell
     }
 }
 
-// What a row has for the field with this label.
+// The cell of the field with this label.
 pub fn field_cell<'a>(outcome: &Outcome<'a>, label: Label) -> Cell<'a>
     ensures { content_of result ≡ field_content outcome.now label }
 {
@@ -79,7 +79,7 @@ pub fn field_cell<'a>(outcome: &Outcome<'a>, label: Label) -> Cell<'a>
     }
 }
 
-// What a row has for a period.
+// The cell of the period.
 fn period_cell<'a>(entry: &Entry<'a>) -> Cell<'a>
     ensures { content_of result ≡ way_content (λ way. count way.period) label.Period entry.now }
 {
@@ -89,7 +89,7 @@ fn period_cell<'a>(entry: &Entry<'a>) -> Cell<'a>
     }
 }
 
-// What a row has for how far something moves to the right.
+// The cell of the distance moved to the right.
 fn dx_cell<'a>(entry: &Entry<'a>) -> Cell<'a>
     ensures { content_of result ≡ way_content (λ way. shift way.dx) label.Dx entry.now }
 {
@@ -99,7 +99,7 @@ fn dx_cell<'a>(entry: &Entry<'a>) -> Cell<'a>
     }
 }
 
-// What a row has for how far something moves down.
+// The cell of the distance moved down.
 fn dy_cell<'a>(entry: &Entry<'a>) -> Cell<'a>
     ensures { content_of result ≡ way_content (λ way. shift way.dy) label.Dy entry.now }
 {
@@ -109,7 +109,7 @@ fn dy_cell<'a>(entry: &Entry<'a>) -> Cell<'a>
     }
 }
 
-// What a row has for the words of a fault.
+// The cell of the meaning of a fault.
 fn fault_cell<'a>(outcome: &Outcome<'a>) -> Cell<'a>
     ensures { content_of result ≡ fault_content (value_at label.Fault (said outcome.now).fields) }
 {
@@ -119,7 +119,7 @@ fn fault_cell<'a>(outcome: &Outcome<'a>) -> Cell<'a>
     }
 }
 
-// What a row has for the name of a code.
+// The cell of the name of a code.
 fn called_cell<'a>(names: Option<&'a Names>, outcome: &Outcome<'a>) -> Cell<'a>
     ensures { content_of result
         ≡ called_content (option_copied names.entry) (value_at label.Code (said outcome.now).fields) }
@@ -186,7 +186,7 @@ impl Column {
         Column::Status,
     ];
 
-    /// What the column is called: lowercase letters and `_`.
+    /// The column's name: lowercase letters and `_`.
     pub fn name(self) -> &'static str
         ensures { result.now ≡ name_of self }
     {
@@ -214,7 +214,7 @@ impl Column {
         }
     }
 
-    /// Whether a table has the column: a table without names has no column for them.
+    /// True where a table has the column: a table without names has no column for them.
     pub fn is_shown(self, names: Option<&Names>) -> bool
         ensures { result ≡ is_shown (option_copied names.entry) self }
     {
@@ -224,7 +224,7 @@ impl Column {
         }
     }
 
-    /// What the row of a pattern has in the column.
+    /// The cell of a pattern's row in the column.
     pub fn cell<'a>(self, names: Option<&'a Names>, entry: &Entry<'a>) -> Cell<'a>
         ensures { content_of result ≡ content_in_column (option_copied names.entry) self entry.now }
     {
@@ -253,7 +253,7 @@ impl Column {
     }
 }
 
-/// What the row of a pattern has in each of these columns that a table has. The only error is out of memory.
+/// The row of a pattern, in each of these columns that a table has. The only error is out of memory.
 pub fn entry_row<'a>(
     alloc: Global,
     names: Option<&'a Names>,

@@ -58,7 +58,7 @@ fn write_all(writer: &mut Writer<Vec<u8>>, records: &[ByteRecord]) -> Result<(),
     Ok(())
 }
 
-// What was written.
+// The text that was written.
 fn finish(writer: Writer<Vec<u8>>) -> Result<Vec<u8>, AllocError>
     ensures { IfOk result (λ text. text.items ≡ text_written writer) }
 {
@@ -70,7 +70,7 @@ fn finish(writer: Writer<Vec<u8>>) -> Result<Vec<u8>, AllocError>
 
 /// The text of these records, as the crate `csv` writes it by default.
 ///
-/// It is a function of its own in the program too, since a writer takes some 3 KB of the stack each time that it is moved.
+/// It is not inlined, since a writer takes some 3 KB of the stack each time that it is moved.
 #[inline(never)]
 pub fn text_of(alloc: Global, records: &[ByteRecord]) -> Result<Vec<u8>, AllocError>
     ensures { IfOk result (λ text. text.items ≡ records_text records.now) }

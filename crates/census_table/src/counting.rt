@@ -21,7 +21,7 @@ use std::marker::Model;
 pub struct Kind {
     /// The index of its first object.
     pub first: usize,
-    /// How many there are, at most 2^64 - 1.
+    /// The number of its objects, at most 2^64 - 1.
     pub count: u64,
     /// The number of patterns that it occurs in, at most 2^64 - 1.
     pub patterns: u64,
@@ -32,7 +32,7 @@ pub struct Kind {
 pub struct Kinds<'b, 'a> {
     objects: Objects<'b, 'a>,
     kinds: Vec<Kind>,
-    // What is there where there is no object. No kind has it.
+    // A placeholder where there is no object. No kind has it.
     nothing: Object<'a>,
 }
 
@@ -47,21 +47,21 @@ impl<'b, 'a> Model for Kinds<'b, 'a> {
     ghost view = { λ s. map (kind_at s.nothing s.objects) s.kinds.items };
 }
 
-// Whether two objects have the same code under the same rule.
+// True where two objects have the same code under the same rule.
 fn same_kind(object: &Object, other: &Object) -> bool
     ensures { result ≡ same_kind object.now other.now }
 {
     object.code == other.code && object.rule == other.rule
 }
 
-// Whether these are the same pattern.
+// True where these are the same pattern.
 fn same_pattern(entry: &Entry, other: &Entry) -> bool
     ensures { result ≡ same_pattern entry.now other.now }
 {
     entry.collection == other.collection && entry.pattern == other.pattern
 }
 
-// An object before `count` others of its kind. Together they occur in `patterns` patterns.
+// An object with `count` others of its kind after it. Together they occur in `patterns` patterns.
 fn before<'a>(object: &Object<'a>, count: u64, patterns: u64) -> Object<'a>
     ensures { result ≡ before object.now count patterns }
 {
@@ -163,7 +163,7 @@ fn grouped(alloc: Global, nothing: &Object, objects: &Objects) -> Result<Vec<Kin
     Ok(kinds)
 }
 
-// How two counts compare: the greater comes first, or the `rare` one.
+// The order of two counts: the greater comes first, or under `rare` the smaller.
 fn rank_order(rare: bool, one: u64, other: u64) -> Ordering
     ensures { result ≡ rank_cmp rare one other }
 {
@@ -174,7 +174,7 @@ fn rank_order(rare: bool, one: u64, other: u64) -> Ordering
     }
 }
 
-// Which of two kinds comes first: by their counts, and then by the order of kinds.
+// The order of two kinds: by their counts, and then by the order of kinds.
 fn count_order(
     rare: bool,
     nothing: &Object,
@@ -194,8 +194,7 @@ fn count_order(
     }
 }
 
-// Puts kinds in their order: by falling count, or by rising count where it is the `rare` ones that come first, and then in the
-// order of kinds.
+// Sorts kinds by falling count, or under `rare` by rising count, and then in the order of kinds.
 fn sort_kinds(rare: bool, nothing: &Object, objects: &Objects, kinds: &mut Vec<Kind>)
     ensures permutation { IsPermutation (map (kind_at nothing.now objects.now) kinds.old.items)
         (map (kind_at nothing.now objects.now) kinds.new.items) }
@@ -204,7 +203,7 @@ fn sort_kinds(rare: bool, nothing: &Object, objects: &Objects, kinds: &mut Vec<K
     kinds.sort_unstable_by(|one, other| count_order(rare, nothing, objects, one, other));
 }
 
-// How many objects these kinds are together, at most 2^64 - 1.
+// The number of objects of these kinds together, at most 2^64 - 1.
 fn count_all(nothing: &Object, objects: &Objects, kinds: &[Kind]) -> u64
     ensures { result ≡ total_of (map (kind_at nothing.now objects.now) kinds.now) }
 {
@@ -215,7 +214,7 @@ fn count_all(nothing: &Object, objects: &Objects, kinds: &[Kind]) -> u64
     total
 }
 
-// Those of these kinds whose codes have no name.
+// The kinds among these whose codes have no name.
 fn unnamed_in<'a>(
     alloc: Global,
     names: &Names,
@@ -237,14 +236,14 @@ fn unnamed_in<'a>(
 }
 
 impl<'b, 'a> Kinds<'b, 'a> {
-    /// How many there are.
+    /// The number of kinds.
     pub fn len(&self) -> usize
         ensures { result ≡ length self.now }
     {
         self.kinds.len()
     }
 
-    /// How many objects they are together, at most 2^64 - 1.
+    /// The number of objects of all kinds together, at most 2^64 - 1.
     pub fn total(&self) -> u64
         ensures { result ≡ total_of self.now }
     {
@@ -261,8 +260,8 @@ impl<'b, 'a> Kinds<'b, 'a> {
 }
 
 /// The kinds of the objects of collections that are numbered from 1, each with the number of its objects and the number of
-/// patterns that it occurs in, by falling count, or by rising count where it is the `rare` ones that come first, and then in the
-/// order of kinds. The only error is out of memory.
+/// patterns that it occurs in. They are sorted by falling count, or under `rare` by rising count, and then in the order of
+/// kinds. The only error is out of memory.
 pub fn kinds_of<'b, 'a>(
     alloc: Global,
     rare: bool,
@@ -281,7 +280,7 @@ pub fn kinds_of<'b, 'a>(
     })
 }
 
-/// These kinds, or where those that have a name are to be left out, the others. The only error is out of memory.
+/// These kinds, or if they are to be `unnamed` and there are names, only those without a name. The only error is out of memory.
 pub fn left_in<'b, 'a>(
     alloc: Global,
     names: Option<&Names>,
@@ -308,7 +307,7 @@ pub fn left_in<'b, 'a>(
     }
 }
 
-// What part `count` objects are of so many, in millionths, rounded to the nearest. A half is rounded up.
+// The share of `count` objects in `total`, in millionths, rounded to the nearest. A half is rounded up.
 fn share_of(count: u64, total: u64) -> u64
     ensures { result ≡ share_of count total }
 {
@@ -320,7 +319,7 @@ fn share_of(count: u64, total: u64) -> u64
     millionths.min(1_000_000) as u64
 }
 
-/// A kind with its part of so many objects.
+/// A kind with its share of `total` objects.
 pub fn with_share<'a>(total: u64, kind: &Object<'a>) -> Object<'a>
     ensures { result ≡ with_share total kind.now }
 {

@@ -8,7 +8,7 @@ use crate::entry::{Entry, entry_of_row};
 use census_readback::emits_first;
 use census_rows::{Row, Section};
 
-/// What kind of engine it is.
+/// A kind of engine.
 #[derive(Clone, Copy, Debug, PartialEq, Eq)]
 pub enum EngineKind {
     /// It stays in its place.
@@ -19,19 +19,19 @@ pub enum EngineKind {
     Puffer,
 }
 
-/// What a report says of engines that are alike, apart from what they emit.
+/// Equal engines in a report, apart from what they emit.
 #[derive(Clone, Copy)]
 pub struct EngineTold {
     /// The number of the line in its pattern.
     pub number: u64,
     pub kind: EngineKind,
-    /// After how many generations each comes again.
+    /// The period of each.
     pub period: u64,
-    /// How far to the right each then stands.
+    /// The distance that each moves to the right in a period.
     pub dx: i64,
-    /// How far down.
+    /// The distance that each moves down in a period.
     pub dy: i64,
-    /// How many they are.
+    /// The number of these engines.
     pub count: u64,
 }
 
@@ -41,11 +41,11 @@ pub struct Emitted<'a> {
     pub pattern: Entry<'a>,
     pub engine: EngineTold,
     pub code: &'a [u8],
-    /// How many of them each engine emits in a period.
+    /// The number of them that each engine emits in a period.
     pub count: u64,
 }
 
-/// What was reported last: the pattern of a line, and engines.
+/// The pattern and the engines that were reported last.
 #[derive(Clone, Copy)]
 pub struct Last<'a> {
     pub pattern: Option<Entry<'a>>,
@@ -53,14 +53,14 @@ pub struct Last<'a> {
 }
 
 impl Last<'_> {
-    /// Before any row.
+    /// Nothing, as before any row.
     pub const NOTHING: Last<'static> = Last {
         pattern: None,
         engine: None,
     };
 }
 
-// Whether a code is that of a spaceship.
+// True where a code is that of a spaceship.
 fn is_spaceship(code: &[u8]) -> bool
     ensures { result ≡ is_spaceship code.now }
 {
@@ -70,7 +70,7 @@ fn is_spaceship(code: &[u8]) -> bool
     }
 }
 
-// Whether a row says that spaceships are emitted.
+// True where a row reports emitted spaceships.
 fn emits_spaceship(row: &Row) -> bool
     ensures { result ≡ emits_spaceship row.now }
 {
@@ -80,7 +80,7 @@ fn emits_spaceship(row: &Row) -> bool
     }
 }
 
-// Whether all rows say so.
+// True where all rows report emitted spaceships.
 fn emit_spaceships(rows: &Section) -> bool
     ensures { result ≡ list_all emits_spaceship rows.now }
 {
@@ -92,14 +92,14 @@ fn emit_spaceships(rows: &Section) -> bool
     true
 }
 
-// Whether an engine that stands so far to the right and down after a period stays in its place.
+// True where an engine that moves this far to the right and down in a period stays in its place.
 fn stays(dx: i64, dy: i64) -> bool
     ensures { result ≡ stays dx dy }
 {
     dx == 0 && dy == 0
 }
 
-// The kind of an engine that moves so in a period, where these rows say what it emits.
+// The kind of an engine that moves this far to the right and down in a period, where these rows report what it emits.
 fn engine_kind(dx: i64, dy: i64, emits: &Section) -> EngineKind
     ensures { result ≡ engine_kind dx dy emits.now }
 {
@@ -112,7 +112,7 @@ fn engine_kind(dx: i64, dy: i64, emits: &Section) -> EngineKind
     }
 }
 
-// The engines that a row reports, where the first of the rows after it say what each emits.
+// The engines that a row reports, where the first of the rows after it report what each emits.
 fn engine_of_row(row: &Row, behind: &Section) -> Option<EngineTold>
     ensures { result ≡ engine_of_row row.now behind.now }
 {
@@ -137,7 +137,8 @@ fn engine_of_row(row: &Row, behind: &Section) -> Option<EngineTold>
 }
 
 impl<'a> Last<'a> {
-    /// The same after a row before these, in the collection that another row opens and that has this number.
+    /// The pattern and the engines reported last after a row that these follow, in the collection that `heading` opens and that
+    /// has this number.
     pub fn after(
         &self,
         number: u64,
@@ -153,7 +154,7 @@ impl<'a> Last<'a> {
         }
     }
 
-    /// What a row says that the last engines emit.
+    /// The objects that a row reports as emitted by the last engines.
     pub fn emitted(&self, row: &Row<'a>) -> Option<Emitted<'a>>
         ensures { result ≡ emitted_of self.now row.now }
     {

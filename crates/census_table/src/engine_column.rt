@@ -33,23 +33,23 @@ pub enum EngineColumn {
     Engine,
     /// `gun`, `rake` or `puffer`.
     Kind,
-    /// After how many generations it comes again.
+    /// Its period.
     Period,
-    /// How far to the right it then stands.
+    /// The distance that it moves to the right in a period.
     Dx,
-    /// How far down it then stands.
+    /// The distance that it moves down in a period.
     Dy,
-    /// How many such engines there are.
+    /// The number of such engines.
     Count,
     /// The code of objects that each emits.
     Emits,
-    /// What this code is called, if the given names have it.
+    /// The name of this code, if the given names have one.
     CommonName,
-    /// How many of them each emits in a period.
+    /// The number of such objects that each emits in a period.
     EmitsCount,
 }
 
-// What a kind of engines is called.
+// The name of a kind of engine.
 fn word_of(kind: EngineKind) -> &'static [u8]
     ensures { result.now ≡ word_of kind }
 {
@@ -99,7 +99,7 @@ impl EngineColumn {
         EngineColumn::Rule,
     ];
 
-    /// What the column is called: lowercase letters and `_`.
+    /// The column's name: lowercase letters and `_`.
     pub fn name(self) -> &'static str
         ensures { result.now ≡ heading_of self }
     {
@@ -123,7 +123,7 @@ impl EngineColumn {
         }
     }
 
-    /// Whether a table has the column: a table without names has no column for them.
+    /// True where a table has the column: a table without names has no column for them.
     pub fn is_there(self, names: Option<&Names>) -> bool
         ensures { result ≡ is_headed (option_copied names.entry) self }
     {
@@ -133,7 +133,7 @@ impl EngineColumn {
         }
     }
 
-    /// What a row has in the column.
+    /// The cell of a row in the column.
     pub fn cell<'a>(self, names: Option<&'a Names>, emitted: &Emitted<'a>) -> Cell<'a>
         ensures { content_of result ≡ content_of_emitted (option_copied names.entry) self emitted.now }
     {
@@ -158,7 +158,7 @@ impl EngineColumn {
     }
 }
 
-/// The row of what engines emit, in each of these columns that a table has. The only error is out of memory.
+/// The row of emitted objects, in each of these columns that a table has. The only error is out of memory.
 pub fn emitted_row<'a>(
     alloc: Global,
     names: Option<&'a Names>,

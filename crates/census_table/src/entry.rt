@@ -7,7 +7,7 @@ ghost use Rattle.census_table.specs.Entries.{engines_in, entries_under, entry_of
 use census_rows::{Label, Outcome, Row, Section, Value};
 use std::alloc::{AllocError, Global};
 
-/// After how many generations an engine comes again, and how far to the right and down it then stands.
+/// The motion of an engine: its period, and how far to the right and down it moves in one.
 #[derive(Clone, Copy)]
 pub struct EngineWay {
     pub period: u64,
@@ -15,7 +15,7 @@ pub struct EngineWay {
     pub dy: i64,
 }
 
-/// What a table has for a pattern. Numbers count from 1.
+/// A pattern of a table. Numbers count from 1.
 #[derive(Clone, Copy)]
 pub struct Entry<'a> {
     pub collection: u64,
@@ -23,11 +23,11 @@ pub struct Entry<'a> {
     pub pattern: u64,
     pub name: &'a [u8],
     pub outcome: Outcome<'a>,
-    /// How its engine goes, where it has one and the rows after its line were looked at.
+    /// The motion of its engine, where it has only one and the rows after its line were read.
     pub way: Option<EngineWay>,
 }
 
-// What a row says by itself about a pattern, in the collection that another row opens and that has this number.
+// The pattern that a row reports, from that row alone, in the collection that `heading` opens and that has this number.
 pub fn entry_of_row<'a>(number: u64, heading: &Row<'a>, row: &Row<'a>) -> Option<Entry<'a>>
     ensures { result ≡ entry_of_row number heading.now row.now }
 {
@@ -55,7 +55,7 @@ pub fn entry_of_row<'a>(number: u64, heading: &Row<'a>, row: &Row<'a>) -> Option
     }
 }
 
-// How many engines a pattern has.
+// The number of a pattern's engines.
 fn engines_in(outcome: &Outcome) -> u64
     ensures { result ≡ engines_in outcome.now }
 {
@@ -65,7 +65,7 @@ fn engines_in(outcome: &Outcome) -> u64
     }
 }
 
-// How the engine goes that a row reports, if it does.
+// The motion of the engine that a row reports, if it reports one.
 fn way_in(row: &Row) -> Option<EngineWay>
     ensures { result ≡ way_in row.now }
 {
@@ -79,7 +79,7 @@ fn way_in(row: &Row) -> Option<EngineWay>
     }
 }
 
-// How the engine goes that the first of these rows reports, if it does.
+// The motion of the engine that the first of these rows reports, if it reports one.
 fn first_way(rows: &Section) -> Option<EngineWay>
     ensures { result ≡ first_way rows.now }
 {
@@ -89,7 +89,7 @@ fn first_way(rows: &Section) -> Option<EngineWay>
     }
 }
 
-// How the only engine of a pattern goes, where these rows come after its line.
+// The motion of the only engine of a pattern whose line these rows follow.
 fn only_way(outcome: &Outcome, behind: &Section) -> Option<EngineWay>
     ensures { result ≡ only_way outcome.now behind.now }
 {
@@ -100,7 +100,7 @@ fn only_way(outcome: &Outcome, behind: &Section) -> Option<EngineWay>
     }
 }
 
-// A pattern with what the rows after its line say of it.
+// A pattern with the motion of its engine, from the rows after its line.
 pub fn with_way<'a>(entry: Entry<'a>, behind: &Section) -> Entry<'a>
     ensures { result ≡ with_way entry.entry behind.now }
 {
@@ -110,7 +110,8 @@ pub fn with_way<'a>(entry: Entry<'a>, behind: &Section) -> Entry<'a>
     }
 }
 
-// Adds the pattern of a row before these, if it is one, in the collection that another row opens and that has this number.
+// Adds the pattern of a row that these follow, if it reports one, in the collection that `heading` opens and that has this
+// number.
 fn push_entry<'a>(
     entries: &mut Vec<Entry<'a>>,
     number: u64,
@@ -127,8 +128,8 @@ fn push_entry<'a>(
     Ok(())
 }
 
-/// The patterns of these rows, in their order, in the collection that a row opens and that has this
-/// number. The only error is out of memory.
+/// The patterns of these rows, in their order, in the collection that `heading` opens and that has this number. The only error
+/// is out of memory.
 pub fn entries_under<'a>(
     alloc: Global,
     number: u64,

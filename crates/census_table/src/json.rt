@@ -17,7 +17,7 @@ fn push_string(alloc: Global, text: &mut Vec<u8>, string: String) -> Result<(), 
     text.extend_from_slice(json.as_slice())
 }
 
-/// Adds bytes as a string. What is not UTF-8 becomes U+FFFD.
+/// Adds bytes as a string. Bytes that are not UTF-8 become U+FFFD.
 pub fn push_text(alloc: Global, text: &mut Vec<u8>, bytes: &[u8]) -> Result<(), AllocError>
     ensures { OnOk result (text.new.items ≡ text.old.items ++ text_json bytes.now) }
 {
@@ -53,7 +53,7 @@ fn push_cell(alloc: Global, text: &mut Vec<u8>, cell: &Cell) -> Result<(), Alloc
     }
 }
 
-// Adds a member: its name, and what a row has under it.
+// Adds a member: its name and its content.
 fn push_member(alloc: Global, text: &mut Vec<u8>, field: &Field) -> Result<(), AllocError>
     ensures { OnOk result (text.new.items ≡ text.old.items ++ member_json (member_of field.now)) }
 {

@@ -1,4 +1,4 @@
-//! What a table has rows for, collection by collection.
+//! The things that a table has rows for, collection by collection.
 ghost use Rattle.std.specs.Prelude.{◌≡◌, ◌+◌, ◌<◌, ◌^◌, ◌++◌, [], length, slice_index_or};
 ghost use Rattle.std.specs.List.{cons_option};
 ghost use Rattle.census_table.specs.Emitting.{no_last};
@@ -17,12 +17,12 @@ use census_rows::{Row, Section};
 pub enum Lines<'t, 'b, 'a> {
     /// The rows of a collection that has this number and that the heading opens. Each may add an item.
     Rows(Item, u64, Row<'a>, Section<'t, 'a>),
-    /// Each of these kinds is added, with its part of so many objects.
+    /// Each of these kinds is added, with its share of this number of objects.
     Kinds(&'t Kinds<'b, 'a>, u64),
 }
 
 impl<'t, 'b, 'a> Lines<'t, 'b, 'a> {
-    /// How many rows or kinds there are.
+    /// The number of rows or kinds.
     pub fn len(&self) -> usize
         ensures { result ≡ lines_size self.now }
     {
@@ -32,8 +32,8 @@ impl<'t, 'b, 'a> Lines<'t, 'b, 'a> {
         }
     }
 
-    /// What the row or the kind at this index adds to a table. `last` is what was reported last before
-    /// it, and afterwards up to it.
+    /// The thing that the row or the kind at this index adds to a table. `last` is what was reported last before it, and
+    /// afterwards what was reported last up to it.
     pub fn thing(&self, index: usize, last: &mut Last<'a>) -> Option<Thing<'t, 'a>>
         requires within { index < lines_size self.now }
         requires few { index + 1 < 2 ^ 64 }
@@ -77,7 +77,7 @@ fn lines_in<'t, 'b, 'a>(
 }
 
 impl<'b, 'a> Table<'b, 'a> {
-    // How many collections there are, or 1 for all kinds.
+    // The number of collections, or 1 where the table has kinds.
     pub(crate) fn len(&self) -> usize
         ensures { result ≡ table_size self.now }
     {
@@ -89,7 +89,7 @@ impl<'b, 'a> Table<'b, 'a> {
         }
     }
 
-    // The rows of the collection at this index, or all kinds.
+    // The rows of the collection at this index, or all kinds where the table has kinds.
     pub(crate) fn lines(&self, index: usize) -> Lines<'_, 'b, 'a>
         requires within { index < table_size self.now }
         requires few { index + 1 < 2 ^ 64 }

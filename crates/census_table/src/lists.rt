@@ -1,5 +1,5 @@
-//! What the rows after a `line` row say, as lists in JSON. One item is held at a time. The only error is out of memory; then a
-//! prefix of the list has been written.
+//! The engines or parts that the rows after a `line` row report, as lists in JSON. One item is held at a time. The only error
+//! is out of memory; then a prefix of the list has been written.
 ghost use Rattle.std.specs.Prelude.{◌≡◌, ◌++◌, codes, false, IfOk, OnOk, Some};
 ghost use Rattle.std.specs.List.{filter_map, take_while};
 ghost use Rattle.watched.specs.Telling.{sheet};
@@ -41,7 +41,7 @@ fn portion_of<'a>(row: &Row<'a>) -> Option<Portion<'a>>
     }
 }
 
-// Adds a comma, if there is an item before what follows.
+// Adds a comma if another item comes before.
 fn push_comma(text: &mut Vec<u8>, later: bool) -> Result<(), AllocError>
     ensures { OnOk result (text.new.items ≡ text.old.items ++ comma_if later) }
 {
@@ -65,8 +65,7 @@ fn portion_text(alloc: Global, later: bool, portion: &Portion) -> Result<Vec<u8>
     Ok(text)
 }
 
-// Writes the item of a row, if it gives a number of objects with a code. Returns whether there is an item before what
-// follows.
+// Writes the item of a row, if it gives a number of objects with a code. Returns true if the next item has one before it.
 fn put_portion<W: Write>(
     alloc: Global,
     row: &Row,
@@ -132,7 +131,7 @@ fn push_pair(text: &mut Vec<u8>, pair: (i64, i64)) -> Result<(), AllocError>
     push_number(text, pair.1)
 }
 
-// Adds the name of the list of what engines emit, and before it how far each has moved.
+// Adds the displacement of each engine in a period, and the name of the list of what it emits.
 fn push_displacement(text: &mut Vec<u8>, displacement: (i64, i64)) -> Result<(), AllocError>
     ensures { OnOk result (text.new.items
         ≡ text.old.items ++ displacement_json displacement.0 displacement.1) }
@@ -142,7 +141,7 @@ fn push_displacement(text: &mut Vec<u8>, displacement: (i64, i64)) -> Result<(),
     text.extend_from_slice(b"],\"emits\":[")
 }
 
-// Adds the object of engines as far as what they emit.
+// Adds the beginning of the object of engines, up to what they emit.
 fn push_head(text: &mut Vec<u8>, displacement: (i64, i64), count: u64) -> Result<(), AllocError>
     ensures { OnOk result (text.new.items
         ≡ text.old.items ++ engine_head displacement.0 displacement.1 count) }
@@ -178,7 +177,7 @@ fn end_text(alloc: Global, period: u64) -> Result<Vec<u8>, AllocError>
     Ok(text)
 }
 
-// Writes the item of engines. These rows say what each emits.
+// Writes the item of engines. The rows `emits` say what each of them emits.
 fn put_kind<W: Write>(
     alloc: Global,
     period: u64,
@@ -197,8 +196,8 @@ fn put_kind<W: Write>(
     put_between(alloc, head.as_slice(), emits, end.as_slice(), block, writer)
 }
 
-// Writes the item of a row's engines, where the first of the rows after it say what each emits. Returns whether there is an
-// item before what follows.
+// Writes the item of a row's engines, where the first of the rows after it say what each emits. Returns true if the next item
+// has one before it.
 fn put_engine<W: Write>(
     alloc: Global,
     row: &Row,
@@ -256,7 +255,8 @@ fn put_engines<W: Write>(
     Ok(())
 }
 
-/// Writes the engines that the first of these rows report, as a list, if such rows come after a line, and otherwise `null`.
+/// Writes, as a list, the engines that the first of these rows report, if `kind` says that such rows follow the line, and
+/// otherwise `null`.
 pub fn put_engine_list<W: Write>(
     alloc: Global,
     kind: Behind,
@@ -278,7 +278,8 @@ pub fn put_engine_list<W: Write>(
     Ok(())
 }
 
-/// Writes the parts that the first of these rows report, as a list, if such rows come after a line, and otherwise `null`.
+/// Writes, as a list, the parts that the first of these rows report, if `kind` says that such rows follow the line, and
+/// otherwise `null`.
 pub fn put_part_list<W: Write>(
     alloc: Global,
     kind: Behind,

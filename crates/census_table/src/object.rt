@@ -7,18 +7,18 @@ ghost use Rattle.census_table.specs.Places.{code_in, rule_in};
 use crate::entry::Entry;
 use census_rows::{Label, Row, Value};
 
-/// What reports say about an object, which is a code under a rule: for one pattern, or for several together.
+/// An object in reports, which is a code under a rule: for one pattern, or for several together.
 #[derive(Clone, Copy)]
 pub struct Object<'a> {
     /// The first pattern for which it is reported.
     pub first: Entry<'a>,
     pub rule: &'a [u8],
     pub code: &'a [u8],
-    /// How many there are, at most 2^64 - 1.
+    /// The number of such objects, at most 2^64 - 1.
     pub count: u64,
     /// The number of patterns for which it is reported, at most 2^64 - 1.
     pub patterns: u64,
-    /// What part they are of all objects of a table, in millionths, or 0 where there is no table.
+    /// Their share of all objects of a table, in millionths, or 0 where there is no table.
     pub share: u64,
 }
 

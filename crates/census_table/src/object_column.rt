@@ -25,17 +25,17 @@ pub enum ObjectColumn {
     Rule,
     /// The object's code.
     Code,
-    /// What its code is called, if the given names have it.
+    /// The name of its code, if the given names have one.
     CommonName,
-    /// How many there are, at most 2^64 - 1.
+    /// The number of such objects, at most 2^64 - 1.
     Count,
-    /// In how many patterns, at most 2^64 - 1.
+    /// The number of patterns that they occur in, at most 2^64 - 1.
     Patterns,
-    /// The name of the collection of the first of these.
+    /// The name of the collection of the first of these patterns.
     FirstCollectionName,
-    /// The name of the first of these.
+    /// The name of the first of these patterns.
     FirstName,
-    /// What part they are of all objects: six digits after the point.
+    /// Their share of all objects, with six digits after the point.
     Share,
 }
 
@@ -88,7 +88,7 @@ impl ObjectColumn {
         ObjectColumn::Share,
     ];
 
-    /// What the column is called: lowercase letters and `_`.
+    /// The column's name: lowercase letters and `_`.
     pub fn name(self) -> &'static str
         ensures { result.now ≡ title_of self }
     {
@@ -108,7 +108,7 @@ impl ObjectColumn {
         }
     }
 
-    /// Whether a table has the column: a table without names has no column for them.
+    /// True where a table has the column: a table without names has no column for them.
     pub fn is_there(self, names: Option<&Names>) -> bool
         ensures { result ≡ is_there (option_copied names.entry) self }
     {
@@ -118,7 +118,7 @@ impl ObjectColumn {
         }
     }
 
-    /// What the row of an object has in the column.
+    /// The cell of an object's row in the column.
     pub fn cell<'a>(self, names: Option<&'a Names>, object: &Object<'a>) -> Cell<'a>
         ensures { content_of result ≡ content_of_object (option_copied names.entry) self object.now }
     {

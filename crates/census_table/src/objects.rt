@@ -25,7 +25,7 @@ use std::marker::Model;
 pub struct Objects<'b, 'a> {
     sections: Sections<'b, 'a>,
     places: Vec<Place>,
-    // What is there where no object is reported. No place has it.
+    // A placeholder where no object is reported. No place has it.
     nothing: Object<'a>,
 }
 
@@ -75,7 +75,8 @@ fn entry_at<'a>(number: u64, rows: &Section<'_, 'a>, index: usize) -> Option<Ent
     entry_of_row(number, &row_in(rows, 0), &row_in(rows, index))
 }
 
-// The object that the row at an index of a collection reports, under another row of it. Collections are numbered from 1.
+// The object that the row at index `row` of a collection reports for the pattern of the row at index `under`. Collections are
+// numbered from 1.
 fn told_in<'a>(
     sections: &Sections<'_, 'a>,
     collection: usize,
@@ -142,7 +143,7 @@ fn object_at<'a>(nothing: &Object<'a>, sections: &Sections<'_, 'a>, place: Place
     }
 }
 
-/// Which of the kinds of two objects comes first.
+/// The order of the kinds of two objects.
 pub fn kind_order(object: &Object, other: &Object) -> Ordering
     ensures { result ≡ kind_cmp object.now other.now }
 {
@@ -152,7 +153,7 @@ pub fn kind_order(object: &Object, other: &Object) -> Ordering
     lengths.then(codes.then(rules))
 }
 
-// Which of the codes at two places comes first: the shorter one, and codes of equal length are ordered by their bytes.
+// The order of two codes: the shorter one comes first, and codes of equal length are ordered by their bytes.
 fn code_order(code: &[u8], other: &[u8]) -> Ordering
     ensures { result ≡ ordering_then (nat_cmp (length code.now) (length other.now))
         (slice_cmp nat_cmp code.now other.now) }
@@ -163,7 +164,7 @@ fn code_order(code: &[u8], other: &[u8]) -> Ordering
     }
 }
 
-// Which of the kinds at two places comes first. Rules are unpacked only if the codes are the same.
+// The order of the kinds at two places. Rules are unpacked only if the codes are the same.
 fn key_order(nothing: &Object, sections: &Sections, one: &Place, other: &Place) -> Ordering
     ensures { result ≡ kind_cmp (key_at nothing.now sections.now one.now)
         (key_at nothing.now sections.now other.now) }
@@ -178,7 +179,7 @@ fn key_order(nothing: &Object, sections: &Sections, one: &Place, other: &Place) 
     }
 }
 
-// Which of the kinds of the objects at two places comes first.
+// The order of the kinds of the objects at two places.
 fn told_order(nothing: &Object, sections: &Sections, one: &Place, other: &Place) -> Ordering
     ensures { result ≡ kind_cmp (object_at nothing.now sections.now one.now)
         (object_at nothing.now sections.now other.now) }
@@ -260,7 +261,8 @@ fn line_at(number: u64, rows: &Section, row: usize, line: usize) -> usize
     }
 }
 
-// The number of objects that the row at an index of a collection reports, under another row of it: 0 or 1.
+// The number of objects that the row at index `row` of a collection reports for the pattern of the row at index `under`: 0 or
+// 1.
 fn count_at(sections: &Sections, collection: usize, under: usize, row: usize) -> usize
     ensures count { result ≡ length (cons_option
         (told_in (collection + 1) (slice_index_or sections.now collection []) under row) []) }

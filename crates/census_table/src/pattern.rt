@@ -1,4 +1,4 @@
-//! Patterns in JSON, with what the rows after their lines say.
+//! Patterns in JSON, with the engines or parts that the rows after their lines report.
 ghost use Rattle.std.specs.Prelude.{◌≡◌, IfOk};
 ghost use Rattle.std.specs.Option.{option_copied};
 ghost use Rattle.watched.specs.Telling.{sheet};

@@ -10,7 +10,7 @@ ghost use Rattle.census_table.specs.declared.place.Place.{Place as ModelPlace};
 use std::alloc::AllocError;
 use std::cmp::Ordering;
 
-/// Where something is reported, in 12 bytes. Each index counts from 0.
+/// The place where something is reported, in 12 bytes. Each index counts from 0.
 #[derive(Clone, Copy)]
 pub struct Place {
     /// The index of the collection.
@@ -37,7 +37,7 @@ impl Place {
     }
 }
 
-/// Which of two places comes first: by their collections, and then by their rows.
+/// The order of two places: by their collections, and then by their rows.
 pub fn place_order(one: &Place, other: &Place) -> Ordering
     ensures { result ≡ place_cmp one.now other.now }
 {
@@ -45,24 +45,24 @@ pub fn place_order(one: &Place, other: &Place) -> Ordering
     one.collection.cmp(&other.collection).then(rows)
 }
 
-/// An order of what is reported at places.
+/// An order of places, by what is reported there.
 pub trait OrderAtPlaces {
     ghost use Rattle.std.specs.Cmp.{IsTotalOrder};
     ghost use Rattle.std.specs.declared.cmp.Ordering.{Ordering};
     ghost use Rattle.census_table.specs.declared.place.Place.{Place};
 
-    /// The order. Places that report the same are level in it.
+    /// The order. Places that report the same are equal in it.
     ghost cmp: { Self → Place → Place → Ordering };
 
     /// The order is total.
     ghost total: { (order : Self) → IsTotalOrder (cmp order) };
 
-    /// Which of two places comes first in it.
+    /// The comparison of two places in it.
     fn order(&self, one: &Place, other: &Place) -> Ordering
         ensures { result ≡ cmp self.now one.now other.now };
 }
 
-// How many places at the start are level with this one.
+// The number of places at the start that are equal to this one in the order.
 fn run_len<O: OrderAtPlaces>(order: &O, places: &[Place], first: &Place) -> usize
     ensures count { result ≡ prefix_len (λ p. is_eq (O.cmp order.now first.now p)) places.now }
     ensures within { result ≤ length places.now }
@@ -73,7 +73,7 @@ fn run_len<O: OrderAtPlaces>(order: &O, places: &[Place], first: &Place) -> usiz
         .count()
 }
 
-// Puts the places at the start that are level with the first by collections and rows. Returns how many they are.
+// Sorts the places at the start that are equal to the first in the order by collections and rows. Returns their number.
 fn put_run_in_order<O: OrderAtPlaces>(order: &O, places: &mut [Place]) -> usize
     requires { 0 < length places.old }
     ensures count { (first : ModelPlace) → first ≡ slice_index_or places.old 0 first →
@@ -90,7 +90,7 @@ fn put_run_in_order<O: OrderAtPlaces>(order: &O, places: &mut [Place]) -> usize
     count
 }
 
-// Takes places that do not fall in an order. Puts those that are level in it by collections and rows.
+// Takes places that are sorted by an order. Sorts those that are equal in it by collections and rows.
 fn put_runs_in_order<O: OrderAtPlaces>(order: &O, places: &mut [Place])
     requires { Rises (λ p q. is_gt (O.cmp order.now p q) ≡ false) places.old }
     ensures permutation { IsPermutation places.old places.new }
@@ -104,8 +104,8 @@ fn put_runs_in_order<O: OrderAtPlaces>(order: &O, places: &mut [Place])
     }
 }
 
-/// Puts rising places in an order. Places that are level in it keep their order. No second list is needed: level places are
-/// put in the order of places after the rest is done.
+/// Sorts rising places by an order. Places that are equal in it keep their order. No second list is needed: the sort is
+/// unstable, and afterwards places that are equal in it are sorted by collections and rows.
 pub fn put_in_order<O: OrderAtPlaces>(order: &O, places: &mut [Place])
     requires { AreRising places.old }
     ensures permutation { IsPermutation places.old places.new }

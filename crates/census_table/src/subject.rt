@@ -1,4 +1,4 @@
-//! What a table has a row for each of.
+//! The kind of things that a table has rows for.
 ghost use Rattle.std.specs.Prelude.{◌≡◌, filter, map, IfOk};
 ghost use Rattle.std.specs.Option.{option_copied};
 ghost use Rattle.census_readback.specs.Shapes.{AreReports};
@@ -16,23 +16,23 @@ use census_readback::{Sections, collections};
 use census_rows::Rows;
 use std::alloc::{AllocError, Global};
 
-/// Which codes a table has, and in which order.
+/// The choice of a table's codes, and their order.
 #[derive(Clone, Copy, Debug, PartialEq, Eq)]
 pub struct Choice {
-    /// Whether they are ordered by rising count, and then as otherwise.
+    /// True where they are ordered by rising count first, and then as otherwise.
     pub rare: bool,
-    /// Whether those that have a name are left out. What part of all objects each of the others has stays as it is.
+    /// True where those that have a name are left out. The share of each of the others is still that of all objects.
     pub unnamed: bool,
 }
 
-/// What a table has a row for each of.
+/// The kind of things that a table has rows for.
 #[derive(Clone, Copy, Debug, PartialEq, Eq)]
 pub enum Subject {
     /// A pattern.
     Patterns,
-    /// A `part` row, which says how many parts of a pattern have one code.
+    /// A `part` row, which gives the number of parts of a pattern with one code.
     Parts,
-    /// An `emits` row, which says how many objects of one code engines of a pattern emit.
+    /// An `emits` row, which gives the number of objects with one code that engines of a pattern emit.
     Engines,
     /// A code under a rule, by falling count and then in the order of codes: the shorter first, codes of equal length by
     /// their bytes, and then by the bytes of the rule.
@@ -46,9 +46,9 @@ pub enum Table<'b, 'a> {
     Patterns(Sections<'b, 'a>),
     /// The parts of such patterns.
     Parts(Sections<'b, 'a>),
-    /// What the engines of such patterns emit.
+    /// The objects that the engines of such patterns emit.
     Engines(Sections<'b, 'a>),
-    /// Kinds of objects that are chosen so, and how many objects there are of all kinds, at most 2^64 - 1.
+    /// The kinds of objects of this choice, and the number of objects of all kinds, at most 2^64 - 1.
     Codes(Choice, Kinds<'b, 'a>, u64),
 }
 
@@ -76,7 +76,7 @@ pub fn table_of<'b, 'a>(
     }
 }
 
-// What each of these columns that a table has is called.
+// The names of those of these columns that a table has.
 fn names_of(
     alloc: Global,
     names: Option<&Names>,
@@ -94,7 +94,7 @@ fn names_of(
     Ok(titles)
 }
 
-// What each of these columns that is shown is called.
+// The names of those of these columns that are shown.
 fn pattern_names(
     alloc: Global,
     names: Option<&Names>,
@@ -112,7 +112,7 @@ fn pattern_names(
     Ok(titles)
 }
 
-// What each of these columns that a table of engines has is called.
+// The names of those of these columns that a table of engines has.
 fn engine_names(
     alloc: Global,
     names: Option<&Names>,
@@ -131,8 +131,8 @@ fn engine_names(
 }
 
 impl Table<'_, '_> {
-    /// What the columns are called. If there are names, the column after the codes has what these are called. The only error
-    /// is out of memory.
+    /// The names of the columns. If codes have names, the column after that of the codes is for these. The only error is out of
+    /// memory.
     pub fn names(
         &self,
         alloc: Global,

@@ -37,13 +37,13 @@ use std::alloc::{AllocError, Global};
 use std::io::Write;
 use watched::{Block, Output, put};
 
-/// How a table is written.
+/// The format of a table.
 #[derive(Clone, Copy, Debug, PartialEq, Eq)]
 pub enum Format {
     /// As comma-separated values: a record of the columns' names, and one for each row. A record
     /// ends with LF.
     Csv {
-        /// Whether a `'` stands before each text that a spreadsheet may take for a formula.
+        /// True where a `'` is put before each text that a spreadsheet may take for a formula.
         safe: bool,
     },
     /// As JSON: for each row one object on a line of its own, with a member for each column, in the order of their names.
@@ -51,7 +51,7 @@ pub enum Format {
     Json,
 }
 
-// How many records are held before they are written together.
+// The number of records that are held before they are written together.
 const MOST: usize = 256;
 
 // Writes the records that are held. No text is made for a writer that has failed.
@@ -78,7 +78,7 @@ fn flush<W: Write>(
     Ok(())
 }
 
-// Holds one more record. If there are many, all are written.
+// Holds one more record, and writes all once there are `MOST`.
 fn put_record<W: Write>(
     alloc: Global,
     fields: ByteRecord,
@@ -99,7 +99,7 @@ fn put_record<W: Write>(
     flush(alloc, held, block, writer)
 }
 
-// The row of what a table has a row for, in the columns of comma-separated values.
+// The row of a thing, in the columns of comma-separated values.
 fn record_row<'a>(
     alloc: Global,
     names: Option<&'a Names>,
@@ -115,7 +115,7 @@ fn record_row<'a>(
     }
 }
 
-// The line of an object in JSON, in these columns.
+// The JSON line of an object, in these columns.
 fn object_line(
     alloc: Global,
     names: Option<&Names>,
@@ -130,7 +130,7 @@ fn object_line(
     Ok(text)
 }
 
-// The line of what engines emit, in JSON.
+// The JSON line of emitted objects.
 fn emitted_line(
     alloc: Global,
     names: Option<&Names>,
@@ -144,7 +144,7 @@ fn emitted_line(
     Ok(text)
 }
 
-// Writes the line of an object in JSON, in these columns.
+// Writes the JSON line of an object, in these columns.
 fn put_object<W: Write>(
     alloc: Global,
     names: Option<&Names>,
@@ -161,7 +161,7 @@ fn put_object<W: Write>(
     Ok(())
 }
 
-// Writes the line of what engines emit, in JSON.
+// Writes the JSON line of emitted objects.
 fn put_emitted<W: Write>(
     alloc: Global,
     names: Option<&Names>,
@@ -177,7 +177,7 @@ fn put_emitted<W: Write>(
     Ok(())
 }
 
-// Writes the line of what a table has a row for, in JSON.
+// Writes the JSON line of a thing.
 fn put_line<W: Write>(
     alloc: Global,
     names: Option<&Names>,
@@ -214,7 +214,7 @@ fn put_line<W: Write>(
     }
 }
 
-// Writes the record of what a table has a row for, or holds it.
+// Writes the record of a thing, or holds it.
 fn put_csv<W: Write>(
     alloc: Global,
     safe: bool,
@@ -235,7 +235,7 @@ fn put_csv<W: Write>(
     put_record(alloc, fields, held, block, writer)
 }
 
-// Writes the records that are held, and the line of what a table has a row for in JSON.
+// Writes the held records, and the JSON line of a thing.
 fn put_json<W: Write>(
     alloc: Global,
     names: Option<&Names>,
@@ -254,7 +254,7 @@ fn put_json<W: Write>(
     put_line(alloc, names, thing, block, writer)
 }
 
-// Writes the row of what a table has a row for. No text is made for a writer that has failed.
+// Writes the row of a thing. No text is made for a writer that has failed.
 fn put_thing<W: Write>(
     alloc: Global,
     format: Format,
@@ -280,7 +280,7 @@ fn put_thing<W: Write>(
     }
 }
 
-// Writes the row of what a table has a row for, if there is anything.
+// Writes the row of a thing, if there is one.
 fn put_some<W: Write>(
     alloc: Global,
     format: Format,
@@ -348,13 +348,13 @@ fn heading(
 }
 
 /// Writes a table, which is UTF-8. Patterns are in the order of their numbers, collection by collection, from collection 1 of
-/// the first report. The collections of a report are numbered on after those of the report before it.
+/// the first report. From one report to the next the numbers of the collections go on.
 ///
-/// If there are names, a column `common_name` after `code` has what the code is called, and nothing if it has no name.
-/// Without names there is no such column.
+/// If there are names, a column `common_name` after `code` has the name of the code, or nothing if it has none. Without names
+/// there is no such column.
 ///
-/// The text of some rows is in memory at a time. If memory runs out, a prefix of the table was written. To a writer that has
-/// failed nothing is written, and no more text is made for it.
+/// Only the text of some rows is in memory at a time. If memory runs out, a prefix of the table has been written. Nothing is
+/// written to a writer that has failed, and no more text is made for it.
 pub fn put_listing<W: Write>(
     alloc: Global,
     format: Format,

@@ -1,4 +1,4 @@
-//! What a table has rows for.
+//! The things that a table has rows for.
 ghost use Rattle.std.specs.Prelude.{◌≡◌};
 ghost use Rattle.census_table.specs.Entries.{entry_of_row};
 ghost use Rattle.census_table.specs.Emitting.{last_after};
@@ -9,7 +9,7 @@ use crate::entry::{Entry, entry_of_row, with_way};
 use crate::object::{Object, object_of_row};
 use census_rows::{Behind, Row, Section};
 
-/// What a table has a row for.
+/// A thing that a table has a row for.
 #[derive(Drop)]
 pub enum Thing<'b, 'a> {
     /// A pattern, and the rows after its line in its collection.
@@ -30,7 +30,7 @@ pub enum Item {
     Emitted,
 }
 
-// Whether an object is one of several that a pattern has fallen apart into.
+// True where an object is one of several that a pattern has fallen apart into.
 fn is_part(object: &Object) -> bool
     ensures { result ≡ is_part object.now }
 {
@@ -56,7 +56,7 @@ fn part_in<'b, 'a>(object: Option<Object<'a>>) -> Option<Thing<'b, 'a>>
     }
 }
 
-// What engines emit, if they do.
+// The objects that engines emit, if there are any.
 fn emitted_in<'b, 'a>(emitted: Option<Emitted<'a>>) -> Option<Thing<'b, 'a>>
     ensures { result ≡ emitted_in emitted.entry }
 {
@@ -66,7 +66,8 @@ fn emitted_in<'b, 'a>(emitted: Option<Emitted<'a>>) -> Option<Thing<'b, 'a>>
     }
 }
 
-// What a row adds to a table, where `own` is the pattern of its line and `last` what is reported last up to it.
+// The thing that a row adds to a table, where `own` is the pattern of its line, if it is one, and `last` is what was reported
+// last up to it.
 fn thing_of<'b, 'a>(
     item: Item,
     own: Option<Entry<'a>>,
@@ -86,8 +87,8 @@ fn thing_of<'b, 'a>(
     }
 }
 
-/// What a row before these adds to a table, in the collection that another row opens and that has this number. `last` is what
-/// was reported last before the row, and afterwards up to it.
+/// The thing that a row before these adds to a table, in the collection that `heading` opens and that has this number. `last`
+/// is what was reported last before the row, and afterwards what was reported last up to it.
 pub fn next_thing<'b, 'a>(
     item: Item,
     number: u64,
