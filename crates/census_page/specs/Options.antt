@@ -1,4 +1,4 @@
--- What a page is asked to have.
+-- The options of a page.
 use Rattle.std.specs.Prelude.{ℕ, Bool, true, false, Option, None, List, [], codes}
 use Rattle.std.specs.Borrow.{Bor}
 use Rattle.std.specs.Option.{option_map}
@@ -6,9 +6,8 @@ use Rattle.census_page.specs.declared.options.PageOptions.{PageOptions}
 use Rattle.census_page.specs.declared.options.Sort.{Sort}
 use Rattle.census_page.specs.declared.options.Sort.TheVariants.{Report}
 
--- its title, and a note below it if there is one; the order of the rows of codes, and their greatest number; the beginning of
--- the addresses of names, if these are links, and whether codes are links; and whether all patterns are
--- shown
+-- the title, and a note below it if there is one; the order of the rows of codes, and their greatest number; the beginning of
+-- the addresses of names, if these are links; whether codes are links; and whether all patterns are shown
 pub record Options : Type 0 where
   pub title : List ℕ
   pub note : List ℕ
@@ -29,6 +28,6 @@ options_of options = record {
   patterns = options.patterns;
 }
 
--- the page by default
+-- the default options
 abbrev pub default_options : Options
 default_options = record { title = codes "Census"; note = []; sort = Report; top = None; base = None; links = false; patterns = true }

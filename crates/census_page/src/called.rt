@@ -9,7 +9,7 @@ use census_facts::Names;
 use census_rows::Row;
 use std::alloc::{AllocError, Global};
 
-// A text, with U+FFFD for what is not UTF-8, escaped.
+// A text, escaped, with U+FFFD for bytes that are not UTF-8.
 fn escaped(alloc: Global, text: &[u8]) -> Result<Vec<u8>, AllocError>
     ensures { IfOk result (λ made. made.items ≡ escaped text.now) }
 {

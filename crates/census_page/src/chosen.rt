@@ -1,4 +1,4 @@
-//! The codes of a collection that its table has.
+//! The codes in the table of a collection.
 ghost use Rattle.std.specs.Prelude.{◌≡◌, [], ◌∷◌, ◌++◌, if◌then◌else◌, map, IfOk, OnOk};
 ghost use Rattle.std.specs.List.{flat_map};
 ghost use Rattle.census_page.specs.Pages.{AreCodes, code_in, first_of, row_at};
@@ -10,7 +10,7 @@ use crate::tally::{Which, count_among};
 use census_rows::{Row, Section};
 use std::alloc::{AllocError, Global};
 
-/// Whether a row reports a code.
+/// True where a row reports a code.
 pub fn is_code(row: &Row) -> bool
     ensures { code_in row.now ≡ (if result then row.now ∷ [] else []) }
 {
@@ -20,7 +20,7 @@ pub fn is_code(row: &Row) -> bool
     }
 }
 
-// Adds the number of a row, if that reports a code.
+// Adds the number of a row if that row reports a code.
 fn note_code(rows: &Section, index: usize, numbers: &mut Vec<usize>) -> Result<(), AllocError>
     ensures { OnOk result (map (row_at rows.now) numbers.new.items
         ≡ map (row_at rows.now) numbers.old.items ++ code_in (row_at rows.now index)) }
@@ -53,8 +53,8 @@ fn cut(top: Option<u64>, numbers: &mut Vec<usize>)
     }
 }
 
-/// The numbers of the rows that report codes, in the order that is asked for, where these patterns have the codes, and no
-/// more rows than are asked for. The only error is out of memory.
+/// The numbers of the rows that report codes, in the order of the options, where these patterns have the codes. There are at
+/// most as many rows as the options allow. The only error is out of memory.
 pub fn chosen(
     alloc: Global,
     options: &PageOptions,

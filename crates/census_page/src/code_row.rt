@@ -31,8 +31,8 @@ fn code_front(alloc: Global, row: &Row, shape: &Option<Shape>) -> Result<Html, A
     Ok(html)
 }
 
-// The part of a code's row between its name and the patterns that have it: its description in words, the code, its rule, its RLE
-// text, its number of cells, and how often it occurs.
+// The part of a code's row between its name and the patterns that have it: its description in words, the code, its rule, its
+// RLE text, its number of cells, and its count.
 fn code_middle(
     alloc: Global,
     linked: bool,
@@ -58,8 +58,8 @@ fn code_middle(
     Ok(html)
 }
 
-// Writes the table's row for a report's row that has a code, with those of these patterns that have it. No text is made for a
-// writer that has failed.
+// Writes the row of the table for a row of the report that has a code, with those of these patterns that have it. No text is
+// made for a writer that has failed.
 fn put_code<W: Write>(
     alloc: Global,
     view: &View,
@@ -86,8 +86,8 @@ fn put_code<W: Write>(
     Ok(())
 }
 
-/// Writes a row of a table for each report's row with one of these numbers: its picture, its name and its description, its rule,
-/// the code, how often it occurs, and which patterns have it. If memory runs out, a prefix has been written.
+/// Writes a row of the table for each row of the report with one of these numbers: the picture, the name, the description, the
+/// code, the rule, the count, and the patterns that have the code. If memory runs out, a prefix has been written.
 pub fn put_codes<W: Write>(
     alloc: Global,
     view: &View,

@@ -1,4 +1,4 @@
-//! What becomes of patterns that do not recur.
+//! The fates of patterns that do not recur.
 ghost use Rattle.std.specs.Prelude.{◌≡◌, [], ◌∷◌};
 ghost use Rattle.std.specs.List.{flat_map};
 ghost use Rattle.std.specs.Option.{option_copied};
@@ -22,7 +22,7 @@ use std::alloc::{AllocError, Global};
 use std::io::Write;
 use watched::{Block, Output};
 
-// Adds that a pattern has fallen apart.
+// Adds the words for a pattern that has fallen apart.
 fn push_ash(html: &mut Html, onset: u64, objects: u64) -> Result<(), AllocError> {
     html.grouped(objects)?;
     html.own(OBJECTS)?;
@@ -32,7 +32,7 @@ fn push_ash(html: &mut Html, onset: u64, objects: u64) -> Result<(), AllocError>
     html.own(ON)
 }
 
-// Adds what was found of a pattern that does not recur.
+// Adds the finding about a pattern that does not recur.
 fn push_finding(html: &mut Html, finding: &Finding) -> Result<(), AllocError> {
     match finding {
         Finding::Ok { .. } | Finding::Grows { .. } => Ok(()),
@@ -46,7 +46,7 @@ fn push_finding(html: &mut Html, finding: &Finding) -> Result<(), AllocError> {
     }
 }
 
-// Adds the rule after a name, the number of cells at first, and what was found.
+// Adds the rule after a name, the number of cells at first, and the finding.
 fn push_found(
     alloc: Global,
     html: &mut Html,
@@ -62,7 +62,7 @@ fn push_found(
     push_finding(html, finding)
 }
 
-// Adds what comes after a name: its rule and its cells, and what becomes of it, or why it was refused.
+// Adds the text after a pattern's name: its rule, its number of cells and its fate, or the reason why it was refused.
 fn push_fate(alloc: Global, html: &mut Html, outcome: &Outcome) -> Result<(), AllocError> {
     match outcome {
         Outcome::Found {
@@ -78,8 +78,7 @@ fn push_fate(alloc: Global, html: &mut Html, outcome: &Outcome) -> Result<(), Al
     }
 }
 
-/// Whether a pattern has a row of its own: where such patterns are asked for each that does not recur, and otherwise one that is
-/// unresolved.
+/// True where a pattern has a row of its own: with `patterns`, each that does not recur, and otherwise only an unresolved one.
 pub fn has_row(patterns: bool, outcome: &Outcome) -> bool
     ensures { result ≡ has_row patterns outcome.now }
 {
@@ -101,7 +100,7 @@ fn name_in<'a>(row: &Row<'a>) -> &'a [u8] {
     }
 }
 
-// The rule of a pattern, if its text means one.
+// The rule that was found for a pattern, or nothing if it was refused.
 fn rule_found<'a>(outcome: &Outcome<'a>) -> &'a [u8] {
     match outcome {
         Outcome::Found { rule, .. } => *rule,
@@ -109,7 +108,7 @@ fn rule_found<'a>(outcome: &Outcome<'a>) -> &'a [u8] {
     }
 }
 
-// What comes before the objects of a pattern: its name, its rule and its cells, and what becomes of it.
+// The text before the objects of a pattern: its name, its rule, its number of cells and its fate.
 fn fate_head(
     alloc: Global,
     view: &View,
@@ -123,7 +122,7 @@ fn fate_head(
     Ok(html)
 }
 
-// What comes after the objects that it emits: the objects that it consists of.
+// The text after the objects that it emits: the objects that it consists of.
 fn fate_end(alloc: Global, linked: bool, rule: &[u8], parts: &Section) -> Result<Html, AllocError> {
     let mut html = Html::new(alloc);
     push_parts(alloc, &mut html, linked, rule, parts)?;
@@ -131,8 +130,7 @@ fn fate_end(alloc: Global, linked: bool, rule: &[u8], parts: &Section) -> Result
     Ok(html)
 }
 
-// Writes a row of a table with the name of a pattern and what becomes of it. The rows after its row say how it grows, or which
-// parts it has.
+// Writes a row of the table with the name and the fate of a pattern. The rows after its row report how it grows, or its parts.
 fn put_fate<W: Write>(
     alloc: Global,
     view: &View,
@@ -156,7 +154,7 @@ fn put_fate<W: Write>(
     Ok(())
 }
 
-// Writes the table's row for a report's row that comes before these, if that reports a pattern that has one.
+// Writes the row of the table for a row of the report that these follow, if it reports a pattern with a row of its own.
 fn put_stray<W: Write>(
     alloc: Global,
     view: &View,

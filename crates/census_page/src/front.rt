@@ -13,13 +13,13 @@ use census_facts::VERSION;
 use census_rows::{Class, Rows};
 use std::alloc::{AllocError, Global};
 
-// Adds a text of the template, and how many of these rows there are.
+// Adds a text of the template and the number of these rows.
 fn push_count(html: &mut Html, word: usize, which: Which, rows: &Rows) -> Result<(), AllocError> {
     html.own(word)?;
     html.grouped(count_of(which, rows))
 }
 
-// Adds how many collections, patterns, kinds of objects and objects there are, and what became of the patterns.
+// Adds the numbers of collections, patterns, kinds of objects and objects, and of patterns by their class.
 fn push_totals(
     alloc: Global,
     html: &mut Html,
@@ -50,8 +50,8 @@ fn push_note(alloc: Global, html: &mut Html, note: &[u8]) -> Result<(), AllocErr
     html.own(NOTE_END)
 }
 
-/// The page before the table of all collections: its title, its note, how many collections, patterns, kinds of objects and
-/// objects there are, and what became of the patterns. The only error is out of memory.
+/// The page before the table of all collections: its title, its note, the numbers of collections, patterns, kinds of objects
+/// and objects, and of patterns by their class. The only error is out of memory.
 pub fn front(
     alloc: Global,
     options: &PageOptions,
@@ -69,7 +69,7 @@ pub fn front(
     Ok(html)
 }
 
-/// The kinds of rows that can be chosen, with how many there are, where patterns are asked for or not. The only error is out of
+/// The kinds of rows that can be chosen, with their numbers, where all patterns are shown or not. The only error is out of
 /// memory.
 pub fn choices(alloc: Global, patterns: bool, rows: &Rows) -> Result<Html, AllocError> {
     let mut html = Html::new(alloc);

@@ -1,4 +1,4 @@
-//! How patterns grow, in words, and what they emit.
+//! The growth of patterns, in words, and the objects that they emit.
 ghost use Rattle.watched.specs.Telling.{sheet};
 ghost use Rattle.census_page.specs.Pages.{PutsBits};
 
@@ -17,7 +17,7 @@ use std::alloc::{AllocError, Global};
 use std::io::Write;
 use watched::{Block, Output};
 
-// What kind of engine emits without end.
+// A kind of engine.
 #[derive(Clone, Copy)]
 enum EngineKind {
     // It stays in its place.
@@ -28,7 +28,7 @@ enum EngineKind {
     Puffer,
 }
 
-// Whether all rows say that an engine emits spaceships.
+// True where all rows report emitted spaceships.
 fn emit_ships(rows: &Section) -> bool {
     for index in 0..rows.len() {
         match rows.row(index) {
@@ -50,7 +50,7 @@ fn engine_kind(dx: i64, dy: i64, emits: &Section) -> EngineKind {
     }
 }
 
-// The number of the text with the common name of such an engine.
+// The number of the text with the name of a kind of engine.
 fn name_of(kind: EngineKind) -> usize {
     match kind {
         EngineKind::Gun => GUN,
@@ -78,7 +78,7 @@ fn push_moves(html: &mut Html, dx: i64, dy: i64, number: u64) -> Result<(), Allo
     html.own(MOVES_END)
 }
 
-// Adds what engines do in a period.
+// Adds the words for what engines do in a period.
 fn push_deeds(
     html: &mut Html,
     kind: EngineKind,
@@ -118,7 +118,7 @@ fn push_head(
     html.own(THAT)
 }
 
-// What the engines of a row are and do, before the list of what each emits. A row that describes none has no text.
+// The words for the engines of a row, before the list of what each emits. They are empty for a row that describes none.
 fn engine_words(alloc: Global, row: &Row, emits: &Section) -> Result<Html, AllocError> {
     let mut html = Html::new(alloc);
     match row {
@@ -172,7 +172,7 @@ fn put_emitted<W: Write>(
     Ok(())
 }
 
-// Whether a row describes engines.
+// True where a row describes engines.
 fn is_engine(row: &Row) -> bool {
     match row {
         Row::Engine { .. } => true,
@@ -203,9 +203,9 @@ fn put_engine<W: Write>(
     Ok(())
 }
 
-/// Writes the engines of rows in words, as `gun of period 30 that emits`, each with a list of what it emits: the
-/// picture, the code, which is a link under this rule if codes are links, and the number of objects. The row of each
-/// engine is followed by those that list what it emits. The only error is out of memory; then only a prefix is written.
+/// Writes the engines of rows in words, such as `gun of period 30 that emits`, each with a list of what it emits: the picture,
+/// the code, which is a link under this rule if codes are `linked`, and the number of objects. The row of each engine is
+/// followed by those that list what it emits. The only error is out of memory; then only a prefix is written.
 pub fn put_growth<W: Write>(
     alloc: Global,
     linked: bool,

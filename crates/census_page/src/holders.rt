@@ -7,10 +7,10 @@ use census_rows::{Behind, Finding, Outcome, Row, Section};
 use std::alloc::{AllocError, Global};
 use std::cmp::Ordering;
 
-/// What a pattern has to do with a code.
+/// The relation of a pattern to a code.
 #[derive(Clone, Copy)]
 pub enum Share {
-    /// It has the code: how many cells it has at first, from which generation on it recurs, and how far it moves.
+    /// It has the code. The fields are its number of cells at first, the generation from which it recurs, and its motion.
     Whole {
         population: u64,
         onset: u64,
@@ -22,7 +22,7 @@ pub enum Share {
     },
 }
 
-/// A pattern and a code that it has, or one of its parts.
+/// A pattern, and a code that it or one of its parts has.
 #[derive(Clone, Copy)]
 pub struct Holder<'a> {
     pub rule: &'a [u8],
@@ -34,13 +34,13 @@ pub struct Holder<'a> {
 /// The places of the rows of a pattern and of its code among those of a collection, counted from 0, in 8 bytes.
 #[derive(Clone, Copy)]
 pub struct Place {
-    /// The row of the last pattern that has parts; after the last row if none has parts yet.
+    /// The row of the last pattern that has parts, or a number after the last row if none has had parts yet.
     line: u32,
     /// The row that has the code.
     row: u32,
 }
 
-/// Patterns of a collection with their codes, in an order of their own: borrowed, by the places of their rows.
+/// Patterns of a collection with their codes, in an order of their own. They are borrowed, by the places of their rows.
 #[derive(Clone, Copy)]
 pub struct Holders<'s, 'b, 'a> {
     pub rows: &'s Section<'b, 'a>,
@@ -61,7 +61,7 @@ pub fn row_or_end<'a>(rows: &Section<'_, 'a>, number: usize) -> Row<'a>
     }
 }
 
-// Whether `part` rows follow a row.
+// True where `part` rows follow a row.
 fn has_parts(row: &Row) -> bool {
     match row {
         Row::Line { outcome, .. } => match outcome.behind() {
@@ -72,7 +72,7 @@ fn has_parts(row: &Row) -> bool {
     }
 }
 
-// The pattern whose row this is, if it recurs.
+// The pattern with this outcome and this name, if it recurs.
 fn whole_in<'a>(outcome: &Outcome<'a>, name: &'a [u8]) -> Option<Holder<'a>> {
     match outcome {
         Outcome::Found {
@@ -103,7 +103,7 @@ fn whole_in<'a>(outcome: &Outcome<'a>, name: &'a [u8]) -> Option<Holder<'a>> {
     }
 }
 
-// The pattern of a row that has parts, and the code of some of these.
+// The pattern of a `line` row, with a code that this number of its parts have.
 fn holder_by_part<'a>(line: &Row<'a>, code: &'a [u8], count: u64) -> Option<Holder<'a>> {
     match line {
         Row::Line {
@@ -120,7 +120,7 @@ fn holder_by_part<'a>(line: &Row<'a>, code: &'a [u8], count: u64) -> Option<Hold
     }
 }
 
-// The pattern whose code the row at an index has, where the last pattern that has parts is at another.
+// The pattern that has the code in the row at index `row`, where the last pattern that has parts is at index `line`.
 fn holder_in<'a>(rows: &Section<'_, 'a>, line: usize, row: usize) -> Option<Holder<'a>> {
     match row_or_end(rows, row) {
         Row::Line { outcome, name, .. } => whole_in(&outcome, name),
@@ -143,7 +143,7 @@ fn place_of(line: usize, row: usize) -> Result<Place, AllocError> {
     })
 }
 
-// How many patterns of a collection's rows have codes.
+// The number of patterns with codes among a collection's rows; a pattern with parts counts once for each `part` row.
 fn count_held(rows: &Section) -> usize {
     let mut count = 0;
     let mut line = rows.len();
@@ -188,8 +188,8 @@ fn compared(rows: &Section, place: &Place, rule: &[u8], code: &[u8]) -> Ordering
     code_here.cmp(code).then(rule_here.cmp(rule))
 }
 
-/// Puts the places of patterns in the order of their codes, and of their rules under one code. Patterns with the same code
-/// and rule keep their order. The only error is out of memory.
+/// Sorts the places of patterns by their codes, and by their rules under one code. Patterns with the same code and rule keep
+/// their order. The only error is out of memory.
 pub fn put_in_order(rows: &Section, places: &mut Vec<Place>) -> Result<(), AllocError> {
     places.sort_by(|one, other| {
         let (code, rule) = key_at(rows, other);
@@ -217,7 +217,7 @@ impl<'s, 'b, 'a> Holders<'s, 'b, 'a> {
         }
     }
 
-    /// How far the first of these patterns moves, if it recurs.
+    /// The motion of the first of these patterns, if it recurs.
     pub fn way(&self) -> Option<Way> {
         match self.first() {
             Some(

@@ -8,7 +8,7 @@ use itoa::Buffer;
 use std::alloc::{AllocError, Global};
 use std::marker::Model;
 
-/// HTML: texts of the template, and bytes that are escaped. No row of a table of codes or patterns begins in it.
+/// HTML: texts of the template, and escaped bytes. No row of a table of codes or patterns begins in it.
 #[derive(Drop)]
 pub struct Html {
     bytes: Vec<u8>,
@@ -45,7 +45,7 @@ pub fn push_escaped(bytes: &mut Vec<u8>, byte: u8) -> Result<(), AllocError>
 }
 
 impl Html {
-    /// No text yet.
+    /// Empty HTML.
     pub fn new(alloc: Global) -> Html {
         Html {
             bytes: Vec::new(alloc),
@@ -69,7 +69,7 @@ impl Html {
         push_escaped(&mut self.bytes, byte)
     }
 
-    /// Appends bytes, escaped: they may stand in the text of an element or between quotes. The only error is out of memory.
+    /// Appends bytes, escaped: they may be in the text of an element or between quotes. The only error is out of memory.
     pub fn value(&mut self, bytes: &[u8]) -> Result<(), AllocError> {
         for byte in bytes {
             self.byte(*byte)?;
@@ -77,14 +77,14 @@ impl Html {
         Ok(())
     }
 
-    /// Appends a text, with U+FFFD for what is not UTF-8. The only error is out of memory.
+    /// Appends a text, escaped, with U+FFFD for bytes that are not UTF-8. The only error is out of memory.
     pub fn text(&mut self, alloc: Global, bytes: &[u8]) -> Result<(), AllocError> {
         let characters = String::from_utf8_lossy(alloc, bytes)?;
         self.value(characters.as_bytes())
     }
 
-    /// Appends a name as an element of its own. Its own characters decide its direction of writing, which ends with it.
-    /// What is not UTF-8 becomes U+FFFD. The only error is out of memory.
+    /// Appends a name as an element of its own, whose text direction depends on its own characters alone. Bytes that are not
+    /// UTF-8 become U+FFFD. The only error is out of memory.
     pub fn name(&mut self, alloc: Global, bytes: &[u8]) -> Result<(), AllocError> {
         self.own(NAME)?;
         self.text(alloc, bytes)?;
@@ -114,7 +114,7 @@ impl Html {
         Ok(())
     }
 
-    /// Appends a number with commas, as 12,345. The only error is out of memory.
+    /// Appends a number with commas, such as 12,345. The only error is out of memory.
     pub fn grouped(&mut self, number: u64) -> Result<(), AllocError> {
         let mut buffer = Buffer::new();
         self.digits(buffer.format(number).as_bytes())

@@ -1,4 +1,4 @@
-//! The table of all collections, and what the page says about each as a whole.
+//! The table of all collections, and the heading of each.
 ghost use Rattle.watched.specs.Telling.{sheet};
 ghost use Rattle.census_page.specs.Pages.{PutsBits};
 
@@ -18,7 +18,7 @@ use std::alloc::{AllocError, Global};
 use std::io::Write;
 use watched::{Block, Output};
 
-/// The name of the collection of these rows, the first of which gives it.
+/// The name of the collection, from the first of its rows.
 pub fn name_in<'a>(rows: &Section<'_, 'a>) -> &'a [u8] {
     match row_or_end(rows, 0) {
         Row::Open { name, .. } => name,
@@ -26,8 +26,7 @@ pub fn name_in<'a>(rows: &Section<'_, 'a>) -> &'a [u8] {
     }
 }
 
-// How many patterns the collection of these rows has, the last of which says so, and how many are resolved, unresolved and
-// refused.
+// The numbers of all, of resolved, of unresolved and of refused patterns of a collection, from the last of its rows.
 fn counts_in(rows: &Section) -> [u64; 4] {
     match row_or_end(rows, rows.len().saturating_sub(1)) {
         Row::Close {
@@ -77,7 +76,7 @@ fn index_row(alloc: Global, number: u64, rows: &Section) -> Result<Html, AllocEr
     Ok(html)
 }
 
-/// Writes a row for each collection, with a link to it, its counts, and how many of its codes are still lifes, oscillators
+/// Writes a row for each collection, with a link to it, its counts, and the numbers of its codes of still lifes, oscillators
 /// and spaceships. If memory runs out, a prefix has been written.
 pub fn put_index<W: Write>(
     alloc: Global,
@@ -129,7 +128,7 @@ fn push_path(alloc: Global, html: &mut Html, path: &[u8]) -> Result<(), AllocErr
     html.own(PATH_COUNTS)
 }
 
-// Adds how many kinds of objects and how many objects there are among rows, if there are any.
+// Adds the numbers of kinds of objects and of objects among rows, if there are any.
 fn push_kinds(html: &mut Html, rows: &Section) -> Result<(), AllocError> {
     let kinds = count_among(Which::Codes, rows) as u64;
     if kinds == 0 {
@@ -146,7 +145,7 @@ fn push_kinds(html: &mut Html, rows: &Section) -> Result<(), AllocError> {
     html.plural(objects)
 }
 
-/// The beginning of a collection with this number: its name and its counts. The only error is out of memory.
+/// The beginning of the section of the collection with this number: its name and its counts. The only error is out of memory.
 pub fn heading(alloc: Global, number: u64, rows: &Section) -> Result<Html, AllocError> {
     let [patterns, resolved, unresolved, refused] = counts_in(rows);
     let mut html = Html::new(alloc);

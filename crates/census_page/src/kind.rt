@@ -9,7 +9,7 @@ use crate::own::{
 use crate::speed::{Way, push_speed};
 use std::alloc::AllocError;
 
-/// What an object is, by the first two letters of its code.
+/// The kind of an object, by the first two letters of its code.
 #[derive(Clone, Copy, PartialEq, Eq)]
 pub enum Kind {
     /// `xs`: it stays as it is.
@@ -22,7 +22,7 @@ pub enum Kind {
     Other,
 }
 
-/// What the object with a code is.
+/// The kind of the object with a code.
 pub fn kind_of(code: &[u8]) -> Kind {
     if code.starts_with(b"xs") {
         Kind::StillLife
@@ -35,7 +35,7 @@ pub fn kind_of(code: &[u8]) -> Kind {
     }
 }
 
-/// The number of the text with which the row of such an object goes on: its class.
+/// The number of the template's text after the beginning of the row of such an object: the class of the row.
 pub fn row_of(kind: Kind) -> usize {
     match kind {
         Kind::StillLife => STILL_LIFE_ROW,
@@ -45,7 +45,7 @@ pub fn row_of(kind: Kind) -> usize {
     }
 }
 
-// How many of the first bytes are digits.
+// The number of digits at the start of a text.
 fn count_digits(text: &[u8]) -> usize
     ensures { result ≤ length text.now }
 {
@@ -65,8 +65,8 @@ fn code_number(code: &[u8]) -> &[u8] {
     }
 }
 
-/// The period that a code states, in decimal: the number of an oscillator or a spaceship, and 1 for a still life. Other
-/// codes state none: the result is empty.
+/// The period that a code states, in decimal: the number of an oscillator or a spaceship, and 1 for a still life. It is empty
+/// for other codes.
 pub fn period_told(code: &[u8]) -> &[u8] {
     match kind_of(code) {
         Kind::StillLife => b"1",
@@ -100,7 +100,8 @@ fn push_ship(html: &mut Html, way: &Option<Way>, number: &[u8]) -> Result<(), Al
     push_numbered(html, PERIOD, number)
 }
 
-/// Appends what the object with a code is, in words, and its speed if that is known. The only error is out of memory.
+/// Appends the description of the object with a code, in words, with its speed if that is known. The only error is out of
+/// memory.
 pub fn push_object_words(
     html: &mut Html,
     code: &[u8],

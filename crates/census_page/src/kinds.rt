@@ -1,4 +1,4 @@
-//! How many kinds of objects there are.
+//! The number of kinds of objects.
 use crate::chosen::is_code;
 use crate::sorting::{code_in, rule_in};
 use census_rows::{Row, Rows};
@@ -37,7 +37,8 @@ fn told_codes(alloc: Global, rows: &Rows) -> Result<Vec<usize>, AllocError> {
     Ok(numbers)
 }
 
-/// How many codes all rows report. One that several rows report under a rule counts as one. The only error is out of memory.
+/// The number of kinds that all rows report. A code that several rows report under one rule is one kind. The only error is out
+/// of memory.
 pub fn count_kinds(alloc: Global, rows: &Rows) -> Result<u64, AllocError> {
     let mut numbers = told_codes(alloc, rows)?;
     numbers.sort_unstable_by(|one, other| compared(rows, *one, *other));

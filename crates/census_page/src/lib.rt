@@ -1,6 +1,6 @@
 //! One self-contained HTML page of a report.
 //!
-//! `own` has each text that pages have from the program; all else is escaped by `html`. Tested in `tests_reports`.
+//! `own` has each text of pages that comes from the program; all else is escaped by `html`. Tested in `tests_reports`.
 #![tactic(auto)]
 
 mod called;

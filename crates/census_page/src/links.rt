@@ -1,4 +1,4 @@
-//! Names and codes, as links if these are asked for.
+//! Names and codes, as links if the options ask for them.
 use crate::html::Html;
 use crate::own::{
     CATALOGUE, CODE, DETAILS_END, ITEM_END, LINK, LINK_END, LINK_TEXT, LONG_CODE, LONG_CODE_CUT,
@@ -14,10 +14,10 @@ const SHOWN: usize = 60;
 // A code of up to `LINKED` bytes is a link, if codes are links.
 const LINKED: usize = 100;
 
-// Of a longer code, the first `BEGINNING` bytes are shown at first.
+// Of a longer code, only the first `BEGINNING` bytes are shown until the reader asks for more.
 const BEGINNING: usize = 24;
 
-// Whether a byte stands for itself in an address.
+// True where a byte needs no encoding in an address.
 fn is_plain(byte: u8) -> bool {
     byte.is_ascii_alphanumeric()
         || (byte == b'-' || (byte == b'.' || (byte == b'_' || byte == b'~')))
@@ -40,7 +40,7 @@ fn push_step(html: &mut Html, bytes: &[u8]) -> Result<(), AllocError> {
     Ok(())
 }
 
-// Adds bytes as a path, whose slashes stay.
+// Adds bytes as a path, whose slashes are kept.
 fn push_path(html: &mut Html, bytes: &[u8]) -> Result<(), AllocError> {
     for byte in bytes {
         if *byte == b'/' {
@@ -52,7 +52,7 @@ fn push_path(html: &mut Html, bytes: &[u8]) -> Result<(), AllocError> {
     Ok(())
 }
 
-// Adds a rule in small letters and without slashes, as `b3s23`.
+// Adds a rule in lowercase and without slashes, such as `b3s23`.
 fn push_rule(html: &mut Html, rule: &[u8]) -> Result<(), AllocError> {
     for byte in rule {
         if *byte != b'/' {
@@ -62,8 +62,8 @@ fn push_rule(html: &mut Html, rule: &[u8]) -> Result<(), AllocError> {
     Ok(())
 }
 
-/// Appends a name as an element of its own, as a link if names are links. What is not UTF-8 becomes U+FFFD in the text,
-/// and stays as it is in the link. The only error is out of memory.
+/// Appends a name as an element of its own, as a link if names are links. Bytes that are not UTF-8 become U+FFFD in the text,
+/// and are percent-encoded in the link. The only error is out of memory.
 pub fn push_name(
     alloc: Global,
     html: &mut Html,
@@ -83,7 +83,7 @@ pub fn push_name(
     html.own(LINK_END)
 }
 
-// Adds a code, as a link to its page under a rule if codes are links and it is not too long.
+// Adds a code, as a link to its page under a rule if codes are `linked` and it is not too long.
 fn push_code_text(
     alloc: Global,
     html: &mut Html,
@@ -103,7 +103,7 @@ fn push_code_text(
     html.own(LINK_END)
 }
 
-// Adds all of a code.
+// Adds a whole code.
 fn push_whole(
     alloc: Global,
     html: &mut Html,
@@ -116,8 +116,8 @@ fn push_whole(
     html.own(WHOLE_CODE_END)
 }
 
-/// Appends a code. One with more than 60 bytes is cut to its first 24, and shown whole on request. If codes are links,
-/// one with at most 100 bytes leads to its page under this rule. The only error is out of memory.
+/// Appends a code. One with more than 60 bytes is cut to its first 24, and shown whole on request. If codes are `linked`, one
+/// with at most 100 bytes is a link to its page under this rule. The only error is out of memory.
 pub fn push_code(
     alloc: Global,
     html: &mut Html,
@@ -135,7 +135,7 @@ pub fn push_code(
     html.own(DETAILS_END)
 }
 
-/// Appends a code and how many objects have it, as the rest of an item. The only error is out of memory.
+/// Appends a code and the number of objects that have it, as the rest of an item. The only error is out of memory.
 pub fn push_counted(
     alloc: Global,
     html: &mut Html,

@@ -19,7 +19,8 @@ use watched::{Block, Output};
 // The number of patterns of a list that are shown at first, where all are shown.
 const SHOWN: usize = 3;
 
-// Adds what a pattern has to do with a code: the cells and the onset of one that recurs, or how many of its parts have the code.
+// Adds the relation of a pattern to a code: the number of cells and the onset of one that recurs, or the number of its parts
+// that have the code.
 fn push_share(html: &mut Html, share: Share) -> Result<(), AllocError> {
     match share {
         Share::Whole {
@@ -72,7 +73,7 @@ fn put_items<W: Write>(
     Ok(())
 }
 
-// The text before the items that are shown when they are asked for.
+// The text before the items that are shown on request.
 fn more_front(alloc: Global, count: usize) -> Result<Html, AllocError> {
     let mut html = Html::new(alloc);
     html.own(MORE)?;
@@ -81,7 +82,7 @@ fn more_front(alloc: Global, count: usize) -> Result<Html, AllocError> {
     Ok(html)
 }
 
-// Writes the items that are shown when they are asked for.
+// Writes the items that are shown on request.
 fn put_more<W: Write>(
     alloc: Global,
     view: &View,
@@ -102,7 +103,7 @@ fn put_more<W: Write>(
     Ok(())
 }
 
-// How many others there are, as a text, or nothing if there are none.
+// The number of other patterns, as a text, or nothing if there are none.
 fn others(alloc: Global, count: usize) -> Result<Html, AllocError> {
     let mut html = Html::new(alloc);
     if count != 0 {
@@ -115,7 +116,7 @@ fn others(alloc: Global, count: usize) -> Result<Html, AllocError> {
     Ok(html)
 }
 
-// Writes the first pattern, and how many others there are.
+// Writes the first pattern, and the number of others.
 fn put_first<W: Write>(
     alloc: Global,
     view: &View,
@@ -134,7 +135,7 @@ fn put_first<W: Write>(
     Ok(())
 }
 
-// Writes the first three patterns, and the others to be shown when they are asked for.
+// Writes the first three patterns, and the others to be shown on request.
 fn put_all<W: Write>(
     alloc: Global,
     view: &View,
@@ -151,8 +152,8 @@ fn put_all<W: Write>(
     put_more(alloc, view, holders.rows, more, block, writer)
 }
 
-/// Writes a list of patterns: the first three, and the others to be shown when they are asked for. Where not all patterns are
-/// shown, the first, and how many others there are. If memory runs out, a prefix has been written.
+/// Writes a list of patterns: the first three, and the others to be shown on request. Where not all patterns are shown, it
+/// writes the first, and the number of others. If memory runs out, a prefix has been written.
 pub fn put_list<W: Write>(
     alloc: Global,
     view: &View,

@@ -1,4 +1,4 @@
-//! How long patterns live.
+//! The lifespans of patterns.
 use crate::holders::row_or_end;
 use crate::html::Html;
 use crate::links::push_name;
@@ -11,7 +11,7 @@ use crate::view::View;
 use census_rows::{Finding, Outcome, Row, Section};
 use std::alloc::{AllocError, Global};
 
-// A collection with fewer patterns that become something has no picture.
+// A collection with fewer patterns that recur or fall apart has no picture.
 const MANY: usize = 100;
 
 // The picture has at most `BARS` bars, in rows of `HEIGHT` pixels. The longest is `LENGTH` pixels long.
@@ -21,17 +21,17 @@ const HEIGHT: u64 = 16;
 
 const LENGTH: u64 = 140;
 
-// So many of the patterns that live longest are listed.
+// The number of the patterns with the longest lives that are listed.
 const LISTED: usize = 10;
 
-// A pattern that becomes something: from which generation on it is that, and the number of its row.
+// A pattern that recurs or falls apart: the generation from which it does, and the number of its row.
 #[derive(Clone, Copy)]
 struct Life {
     onset: u64,
     row: usize,
 }
 
-// From which generation on the pattern of a row recurs or has fallen apart, if it does.
+// The generation from which the pattern of a row recurs or has fallen apart, if it does.
 fn onset_in(row: &Row) -> Option<u64> {
     match row {
         Row::Line {
@@ -46,7 +46,7 @@ fn onset_in(row: &Row) -> Option<u64> {
     }
 }
 
-// The patterns that become something, the longest lives first.
+// The patterns that recur or fall apart, the longest lives first.
 fn lives_of(alloc: Global, rows: &Section) -> Result<Vec<Life>, AllocError> {
     let mut lives = Vec::new(alloc);
     for index in 0..rows.len() {
@@ -58,7 +58,8 @@ fn lives_of(alloc: Global, rows: &Section) -> Result<Vec<Life>, AllocError> {
     Ok(lives)
 }
 
-// How many generations a bar stands for, where no life is longer than this: 1, 2 or 5, or that many tens, hundreds and so on.
+// The number of generations that a bar covers, where no life is longer than `longest`: 1, 2 or 5, or a multiple of one of these
+// by a power of ten.
 fn bar_span(longest: u64) -> u64 {
     let mut unit: u64 = 1;
     for _ in 0..20 {
@@ -73,7 +74,7 @@ fn bar_span(longest: u64) -> u64 {
     u64::MAX
 }
 
-// How many lives are of the length that the bar with this number stands for.
+// The number of lives with a length in the span of the bar with this number.
 fn count_in_bar(lives: &[Life], span: u64, bar: u64) -> u64 {
     let span = span.max(1);
     let mut count: u64 = 0;
@@ -85,7 +86,7 @@ fn count_in_bar(lives: &[Life], span: u64, bar: u64) -> u64 {
     count
 }
 
-// The largest number of lives in a bar.
+// The largest number of lives in a bar, or 1 if all bars are empty.
 fn largest_count(lives: &[Life], span: u64) -> u64 {
     let mut largest = 1;
     for bar in 0..BARS {
@@ -94,7 +95,7 @@ fn largest_count(lives: &[Life], span: u64) -> u64 {
     largest
 }
 
-// Adds which lives a bar stands for: a number of generations, or the first and the last.
+// Adds the lengths of the lives in a bar: a number of generations, or the first and the last.
 fn push_span(html: &mut Html, span: u64, bar: u64) -> Result<(), AllocError> {
     let first = span.saturating_mul(bar);
     html.grouped(first)?;
@@ -105,7 +106,7 @@ fn push_span(html: &mut Html, span: u64, bar: u64) -> Result<(), AllocError> {
     html.grouped(first.saturating_add(span - 1))
 }
 
-// Adds a bar: which lives it stands for, a box, and how many they are.
+// Adds a bar: the lengths of its lives, a box, and the number of these lives.
 fn push_bar(
     html: &mut Html,
     span: u64,
@@ -133,7 +134,7 @@ fn push_bar(
     html.own(BAR_END)
 }
 
-// Adds a picture of how many patterns live how long.
+// Adds a histogram of the lifespans of patterns.
 fn push_chart(html: &mut Html, lives: &[Life]) -> Result<(), AllocError> {
     let longest = match lives {
         [first, ..] => first.onset,
@@ -153,7 +154,7 @@ fn push_chart(html: &mut Html, lives: &[Life]) -> Result<(), AllocError> {
     Ok(())
 }
 
-// Twice the median of lives that are in order.
+// Twice the median of sorted lives.
 fn twice_median(lives: &[Life]) -> u64 {
     let half = lives.len() / 2;
     let other = lives.len().saturating_sub(1) / 2;
@@ -163,7 +164,7 @@ fn twice_median(lives: &[Life]) -> u64 {
     }
 }
 
-// Adds the number of patterns, and the median of their lives.
+// Adds the number of patterns, and the median of their lifespans.
 fn push_median(html: &mut Html, lives: &[Life]) -> Result<(), AllocError> {
     let twice = twice_median(lives);
     html.own(LIVES_OF)?;
@@ -196,8 +197,8 @@ fn push_life(
     }
 }
 
-/// How long the patterns of a collection live, if a hundred or more recur or fall apart: a picture of how many live how long, the
-/// median, and the ten that live longest. Otherwise it is empty. The only error is out of memory.
+/// The lifespans of the patterns of a collection, if a hundred or more recur or fall apart: a histogram, the median, and the
+/// ten patterns with the longest. Otherwise it is empty. The only error is out of memory.
 pub fn lives(alloc: Global, view: &View, rows: &Section) -> Result<Html, AllocError> {
     let lives = lives_of(alloc, rows)?;
     let lives = lives.as_slice();

@@ -1,8 +1,8 @@
-//! What a page is asked to have.
+//! The options of a page.
 ghost use Rattle.std.specs.Prelude.{◌≡◌};
 ghost use Rattle.census_page.specs.Options.{default_options, options_of};
 
-/// The order of the rows of a table of codes. Rows that are level in it are as in the report.
+/// The order of the rows of a table of codes. Rows that are equal in it are as in the report.
 #[derive(Clone, Copy, Debug, PartialEq, Eq)]
 pub enum Sort {
     /// As in the report.
@@ -11,8 +11,8 @@ pub enum Sort {
     Count,
     /// By rising count: the rarest first.
     Rare,
-    /// By the length of codes, then by their bytes, and then by those of rules: as codes that occur equally often are in a
-    /// table of codes.
+    /// By the length of codes, then by their bytes, and then by those of rules. A table of codes has codes with equal counts in
+    /// this order.
     Code,
     /// By falling period, as given by codes: the number after `xp` and `xq`, and 1 for `xs`. Codes that give none come last.
     Period,
@@ -20,7 +20,7 @@ pub enum Sort {
     Name,
 }
 
-/// What a page is asked to have. Its texts may have any bytes.
+/// The options of a page. Its texts may have any bytes.
 #[derive(Clone, Copy, Debug, PartialEq, Eq)]
 pub struct PageOptions<'a> {
     /// Its title and first heading.
@@ -29,20 +29,21 @@ pub struct PageOptions<'a> {
     pub note: &'a [u8],
     /// The order of the rows in each collection's table of codes.
     pub sort: Sort,
-    /// The greatest number of rows in this table; they are the first ones in that order. With none, the table has all rows.
+    /// The greatest number of rows in this table, which are the first ones in that order. If it is `None`, the table has all
+    /// rows.
     pub top: Option<u64>,
-    /// The beginning of the addresses of patterns, if names are links. An address is this, the path of the collection, a
-    /// slash, and the name. This is written as it is, and it is up to the caller that it begins with `http://` or
-    /// `https://`. With none, names are no links.
+    /// The beginning of the addresses of patterns, if names are links. An address is this, the path of the collection, a slash,
+    /// and the name. This is written as it is; the caller must ensure that it begins with `http://` or `https://`. If it is
+    /// `None`, names are not links.
     pub base: Option<&'a [u8]>,
-    /// Whether codes of at most 100 letters are links to their pages at Catagolue.
+    /// True where codes of at most 100 bytes are links to their pages at Catagolue.
     pub links: bool,
-    /// Whether all patterns are shown: each that has a code, behind this, and each that does not recur, in a table of its own.
-    /// Otherwise only the first that has a code is, and those that are unresolved.
+    /// True where all patterns are shown: each that has a code, after the code, and each that does not recur, in a table for
+    /// these. Otherwise only the first pattern that has a code is shown, and those that are unresolved.
     pub patterns: bool,
 }
 
-/// The page by default: the title `Census`, no note, everything in reports in its order, and no links that leave the page.
+/// The default options: the title `Census`, no note, everything in reports in its order, and no links that leave the page.
 pub fn default_options() -> PageOptions<'static>
     ensures { options_of result ≡ default_options }
 {

@@ -1,16 +1,16 @@
-//! The template: each text that pages have from the program, by its number.
+//! The template: each text of pages that comes from the program, by its number.
 ghost use Rattle.std.specs.Prelude.{◌≡◌, [], map, slice_index_or};
 ghost use Rattle.census_page.specs.Pages.{own_text};
 
-/// What each row of a table of codes or patterns begins with.
+/// The beginning of each row of a table of codes or patterns.
 pub const ROW: &[u8] = b"<tr class=\"";
 
-/// What the name of a code begins and ends with.
+/// The tags around the name of a code.
 pub const BOLD: &[u8] = b"<b>";
 
 pub const BOLD_END: &[u8] = b"</b>, ";
 
-/// The texts. All that a page has besides these, what its rows begin with and what is around the names of codes is escaped.
+/// The texts. All that a page has besides these, the beginnings of rows and the tags around the names of codes is escaped.
 const OWN: &[&[u8]] = &[
     // The frame.
     b"<!DOCTYPE html>
@@ -233,7 +233,7 @@ h2,section>p{break-after:avoid}
     b": too large to draw</i>",
     b"<details class=\"rle\"><summary>RLE</summary><pre>",
     b"</pre></details>",
-    // What objects are.
+    // Descriptions of objects.
     b"nothing: all cells die",
     b"still life of ",
     b"oscillator of period ",
@@ -247,7 +247,7 @@ h2,section>p{break-after:avoid}
     b"(",
     b", ",
     b")c",
-    // What becomes of patterns.
+    // Fates of patterns.
     b" object",
     b" from generation ",
     b" on",
@@ -267,7 +267,7 @@ h2,section>p{break-after:avoid}
     b" emit",
     b" leave",
     b"</div><ul>",
-    // Kinds of objects, and life spans.
+    // Kinds of objects, and lifespans.
     b"</dd></div><div><dt>Kinds of objects</dt><dd>",
     b"</dd></div><div><dt>Objects</dt><dd>",
     b"</h2>\n<p>",

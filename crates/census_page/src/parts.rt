@@ -5,10 +5,10 @@ use crate::own::{AND, ITEM, LIST, LIST_END, OTHER, SMALL_END};
 use census_rows::{Row, Section};
 use std::alloc::{AllocError, Global};
 
-// At most `TOLD` codes of a pattern's parts are listed.
+// The greatest number of codes of a pattern's parts that are listed.
 const TOLD: usize = 100;
 
-// Adds the item of a row that lists parts.
+// Adds the item of a row that reports parts.
 fn push_part(
     alloc: Global,
     html: &mut Html,
@@ -25,7 +25,7 @@ fn push_part(
     }
 }
 
-// Adds that there are `number` more, unless there are none.
+// Adds the words for `number` more, unless it is 0.
 fn push_others(html: &mut Html, number: u64) -> Result<(), AllocError> {
     if number == 0 {
         return Ok(());
@@ -37,8 +37,8 @@ fn push_others(html: &mut Html, number: u64) -> Result<(), AllocError> {
     html.own(SMALL_END)
 }
 
-/// Appends a list of the codes of a pattern's parts, which these rows list: the first hundred, and how many more there
-/// are. Without rows nothing is appended. The only error is out of memory.
+/// Appends a list of the codes of a pattern's parts, which these rows report: the first hundred, and the number of the others.
+/// Without rows nothing is appended. The only error is out of memory.
 pub fn push_parts(
     alloc: Global,
     html: &mut Html,

@@ -12,7 +12,7 @@ use std::alloc::{AllocError, Global};
 // The largest width and height, in cells, of a shape that has a picture.
 const SIDE_LIMIT: u32 = 200;
 
-/// The shape that the body of a code spells, if it is a Wechsler text. The only error is out of memory.
+/// The shape that the body of a code describes, if it is a Wechsler text. The only error is out of memory.
 pub fn spelled(alloc: Global, code: &[u8]) -> Result<Option<Shape>, AllocError> {
     match read_wechsler(alloc, body_of(code)) {
         Ok(shape) => Ok(Some(shape)),
@@ -21,7 +21,7 @@ pub fn spelled(alloc: Global, code: &[u8]) -> Result<Option<Shape>, AllocError> 
     }
 }
 
-// How many pixels wide or high this many cells are, if the longer side has `side` cells.
+// The width or height of this many cells, in pixels, if the longer side has `side` cells.
 fn pixels(cells: u32, side: u32) -> u64 {
     let cells = u64::from(cells);
     if side <= 16 {
@@ -43,7 +43,8 @@ fn push_box(html: &mut Html, width: u32, height: u32) -> Result<(), AllocError> 
     html.own(CELLS)
 }
 
-// Adds the beginning of a picture: its size in pixels, and in cells. Only cells that are large enough have lines between them.
+// Adds the beginning of a picture: its size in pixels and in cells. There are lines between cells only if these are large
+// enough.
 fn push_canvas(html: &mut Html, width: u32, height: u32) -> Result<(), AllocError> {
     let side = width.max(height);
     html.own(SVG)?;
@@ -63,7 +64,7 @@ fn push_canvas(html: &mut Html, width: u32, height: u32) -> Result<(), AllocErro
     html.own(SVG_PATH)
 }
 
-// Whether a shape has cells, and is at most `SIDE_LIMIT` cells wide and high.
+// True where a shape has cells, and is at most `SIDE_LIMIT` cells wide and high.
 fn has_picture(shape: &Shape) -> bool {
     shape.width() != 0 && (shape.width() <= SIDE_LIMIT && shape.height() <= SIDE_LIMIT)
 }
@@ -78,9 +79,9 @@ fn push_size(html: &mut Html, width: u32, height: u32) -> Result<(), AllocError>
     html.own(TOO_LARGE_END)
 }
 
-/// Appends a picture of a shape, in SVG, with a stroke for each run of cells that stand side by side: that of the cell
-/// (x, y) begins at (x, y), and y grows downwards. A shape that is wider or higher than `SIDE_LIMIT` is described in
-/// words instead, and nothing is appended if there is no shape. The only error is out of memory.
+/// Appends a picture of a shape, in SVG, with a stroke for each run of cells side by side: that of the cell (x, y) begins at
+/// (x, y), and y grows downwards. A shape that is wider or higher than `SIDE_LIMIT` is described in words instead, and nothing
+/// is appended if there is no shape. The only error is out of memory.
 pub fn push_picture(html: &mut Html, shape: &Option<Shape>) -> Result<(), AllocError> {
     let Some(shape) = shape else {
         return Ok(());
@@ -101,7 +102,7 @@ pub fn push_cell_count(html: &mut Html, shape: &Option<Shape>) -> Result<(), All
     }
 }
 
-// Adds the RLE text of a shape under a rule, shown on request.
+// Adds the RLE text of a shape under a rule, to be shown on request.
 fn push_written(
     alloc: Global,
     html: &mut Html,

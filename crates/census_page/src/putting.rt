@@ -27,8 +27,8 @@ pub fn put_own<W: Write>(number: usize, block: &mut Block, writer: &mut Output<W
     put(text_of(number), block, writer);
 }
 
-/// Writes the beginning of a row about a report's row: what each begins with, then HTML, and then the name of the code, if it
-/// has one. If memory runs out, nothing is written.
+/// Writes the beginning of a row about a row of the report: the text that all rows begin with, then HTML, and then the name of
+/// the code, if it has one. If memory runs out, nothing is written.
 pub fn put_row<W: Write>(
     alloc: Global,
     names: Option<&Names>,

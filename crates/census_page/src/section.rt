@@ -1,4 +1,4 @@
-//! A collection.
+//! The section of a collection.
 ghost use Rattle.std.specs.Prelude.{map};
 ghost use Rattle.std.specs.List.{flat_map};
 ghost use Rattle.std.specs.Option.{option_copied};
@@ -23,7 +23,7 @@ use std::alloc::{AllocError, Global};
 use std::io::Write;
 use watched::{Block, Output};
 
-// How many codes a table leaves out, as a text, or nothing if it has all.
+// The number of codes that a table leaves out, as a text, or nothing if it leaves out none.
 fn left_out(alloc: Global, count: usize) -> Result<Html, AllocError> {
     let mut html = Html::new(alloc);
     if count != 0 {
@@ -36,7 +36,7 @@ fn left_out(alloc: Global, count: usize) -> Result<Html, AllocError> {
     Ok(html)
 }
 
-// Writes the table of these of a collection's codes, if there are any.
+// Writes the table of a collection's codes in the rows with these numbers, if there are any.
 fn put_chosen<W: Write>(
     alloc: Global,
     view: &View,
@@ -57,7 +57,7 @@ fn put_chosen<W: Write>(
     Ok(())
 }
 
-// Writes the table of a collection's codes, if any are asked for, and how many are left out.
+// Writes the table of a collection's codes, if the options allow any, and the number of those left out.
 fn put_code_table<W: Write>(
     alloc: Global,
     view: &View,
@@ -119,7 +119,7 @@ fn put_stray_table<W: Write>(
     put_stray_list(alloc, view, rows, block, writer)
 }
 
-// Writes what a collection begins with: its name and its counts, and how long its patterns live, if they are many.
+// Writes the beginning of a collection: its name, its counts, and the lifespans of its patterns, if they are many.
 fn put_heading<W: Write>(
     alloc: Global,
     view: &View,
@@ -137,8 +137,8 @@ fn put_heading<W: Write>(
     Ok(())
 }
 
-/// Writes a collection with its number in the page, and with the names of its codes, if there are any. No text is made for a writer
-/// that has failed. If memory runs out, a prefix has been written.
+/// Writes the collection with this number in the page, with the names of its codes, if there are any. No text is made for a
+/// writer that has failed. If memory runs out, a prefix has been written.
 pub fn put_section<W: Write>(
     alloc: Global,
     options: &PageOptions,

@@ -10,7 +10,7 @@ use census_rows::{Row, Section};
 use std::alloc::AllocError;
 use std::cmp::Ordering;
 
-/// How often the code of a row occurs.
+/// The count of a row's code, or 0 if the row has none.
 pub fn count_in(row: &Row) -> u64
     ensures { result ≡ count_in row.now }
 {
@@ -49,7 +49,7 @@ fn shorter(one: &[u8], other: &[u8]) -> Ordering {
     one.len().cmp(&other.len()).then(one.cmp(other))
 }
 
-// Which of two rows comes first.
+// The order of two rows.
 fn compared(sort: Sort, holders: &Holders, one: &Row, other: &Row) -> Ordering {
     match sort {
         Sort::Report | Sort::Rare => Ordering::Equal,
@@ -60,15 +60,14 @@ fn compared(sort: Sort, holders: &Holders, one: &Row, other: &Row) -> Ordering {
     }
 }
 
-// How often the code of the row with this number occurs.
+// The count of the code of the row with this number.
 fn count_at(rows: &Section, number: usize) -> u64
     ensures { result ≡ count_in (row_at rows.now number) }
 {
     count_in(&row_or_end(rows, number))
 }
 
-// Puts the numbers of rows in the order of how often their codes occur, the rarest first. Rows that are level in it keep their
-// order.
+// Sorts the numbers of rows by the counts of their codes, the rarest first. Rows with equal counts keep their order.
 fn sort_rare(rows: &Section, numbers: &mut Vec<usize>) -> Result<(), AllocError>
     ensures permutation { IsPermutation numbers.old.items numbers.new.items }
     ensures ordered { OnOk result (IsNonDecreasingBy count_in (map (row_at rows.now) numbers.new.items)) }
@@ -77,7 +76,7 @@ fn sort_rare(rows: &Section, numbers: &mut Vec<usize>) -> Result<(), AllocError>
     Ok(())
 }
 
-// Puts the numbers of rows in another order.
+// Sorts the numbers of rows in another order.
 fn sort_otherwise(sort: Sort, holders: &Holders, numbers: &mut Vec<usize>) -> Result<(), AllocError>
     ensures { IsPermutation numbers.old.items numbers.new.items }
 {
@@ -92,7 +91,7 @@ fn sort_otherwise(sort: Sort, holders: &Holders, numbers: &mut Vec<usize>) -> Re
     })
 }
 
-/// Puts the numbers of rows in an order of the rows, where these patterns have their codes. Rows that are level in it keep
+/// Sorts the numbers of rows in an order of the rows, where these patterns have their codes. Rows that are equal in it keep
 /// their order. The only error is out of memory.
 pub fn sort_rows(sort: Sort, holders: &Holders, numbers: &mut Vec<usize>) -> Result<(), AllocError>
     ensures permutation { IsPermutation numbers.old.items numbers.new.items }

@@ -1,9 +1,9 @@
-//! How fast spaceships are, in words.
+//! The speeds of spaceships, in words.
 use crate::html::Html;
 use crate::own::{C, DIAGONAL, ORTHOGONAL, PAIR, PAIR_NEXT, PAIR_SPEED, SLASH};
 use std::alloc::AllocError;
 
-/// How far an object moves to the right and down in a period.
+/// The motion of an object: how far it moves to the right and down in a period.
 #[derive(Clone, Copy)]
 pub struct Way {
     pub period: u64,
@@ -68,8 +68,7 @@ fn push_words(html: &mut Html, far: u64, near: u64, period: u64) -> Result<(), A
     push_oblique(html, far, near, period)
 }
 
-/// Appends a speed in lowest terms, as c/4 diagonal, 2c/5 orthogonal or (2, 1)c/6. The only error is
-/// out of memory.
+/// Appends a speed in lowest terms, such as c/4 diagonal, 2c/5 orthogonal or (2, 1)c/6. The only error is out of memory.
 pub fn push_speed(html: &mut Html, way: &Way) -> Result<(), AllocError> {
     let across = way.dx.unsigned_abs();
     let down = way.dy.unsigned_abs();

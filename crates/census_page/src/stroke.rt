@@ -3,7 +3,7 @@ use crate::html::Html;
 use crate::own::{MOVE, SPACE, STROKE};
 use std::alloc::AllocError;
 
-// Cells of a row that stand side by side.
+// Cells side by side in a row.
 #[derive(Clone, Copy)]
 struct Run {
     first: (i32, i32),
@@ -11,7 +11,7 @@ struct Run {
     count: u64,
 }
 
-// Whether a cell is the next one after another in its row.
+// True where a cell is the next one after another in its row.
 fn follows(last: (i32, i32), cell: (i32, i32)) -> bool {
     match last.0.checked_add(1) {
         Some(next) => cell.0 == next && cell.1 == last.1,
@@ -29,7 +29,7 @@ fn push_stroke(html: &mut Html, run: &Run) -> Result<(), AllocError> {
     html.number(run.count)
 }
 
-// The run extended by the next cell, or that cell as a new run, after the stroke of the old run was added.
+// The run extended by the next cell, or that cell as a new run, once the stroke of the old run has been added.
 fn next_run(html: &mut Html, run: Run, cell: (i32, i32)) -> Result<Run, AllocError> {
     if follows(run.last, cell) {
         return Ok(Run {
@@ -46,7 +46,7 @@ fn next_run(html: &mut Html, run: Run, cell: (i32, i32)) -> Result<Run, AllocErr
     })
 }
 
-/// Appends a stroke for each run of cells that stand side by side in a row. The only error is out of memory.
+/// Appends a stroke for each run of cells side by side in a row. The only error is out of memory.
 pub fn push_strokes(html: &mut Html, cells: &[(i32, i32)]) -> Result<(), AllocError> {
     let [first, others @ ..] = cells else {
         return Ok(());

@@ -1,21 +1,22 @@
-//! How many rows there are of each kind.
+//! The numbers of rows of each kind.
 use crate::fate::has_row;
 use crate::kind::{Kind, kind_of};
 use crate::sorting::count_in;
 use census_rows::{Class, Row, Rows, Section};
 
-/// Which rows are counted.
+/// The rows that are counted.
 #[derive(Clone, Copy)]
 pub enum Which {
-    /// The rows for which the page has a row, where patterns are asked for or not.
+    /// The rows for which the page has a row, where all patterns are shown or not.
     Shown(bool),
     /// The rows that report codes of this kind.
     Of(Kind),
-    /// The rows for which the page has a row of no such kind, where patterns are asked for or not.
+    /// The rows for which the page has a row, except those of still lifes, oscillators and spaceships, where all patterns are
+    /// shown or not.
     Others(bool),
     /// The rows that report codes.
     Codes,
-    /// The rows that report patterns that have a row of their own, where these are asked for or not.
+    /// The rows that report patterns with a row of their own, where all patterns are shown or not.
     Strays(bool),
     /// The rows that report patterns.
     Patterns,
@@ -23,7 +24,7 @@ pub enum Which {
     Are(Class),
 }
 
-// Whether two classes are one.
+// True where two classes are equal.
 fn is_class(one: Class, other: Class) -> bool {
     match (one, other) {
         (Class::Resolved, Class::Resolved) => true,
@@ -33,7 +34,7 @@ fn is_class(one: Class, other: Class) -> bool {
     }
 }
 
-// Whether a row is one of these.
+// True where a row is one of these.
 fn counts(which: Which, row: &Row) -> bool {
     match row {
         Row::Code { code, .. } => match which {
@@ -54,7 +55,7 @@ fn counts(which: Which, row: &Row) -> bool {
     }
 }
 
-/// How many of these there are among all rows.
+/// The number of these among all rows.
 pub fn count_of(which: Which, rows: &Rows) -> u64 {
     let mut count = 0;
     for index in 0..rows.len() {
@@ -65,7 +66,7 @@ pub fn count_of(which: Which, rows: &Rows) -> u64 {
     count
 }
 
-/// How many of these there are among borrowed rows.
+/// The number of these among borrowed rows.
 pub fn count_among(which: Which, rows: &Section) -> usize {
     let mut count = 0;
     for index in 0..rows.len() {
@@ -76,7 +77,7 @@ pub fn count_among(which: Which, rows: &Section) -> usize {
     count
 }
 
-/// How many objects all rows report.
+/// The number of objects that all rows report, at most 2^64 - 1.
 pub fn objects_of(rows: &Rows) -> u64 {
     let mut objects: u64 = 0;
     for index in 0..rows.len() {
@@ -85,7 +86,7 @@ pub fn objects_of(rows: &Rows) -> u64 {
     objects
 }
 
-/// How many objects borrowed rows report.
+/// The number of objects that borrowed rows report, at most 2^64 - 1.
 pub fn objects_among(rows: &Section) -> u64 {
     let mut objects: u64 = 0;
     for index in 0..rows.len() {

@@ -1,7 +1,7 @@
-//! What the rows of a collection show besides what its report has.
+//! The settings for the rows of a collection, beside its report.
 use census_facts::Names;
 
-/// What the rows of a collection show besides what its report has.
+/// The settings for the rows of a collection, beside its report.
 #[derive(Clone, Copy)]
 pub struct View<'a> {
     /// The names of codes, if there are any.
@@ -10,9 +10,9 @@ pub struct View<'a> {
     pub base: Option<&'a [u8]>,
     /// The name of the collection.
     pub collection: &'a [u8],
-    /// Whether codes are links to their pages at Catagolue.
+    /// True where codes are links to their pages at Catagolue.
     pub catalogue: bool,
-    /// Whether all patterns are shown: each that has a code, and each that does not recur. Otherwise only the first that has a
-    /// code is, and those that are unresolved.
+    /// True where all patterns are shown: each that has a code, and each that does not recur. Otherwise only the first pattern
+    /// that has a code is shown, and those that are unresolved.
     pub patterns: bool,
 }

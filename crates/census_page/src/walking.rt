@@ -1,4 +1,4 @@
-//! How far a spaceship moves, found by its generations where no pattern tells it.
+//! The motion of a spaceship, found by its generations where no pattern shows it.
 use crate::holders::Holders;
 use crate::kind::{Kind, kind_of, period_told};
 use crate::sorting::{code_in, rule_in};
@@ -11,7 +11,7 @@ use std::alloc::{AllocError, Global};
 // A spaceship is followed where its cells, times its period, are at most this.
 const WORK_LIMIT: u64 = 20_000;
 
-// It is followed for as long as it has at most so many times the cells that it has at first.
+// It is followed as long as it has at most this many times the cells that it has at first.
 const GROWTH_LIMIT: u64 = 8;
 
 // The number that digits mean.
@@ -24,7 +24,7 @@ fn number_of(digits: &[u8]) -> u64 {
     number
 }
 
-// How far each of these cells is from the one at its place among others, if all are as far.
+// The displacement from each of these cells to the one at the same index among the later ones, if it is the same for all.
 fn move_between(cells: &[(i32, i32)], later: &[(i32, i32)]) -> Option<(i64, i64)> {
     let [first, ..] = cells else {
         return None;
@@ -47,7 +47,7 @@ fn move_between(cells: &[(i32, i32)], later: &[(i32, i32)]) -> Option<(i64, i64)
     Some((dx, dy))
 }
 
-// How far a shape moves in so many generations, if it is then the same shape.
+// The motion of a shape in this number of generations, if it is the same shape after them.
 fn followed(
     alloc: Global,
     rule: &Rule,
@@ -73,7 +73,7 @@ fn followed(
     }
 }
 
-// How far the spaceship of a code moves in the period that the code states, if that can be found at little expense.
+// The motion of the spaceship of a code in the period that the code states, if it can be found at little expense.
 fn walked(alloc: Global, row: &Row, shape: &Option<Shape>) -> Result<Option<Way>, AllocError> {
     let code = code_in(row);
     let Ok(rule) = Rule::parse(rule_in(row)) else {
@@ -87,8 +87,8 @@ fn walked(alloc: Global, row: &Row, shape: &Option<Shape>) -> Result<Option<Way>
     }
 }
 
-/// How far the object of a row's code moves: as far as the first of these patterns, which have the code, if that recurs, and
-/// otherwise as far as a spaceship of this shape does. The only error is out of memory.
+/// The motion of the object of a row's code: that of the first of these patterns, which have the code, if it recurs, and
+/// otherwise that of a spaceship of this shape. The only error is out of memory.
 pub fn way_of(
     alloc: Global,
     holders: &Holders,

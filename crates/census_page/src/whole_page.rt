@@ -1,4 +1,4 @@
-//! The page.
+//! The page as a whole.
 ghost use Rattle.watched.specs.Telling.{sheet};
 ghost use Rattle.census_readback.specs.Shapes.{AreReports};
 ghost use Rattle.std.specs.Option.{option_copied};
@@ -68,17 +68,17 @@ fn put_body<W: Write>(
     Ok(())
 }
 
-/// Writes a report, or several in sequence, as one HTML page in UTF-8 that stands alone: it has no script, and requests
-/// nothing. First come its title and note, the counts of all patterns and kinds of objects, a table of the collections with links
-/// to them, and a choice of what is shown. For each collection it has the name, the counts, how long its patterns live, if a
-/// hundred or more have become something, a table with a row for each `code` row, or for the number of rows asked for, in the
-/// order asked for, and a table of the patterns that do not recur, or if these are not asked for, of those that are unresolved.
-/// A code that has a name among the given ones has this in its row. The counts are those of all rows. No name, rule, code or
-/// option brings markup. If links are asked for, names and codes link to other places, and
-/// nothing is requested from these before a link is followed.
+/// Writes a report, or several in sequence, as one HTML page in UTF-8 that stands alone: it has no script and requests nothing.
+/// First come its title and note, the counts of all patterns and kinds of objects, a table of the collections with links to
+/// them, and a choice of the rows that are shown. For each collection it has the name, the counts, the lifespans of its
+/// patterns, if a hundred or more recur or have fallen apart, a table with a row for each `code` row, or for as many of them as
+/// the options allow, in the order of the options, and a table of the patterns that do not recur, or if not all patterns are
+/// shown, of those that are unresolved. A code with a name has this in its row. The counts are those of all rows. No name,
+/// rule, code or option adds markup. Names and codes may be links to other places, from which nothing is requested before a
+/// link is followed.
 ///
-/// The text of one row is in memory at a time. If memory runs out, a prefix of the page has been written. To a writer that
-/// has failed nothing is written.
+/// Only the text of one row is in memory at a time. If memory runs out, a prefix of the page has been written. Nothing is
+/// written to a writer that has failed.
 pub fn put_page<W: Write>(
     alloc: Global,
     options: &PageOptions,
