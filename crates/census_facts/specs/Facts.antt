@@ -1,4 +1,4 @@
--- What is reported of a pattern.
+-- Facts about a pattern.
 use Rattle.std.specs.Prelude.{ℕ, ℤ, List, map}
 use Rattle.life_answer.specs.declared.part.Part.{Part}
 use Rattle.life_answer.specs.declared.tale.Engines.{Engines}
@@ -15,7 +15,7 @@ pub data Content : Type 0 where
   parts : List Part → Content
   engines : List Engines → Content
 
--- what is reported, and its name
+-- a name, and the content that is reported under it
 pub record Thing : Type 0 where
   pub name : List ℕ
   pub content : Content

@@ -11,7 +11,7 @@ abbrev pub things_text : Form → List Entry → List Thing → List ℕ
 things_text Lines names things = things_lines names things
 things_text Json names things = object_line names things
 
--- what separates one text from the next: an LF, or nothing
+-- the separator between one text and the next: an LF, or nothing
 abbrev pub separator : Form → List ℕ
 separator Lines = 10 ∷ []
 separator Json = []

@@ -31,18 +31,18 @@ abbrev pub name_values : Option (List ℕ) → List (List ℕ)
 name_values None = []
 name_values (Some name) = name ∷ []
 
--- `part`, the code of an object, how many parts are that object, and its name, if it has one
+-- `part`, the code of an object, the number of parts with this code, and its name, if it has one
 abbrev pub part_line : List Entry → Part → Line
 part_line names part = line (codes "part") (part.code ∷ decimal part.count ∷ name_values (name_in names part.code))
 
--- `engine`, the number of these engines, their period and displacement, and how many they are
+-- `engine`, the number of the line, the period and the displacement of these engines, and their count
 abbrev pub engine_line : ℕ → Engines → Line
 engine_line e engines =
     line (codes "engine")
     (decimal e ∷ decimal engines.tale.period ∷ signed_decimal engines.tale.dx ∷ signed_decimal engines.tale.dy ∷ decimal engines.count ∷ [])
 
--- `emits`, the number of engines, the code of an object, how often each of them emits it in a period, and its name, if
--- it has one
+-- `emits`, the number of the engines' line, the code of an object, the number of such objects that each of them emits in a
+-- period, and the object's name, if it has one
 abbrev pub emits_line : List Entry → ℕ → Part → Line
 emits_line names e part =
     line (codes "emits") (decimal e ∷ part.code ∷ decimal part.count ∷ name_values (name_in names part.code))
@@ -53,8 +53,7 @@ engines_lines names e [] = []
 engines_lines names e (engines ∷ lines) =
     (engine_line e engines ∷ map (emits_line names e) engines.tale.emits) ++ engines_lines names (suc e) lines
 
--- the lines of what is reported under a name: of parts a `part` line for each code, and of engines how many they are,
--- and their lines
+-- the lines of the content under a name: for parts, a `part` line for each code; for engines, their number and their lines
 abbrev pub content_lines : List Entry → List ℕ → Content → List Line
 content_lines names name (told.number n) = line name (decimal n ∷ []) ∷ []
 content_lines names name (told.size width height) = line name (decimal width ∷ decimal height ∷ []) ∷ []

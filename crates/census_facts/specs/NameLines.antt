@@ -13,15 +13,15 @@ is_tab byte = byte == 9
 abbrev pub content : List ℕ → List ℕ
 content line = if ends_with nat_eq line (codes "\r") then take (length line - 1) line else line
 
--- nothing, or a comment
+-- true where a line is empty or a comment
 abbrev pub is_passed_over : List ℕ → Bool
 is_passed_over line = is_empty line || starts_with nat_eq line (codes "#")
 
--- what comes before the first tab, and what comes after it
+-- the entry of the parts of a line before and after its first tab
 abbrev pub entry_on : List ℕ → Entry
 entry_on line = entry (before_first is_tab line) (after_first is_tab line)
 
--- the entries with what a line says: none if it has an empty code or name, or repeats a code
+-- the entries with that of a line; none if the line has an empty code or name, or repeats a code
 abbrev pub with_line : List Entry → List ℕ → Option (List Entry)
 with_line entries line = if is_passed_over line then Some entries else with_entry entries (entry_on line)
 

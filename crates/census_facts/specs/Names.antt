@@ -10,7 +10,7 @@ pub record Entry : Type 0 where
 abbrev pub entry : List ℕ → List ℕ → Entry
 entry code name = record { code = code; name = name }
 
--- an entry of this code
+-- true for an entry of this code
 abbrev pub is_of : List ℕ → Entry → Bool
 is_of code entry = pointwise nat_eq code entry.code
 
@@ -22,14 +22,14 @@ abbrev pub is_empty : List ℕ → Bool
 is_empty [] = true
 is_empty (byte ∷ bytes) = false
 
--- it has a code and a name
+-- true where an entry has a code and a name that are not empty
 abbrev pub is_whole : Entry → Bool
 is_whole entry = not (is_empty entry.code) && not (is_empty entry.name)
 
--- it is whole, and no other entry has its code
+-- true where an entry is whole, and no other has its code
 abbrev pub may_add : List Entry → Entry → Bool
 may_add entries entry = is_whole entry && is_none (name_in entries entry.code)
 
--- with one more entry
+-- the entries with one more, if it may be added
 abbrev pub with_entry : List Entry → Entry → Option (List Entry)
 with_entry entries entry = if may_add entries entry then Some (entries ++ entry ∷ []) else None

@@ -1,4 +1,4 @@
--- What is kept of names.
+-- The entries of names, as they are kept.
 use Rattle.std.specs.Prelude.{ℕ, Vec}
 use Rattle.std.specs.Global.{Global}
 use Rattle.census_facts.specs.Names.{Entry, entry}

@@ -11,7 +11,7 @@ use Rattle.census_facts.specs.Names.{Entry, name_in}
 use Rattle.census_facts.specs.Facts.{Content, Thing}
 use Rattle.census_facts.specs.Facts as told
 
--- `part.count` parts that are an object, and its name, if it has one
+-- `part.count` parts with one code, and its name, if it has one
 abbrev pub part_data : List Entry → Part → Data
 part_data names part = counted_data part.code part.count (name_in names part.code)
 
@@ -31,7 +31,7 @@ content_data names (told.text bytes) = string (utf8_lossy bytes)
 content_data names (told.parts list) = array (items_of (map (part_data names) list))
 content_data names (told.engines list) = array (items_of (map (kind_data names) list))
 
--- a member for each of these things, in addition to members that are there
+-- these members, and a member for each of these things
 abbrev pub with_things : List Entry → List Thing → Members → Members
 with_things names [] members = members
 with_things names (thing ∷ things) members = with_things names things (put thing.name (content_data names thing.content) members)

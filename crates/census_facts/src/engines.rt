@@ -7,7 +7,7 @@ use crate::names::Names;
 use life_answer::{Engines, Part};
 use std::alloc::AllocError;
 
-// The line of engines with the same description.
+// Adds the line of engines with the same description.
 #[tactic(auto, unfolding(crate::specs::Lines::line))]
 fn push_engine(text: &mut Vec<u8>, number: u64, engines: &Engines) -> Result<(), AllocError>
     ensures { OnOk result (text.new.items ≡ text.old.items ++ engine_line number engines.now) }
@@ -21,7 +21,7 @@ fn push_engine(text: &mut Vec<u8>, number: u64, engines: &Engines) -> Result<(),
     Ok(())
 }
 
-// The line of one object that an engine emits.
+// Adds the line of one object that an engine emits.
 #[tactic(auto, unfolding(crate::specs::Lines::line))]
 fn push_emitted(
     text: &mut Vec<u8>,
@@ -41,7 +41,7 @@ fn push_emitted(
     Ok(())
 }
 
-// The lines of all that an engine emits.
+// Adds the lines of all objects that an engine emits.
 fn push_emits(
     text: &mut Vec<u8>,
     names: &Names,

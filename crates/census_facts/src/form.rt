@@ -9,7 +9,7 @@ use crate::names::Names;
 use crate::values::push_object;
 use std::alloc::{AllocError, Global};
 
-/// How facts are reported.
+/// A form in which facts are reported.
 #[derive(Clone, Copy, Debug, PartialEq, Eq)]
 pub enum Form {
     /// One or more lines for each.
@@ -19,7 +19,7 @@ pub enum Form {
 }
 
 impl Form {
-    /// What separates the report of a pattern from that of the next: an empty line, or nothing.
+    /// The separator between the report of a pattern and the next: an empty line, or nothing.
     pub fn separator(self) -> &'static [u8]
         ensures { result.now ≡ separator self }
     {

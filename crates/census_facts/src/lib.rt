@@ -1,5 +1,5 @@
 //! Facts about a pattern, one after another, as lines or as one JSON object, and names of codes, read from a text. `json` has
-//! JSON on lines of its own. `VERSION` is the program's.
+//! JSON on lines of its own. `VERSION` is the program's version.
 //!
 //! Tested in `tests_objects`.
 #![tactic(auto)]

@@ -12,7 +12,7 @@ use itoa::{Buffer, Integer};
 use life_answer::Part;
 use std::alloc::AllocError;
 
-// A blank and these bytes.
+// Adds a blank and these bytes.
 pub(crate) fn push_field(text: &mut Vec<u8>, field: &[u8]) -> Result<(), AllocError>
     ensures { OnOk result (text.new.items ≡ text.old.items ++ 32 ∷ field.now) }
 {
@@ -21,7 +21,7 @@ pub(crate) fn push_field(text: &mut Vec<u8>, field: &[u8]) -> Result<(), AllocEr
     Ok(())
 }
 
-// A blank and a number.
+// Adds a blank and a number.
 pub(crate) fn push_number<I: Integer>(text: &mut Vec<u8>, number: I) -> Result<(), AllocError>
     ensures { OnOk result (text.new.items ≡ text.old.items ++ 32 ∷ I.text number) }
 {
@@ -29,7 +29,7 @@ pub(crate) fn push_number<I: Integer>(text: &mut Vec<u8>, number: I) -> Result<(
     push_field(text, buffer.format(number).as_bytes())
 }
 
-// The line of a name and a number.
+// Adds the line of a name and a number.
 #[tactic(auto, unfolding(crate::specs::Lines::line))]
 fn push_one<I: Integer>(text: &mut Vec<u8>, name: &[u8], number: I) -> Result<(), AllocError>
     ensures { OnOk result (text.new.items ≡ text.old.items ++ line name.now (I.text number ∷ [])) }
@@ -40,7 +40,7 @@ fn push_one<I: Integer>(text: &mut Vec<u8>, name: &[u8], number: I) -> Result<()
     Ok(())
 }
 
-// The line of a name, a width and a height.
+// Adds the line of a name, a width and a height.
 #[tactic(auto, unfolding(crate::specs::Lines::line))]
 fn push_size(text: &mut Vec<u8>, name: &[u8], width: u32, height: u32) -> Result<(), AllocError>
     ensures { OnOk result (text.new.items ≡ text.old.items
@@ -53,7 +53,7 @@ fn push_size(text: &mut Vec<u8>, name: &[u8], width: u32, height: u32) -> Result
     Ok(())
 }
 
-// The line of a name and bytes.
+// Adds the line of a name and bytes.
 #[tactic(auto, unfolding(crate::specs::Lines::line))]
 fn push_bytes(text: &mut Vec<u8>, name: &[u8], bytes: &[u8]) -> Result<(), AllocError>
     ensures { OnOk result (text.new.items ≡ text.old.items ++ line name.now (bytes.now ∷ [])) }
@@ -64,7 +64,7 @@ fn push_bytes(text: &mut Vec<u8>, name: &[u8], bytes: &[u8]) -> Result<(), Alloc
     Ok(())
 }
 
-// How far a pattern has moved: a blank and a number, twice.
+// Adds a displacement: a blank and a number, twice.
 pub(crate) fn push_moves(text: &mut Vec<u8>, dx: &i32, dy: &i32) -> Result<(), AllocError>
     ensures { OnOk result
         (text.new.items ≡
@@ -74,7 +74,7 @@ pub(crate) fn push_moves(text: &mut Vec<u8>, dx: &i32, dy: &i32) -> Result<(), A
     push_number(text, *dy)
 }
 
-// The line of a name and a displacement.
+// Adds the line of a name and a displacement.
 #[tactic(auto, unfolding(crate::specs::Lines::line))]
 fn push_displacement(text: &mut Vec<u8>, name: &[u8], dx: &i32, dy: &i32) -> Result<(), AllocError>
     ensures { OnOk result (text.new.items ≡ text.old.items
@@ -86,7 +86,7 @@ fn push_displacement(text: &mut Vec<u8>, name: &[u8], dx: &i32, dy: &i32) -> Res
     Ok(())
 }
 
-// A blank and the name of the object of this code, if it has one.
+// Adds a blank and the name of the object with this code, if it has one.
 pub(crate) fn push_name(text: &mut Vec<u8>, names: &Names, code: &[u8]) -> Result<(), AllocError>
     ensures { OnOk result (text.new.items
         ≡ text.old.items ++ fields_text (name_values (name_in names.now code.now))) }
@@ -97,7 +97,7 @@ pub(crate) fn push_name(text: &mut Vec<u8>, names: &Names, code: &[u8]) -> Resul
     }
 }
 
-// The line of the parts that are one object.
+// Adds the line of the parts that have one code.
 #[tactic(auto, unfolding(crate::specs::Lines::line))]
 fn push_part(text: &mut Vec<u8>, names: &Names, part: &Part) -> Result<(), AllocError>
     ensures { OnOk result (text.new.items ≡ text.old.items ++ part_line names.now part.now) }
@@ -110,7 +110,7 @@ fn push_part(text: &mut Vec<u8>, names: &Names, part: &Part) -> Result<(), Alloc
     Ok(())
 }
 
-// The lines of all parts.
+// Adds the lines of all parts.
 fn push_parts(text: &mut Vec<u8>, names: &Names, parts: &[Part]) -> Result<(), AllocError>
     ensures { OnOk result
         (text.new.items ≡ text.old.items ++ text_of (map (part_line names.now) parts.now)) }
@@ -121,7 +121,7 @@ fn push_parts(text: &mut Vec<u8>, names: &Names, parts: &[Part]) -> Result<(), A
     Ok(())
 }
 
-// The lines of a fact.
+// Adds the lines of a fact.
 fn push_fact(text: &mut Vec<u8>, names: &Names, fact: &Fact) -> Result<(), AllocError>
     ensures { OnOk result (text.new.items ≡ text.old.items
         ++ text_of (content_lines names.now (thing_of fact.now).name (thing_of fact.now).content)) }

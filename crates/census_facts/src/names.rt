@@ -59,15 +59,15 @@ impl Names {
         }
     }
 
-    // Whether a code and a name are not empty, and no entry has the code.
+    // True where a code and a name are not empty, and no entry has the code.
     fn may_add(&self, code: &[u8], name: &[u8]) -> bool
         ensures { result ≡ may_add self.now (entry code.now name.now) }
     {
         !code.is_empty() && !name.is_empty() && self.name_of(code).is_none()
     }
 
-    /// Adds a code with its name. Returns whether neither is empty and no entry has the code; otherwise nothing is
-    /// added. The only error is out of memory.
+    /// Adds a code with its name. Returns true if neither is empty and no entry has the code; otherwise nothing is added. The
+    /// only error is out of memory.
     pub fn add(&mut self, alloc: Global, code: &[u8], name: &[u8]) -> Result<bool, AllocError>
         ensures { IfOk result (λ added. with_entry self.old (entry code.now name.now)
             ≡ (if added then Some self.new else None)) }

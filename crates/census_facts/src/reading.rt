@@ -9,7 +9,7 @@ use crate::names::Names;
 use memchr::memchr;
 use std::alloc::{AllocError, Global};
 
-// The line before the first LF, and what comes after that byte.
+// The line before the first LF, and the text after that byte, if there is one.
 fn split_line(text: &[u8]) -> (&[u8], Option<&[u8]>)
     ensures parts { slice_split is_line_feed text.now
         ≡ result.0.now ∷ option_map_or (λ rest. slice_split is_line_feed rest.now) result.1 [] }
@@ -31,14 +31,14 @@ fn content(line: &[u8]) -> &[u8]
     line
 }
 
-// Whether a line is empty or a comment.
+// True where a line is empty or a comment.
 fn is_passed_over(line: &[u8]) -> bool
     ensures { result ≡ is_passed_over line.now }
 {
     line.is_empty() || line.starts_with(b"#")
 }
 
-// What comes before the first tab of a line, and what comes after it.
+// The parts of a line before and after its first tab. Without a tab, the second part is empty.
 fn split_entry(line: &[u8]) -> (&[u8], &[u8])
     ensures code { result.0.now ≡ before_first is_tab line.now }
     ensures name { result.1.now ≡ after_first is_tab line.now }
@@ -49,7 +49,7 @@ fn split_entry(line: &[u8]) -> (&[u8], &[u8])
     }
 }
 
-// Adds what a line says. Returns whether the line is passed over, or names a code that had no name.
+// Adds the name that a line gives to a code. Returns true if the line is passed over, or its name was added.
 fn take_line(names: &mut Names, alloc: Global, line: &[u8]) -> Result<bool, AllocError>
     ensures { IfOk result (λ goes_on. with_line names.old line.now
         ≡ (if goes_on then Some names.new else None)) }

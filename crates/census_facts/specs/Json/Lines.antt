@@ -9,7 +9,7 @@ use Rattle.serde_json.specs.Written.{compact_text}
 abbrev pub replaced : List ℕ → List ℕ → List ℕ → List ℕ
 replaced old new bytes = replaced_at bytes (length old) new 0 (matches bytes old 0)
 
--- JSON in which what other programs may take for a line end, U+0085, U+2028 and U+2029, is written as an escape
+-- JSON in which the characters that other programs may take for line ends, U+0085, U+2028 and U+2029, are written as escapes
 abbrev pub with_line_ends_escaped : List ℕ → List ℕ
 with_line_ends_escaped json =
     replaced (226 ∷ 128 ∷ 169 ∷ []) (codes "\\u2029")

@@ -5,7 +5,7 @@ use Rattle.serde_json.specs.Data.{Data, Members, array, item, no_items, no_membe
 use Rattle.serde_json.specs.Find.{of_integer}
 use Rattle.serde_json.specs.View.{items_of}
 
--- with the member of a text, if there is one; what is not UTF-8 in it becomes U+FFFD
+-- members with that of a text, if there is one; bytes of it that are not UTF-8 become U+FFFD
 abbrev pub with_text : List ℕ → Option (List ℕ) → Members → Members
 with_text name None members = members
 with_text name (Some text) members = put name (string (utf8_lossy text)) members
@@ -16,12 +16,12 @@ counted_data code count name =
     object (with_text (codes "name") name
     (put (codes "count") (number (unsigned count)) (put (codes "code") (string (utf8_lossy code)) no_members)))
 
--- how far to the right and down
+-- a displacement: the number of cells to the right, and the number of cells down
 abbrev pub displacement_data : ℤ → ℤ → Data
 displacement_data dx dy = array (item (number (of_integer dx)) (item (number (of_integer dy)) no_items))
 
--- engines with the same description: their period, how far each moves to the right and down in a period, how many
--- they are, and what each emits in a period
+-- engines with the same description: their period, the displacement of each in a period, their number, and the objects that
+-- each emits in a period
 abbrev pub engines_data : ℕ → ℤ → ℤ → ℕ → List Data → Data
 engines_data period dx dy count emits =
     object (put (codes "period") (number (unsigned period)) (put (codes "emits") (array (items_of emits))

@@ -41,7 +41,7 @@ pub fn counted_value(
     Ok(Value::Object(members))
 }
 
-/// The list of how many cells something moves to the right and down.
+/// The list of a displacement: the number of cells to the right, and the number of cells down.
 pub fn displacement_value(alloc: Global, dx: i64, dy: i64) -> Result<Value, AllocError>
     ensures { IfOk result (λ value. view value ≡ displacement_data dx dy) }
 {
@@ -51,8 +51,8 @@ pub fn displacement_value(alloc: Global, dx: i64, dy: i64) -> Result<Value, Allo
     Ok(Value::Array(numbers))
 }
 
-/// The object of engines with the same description: their period in generations, how many cells each moves to the
-/// right and down in a period, how many they are, and what each emits in a period.
+/// The object of engines with the same description: their period in generations, the displacement of each in a period, their
+/// number, and the objects that each emits in a period.
 pub fn engines_value(
     alloc: Global,
     period: u64,
