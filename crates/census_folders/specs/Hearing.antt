@@ -1,4 +1,4 @@
--- What is got of a file, or of standard input.
+-- The content of a file, or of standard input.
 use Rattle.std.specs.Prelude.{◌≡◌, ℕ, ◌≤◌, Bool, true, false, List, [], ◌∷◌, length, codes, Result, Ok, Err, None, Vec, alloc_error, IfSome, MatchBool}
 use Rattle.std.specs.declared.alloc.AllocError.{AllocError}
 use Rattle.std.specs.Global.{Global}
@@ -14,18 +14,18 @@ use Rattle.watched.specs.Streams.{Reader}
 use Rattle.census_folders.specs.declared.heard.Heard.{Heard}
 use Rattle.census_folders.specs.declared.heard.Heard.TheVariants.{Text, TooLong, Unread}
 
--- the word stands for standard input
+-- true where an argument means standard input
 abbrev pub is_input : List ℕ → Bool
 is_input word = bytes_eq word (codes "-")
 
--- what is heard, by what a reading answers
+-- the content, by the result of a reading
 abbrev pub heard_of : Result (Vec ℕ Global) ReadFault → Result Heard AllocError
 heard_of (Ok bytes) = Ok (Text bytes.items)
 heard_of (Err reads.TooLong) = Ok TooLong
 heard_of (Err reads.Read) = Ok (Unread None)
 heard_of (Err reads.Memory) = Err alloc_error
 
--- what may be got of a file of which this is told
+-- the content that a file may have under this promise
 abbrev pub HearsFile : Told → Heard → Type 0
 HearsFile told (Text bytes) = GivesTold told bytes × (length bytes ≤ input_limit)
 HearsFile told TooLong = MayExceed input_limit told
@@ -44,18 +44,19 @@ pub record ReadsTooMuch (before after : Reader) : Type 0 where
   pub consumed : ConsumesMoreThan input_limit before.unread after.unread
   pub sound : after.failed ≡ false
 
--- what is got of standard input: it is unread where it has failed
+-- the content of standard input: it is unread where it has failed
 abbrev pub HearsInput : Heard → Reader → Reader → Type 0
 HearsInput (Text bytes) before after = ReadsText bytes before after
 HearsInput TooLong before after = ReadsTooMuch before after
 HearsInput (Unread word) before after = (word ≡ None) × (after.failed ≡ true)
 
--- What is got of a word, where this is told of files by their paths. Nothing is read from standard input for a file.
+-- The content that an argument names, under these promises about files by their paths. Nothing is read from standard input for
+-- a file.
 abbrev pub Hears : (List ℕ → Told) → List ℕ → Heard → Reader → Reader → Type 0
 Hears held word heard before after =
     MatchBool (is_input word) (HearsInput heard before after) (HearsFile (held word) heard × (after ≡ before))
 
--- without a word standard input alone
+-- the arguments, or standard input alone where there are none
 abbrev pub words_or_input : List (List ℕ) → List (List ℕ)
 words_or_input [] = codes "-" ∷ []
 words_or_input (word ∷ words) = word ∷ words

@@ -1,4 +1,4 @@
--- Paths of what is in a folder.
+-- Paths of files and folders in a folder.
 use Rattle.std.specs.Prelude.{ℕ, Bool, List, ◌++◌, length, nat_eq, nat_le, codes, if◌then◌else◌}
 use Rattle.std.specs.List.{ends_with, filter, slice_split}
 use Rattle.census_folders.specs.Listings.{is_end}
@@ -7,10 +7,10 @@ use Rattle.census_folders.specs.Listings.{is_end}
 abbrev pub path_of : List ℕ → List ℕ → List ℕ
 path_of folder name = (if ends_with nat_eq folder (codes "/") then folder else folder ++ codes "/") ++ name
 
--- a list has something
+-- true where a list is not empty
 abbrev pub is_any : {A : Type 0} → List A → Bool
 is_any xs = nat_le 1 (length xs)
 
--- the names that a byte 0 ends, without the empty ones
+-- the names separated by a byte 0, without the empty ones
 abbrev pub names_in : List ℕ → List (List ℕ)
 names_in inner = filter is_any (slice_split is_end inner)

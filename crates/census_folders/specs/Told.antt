@@ -1,4 +1,4 @@
--- What a shelf says of what a folder lists or of what a file holds, and what a reading returns by it.
+-- The promises of a shelf about the names in a folder or the content of a file, and the results of reading under them.
 use Rattle.std.specs.Prelude.{◌≡◌, ℕ, ℤ, ◌<◌, false, List, length, Option, None, IfNone}
 use Rattle.watched.specs.declared.reading.ReadFault.{ReadFault}
 use Rattle.watched.specs.declared.reading.ReadFault.TheVariants as reads
@@ -6,17 +6,17 @@ use Rattle.census_folders.specs.declared.unread.ShelfFault.{ShelfFault}
 use Rattle.census_folders.specs.declared.unread.ShelfFault.TheVariants as shelf
 use Rattle.census_folders.specs.declared.unread.Unread as unread
 
--- It says nothing, or that it can't be read and why, or its bytes. The bytes of a folder are its names, each ended by a byte 0.
+-- No promise, or the reason why it can't be read, or its bytes. The bytes of a folder are its names, each ended by a byte 0.
 pub data Told : Type 0 where
   Untold : Told
   Unreadable : (why : unread.Unread) → Told
   Holds : (bytes : List ℕ) → Told
 
--- the system says nothing of it
+-- the cause where the system gives none
 abbrev pub silent : unread.Unread
 silent = record { code = None; is_file = false }
 
--- Where an error has a number, what the system says of it, if there is memory for it; otherwise nothing.
+-- This is the system's message for an error that has a number, if there is memory for it; otherwise there is none.
 abbrev pub IsSystemWord : Option ℤ → Option (List ℕ) → Type 0
 IsSystemWord code word = IfNone code (word ≡ None)
 
@@ -26,7 +26,7 @@ shelf_fault_of reads.Read = shelf.Unread silent
 shelf_fault_of reads.TooLong = shelf.TooLong
 shelf_fault_of reads.Memory = shelf.Memory
 
--- a reading that returns these bytes returns what the shelf says
+-- a reading that returns these bytes returns what the shelf promises
 abbrev pub GivesTold : Told → List ℕ → Type 0
 GivesTold Untold bytes = Unit {0}
 GivesTold (Unreadable why) bytes = ⊥
@@ -44,13 +44,13 @@ MayExceed limit Untold = Unit {0}
 MayExceed limit (Unreadable why) = ⊥
 MayExceed limit (Holds bytes) = limit < length bytes
 
--- why a file of at most `limit` bytes is not read
+-- the reasons why a file of at most `limit` bytes is not read
 abbrev pub RefusesFile : ℕ → Told → ShelfFault → Type 0
 RefusesFile limit told (shelf.Unread why) = MayFail told why
 RefusesFile limit told shelf.TooLong = MayExceed limit told
 RefusesFile limit told shelf.Memory = Unit {0}
 
--- why a folder is not listed
+-- the reasons why a folder is not listed
 abbrev pub RefusesList : Told → ShelfFault → Type 0
 RefusesList told (shelf.Unread why) = MayFail told why
 RefusesList told shelf.TooLong = ⊥

@@ -1,6 +1,7 @@
 //! The disk as a shelf.
 //!
-//! Tested in `checks/disk`: names that are not UTF-8, what may not be read, what changes meanwhile, and signals.
+//! Tested in `checks/disk`: names that are not UTF-8, files and folders without permission to read, changes in the meantime,
+//! and signals.
 ghost use Rattle.std.specs.Prelude.{◌≡◌, ◌↔◌, ◌<◌, ◌≤◌, length, vec_len, Err, IfErr, IfOk, IfSome, IsErr, IsTrue, MatchResult, OnErr};
 ghost use Rattle.std.specs.Fs.{IsFile, file_type};
 ghost use Rattle.std.specs.Path.{path_buf_bytes, path_join};
@@ -17,13 +18,13 @@ use std::rt::Files;
 use std::{fs, io};
 use watched::{Input, read_all};
 
-/// The number of times that the system is asked again where a signal interrupts it.
+/// The number of retries of a system call that a signal interrupts.
 const TRIES: u32 = 1_000;
 
-/// The number of the system's error where a folder is read as a file.
+/// The number of the system's error for reading a folder as a file.
 const IS_FOLDER: i32 = 21;
 
-// The system's answer, where it is asked again if a signal interrupts it.
+// The result of a system call, which is retried if a signal interrupts it.
 fn answered<T: Drop, F: Fn() -> io::Result<T>>(ask: F) -> io::Result<T>
     requires { F.IsAlwaysCallable ask }
 {
@@ -49,7 +50,7 @@ fn fault_of(error: io::Error) -> ShelfFault
     }
 }
 
-// The bytes of what was opened, up to its end, of which there may be at most `limit`.
+// The bytes of an opened file, up to its end, of which there may be at most `limit`.
 fn read_opened<F: Read + Drop>(
     alloc: Global,
     opened: io::Result<F>,
@@ -69,7 +70,8 @@ fn read_opened<F: Read + Drop>(
     }
 }
 
-// All the bytes of what was opened. It is read by 8192 bytes or more at a time, since listing a folder needs room for a name.
+// All the bytes of an opened file or folder. It is read by 8192 bytes or more at a time, since listing a folder needs room for
+// a name.
 fn list_opened<F: Read + Drop>(alloc: Global, opened: io::Result<F>) -> io::Result<Vec<u8>>
     ensures whole { IfOk opened
         (λ file. IfOk result (λ bytes. IfSome (F.remaining file) (λ all. bytes.items ≡ all))) }
@@ -81,7 +83,7 @@ fn list_opened<F: Read + Drop>(alloc: Global, opened: io::Result<F>) -> io::Resu
     Ok(names)
 }
 
-// Whether what was found is a regular file.
+// True where the metadata is that of a regular file.
 fn is_regular(found: io::Result<Metadata>) -> Result<bool, ShelfFault>
     ensures found { IfOk found
         (λ metadata. MatchResult result (λ yes. IsTrue yes ↔ IsFile (file_type metadata))
@@ -95,7 +97,7 @@ fn is_regular(found: io::Result<Metadata>) -> Result<bool, ShelfFault>
     }
 }
 
-// The path of a name in a folder. The system's paths are UTF-8, so that a name that is not has none.
+// The path of a name in a folder. Paths are UTF-8 here, so a name that is not has none.
 fn path_in(alloc: Global, folder: &str, name: &[u8]) -> Result<PathBuf, ShelfFault>
     ensures path { IfOk result (λ path. path_buf_bytes path ≡ path_join folder.now name.now) }
     ensures fault { IfErr result (RefusesList Untold) }
@@ -106,19 +108,19 @@ fn path_in(alloc: Global, folder: &str, name: &[u8]) -> Result<PathBuf, ShelfFau
     Ok(Path::new(folder).join(alloc, name)?)
 }
 
-// Whether a name is empty, or that of the folder itself or of the one above it.
+// True where a name is empty, or that of the folder itself or of its parent.
 fn is_own(name: &[u8]) -> bool {
     name.is_empty() || name == b".".as_slice() || name == b"..".as_slice()
 }
 
-// Whether a name is taken for that of a folder where it can't be found out, so that the walk reports it as lost. A name that ends
-// in `.rle` is reported as lost when the folder with this name in it is read.
+// True where a name whose kind can't be determined is taken for that of a folder, so that the walk reports it as lost. A name
+// that ends in `.rle` is reported as lost when the folder with this name in it is read.
 fn is_taken_for_folder(name: &[u8]) -> bool {
     !name.ends_with(b".rle")
 }
 
-// Whether a name in a folder is that of a folder, or taken for one: a name that is not UTF-8 can't be asked for, and one may be
-// gone. A link is not a folder, whatever it leads to.
+// True where a name in a folder is that of a folder, or is taken for one: a name that is not UTF-8 can't be looked up, and
+// another may have been removed. A link is not a folder, whatever it leads to.
 fn is_folder<R: Files>(
     files: &R,
     alloc: Global,
@@ -138,7 +140,7 @@ fn is_folder<R: Files>(
     }
 }
 
-// A regular file that was opened. What has replaced it since it was checked is refused.
+// The opened file, if it is a regular one. Anything that has replaced it since it was checked is refused.
 fn regular_file<F: OpenFile + Drop>(opened: io::Result<F>) -> io::Result<F> {
     let file = opened?;
     if answered(|| file.metadata())?.is_file() {
@@ -148,7 +150,7 @@ fn regular_file<F: OpenFile + Drop>(opened: io::Result<F>) -> io::Result<F> {
     }
 }
 
-// What was opened by its name, unless it is a folder: the system says that only once it is read.
+// The opened file, unless it is a folder, which the system reports only once it is read.
 fn named_file<F: OpenFile + Drop>(opened: io::Result<F>) -> io::Result<F> {
     let file = opened?;
     if answered(|| file.metadata())?.is_dir() {
@@ -166,8 +168,8 @@ fn names_at<R: Files>(files: &R, alloc: Global, path: Path) -> io::Result<Vec<u8
     Ok(names)
 }
 
-// Why a folder of this path can't be listed, by the error. Where there is something else than a folder, the system says no more
-// of it; it may be a file.
+// The fault for a folder with this path that can't be listed, by the error. Where there is something other than a folder, the
+// fault has no number, and says whether it is a file.
 fn unlisted<R: Files>(files: &R, alloc: Global, folder: &str, error: io::Error) -> ShelfFault
     ensures { RefusesList Untold result }
 {
@@ -189,7 +191,7 @@ fn unlisted<R: Files>(files: &R, alloc: Global, folder: &str, error: io::Error) 
 
 impl<R: Files> Shelf for R {
     fn list(&self, alloc: Global, folder: &str) -> Result<Vec<u8>, ShelfFault> {
-        // A path that ends in a slash is that of a folder, also after a link.
+        // A path that ends in a slash is that of a folder, even through a link.
         let path = path_in(alloc, folder, b"")?;
         match names_at(self, alloc, path.as_path()) {
             Ok(names) => Ok(names),

@@ -1,18 +1,18 @@
-//! Why collections are not read.
+//! The reasons why collections are not read.
 
 use crate::loss::{Cause, Loss};
 use std::alloc::{AllocError, AllocFailed};
 
-/// Why collections are not read.
+/// The reasons why collections are not read.
 #[derive(Drop)]
 pub enum SourceFault {
     /// Reading ends at the first loss, and this is it.
     Lost(Loss),
-    /// Reading ends at the first loss, for this cause, and a growth was refused for its path.
+    /// Reading ends at the first loss, for this cause, and there was no memory for its path.
     Unnamed(Cause),
     /// There are 65,535 folders before one, or 65,535 files before one in its folder.
     TooMany,
-    /// A growth was refused.
+    /// Out of memory.
     Memory,
 }
 

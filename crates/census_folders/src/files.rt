@@ -16,7 +16,7 @@ use crate::unread::{ShelfFault, Unread};
 use census_bundle::AddFault;
 use std::alloc::Global;
 
-// The bytes of a file in a folder. What is not a regular file is not opened.
+// The bytes of a file in a folder. Only a regular file is opened.
 fn read_file<S: Shelf>(
     shelf: &S,
     alloc: Global,

@@ -1,4 +1,4 @@
-//! What is got of a file, or of standard input.
+//! The content of a file, or of standard input.
 ghost use Rattle.std.specs.Prelude.{◌≡◌, ◌+◌, ◌≤◌, [], map, IfErr, IfOk, vec_len};
 ghost use Rattle.watched.specs.Watching.{ConsumesAtMost};
 ghost use Rattle.census_folders.specs.Hearing.{Hears, HearsFile, HearsInput, heard_of, is_input, words_or_input};
@@ -12,7 +12,7 @@ use std::alloc::{AllocError, Global};
 use std::io::Read;
 use watched::{Input, ReadFault, read_all};
 
-/// What is got of a file, or of standard input.
+/// The content of a file, or of standard input.
 #[derive(Drop)]
 pub enum Heard {
     /// All its bytes.
@@ -21,12 +21,12 @@ pub enum Heard {
     TooLong,
     /// It can't be read.
     Unread {
-        /// What the system says of it, where that is known and there is memory for it.
+        /// The system's message, where it is known and there is memory for it.
         word: Option<Text>,
     },
 }
 
-// What is heard, by what a reading answers. Out of memory is nothing that is heard.
+// The content, by the result of a reading. Out of memory remains an error.
 fn heard_of(read: Result<Vec<u8>, ReadFault>) -> Result<Heard, AllocError>
     ensures { result ≡ heard_of read }
 {
@@ -38,7 +38,8 @@ fn heard_of(read: Result<Vec<u8>, ReadFault>) -> Result<Heard, AllocError>
     }
 }
 
-/// The bytes of what this path names, of which there may be at most 67,108,864. It may be whatever can be read.
+/// The bytes of the file with this path, of which there may be at most 67,108,864. It may be anything that can be read, such as
+/// a pipe.
 pub fn read_file<S: Shelf>(shelf: &S, alloc: Global, path: &[u8]) -> Result<Vec<u8>, ShelfFault>
     ensures within { IfOk result (λ bytes. vec_len bytes ≤ INPUT_LIMIT) }
     ensures told { IfOk result
@@ -71,25 +72,25 @@ fn hear_input<I: Read>(alloc: Global, input: &mut Input<I>) -> Result<Heard, All
     heard_of(read_all(alloc, input, INPUT_LIMIT))
 }
 
-/// Whether a word stands for standard input: `-` does. Every other word is the path of a file.
+/// True where an argument means standard input, as `-` does. Every other argument is the path of a file.
 pub fn is_input(word: &str) -> bool
     ensures { result ≡ is_input word.now }
 {
     word == "-"
 }
 
-/// These words, or standard input alone where there is no word.
+/// These arguments, or standard input alone where there are none.
 pub fn words_or_input<'a, 'b>(words: &'a [&'b str]) -> &'a [&'b str]
     ensures { map (λ s. s.now) result.now ≡ words_or_input (map (λ s. s.now) words.now) }
 {
     if words.is_empty() { &["-"] } else { words }
 }
 
-/// What is got of a word: of `-` what standard input has left, up to its end; of any other word the bytes of what this path
-/// names, which may be whatever can be read. `AllocError` is answered where a growth was refused.
+/// The content that an argument names: for `-`, the rest of standard input, up to its end; for any other argument, the bytes of
+/// the file with this path, which may be anything that can be read. `AllocError` is returned if memory runs out.
 ///
-/// Standard input may be read more than once, and gives what it then has left. What files hold is the shelf's word:
-/// each is looked for by its path alone, in the folder without a name. A disk tells nothing.
+/// Standard input may be read more than once, and each time gives the rest of it. The shelf may promise the content of files;
+/// each is looked up by its path alone, in the folder without a name. A disk promises nothing.
 pub fn hear<S: Shelf, I: Read>(
     shelf: &S,
     alloc: Global,

@@ -1,4 +1,4 @@
-//! The lines that hint at what may have been overlooked.
+//! The lines that hint at patterns that may have been overlooked.
 
 use crate::loss::{Losses, OnLoss};
 use crate::shelf::Shelf;
@@ -18,7 +18,7 @@ const PASSED: &[u8] = b"; names passed over that look like patterns: ";
 
 const ENDS: &[u8] = b"; the name of a pattern file must end in `.rle`";
 
-// Whether `@file ` or `@folder ` follows the first `!` of a text that isn't lost.
+// True where `@file ` or `@folder ` follows the first `!` of a text that isn't lost.
 fn may_hold_lines(entry: &Entry) -> bool {
     let text = entry.text.as_slice();
     let after: &[u8] = match memchr(b'!', text) {
@@ -45,7 +45,7 @@ fn push_stray(
     lines.push(&words)
 }
 
-// Whether a name looks like that of a pattern, and doesn't end in `.rle`.
+// True where a name looks like that of a pattern, and doesn't end in `.rle`.
 fn is_alike(name: &[u8]) -> bool {
     name.ends_with(b".RLE")
         || name.ends_with(b".rle.gz")
@@ -54,7 +54,7 @@ fn is_alike(name: &[u8]) -> bool {
         || name.ends_with(b".mc")
 }
 
-// How many such names a folder lists: none where it can't be listed.
+// The number of such names in a folder, or 0 if it can't be listed.
 fn passed_in<S: Shelf>(shelf: &S, alloc: Global, folder: &str) -> Result<usize, AllocError> {
     match shelf.list(alloc, folder) {
         Ok(listing) => {
@@ -66,7 +66,7 @@ fn passed_in<S: Shelf>(shelf: &S, alloc: Global, folder: &str) -> Result<usize, 
     }
 }
 
-// How many such names the folders of these words list, and where those below them are read too, all at and below them.
+// The number of such names in the folders with these paths, and in all folders below them if those are read too.
 fn passed_over<S: Shelf>(
     shelf: &S,
     alloc: Global,
@@ -94,7 +94,8 @@ fn passed_over<S: Shelf>(
     Ok(passed)
 }
 
-// Adds the line that says how many collections have no pattern and, of folders, how many names were passed over, if there are any.
+// Adds the line with the number of collections that have no pattern and, for folders, the number of names that were passed
+// over, if there are any.
 fn push_note(
     alloc: Global,
     lines: &mut Lines,
@@ -116,14 +117,15 @@ fn push_note(
     lines.push(&words)
 }
 
-/// Adds the lines that hint at what may have been overlooked in the collections of a bundle. There is one for each pattern in
-/// whose text `@file ` or `@folder ` follows the first `!`, as `COLLECTION/NAME: ` and a sentence, in the order of the bundle. If
-/// there are any, one more says how many collections have no pattern and how many names were passed over that look like
-/// patterns: those that end in `.RLE`, `.rle.gz`, `.cells`, `.lif` or `.mc`. A text that is lost is not looked at.
+/// Adds the lines that hint at patterns that may have been overlooked in the collections of a bundle. There is one for each
+/// pattern in whose text `@file ` or `@folder ` follows the first `!`, as `COLLECTION/NAME: ` and a sentence, in the order of
+/// the bundle. One more has the number of collections that have no pattern, and the number of names that were passed over
+/// although they look like patterns, which end in `.RLE`, `.rle.gz`, `.cells`, `.lif` or `.mc`; it is left out if there are
+/// none of either. A text that is lost is not examined.
 ///
-/// Only if the bundle was read from folders, whose source is given, is the shelf asked what these list, and are names
-/// reported that were passed over: those in the folders of its words, and if the folders below them were read too, those in
-/// each of these, whether it became a collection or not. A folder that can't be listed has none.
+/// Folders are listed, and names that were passed over reported, only if the bundle was read from folders, whose source is then
+/// given. The names are those in the folders of the source, and if the folders below them were read too, those in each of
+/// these, whether it became a collection or not. A folder that can't be listed has none.
 pub fn push_hints<S: Shelf>(
     shelf: &S,
     alloc: Global,

@@ -1,5 +1,5 @@
-//! Folders of pattern files, read into a bundle, hints at what may have been overlooked there, and what is got of one file or of
-//! standard input.
+//! Folders of pattern files, read into a bundle, hints at patterns that may have been overlooked there, and the content of one
+//! file or of standard input.
 //!
 //! Tested in `tests_program`.
 #![tactic(auto)]

@@ -7,14 +7,14 @@ ghost use Rattle.census_folders.specs.Listings.{IsChosen, is_end, is_pattern_nam
 use memchr::memchr;
 use std::alloc::{AllocError, Global};
 
-// Whether a name ends in `.rle`.
+// True where a name ends in `.rle`.
 fn is_pattern_name(name: &[u8]) -> bool
     ensures { result ≡ is_pattern_name name.now }
 {
     name.ends_with(b".rle")
 }
 
-// The name before the first byte 0, and what comes after that byte.
+// The name before the first byte 0, and the rest after that byte, if there is one.
 pub fn split_name(listing: &[u8]) -> (&[u8], Option<&[u8]>)
     ensures parts { slice_split is_end listing.now
         ≡ result.0.now ∷ option_map_or (λ rest. slice_split is_end rest.now) result.1 [] }
@@ -26,7 +26,7 @@ pub fn split_name(listing: &[u8]) -> (&[u8], Option<&[u8]>)
     }
 }
 
-// The names that end in `.rle`, of names that a byte 0 separates, in the order of their bytes.
+// The names that end in `.rle`, among names separated by a byte 0, in the order of their bytes.
 pub fn pattern_names(alloc: Global, listing: &[u8]) -> Result<Vec<Vec<u8>>, AllocError>
     ensures { IfOk result (λ names. IsChosen listing.now (map (λ name. name.items) names.items)) }
 {

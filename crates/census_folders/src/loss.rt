@@ -1,4 +1,4 @@
-//! What is lost while folders are read.
+//! The folders and files that are lost while folders are read.
 ghost use Rattle.std.specs.Prelude.{◌≡◌, IfOk, MatchResult, length, vec_len};
 ghost use Rattle.census_folders.specs.Losses.{Loses, StopsAt, last_place, lost_at};
 ghost use Rattle.census_folders.specs.Paths.{path_of};
@@ -9,37 +9,37 @@ use census_bundle::{Bundle, Text, Ticket};
 use std::alloc::{AllocError, Global};
 use std::marker::Model;
 
-/// Why something is lost.
+/// The cause of a loss.
 #[derive(Clone, Copy, Debug, PartialEq, Eq, Drop)]
 pub enum Cause {
     /// The name of a folder or of a file isn't lawful.
     BadName,
     /// A folder can't be listed, or a file can't be read.
     Unread(Unread),
-    /// A file has more bytes than it may have.
+    /// A file has more bytes than the limit.
     TooLong,
 }
 
-/// What reading does where something is lost.
+/// The reaction to a loss.
 #[derive(Clone, Copy, Debug, PartialEq, Eq, Drop)]
 pub enum OnLoss {
-    /// It ends there.
+    /// Reading ends there.
     Stop,
-    /// It continues.
+    /// Reading continues.
     Keep,
 }
 
 /// A folder that can't be listed, a file that can't be read, or a name that isn't lawful.
 #[derive(Drop)]
 pub struct Loss {
-    /// The word of a folder, or the path of a file: the folder's word, a slash where the word does not end in one, and the name.
+    /// The path of a folder, or that of a file: the folder's path, a slash where that does not end in one, and the name.
     pub path: Text,
     pub cause: Cause,
     /// The entry of a file that can't be read, which has no text.
     pub entry: Option<Ticket>,
 }
 
-/// What was lost, in order.
+/// The losses, in order.
 #[derive(Drop)]
 pub struct Losses {
     items: Vec<Loss>,
@@ -57,7 +57,7 @@ impl Model for Losses {
 impl Losses {
     ghost use Rattle.std.specs.Prelude.{◌≡◌, [], ◌∷◌, ◌++◌, OnOk};
 
-    /// Nothing was lost. It takes no memory.
+    /// No losses. It takes no memory.
     pub fn none(alloc: Global) -> Losses
         ensures { result ≡ [] }
     {
@@ -66,7 +66,7 @@ impl Losses {
         }
     }
 
-    // One more at the end.
+    // Adds one more at the end.
     pub(crate) fn add(
         &mut self,
         alloc: Global,
@@ -82,7 +82,7 @@ impl Losses {
         Ok(())
     }
 
-    /// What was lost, in order. It takes no memory.
+    /// The losses, in order. It takes no memory.
     pub fn as_slice(&self) -> &[Loss]
         ensures { result.now ≡ self.now }
     {
@@ -90,7 +90,7 @@ impl Losses {
     }
 }
 
-// The fault of reading that ends at the loss of what has this path. The path is kept where there is memory for it.
+// The fault of reading that ends at the loss of this path. The path is kept where there is memory for it.
 pub fn stop_at(alloc: Global, path: &[u8], cause: Cause) -> SourceFault
     ensures { StopsAt OnLoss.Stop (λ loss. loss ≡ lost_at path.now cause) ⊥ result }
 {
@@ -104,7 +104,7 @@ pub fn stop_at(alloc: Global, path: &[u8], cause: Cause) -> SourceFault
     }
 }
 
-// Loses what has this path: reading ends there, or it is one more loss.
+// Reports the loss of this path: reading ends there, or has one more loss.
 pub fn lose(
     alloc: Global,
     on_loss: OnLoss,
@@ -135,7 +135,7 @@ pub fn path_of(alloc: Global, folder: &str, name: &[u8]) -> Result<Vec<u8>, Allo
     Ok(path)
 }
 
-// Loses what has this name in a folder: reading ends there, or it is one more loss.
+// Reports the loss of this name in a folder: reading ends there, or has one more loss.
 pub fn lose_name(
     alloc: Global,
     on_loss: OnLoss,

@@ -13,12 +13,12 @@ use crate::unread::ShelfFault;
 use census_bundle::{AddFault, Bundle};
 use std::alloc::Global;
 
-/// Folders that were read, and what was lost.
+/// Folders that were read, and the losses.
 #[derive(Drop)]
 pub struct Kept {
     pub bundle: Bundle,
     pub lost: Losses,
-    /// How many bytes may still be read, where there is a limit.
+    /// The number of bytes that may still be read, where there is a limit.
     pub left: Option<u64>,
 }
 
@@ -55,7 +55,7 @@ fn fill_folder<S: Shelf>(
     Ok(())
 }
 
-// Adds the folder of a word with its pattern files.
+// Adds the folder with this path, with its pattern files.
 fn add_folder<S: Shelf>(
     shelf: &S,
     alloc: Global,
@@ -83,7 +83,7 @@ fn add_folder<S: Shelf>(
     }
 }
 
-// Reads the folders of these words into a bundle. `way` is what was lost on the way to them.
+// Reads the folders with these paths into a bundle. `way` has the losses on the way to them.
 pub fn read_folders<S: Shelf>(
     shelf: &S,
     alloc: Global,

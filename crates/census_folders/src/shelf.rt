@@ -1,4 +1,4 @@
-//! What folders are read from.
+//! The source that folders are read from.
 ghost use Rattle.std.specs.Prelude.{◌≡◌, ◌≤◌, ℕ, Bool, true, false, List, [], Ok, IfOk, IfErr, vec_len};
 ghost use Rattle.census_folders.specs.Tellings.{Tellings, tells_nothing};
 ghost use Rattle.census_folders.specs.Told.{GivesTold, MayFail, RefusesFile, RefusesList, silent};
@@ -6,15 +6,15 @@ ghost use Rattle.census_folders.specs.Told.{GivesTold, MayFail, RefusesFile, Ref
 use crate::unread::ShelfFault;
 use std::alloc::Global;
 
-/// A shelf of folders, each with files. It may say what is on it: the names in a folder, the bytes of a file in a folder, or that
-/// one can't be read. A disk says nothing.
+/// A shelf of folders, each with files. It may promise what is on it: the names in a folder, the bytes of a file in a folder,
+/// or that one of these can't be read. A disk promises nothing.
 pub trait Shelf {
-    // What it says: what the folder of a path lists, its names, each ended by a byte 0; which folders are in that folder, their
-    // names, each ended by a byte 0, where a link to a folder does not count; and what the file of a name in the folder of a path
-    // holds.
+    // Its promises: the names in the folder with a path, each ended by a byte 0; the names of the folders in that folder, each
+    // ended by a byte 0, where a link to a folder does not count; and the bytes of the file with a name in the folder with a
+    // path.
     ghost tellings: { Self → Tellings } = { λ _. tells_nothing };
 
-    // Whether the file of this name in the folder of this path may be opened: it is a regular file, or a link to one.
+    // True where the file with this name in the folder with this path may be opened: it is a regular file, or a link to one.
     ghost may_open: { Self → List ℕ → List ℕ → Bool } = { λ _ _ _. true };
 
     /// The names in a folder, each ended by a byte 0.
@@ -23,14 +23,14 @@ pub trait Shelf {
             (λ bytes. GivesTold ((tellings self.now).listed folder.now) bytes.items) }
         ensures fault { IfErr result (RefusesList ((tellings self.now).listed folder.now)) };
 
-    /// The names of the folders in a folder, each ended by a byte 0. Links to folders are left out. A name that may be that of
-    /// a folder, since the shelf can't look at it, may be among them.
+    /// The names of the folders in a folder, each ended by a byte 0. Links to folders are left out. A name that the shelf can't
+    /// look up may be among them, since it may be that of a folder.
     fn list_folders(&self, alloc: Global, folder: &str) -> Result<Vec<u8>, ShelfFault>
         ensures told { IfOk result
             (λ bytes. GivesTold ((tellings self.now).inner folder.now) bytes.items) }
         ensures fault { IfErr result (RefusesList ((tellings self.now).inner folder.now)) };
 
-    /// Whether a name in a folder is that of a regular file, or of a link to one. Nothing is opened.
+    /// True where a name in a folder is that of a regular file, or of a link to one. Nothing is opened.
     fn is_file(&self, alloc: Global, folder: &str, name: &[u8]) -> Result<bool, ShelfFault>
         ensures yes { result ≡ Ok true → may_open self.now folder.now name.now ≡ true }
         ensures no { result ≡ Ok false → MayFail ((tellings self.now).held folder.now name.now) silent }
@@ -51,7 +51,8 @@ pub trait Shelf {
         ensures fault { IfErr result
             (RefusesFile limit ((tellings self.now).held folder.now name.now)) };
 
-    /// The bytes of what a path names, of which there may be at most `limit`. It may be whatever can be read, as a pipe.
+    /// The bytes of the file with a path, of which there may be at most `limit`. It may be anything that can be read, such as a
+    /// pipe.
     fn read_named(&self, alloc: Global, path: &[u8], limit: usize) -> Result<Vec<u8>, ShelfFault>
         ensures within { IfOk result (λ bytes. vec_len bytes ≤ limit) }
         ensures told { IfOk result

@@ -1,10 +1,10 @@
-//! How many bytes may be read in all, where that is limited.
+//! The number of bytes that may be read in all, where there is a limit.
 ghost use Rattle.std.specs.Prelude.{◌≡◌};
 ghost use Rattle.census_folders.specs.Sums.{Fits, limit_after, most_of};
 
 use census_bundle::INPUT_LIMIT;
 
-// The most bytes of the next file, where `left` bytes may still be read in all.
+// The greatest number of bytes of the next file, where `left` bytes may still be read in all.
 pub fn most_of(left: Option<u64>) -> usize
     ensures { result ≡ most_of left }
 {
@@ -14,7 +14,7 @@ pub fn most_of(left: Option<u64>) -> usize
     }
 }
 
-// What may still be read after `count` bytes.
+// The number of bytes that may still be read after `count` bytes.
 pub fn limit_after(left: Option<u64>, count: usize) -> Option<u64>
     requires { Fits left count }
     ensures { result ≡ limit_after left count }

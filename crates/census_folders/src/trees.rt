@@ -1,4 +1,4 @@
-//! The folders at and below several words.
+//! The folders at and below several paths.
 ghost use Rattle.std.specs.Prelude.{◌≡◌, map, string_bytes, MatchResult};
 ghost use Rattle.census_folders.specs.Losses.{StopsAt};
 ghost use Rattle.census_folders.specs.Trees.{HoldsTrees, LosesInTrees};
@@ -9,14 +9,14 @@ use crate::shelf::Shelf;
 use crate::walking::folders_below;
 use std::alloc::Global;
 
-/// Folders that were found, and what was lost on the way to them.
+/// Folders that were found, and the losses on the way to them.
 #[derive(Drop)]
 pub struct Trees {
     pub folders: Vec<String>,
     pub lost: Losses,
 }
 
-// The folders at and below each of these words, word by word.
+// The folders at and below each of these paths, path by path.
 pub fn folders_below_each<S: Shelf>(
     shelf: &S,
     alloc: Global,

@@ -1,4 +1,4 @@
-//! Why something can't be read.
+//! The reasons why a folder or a file can't be read.
 
 use census_bundle::Text;
 use std::alloc::{AllocError, Global};
@@ -6,12 +6,12 @@ use std::io;
 use thiserror::Error;
 use watched::ReadFault;
 
-/// Why a folder can't be listed, or a file can't be read.
+/// The reason why a folder can't be listed, or a file can't be read.
 #[derive(Clone, Copy, Debug, PartialEq, Eq, Drop)]
 pub struct Unread {
     /// The number of the system's error, where there is one.
     pub code: Option<i32>,
-    /// Whether it is a regular file, or a link to one, where a folder is wanted.
+    /// True where it is a regular file, or a link to one, where a folder is wanted.
     pub is_file: bool,
 }
 
@@ -19,7 +19,7 @@ impl Unread {
     ghost use Rattle.std.specs.Prelude.{◌≡◌};
     ghost use Rattle.census_folders.specs.Told.{IsSystemWord, silent};
 
-    /// The system says nothing of it.
+    /// The cause where the system gives none.
     pub fn silent() -> Unread
         ensures { result ≡ silent }
     {
@@ -29,7 +29,7 @@ impl Unread {
         }
     }
 
-    /// What the system says of it, or nothing where that takes memory and there is none.
+    /// The system's message, or nothing where it has none or there is no memory for it.
     pub fn word(self, alloc: Global) -> Option<Text>
         ensures { IsSystemWord self.code result }
     {
@@ -41,7 +41,7 @@ impl Unread {
     }
 }
 
-/// Why a shelf returns no list of a folder, or no bytes of a file.
+/// The fault of a shelf that returns no list of a folder, or no bytes of a file.
 #[derive(Clone, Copy, Debug, PartialEq, Eq, Drop, Error)]
 pub enum ShelfFault {
     /// The folder can't be listed, or the file can't be read.
@@ -71,7 +71,7 @@ impl From<ReadFault> for ShelfFault {
 
     ghost from_gives = { λ read fault. fault ≡ shelf_fault_of read };
 
-    /// The system's error is no longer known.
+    /// The number of the system's error is no longer known.
     fn from(fault: ReadFault) -> ShelfFault {
         match fault {
             ReadFault::Read => ShelfFault::Unread(Unread::silent()),

@@ -26,14 +26,14 @@ fn path_in(alloc: Global, folder: &str, name: &str) -> Result<String, AllocError
     Ok(path)
 }
 
-// Whether a name is not empty.
+// True where a name is not empty.
 fn is_any(name: &[u8]) -> bool
     ensures { result ≡ is_any name.now }
 {
     name.len() >= 1
 }
 
-// Adds the path of a folder of a folder to those that were found. It is lost where its name is not UTF-8, since paths are.
+// Adds the path of a folder of a folder to those that were found. It is a loss where its name is not UTF-8, since paths are.
 fn add_name(
     alloc: Global,
     on_loss: OnLoss,
@@ -113,7 +113,7 @@ fn pass(
     }
 }
 
-// What a folder lists. Where it can't be listed, the walk ends there, or continues.
+// The list of a folder. Where it can't be listed, the walk ends there, or continues.
 fn list_in<S: Shelf>(
     shelf: &S,
     alloc: Global,
@@ -151,7 +151,7 @@ fn list_folders_in<S: Shelf>(
     }
 }
 
-// Whether a folder with this listing is taken: it can't be listed, or lists a name that ends in `.rle`.
+// True where a folder with this listing is taken: it can't be listed, or lists a name that ends in `.rle`.
 fn is_taken(alloc: Global, listing: &Result<Vec<u8>, Unread>) -> Result<bool, AllocError>
     ensures { IfOk result (λ taken. taken ≡ is_taken (names_given listing.now)) }
 {
@@ -195,7 +195,7 @@ fn add_folders(
     }
 }
 
-// Adds the folders of a folder to those that were found. Returns whether the folder is taken.
+// Adds the folders of a folder to those that were found. Returns true if the folder is taken.
 pub(crate) fn visit<S: Shelf>(
     shelf: &S,
     alloc: Global,
@@ -215,9 +215,9 @@ pub(crate) fn visit<S: Shelf>(
     Ok(is_taken(alloc, &listing)?)
 }
 
-// The folders at and below this one that list at least one name that ends in `.rle`, in the order of their paths' bytes. The path
-// of a folder in another is the path of the other, a slash where that does not end in one, and the name; so each path begins with
-// the word. Links to folders are not followed.
+// The folders at and below this one that list at least one name that ends in `.rle`, in the order of their paths' bytes. The
+// path of a folder in another is the path of the other, a slash where that does not end in one, and the name; so each path
+// begins with `word`. Links to folders are not followed.
 //
 // The walk ends at a folder that can't be listed, or in which the folders can't be determined, and at a folder whose name is not
 // UTF-8; or it continues. Then a folder that can't be listed is among those returned, and the others are lost.
