@@ -1,4 +1,4 @@
--- What was told so far, and one more.
+-- The state of a report, and one more text.
 use Rattle.std.specs.Prelude.{true, max}
 use Rattle.census_identify.specs.declared.course.Course.{Course}
 use Rattle.census_identify.specs.declared.told.Told.{Told}

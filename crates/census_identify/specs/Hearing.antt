@@ -1,4 +1,4 @@
--- What is got of words, one after another.
+-- The content that arguments name, one after another.
 use Rattle.std.specs.Prelude.{◌≡◌, ℕ, List, [], ◌∷◌, map}
 use Rattle.census_folders.specs.Hearing.{Hears}
 use Rattle.census_folders.specs.Told as shelf
@@ -6,7 +6,7 @@ use Rattle.census_folders.specs.declared.heard.Heard.{Heard}
 use Rattle.census_identify.specs.declared.told.Told.{Told}
 use Rattle.watched.specs.Streams.{Reader}
 
--- a word, what was got of it, and what is told of that
+-- an argument, the content that was read for it, and the report on that
 pub record Hearing : Type 0 where
   pub word : List ℕ
   pub heard : Heard
@@ -18,7 +18,7 @@ heard_words hearings = map (λ h. h.word) hearings
 abbrev pub told_words : List Hearing → List Told
 told_words hearings = map (λ h. h.told) hearings
 
--- each was heard after the one before it
+-- the content of each was read after that of the one before it
 abbrev pub HearsEach : (List ℕ → shelf.Told) → List Hearing → Reader → Reader → Type 0
 HearsEach held [] before after = after ≡ before
 HearsEach held (h ∷ hs) before after =

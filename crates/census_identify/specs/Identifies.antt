@@ -1,4 +1,4 @@
--- What is read and written where words are identified, one after another.
+-- The input and output of `census identify`, argument by argument.
 use Rattle.std.specs.Prelude.{◌≡◌, ◌⊎◌, ℕ, ◌+◌, List, [], ◌∷◌, ◌++◌}
 use Rattle.watched.specs.Watching.{ConsumesAtMost}
 use Rattle.census_identify.specs.declared.blocks.inquiry.Inquiry.{Inquiry}
@@ -13,8 +13,8 @@ use Rattle.census_identify.specs.Telling.{AreTold, blocks_text, lines_text, stat
 use Rattle.census_identify.specs.declared.error.IdentifyError.{IdentifyError}
 use Rattle.census_identify.specs.declared.error.IdentifyError.TheVariants.{Memory, Write}
 
--- Something was got of each word, in their order. Their blocks went to standard output and their lines to standard
--- error, and this is the greatest status that a line asks for.
+-- The content of each argument was read, in their order. Their blocks went to standard output and their lines to standard
+-- error, and this is the greatest status of a line.
 pub record TellsAll (held : List ℕ → Told) (inquiry : Inquiry) (names : List Entry) (words : List (List ℕ)) (status : ℕ) (before after : Streams) : Type 0 where
   pub heard : List Hearing
   pub words_are : words ≡ heard_words heard
@@ -24,13 +24,13 @@ pub record TellsAll (held : List ℕ → Told) (inquiry : Inquiry) (names : List
   pub lines : PutsBytes (lines_text (told_words heard)) before.errors after.errors
   pub status_is : status ≡ status_of (told_words heard)
 
--- Memory was refused for a word. What was got of the words before it was told, and then this last line.
+-- Memory ran out at an argument. The arguments before it were reported, and then this last line.
 pub record LacksMemory (last : List ℕ) (held : List ℕ → Told) (inquiry : Inquiry) (names : List Entry) (words : List (List ℕ)) (before after : Streams) : Type 0 where
   pub heard : List Hearing
   pub word : List ℕ
   pub left : List (List ℕ)
   pub words_are : words ≡ heard_words heard ++ word ∷ left
-  -- standard input as the words before it left it
+  -- standard input as the arguments before it left it
   pub reached : Reader
   pub hears : HearsEach held heard before.input reached
   pub told : AreTold inquiry names heard
@@ -38,8 +38,8 @@ pub record LacksMemory (last : List ℕ) (held : List ℕ → Told) (inquiry : I
   pub blocks : Writes (blocks_text inquiry.form (told_words heard)) before.output after.output
   pub lines : PutsBytes (lines_text (told_words heard) ++ last) before.errors after.errors
 
--- Standard output failed at the block of a word: what was written is a prefix of the blocks up to that one, and the
--- blocks before it are whole. The lines up to that word were told, and then this last line.
+-- Standard output failed at the block of an argument: the output is a prefix of the blocks up to that one, and the blocks
+-- before it are whole. The lines up to that argument were written, and then this last line.
 pub record LosesOutput (last : List ℕ) (held : List ℕ → Told) (inquiry : Inquiry) (names : List Entry) (words : List (List ℕ)) (before after : Streams) : Type 0 where
   pub heard : List Hearing
   pub next : Hearing
@@ -50,18 +50,18 @@ pub record LosesOutput (last : List ℕ) (held : List ℕ → Told) (inquiry : I
   pub blocks : WritesBetween (blocks_text inquiry.form (told_words heard)) (blocks_text inquiry.form (told_words (heard ++ next ∷ []))) before.output after.output
   pub lines : PutsBytes (lines_text (told_words (heard ++ next ∷ [])) ++ last) before.errors after.errors
 
--- what was done before this error ended it, with this line told last
+-- the input and output until this error ended the report, with this line written last
 abbrev pub Stops : IdentifyError → List ℕ → (List ℕ → Told) → Inquiry → List Entry → List (List ℕ) → Streams → Streams → Type 0
 Stops Memory last held inquiry names words before after = LacksMemory last held inquiry names words before after
 Stops Write last held inquiry names words before after = LosesOutput last held inquiry names words before after
 
--- this error ended it, and its line was told
+-- an error ended the report, and its line was written
 pub record FailsToIdentify (held : List ℕ → Told) (inquiry : Inquiry) (names : List Entry) (words : List (List ℕ)) (status : ℕ) (before after : Streams) : Type 0 where
   pub error : IdentifyError
   pub status_is : status ≡ error_status error
   pub stops : Stops error (error_line error) held inquiry names words before after
 
--- Each word was told, or an error ended it. Without a word standard input is told.
+-- Each argument was reported, or an error ended the report. Without arguments standard input is reported.
 abbrev pub Identifies : (List ℕ → Told) → Inquiry → List Entry → List (List ℕ) → ℕ → Streams → Streams → Type 0
 Identifies held inquiry names words status before after =
     TellsAll held inquiry names (words_or_input words) status before after ⊎ FailsToIdentify held inquiry names (words_or_input words) status before after

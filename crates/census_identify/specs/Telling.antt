@@ -1,4 +1,4 @@
--- What is told of what was heard: blocks, lines and statuses.
+-- Reports on contents: blocks, lines and statuses.
 use Rattle.std.specs.Prelude.{◌≡◌, ℕ, Bool, true, false, if◌then◌else◌, List, [], ◌∷◌, ◌++◌, codes, max, Option, Some, None, Result, Ok, Err}
 use Rattle.std.specs.List.{All}
 use Rattle.life_text.specs.declared.rle.RleFault.{RleFault}
@@ -21,21 +21,21 @@ use Rattle.census_identify.specs.declared.told.Told.TheVariants.{Block, Line}
 abbrev pub message_line : List ℕ → List ℕ → List ℕ
 message_line word message = codes "census: " ++ word ++ codes ":" ++ message ++ codes "\n"
 
--- the file that a word stands for; none where it stands for standard input
+-- the file that an argument names; none where it means standard input
 abbrev pub file_of : List ℕ → Option (List ℕ)
 file_of word = if is_input word then None else Some word
 
--- of a text, by its block or its fault: the block, or a line that ends with the name of the fault, and status 1
+-- the report on a text, by its block or its fault: the block, or a line that ends with the name of the fault, with status 1
 abbrev pub IsToldOfText : List ℕ → Result (List ℕ) RleFault → Told → Type 0
 IsToldOfText word (Ok block) told = told ≡ Block block
 IsToldOfText word (Err fault) told = (line : List ℕ) × IsFaultLine fault line × (told ≡ Line (message_line word line) 1)
 
--- what the system says of it, or that it can't be read where the system says nothing
+-- the message about a text that can't be read: the system's, or `read failed` where the system gives none
 abbrev pub unread_message : Option (List ℕ) → List ℕ
 unread_message None = codes " read failed"
 unread_message (Some reason) = codes " " ++ reason
 
--- this is told of a word, by what was got of it
+-- this is the report on an argument, by the content that was read
 abbrev pub IsTold : Inquiry → List Entry → List ℕ → Heard → Told → Type 0
 IsTold inquiry names word (Text text) told = IsToldOfText word (block_of inquiry names (file_of word) text) told
 IsTold inquiry names word TooLong told = told ≡ Line (message_line word (codes " input too long")) 1
@@ -43,7 +43,7 @@ IsTold inquiry names word (Unread reason) told = told ≡ Line (message_line wor
 
 -- # All
 
--- each is told by what was got of it
+-- each is reported by the content that was read
 abbrev pub AreTold : Inquiry → List Entry → List Hearing → Type 0
 AreTold inquiry names hearings = All (λ h. IsTold inquiry names h.word h.heard h.told) hearings
 
@@ -58,17 +58,17 @@ parted between [] = []
 parted between (text ∷ []) = text
 parted between (text ∷ next ∷ texts) = text ++ between ++ parted between (next ∷ texts)
 
--- what goes to standard output: the blocks, parted as their form says
+-- the output: the blocks, separated as their form requires
 abbrev pub blocks_text : Form → List Told → List ℕ
 blocks_text form told = parted (separator form) (blocks_in told)
 
--- what goes to standard error: the lines
+-- the text on standard error: the lines
 abbrev pub lines_text : List Told → List ℕ
 lines_text [] = []
 lines_text (Block block ∷ told) = lines_text told
 lines_text (Line line status ∷ told) = line ++ lines_text told
 
--- the greatest status, 0 where each is a block
+-- the greatest status of a line, or 0 where there are only blocks
 abbrev pub status_of : List Told → ℕ
 status_of [] = 0
 status_of (Block block ∷ told) = status_of told
@@ -76,17 +76,17 @@ status_of (Line line status ∷ told) = max status (status_of told)
 
 -- # One more
 
--- a block, after others where there are any
+-- a block, with a separator before it where there are others
 abbrev pub block_after : Form → Bool → List ℕ → List ℕ
 block_after form true block = separator form ++ block
 block_after form false block = block
 
--- what goes to standard output after others
+-- the output for one more report, after others
 abbrev pub output_of : Form → Bool → Told → List ℕ
 output_of form has_block (Block block) = block_after form has_block block
 output_of form has_block (Line line status) = []
 
--- what goes to standard error
+-- the text on standard error for one more report
 abbrev pub line_told : Told → List ℕ
 line_told (Block block) = []
 line_told (Line line status) = line

@@ -1,4 +1,4 @@
-//! What is written of one pattern: a block of lines, or a JSON object, that tells what it is.
+//! The text about one pattern: a block of lines, or a JSON object, that says what it is.
 //!
 //! Tested in `tests_objects`.
 

@@ -1,4 +1,4 @@
-//! What was told of the words so far.
+//! The state of a report on several arguments.
 ghost use Rattle.std.specs.Prelude.{◌≡◌, true, false, MatchResult, OnOk};
 ghost use Rattle.watched.specs.Streams.{PutsMoreBytes, PutsPrefix, Writes};
 ghost use Rattle.census_identify.specs.Telling.{block_after, line_told, output_of};
@@ -9,14 +9,14 @@ use census_facts::Form;
 use std::io::Write;
 use watched::{Failed, Output, put_all};
 
-/// What was told of the words so far: whether there was a block, and the greatest status that a line asked for.
+/// The state of a report so far: whether there was a block, and the greatest status of a line.
 #[derive(Drop)]
 pub struct Course {
     pub has_block: bool,
     pub status: u8,
 }
 
-// Writes a block, parted from the one before it as its form says.
+// Writes a block, with the separator of its form after the one before it.
 fn write_block<O: Write>(
     form: Form,
     has_block: bool,
@@ -35,7 +35,7 @@ fn write_block<O: Write>(
     put_all(output, block)
 }
 
-/// Writes a block in this form to the one writer, or a line to the other.
+/// Writes a block in this form to `output`, or a line to `errors`.
 pub fn tell<O: Write, E: Write>(
     form: Form,
     told: &Told,

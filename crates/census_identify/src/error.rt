@@ -1,4 +1,4 @@
-//! What ends the telling at once.
+//! The errors that end a report at once.
 ghost use Rattle.std.specs.Prelude.{◌≡◌};
 ghost use Rattle.census_identify.specs.Errors.{error_line, error_status};
 
@@ -6,7 +6,7 @@ use std::alloc::AllocError;
 use thiserror::Error;
 use watched::Failed;
 
-/// What ends the telling at once.
+/// The errors that end a report at once.
 #[derive(Clone, Copy, Debug, PartialEq, Eq, Drop, Error)]
 pub enum IdentifyError {
     #[error("out of memory")]

@@ -1,4 +1,4 @@
-//! `census identify`: what each of several patterns is.
+//! `census identify`: a report on what each of several patterns is.
 ghost use Rattle.std.specs.Prelude.{◌≡◌, ◌≤◌, false, [], map, MatchResult};
 ghost use Rattle.census_identify.specs.Identifies.{Identifies, Stops, TellsAll};
 
@@ -14,7 +14,7 @@ use std::alloc::Global;
 use std::io::{Read, Write};
 use watched::Streams;
 
-// Tells what each word is, and gives the greatest status that was asked for.
+// Reports what the pattern of each argument is, and returns the greatest status of a line.
 fn identify_each<S: Shelf, I: Read, O: Write, E: Write, L: Onlooker>(
     shelf: &S,
     alloc: Global,
@@ -52,21 +52,21 @@ fn identify_each<S: Shelf, I: Read, O: Write, E: Write, L: Onlooker>(
     Ok(course.status)
 }
 
-/// Tells what the pattern of each word is, in the order of the words: of `-` that of the RLE text that standard input
-/// has left, and of any other word that of the file of this path. Without a word it is standard input's alone. The
-/// bound is 1 to 100,000 generations, and the horizon 1 to 10,000.
+/// Reports what the pattern of each argument is, in the order of the arguments: for `-` that of the RLE text in the rest of
+/// standard input, and for any other argument that of the file with this path. Without arguments it is that of standard input
+/// alone. The bound is 1 to 100,000 generations, and the horizon 1 to 10,000.
 ///
-/// The block of a text goes to standard output, and tells the file too where the word isn't `-`: lines, which an empty line
-/// parts from the block before, or a JSON object on a line of its own, as the inquiry asks. Objects are told with the names
-/// that they have. Where a text has a fault, is longer than 67,108,864 bytes or can't be read, a
-/// line goes to standard error, and the next word is told. The answer is the exit status: the greatest that a line
-/// asked for, 1 for a fault or a text that is too long and 4 for one that can't be read; without such a line 0.
+/// The block of a text goes to standard output, and names the file too where the argument isn't `-`. It is lines, separated by
+/// an empty line from the block before, or a JSON object on a line of its own, in the form of the inquiry. Objects are reported
+/// with the names that they have. Where a text has a fault, is longer than 67,108,864 bytes or can't be read, a line goes to
+/// standard error, and the next argument follows. The result is the exit status: the greatest status of a line, 1 for a fault
+/// or a text that is too long and 4 for one that can't be read; without such a line it is 0.
 ///
-/// Where memory is refused or standard output fails, that is told on standard error and ends it at once: the answer is
-/// 3 or 4, and what went out before stays. Where standard error fails, the lines from then on are lost, and nothing
-/// else changes.
+/// Where memory runs out or standard output fails, this is reported on standard error and ends the report at once: the result
+/// is 3 or 4, and the output before it stays. Where standard error fails, the lines from then on are lost, and nothing else
+/// changes.
 ///
-/// An onlooker is told the generations that are looked at, up to three times the bound.
+/// The generations that are examined, up to three times the bound, are reported to an onlooker.
 pub fn identify<S: Shelf, I: Read, O: Write, E: Write, L: Onlooker>(
     shelf: &S,
     alloc: Global,

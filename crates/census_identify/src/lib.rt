@@ -1,5 +1,5 @@
-//! What is reported about single patterns: a block of lines for each text that means one, and a line for each that can't be read
-//! or has a fault. `blocks` has what is written about one pattern.
+//! Reports on single patterns: a block of lines for each text that means one, and a line for each that can't be read or has a
+//! fault. `blocks` makes the block of one pattern.
 //!
 //! Tested in `tests_objects`.
 #![tactic(auto)]

@@ -1,13 +1,14 @@
-//! Who is told how far the telling has come.
+//! Callbacks for the progress of a report.
 use life_plane::Observer;
 
-/// Is told how far each file has come. What is told of a file does not depend on it.
+/// A callback for the progress of each file. The report on a file does not depend on it.
 pub trait Onlooker {
-    /// The pattern of this word has come to this generation. It may begin again, and then early generations are told again.
+    /// The pattern of this argument has reached this generation. It may begin again, and then early generations are reported
+    /// again.
     fn reached(&self, word: &str, generation: u32);
 }
 
-/// Nobody looks on.
+/// An onlooker that ignores what it hears.
 #[derive(Drop)]
 pub struct Unseen;
 
@@ -15,7 +16,7 @@ impl Onlooker for Unseen {
     fn reached(&self, _word: &str, _generation: u32) {}
 }
 
-/// The observer of one word, who hands on what it is told.
+/// The observer of the pattern of one argument, which passes on what it hears.
 #[derive(Drop)]
 pub(crate) struct WordObserver<'a, L> {
     pub(crate) onlooker: &'a L,

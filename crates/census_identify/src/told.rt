@@ -1,4 +1,4 @@
-//! What is told of what was got.
+//! The report on each argument.
 ghost use Rattle.std.specs.Prelude.{◌≡◌, ◌≤◌, IfOk};
 ghost use Rattle.std.specs.Option.{option_copied};
 ghost use Rattle.census_identify.specs.Blocks.Blocks.{block_of};
@@ -13,16 +13,16 @@ use life_orbit::BOUND_LIMIT;
 use life_plane::Observer;
 use std::alloc::{AllocError, Global};
 
-/// What is told of one text.
+/// The report on one text.
 #[derive(Drop)]
 pub enum Told {
-    /// What a pattern is, for standard output.
+    /// The block of a pattern, for standard output.
     Block(BlockText),
     /// A line, for standard error.
     Line {
         /// Its bytes.
         line: Bytes,
-        /// The exit status that it asks for.
+        /// The exit status that it requires.
         status: u8,
     },
 }
@@ -40,7 +40,7 @@ fn message_line(alloc: Global, word: &str, message: &[u8]) -> Result<Bytes, Allo
     Ok(Bytes::new(line))
 }
 
-// What the system says of it, or that it can't be read where the system says nothing.
+// The message about a text that can't be read: the system's, or `read failed` where the system gives none.
 fn unread_message(alloc: Global, reason: &Option<Text>) -> Result<Vec<u8>, AllocError>
     ensures { IfOk result (λ message. message.items ≡ unread_message reason.now) }
 {
@@ -53,7 +53,7 @@ fn unread_message(alloc: Global, reason: &Option<Text>) -> Result<Vec<u8>, Alloc
     Ok(message)
 }
 
-// The file that a word stands for, where it doesn't stand for standard input.
+// The file that an argument names, where it doesn't mean standard input.
 fn file_of(word: &str) -> Option<&[u8]>
     ensures { option_copied result ≡ file_of word.now }
 {
@@ -63,7 +63,7 @@ fn file_of(word: &str) -> Option<&[u8]>
     Some(word.as_bytes())
 }
 
-// What is told of a text.
+// The report on a text.
 fn told_of_text<W: Observer>(
     alloc: Global,
     observer: &W,
@@ -85,14 +85,14 @@ fn told_of_text<W: Observer>(
     }
 }
 
-/// What is told of a word, by what was got of it. The bound is 1 to 100,000 generations, and the horizon 1 to 10,000.
-/// `AllocError` is answered where a growth was refused.
+/// The report on an argument, by the content that was read. The bound is 1 to 100,000 generations, and the horizon 1 to 10,000.
+/// `AllocError` is returned if memory runs out.
 ///
-/// Of a text that means a pattern it is its block, which tells the file too where the word isn't `-`. Of any other
-/// text it is the line `census: WORD:LINE:COLUMN: WORDS (rle fault N at A)`, which asks for status 1; of one that is too
-/// long the line `census: WORD: input too long`, which asks for status 1; and of what can't be read the line
-/// `census: WORD: REASON`, or where the system gives no reason `census: WORD: read failed`, which asks for
-/// status 4. The word is written as it is. An observer is told the generations that are looked at.
+/// For a text that means a pattern it is its block, which names the file too where the argument isn't `-`. For any other text
+/// it is the line `census: WORD:LINE:COLUMN: WORDS (rle fault N at A)`, with status 1; for one that is too long, the line
+/// `census: WORD: input too long`, with status 1; and for one that can't be read, the line `census: WORD: REASON`, or where the
+/// system gives no reason `census: WORD: read failed`, with status 4. The argument is written as it is. The generations that
+/// are examined are reported to an observer.
 pub fn told_of<W: Observer>(
     alloc: Global,
     observer: &W,

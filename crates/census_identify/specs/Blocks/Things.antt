@@ -1,4 +1,4 @@
--- What is told of a pattern.
+-- The facts about a pattern.
 use Rattle.std.specs.Prelude.{ℕ, ℤ, Option, Some, None, List, [], ◌∷◌, ◌++◌, codes}
 use Rattle.life_answer.specs.declared.finding.Outcome.{Outcome}
 use Rattle.life_answer.specs.declared.finding.Outcome.TheVariants.{Ash, Grows, Large, Recurs, Unresolved}
@@ -15,7 +15,7 @@ abbrev pub file_things : Option (List ℕ) → List Thing
 file_things None = []
 file_things (Some file) = thing (codes "file") (told.text file) ∷ []
 
--- `file`, and `rule`, `population` and `box` of generation 0: its rule, how many cells it has, how wide and how high it is
+-- `file`, and `rule`, `population` and `box` of generation 0: its rule, its number of cells, and its width and height
 abbrev pub head_things : Option (List ℕ) → List ℕ → ℕ → ℕ × ℕ → List Thing
 head_things file rule population size =
     file_things file
@@ -49,16 +49,16 @@ whole_things (Some whole) =
     ∷ thing (codes "displacement") (told.moves whole.displacement.0 whole.displacement.1)
     ∷ []
 
--- `objects`, how many parts a pattern has become, and these parts
+-- `objects`, the number of parts that a pattern has become, and these parts
 abbrev pub parts_things : List Part → List Thing
 parts_things list = thing (codes "objects") (told.number (objects_in list)) ∷ thing (codes "parts") (told.parts list) ∷ []
 
--- `onset` of the ash of a pattern that has fallen apart, how it recurs as a whole, and its parts
+-- `onset` of the ash of a pattern that has fallen apart, its period and displacement as a whole, and its parts
 abbrev pub apart_things : ℕ → Option Whole → List Part → List Thing
 apart_things onset whole list = thing (codes "onset") (told.number onset) ∷ (whole_things whole ++ parts_things list)
 
--- what is found: of a pattern that grows `engines`, its engines; `large`, the first generation that has more cells than it may
--- have; `unresolved`, the bound, where it neither recurs nor has fallen apart, and isn't found to grow
+-- the facts of an outcome: `engines` of a pattern that grows; `large`, the first generation that has more cells than the limit;
+-- `unresolved`, the bound, where it neither recurs nor has fallen apart, and isn't found to grow
 abbrev pub outcome_things : List Entry → ℕ → Option Whole → Outcome → List Thing
 outcome_things names bound whole (Recurs onset period dx dy code) = settled_things names onset period dx dy code
 outcome_things names bound whole (Ash onset list) = apart_things onset whole list
@@ -66,6 +66,6 @@ outcome_things names bound whole (Grows list) = thing (codes "engines") (told.en
 outcome_things names bound whole (Large generation) = thing (codes "large") (told.number generation) ∷ []
 outcome_things names bound whole Unresolved = thing (codes "unresolved") (told.number bound) ∷ []
 
--- what is known within the bound
+-- the facts known within the bound
 abbrev pub known_things : List Entry → ℕ → Known → List Thing
 known_things names bound known = outcome_things names bound known.whole known.outcome

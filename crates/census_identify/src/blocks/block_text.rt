@@ -1,4 +1,4 @@
-//! Blocks.
+//! Blocks: the texts about single patterns.
 ghost use Rattle.std.specs.Prelude.{◌≡◌, ◌≢◌, ◌≤◌, ◌++◌, All, IfOk, Ok, OnOk};
 ghost use Rattle.std.specs.Option.{option_copied};
 ghost use Rattle.life_model.specs.Box.{height, width};
@@ -23,7 +23,7 @@ use life_text::{Pattern, RleFault, read_rle};
 use std::alloc::{AllocError, Global};
 use std::marker::Model;
 
-/// The bytes that tell what one pattern is.
+/// The bytes of the text about one pattern.
 #[derive(Drop)]
 pub struct BlockText {
     text: Vec<u8>,
@@ -46,7 +46,7 @@ impl BlockText {
     }
 }
 
-// A fault that is the text's. Out of memory is none.
+// A fault of the text. Out of memory is not one, but an error.
 fn told(fault: RleFault) -> Result<RleFault, AllocError>
     ensures same { IfOk result (λ told. told ≡ fault) }
     ensures text { OnOk result (fault ≢ Memory) }
@@ -57,7 +57,7 @@ fn told(fault: RleFault) -> Result<RleFault, AllocError>
     }
 }
 
-// Adds what is told of generation 0.
+// Adds the facts about generation 0.
 fn push_beginning<'a>(
     alloc: Global,
     facts: &mut Vec<Fact<'a>>,
@@ -100,17 +100,18 @@ fn block_of_pattern<W: Observer>(
     Ok(BlockText { text })
 }
 
-/// What the pattern of an RLE text is, told in the form that is asked for, or the text's fault. The bound is 1 to 100,000
+/// The block about the pattern of an RLE text, in the form of the inquiry, or the text's fault. The bound is 1 to 100,000
 /// generations, and the horizon 1 to 10,000.
 ///
-/// It has the file, where the text is said to be that of one, and the rule, the population and the box of generation 0; then,
-/// where the pattern becomes one part within the bound, its onset, period, displacement and apgcode, and the name of that code,
-/// where it has one; else, where it has fallen apart within the bound, the onset of its ash, the period and the displacement of
-/// the whole, where all parts have one velocity and come again together within the bound, how many objects it has become, or how
-/// many independent parts where what comes near each other is not one object, and how many of each code, with its name; else,
-/// where it grows within the horizon, by how many engines, and what is reported of each; else, where some generation has more
-/// cells than it may have, the first such generation; else that it is unresolved within the bound. It may look at generations
-/// past the bound, up to four times the bound. Those on the way, up to three times the bound, are reported to an observer.
+/// It has the file, where one is given, and the rule, the population and the bounding box of generation 0. Then it has, where
+/// the pattern becomes one part within the bound, its onset, period, displacement and apgcode, and the name of that code, where
+/// it has one; else, where it has fallen apart within the bound, the onset of its ash, the period and the displacement of the
+/// whole, where all parts have one velocity and recur together within the bound, the number of objects that it has become, or
+/// of independent parts where those that come near each other are not one object, and the number of each code, with its name;
+/// else, where it grows within the horizon, the number of its engines, and the facts about each; else, where some generation
+/// has more cells than the limit, the first such generation; else that it is unresolved within the bound. Generations past the
+/// bound may be examined, up to four times the bound. Those on the way, up to three times the bound, are reported to an
+/// observer.
 pub fn block<W: Observer>(
     alloc: Global,
     observer: &W,

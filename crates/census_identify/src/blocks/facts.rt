@@ -35,8 +35,8 @@ fn push_file<'a>(facts: &mut Vec<Fact<'a>>, file: Option<&'a [u8]>) -> Result<()
     }
 }
 
-/// Adds what is told of generation 0: the file that the pattern is from, where it is from one, its rule, how many cells it
-/// has, and how wide and how high its box is.
+/// Adds the facts about generation 0: the file that the pattern is from, where it is from one, its rule, its number of cells,
+/// and the width and the height of its bounding box.
 pub fn push_head<'a>(
     facts: &mut Vec<Fact<'a>>,
     file: Option<&'a [u8]>,
@@ -65,7 +65,7 @@ fn push_name<'a>(facts: &mut Vec<Fact<'a>>, names: &'a Names, code: &[u8]) -> Re
     }
 }
 
-// Adds the code of what a pattern settles as, and its name, where it has one.
+// Adds the code of a pattern that settles, and its name, where it has one.
 fn push_code<'a>(
     facts: &mut Vec<Fact<'a>>,
     names: &'a Names,
@@ -78,7 +78,7 @@ fn push_code<'a>(
     push_name(facts, names, code)
 }
 
-// Adds what is told of a pattern that settles.
+// Adds the facts about a pattern that settles.
 fn push_settled<'a>(
     facts: &mut Vec<Fact<'a>>,
     names: &'a Names,
@@ -97,7 +97,7 @@ fn push_settled<'a>(
     push_code(facts, names, code)
 }
 
-// Adds how a pattern recurs as a whole, where it does.
+// Adds the period and the displacement of a pattern as a whole, where it recurs as one.
 fn push_whole<'a>(facts: &mut Vec<Fact<'a>>, whole: &Option<Whole>) -> Result<(), AllocError>
     ensures { OnOk result (things_in facts.new.items
         ≡ things_in facts.old.items ++ whole_things whole.now) }
@@ -121,7 +121,7 @@ fn push_parts<'a>(facts: &mut Vec<Fact<'a>>, parts: &'a Parts) -> Result<(), All
     push_fact(facts, "parts", Worth::Parts(parts))
 }
 
-// Adds what is reported of a pattern that has fallen apart.
+// Adds the facts about a pattern that has fallen apart.
 fn push_apart<'a>(
     facts: &mut Vec<Fact<'a>>,
     onset: u32,
@@ -136,7 +136,7 @@ fn push_apart<'a>(
     push_parts(facts, parts)
 }
 
-/// Adds what is known of a pattern within the bound, with the name of what it recurs as.
+/// Adds the facts known about a pattern within the bound, with the name of its code, where it recurs and has one.
 pub fn push_known<'a>(
     facts: &mut Vec<Fact<'a>>,
     names: &'a Names,

@@ -1,4 +1,4 @@
-//! What is known of a pattern.
+//! The facts known about a pattern.
 ghost use Rattle.std.specs.Prelude.{◌≡◌, ◌≤◌, IfOk, Ok, Some};
 ghost use Rattle.life_text.specs.Picture.{picture_of};
 ghost use Rattle.life_text.specs.Rle.{reading};
@@ -16,16 +16,16 @@ use life_plane::Observer;
 use life_text::Pattern;
 use std::alloc::{AllocError, Global};
 
-/// What is known of a pattern within the bound.
+/// The facts known about a pattern within the bound.
 #[derive(Drop)]
 pub struct Known {
-    /// What becomes of it.
+    /// Its outcome.
     pub outcome: Outcome,
-    /// How it recurs as a whole, where it becomes several parts that all have one velocity.
+    /// Its period and displacement as a whole, where it becomes several parts that all have one velocity.
     pub whole: Option<Whole>,
 }
 
-// What becomes of the pattern that a text means.
+// The outcome of the pattern that a text means.
 fn outcome_of<W: Observer>(
     alloc: Global,
     observer: &W,
@@ -55,8 +55,8 @@ fn outcome_of<W: Observer>(
     }
 }
 
-// How a pattern recurs as a whole, by what becomes of it. Nothing is looked at where its parts, by their codes, can't have one
-// velocity, or come again together only after the bound.
+// The period and the displacement of a pattern as a whole, by its outcome. No generation is examined where its parts, by their
+// codes, can't have one velocity, or recur together only after the bound.
 fn whole_of(
     alloc: Global,
     pattern: &Pattern,
@@ -79,16 +79,16 @@ fn whole_of(
     Ok(whole)
 }
 
-/// What is known within the bound of the pattern that a text means: where it becomes one part, when it recurs and as what; where
-/// it falls apart into several, when and into which, and, where these all have one velocity, how it recurs as a whole; else,
-/// where it grows within the horizon, by which engines; else, where some generation up to three times the bound has more cells
-/// than it may have, the first such generation; else that none of these is so. The bound is 1 to 100,000 generations, and the
-/// horizon 1 to 10,000.
+/// The facts known within the bound about the pattern that a text means: where it becomes one part, its onset, motion and code;
+/// where it falls apart into several, the onset and the parts, and, where these all have one velocity, its period and
+/// displacement as a whole; else, where it grows within the horizon, its engines; else, where some generation up to three times
+/// the bound has more cells than the limit, the first such generation; else that none of these is found. The bound is 1 to
+/// 100,000 generations, and the horizon 1 to 10,000.
 ///
-/// That it falls apart is found only where no generation up to three times the bound is too large, and growth only where none is
-/// up to four times the generation that shows it.
+/// It is found to fall apart only where no generation up to three times the bound is too large, and to grow only where none is
+/// too large up to four times the generation that shows it.
 ///
-/// It may look at generations past the bound, up to four times the bound. Those on the way, up to three times the bound, are
+/// Generations past the bound may be examined, up to four times the bound. Those on the way, up to three times the bound, are
 /// reported to an observer.
 pub fn known_of<W: Observer>(
     alloc: Global,

@@ -1,4 +1,4 @@
-//! After how many generations several parts have all come again.
+//! The common period of several parts.
 ghost use Rattle.std.specs.Prelude.{◌≡◌, ◌≤◌, ◌%◌, ◌==◌, not, IfSome};
 ghost use Rattle.std.specs.List.{list_all};
 ghost use Rattle.census_identify.specs.Blocks.Periods.{are_alike, are_back, common_period, moves, number_after, period_of};
@@ -6,10 +6,10 @@ ghost use Rattle.census_identify.specs.Blocks.Periods.{are_alike, are_back, comm
 use life_answer::Part;
 use life_orbit::BOUND_LIMIT;
 
-/// What stands for each number that is greater than every bound.
+/// The number written in place of each one that is greater than every bound.
 const BEYOND: u32 = 100_001;
 
-// The number that the digits at the front write.
+// The number that the digits at the front form, at most `BEYOND`.
 fn front_number(digits: &[u8]) -> u32
     ensures { result ≡ number_after 0 digits.now }
 {
@@ -23,7 +23,7 @@ fn front_number(digits: &[u8]) -> u32
     number
 }
 
-// After how many generations what has this code first comes again.
+// The period of an object with this code.
 fn period_of(code: &[u8]) -> u32
     ensures value { result ≡ period_of code.now }
     ensures some { 1 ≤ result }
@@ -34,35 +34,35 @@ fn period_of(code: &[u8]) -> u32
     front_number(&code[2..]).max(1)
 }
 
-// Whether a part moves.
+// True where a part moves.
 fn moves(part: &Part) -> bool
     ensures { result ≡ moves part.now }
 {
     part.code.as_slice().starts_with(b"xq")
 }
 
-// Whether all parts move.
+// True where all parts move.
 fn all_move(parts: &[Part]) -> bool
     ensures { result ≡ list_all moves parts.now }
 {
     parts.iter().all(|part| moves(part))
 }
 
-// Whether no part moves.
+// True where no part moves.
 fn none_moves(parts: &[Part]) -> bool
     ensures { result ≡ list_all (λ p. not (moves p)) parts.now }
 {
     parts.iter().all(|part| !moves(part))
 }
 
-// Whether there are parts, and all of them move or none does.
+// True where there are parts, and all of them move or none does.
 fn are_alike(parts: &[Part]) -> bool
     ensures { result ≡ are_alike parts.now }
 {
     !parts.is_empty() && (all_move(parts) || none_moves(parts))
 }
 
-// Whether each part has come again after these generations.
+// True where each part has recurred after this number of generations.
 fn are_back(parts: &[Part], generations: u32) -> bool
     ensures { result ≡ are_back parts.now generations }
 {
@@ -71,8 +71,8 @@ fn are_back(parts: &[Part], generations: u32) -> bool
         .all(|part| generations % period_of(part.code.as_slice()) == 0)
 }
 
-/// After how many generations, up to the bound, all parts have come again for the first time, by their codes, where all of
-/// them move or none does. Where there is no part, there is no such number.
+/// The least number of generations, up to the bound, after which all parts have recurred, by their codes, where all of them
+/// move or none does. Without parts there is no such number.
 pub fn common_period(parts: &[Part], bound: u32) -> Option<u32>
     requires { bound ≤ BOUND_LIMIT }
     ensures value { result ≡ common_period bound parts.now }

@@ -1,4 +1,4 @@
-//! When what a pattern has become comes again as a whole.
+//! The recurrence of a pattern's parts as a whole.
 ghost use Rattle.std.specs.Prelude.{◌≡◌, ◌+◌, ◌≤◌, All, IfOk, OnOk};
 ghost use Rattle.life_model.specs.Evolution.{generation};
 ghost use Rattle.life_model.specs.Generation as generations;
@@ -9,16 +9,16 @@ use life_cells::{CellList, Rule};
 use life_plane::{AGE_LIMIT, Plane};
 use std::alloc::{AllocError, Global};
 
-/// The period of what has become several parts, and how far it moves in it.
+/// The period of a pattern that has become several parts, and its displacement in a period.
 #[derive(Clone, Copy)]
 pub struct Whole {
-    /// The number of generations after which it first comes again.
+    /// The number of generations after which it first recurs.
     pub period: u32,
-    /// How far to the right and down it is then.
+    /// The displacement after them, to the right and down.
     pub displacement: (i32, i32),
 }
 
-// Makes some steps.
+// Makes this number of steps.
 fn advance<P: Plane>(plane: &mut P, rule: &Rule, steps: u32) -> Result<(), AllocError>
     requires { P.steps_made plane.old + steps ≤ AGE_LIMIT }
     ensures cells { OnOk result
@@ -31,7 +31,7 @@ fn advance<P: Plane>(plane: &mut P, rule: &Rule, steps: u32) -> Result<(), Alloc
     Ok(())
 }
 
-// When the cells of a plane first come again, after at most so many steps, where they do.
+// The first recurrence of the cells of a plane within `most` steps, where there is one.
 fn coming_again<P: Plane>(
     plane: &mut P,
     rule: &Rule,
@@ -53,8 +53,8 @@ fn coming_again<P: Plane>(
     Ok(None)
 }
 
-/// When this generation of cells, whose places are from 0 to 1,048,575, first comes again as a whole, after at most so many
-/// generations, where it does.
+/// The first recurrence, as a whole and within `most` generations, of generation `onset` of these cells, where there is one.
+/// Their coordinates are from 0 to 1,048,575.
 pub fn whole_within<P: Plane>(
     alloc: Global,
     rule: &Rule,
