@@ -11,10 +11,10 @@ printed_byte c = if is_name_byte c then c ∷ [] else 92 ∷ 120 ∷ encode_lowe
 abbrev pub printable_text : List ℕ → List ℕ
 printable_text bytes = flat_map printed_byte bytes
 
--- what is shown consists of bytes of lawful names alone, so that no name ends a line
+-- printable text consists only of bytes that lawful names may have, so no name ends a line
 abbrev pub ShowsNameBytes : Type 0
 ShowsNameBytes = (bytes : List ℕ) → list_all is_name_byte (printable_text bytes) ≡ true
 
--- what consists of such bytes alone, as a lawful name, is shown unchanged
+-- a name that consists only of such bytes, as a lawful name, is shown unchanged
 abbrev pub ShowsNames : Type 0
 ShowsNames = (name : List ℕ) → list_all is_name_byte name ≡ true → printable_text name ≡ name

@@ -1,11 +1,11 @@
-//! What can be wrong.
+//! Faults of every kind.
 
 use crate::rle::{FileKind, RuleKind, file_kind, rule_in_header, rule_kind};
 use census_bundle::{AddFault, BundleFault};
 use life_cells::{CodeFault, RuleFault};
 use life_text::RleFault;
 
-/// What can be wrong, wherever it is reported.
+/// A fault of any kind, wherever it is reported.
 #[derive(Clone, Copy, Debug, PartialEq, Eq, Drop)]
 pub enum Fault {
     /// An RLE text has this fault.
@@ -22,9 +22,9 @@ pub enum Fault {
     Code(CodeFault),
     /// A line is not one that a report has there.
     Report,
-    /// A row is not one of claims.
+    /// A row is not one that claims have.
     Claims,
-    /// A line is not one of a code's name.
+    /// A line is not one of a code and its name.
     Names,
     /// A text, a file or a bundle has more than 67,108,864 bytes.
     TooLong,
@@ -36,12 +36,12 @@ pub enum Fault {
     Write,
     /// An argument is not text.
     Arguments,
-    /// Memory was refused.
+    /// Memory ran out.
     Memory,
 }
 
-/// The fault of an RLE text. Where the text has no header line, it is the kind of file that the text is instead, and where the
-/// rule is not Life-like, the kind of the rule that the header names.
+/// The fault of an RLE text. Where the text has no header line, this is the kind of file that it is instead, and where the rule
+/// is not Life-like, the kind of the rule that the header names.
 pub fn text_fault(text: &[u8], fault: RleFault) -> Fault {
     match fault {
         RleFault::NoHeader => Fault::File(file_kind(text)),

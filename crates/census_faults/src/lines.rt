@@ -1,4 +1,4 @@
-//! What is said in words beside an error or a report: whole lines without control characters.
+//! Explanations in words beside an error or a report: whole lines without control characters.
 
 use crate::printing::printable_text;
 use std::alloc::{AllocError, Global};
@@ -36,7 +36,7 @@ impl Words {
         }
     }
 
-    /// Adds these bytes, as `printable_text` shows them. Where memory is refused, the words are as before.
+    /// Adds these bytes, as `printable_text` shows them. If memory runs out, the words are unchanged.
     pub fn add(&mut self, bytes: &[u8]) -> Result<(), AllocError> {
         let shown = printable_text(*self.bytes.allocator(), bytes)?;
         self.bytes.extend_from_slice(shown.as_slice())
@@ -81,7 +81,7 @@ impl Lines {
         }
     }
 
-    /// Adds a line: two blanks, these words, and LF. Where memory is refused, the lines are as before.
+    /// Adds a line: two blanks, these words, and LF. If memory runs out, the lines are unchanged.
     pub fn push(&mut self, words: &Words) -> Result<(), AllocError> {
         let mut line = Vec::new(*self.bytes.allocator());
         line.extend_from_slice(b"  ")?;

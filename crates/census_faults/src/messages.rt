@@ -1,14 +1,14 @@
-//! The names of errors in the program's lines, in few words.
+//! The short names of errors in the program's lines.
 ghost use Rattle.std.specs.Prelude.{◌≡◌, ◌≤◌, length};
 ghost use Rattle.census_faults.specs.Numbers.{numbered};
 
 use arrayvec::ArrayString;
 use itoa::Buffer;
 
-// The most bytes of a message.
+// The greatest length of a message, in bytes.
 const MESSAGE_LIMIT: usize = 64;
 
-/// The name of an error. It asks for no memory.
+/// The name of an error. It allocates no memory.
 pub type Message = ArrayString<MESSAGE_LIMIT>;
 
 /// The message that consists of these words.

@@ -5,7 +5,7 @@ ghost use Rattle.census_faults.specs.Printed.{ShowsNameBytes, ShowsNames, printa
 
 use std::alloc::{AllocError, Global};
 
-/// Whether a byte may be in a lawful name: it is neither below 32 nor 127.
+/// True where a byte may be in a lawful name: it is neither below 32 nor 127.
 pub fn is_name_byte(byte: u8) -> bool
     ensures { result ≡ is_name_byte byte }
 {
@@ -46,8 +46,8 @@ pub fn printable_text(alloc: Global, bytes: &[u8]) -> Result<Vec<u8>, AllocError
     Ok(text)
 }
 
-/// What is shown consists of bytes of lawful names alone, so that no name ends a line. Bytes that are all such, as those of a
-/// lawful name, are shown unchanged.
+/// Printable text consists only of bytes that lawful names may have, so no name ends a line. Bytes that are all such, as those
+/// of a lawful name, are shown unchanged.
 pub fn shown_names()
     ensures bytes { ShowsNameBytes }
     ensures names { ShowsNames }

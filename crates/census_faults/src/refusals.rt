@@ -1,4 +1,4 @@
-//! The lines that explain what a report of a bundle gives as refused.
+//! The lines that explain the patterns that a report of a bundle gives as refused.
 
 use crate::fault::Fault;
 use crate::lines::{Lines, Words};
@@ -8,7 +8,7 @@ use census_bundle::{Bundle, Entry, Folder, Ticket};
 use life_text::{RleFault, read_rle};
 use std::alloc::{AllocError, Global};
 
-// Adds what is said of the fault of a text: its place, and the sentence.
+// Adds the explanation of the fault of a text: its place, and the sentence.
 fn add_fault(words: &mut Words, text: &[u8], fault: RleFault) -> Result<(), AllocError> {
     words.add(b":")?;
     words.add(place_text(text, fault).as_str().as_bytes())?;
@@ -43,7 +43,7 @@ fn push_entry(
     }
 }
 
-// These tickets but for the first, if that is the one of a pattern of a folder, whose numbers count from 1.
+// These tickets without the first, if that is the one of this pattern of this folder. Both numbers count from 1.
 fn after_first(tickets: &[Ticket], folder: usize, number: usize) -> Option<&[Ticket]> {
     match tickets {
         [first, rest @ ..] => {
@@ -57,7 +57,8 @@ fn after_first(tickets: &[Ticket], folder: usize, number: usize) -> Option<&[Tic
     }
 }
 
-// Adds the lines of a folder, whose number counts from 1. Of these tickets, which are in order, it returns those after it.
+// Adds the lines of a folder, whose number counts from 1. Returns those of these tickets, which are in order, that come after
+// the folder.
 fn push_folder<'a>(
     alloc: Global,
     lines: &mut Lines,
@@ -80,10 +81,10 @@ fn push_folder<'a>(
     Ok(left)
 }
 
-/// The lines that explain what a report of a bundle gives as `bad`, one for each such line of it, collection by collection, and
-/// within each in the order of its patterns: `COLLECTION/NAME:LINE:COLUMN: ` and the sentence for the text's fault, or for a text
-/// that is lost `COLLECTION/NAME: ` and that of what can't be read, or of what is too long for those with these tickets, which
-/// are in their order.
+/// The lines that explain the patterns that a report of a bundle gives as `bad`, one for each such line of it, collection by
+/// collection, and within each in the order of its patterns: `COLLECTION/NAME:LINE:COLUMN: ` and the sentence for the text's
+/// fault, or for a text that is lost `COLLECTION/NAME: ` and the sentence for one that can't be read, or, for those with these
+/// tickets, for one that is too long. The tickets are in their order.
 pub fn refusal_lines(
     alloc: Global,
     bundle: &Bundle,

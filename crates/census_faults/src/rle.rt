@@ -1,4 +1,4 @@
-//! Faults of RLE texts in words: the place of a fault, and what is wrong.
+//! Faults of RLE texts in words: the place of a fault, and its sentence.
 //!
 //! Tested in `tests_objects`.
 

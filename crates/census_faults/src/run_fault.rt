@@ -1,15 +1,15 @@
-//! Why a run ends early, and why a bundle text was not run to its end.
+//! The reasons why a run ends early, and the reasons why a bundle text was not run to its end.
 
 use census_bundle::{BundleFault, Ticket};
 use std::alloc::AllocError;
 use thiserror::Error;
 use watched::Failed;
 
-/// Why a run did not write its whole report. What it wrote is a prefix of a report.
+/// The reason why a run did not write its whole report. Its output is a prefix of a report.
 #[derive(Clone, Copy, Debug, PartialEq, Eq, Drop, Error)]
 pub enum RunFault {
-    /// Memory was refused. The writer has not failed. If the caller itself was working a pattern then, or taking what was found
-    /// of it, this is the ticket of that pattern.
+    /// Memory ran out. The writer has not failed. If the caller itself was working on a pattern then, or taking its result,
+    /// this is the ticket of that pattern.
     #[error("out of memory")]
     Memory { ticket: Option<Ticket> },
     /// The writer has failed.
@@ -17,7 +17,7 @@ pub enum RunFault {
     Write,
 }
 
-/// Why a bundle text was not run to its end.
+/// The reason why a bundle text was not run to its end.
 #[derive(Clone, Copy, Debug, PartialEq, Eq, Drop, Error)]
 pub enum BytesFault {
     /// The reader has failed. Nothing was written.
@@ -26,13 +26,13 @@ pub enum BytesFault {
     /// The text has more than 67,108,864 bytes. Nothing was written.
     #[error("input too long")]
     TooLong,
-    /// The text is no bundle. Nothing was written.
+    /// The text is not a bundle. Nothing was written.
     #[error("{0}")]
     Bundle(BundleFault),
-    /// Memory was refused. What was written is a prefix of a report of the bundle, or nothing.
+    /// Memory ran out. The output is a prefix of a report of the bundle, or nothing.
     #[error("out of memory")]
     Memory,
-    /// The writer has failed. What was written is a prefix of a report of the bundle.
+    /// The writer has failed. The output is a prefix of a report of the bundle.
     #[error("write failed")]
     Write,
 }
@@ -41,7 +41,7 @@ impl RunFault {
     ghost use Rattle.std.specs.Prelude.{◌≡◌, Some};
     ghost use Rattle.census_faults.specs.declared.run_fault.RunFault.TheVariants.{Memory};
 
-    /// Memory was refused while the caller worked the pattern of this ticket, or took what was found of it.
+    /// The fault that memory ran out while the caller worked on the pattern of this ticket, or took its result.
     pub fn memory_at(ticket: Ticket) -> RunFault
         ensures { result ≡ Memory (Some ticket) }
     {

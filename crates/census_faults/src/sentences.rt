@@ -6,7 +6,7 @@ use census_bundle::{AddFault, BundleFault};
 use life_cells::CodeFault;
 use life_text::RleFault;
 
-// Of a bundle text.
+// The sentence for a fault of a bundle text.
 fn bundle_sentence(fault: BundleFault) -> &'static str {
     match fault {
         BundleFault::StrayText { line: _ } =>
@@ -23,7 +23,7 @@ fn bundle_sentence(fault: BundleFault) -> &'static str {
     }
 }
 
-// Of a folder, or of a file of one.
+// The sentence for a fault of a folder, or of a file of one.
 fn folder_sentence(fault: AddFault) -> &'static str {
     match fault {
         AddFault::BadName =>
@@ -36,7 +36,7 @@ fn folder_sentence(fault: AddFault) -> &'static str {
     }
 }
 
-// Of the body of a code.
+// The sentence for a fault of the body of a code.
 fn code_sentence(fault: CodeFault) -> &'static str {
     match fault {
         CodeFault::Empty =>

@@ -5,7 +5,7 @@ use census_bundle::BundleFault;
 use life_cells::{CodeFault, body_of};
 use life_text::RleFault;
 
-/// What is known of the place of a fault in what was read.
+/// The place of a fault in the input, as far as it is known.
 #[derive(Clone, Copy, Debug, PartialEq, Eq, Drop)]
 pub enum Spot {
     /// Nothing.
@@ -36,7 +36,7 @@ pub fn spot_of_bundle(fault: BundleFault) -> Spot {
     }
 }
 
-// The spot of a byte of a code's body, with which the code ends. A byte after its end counts as the end.
+// The spot of a byte of a code's body, which is the end of the code. A byte after its end counts as the end.
 fn body_spot(code: &[u8], at: usize) -> Spot {
     let body = body_of(code);
     let left = body.len() - at.min(body.len());

@@ -12,7 +12,7 @@ abbrev pub fault_name : RleFault → List ℕ
 fault_name Memory = codes "out of memory"
 fault_name fault = numbered (codes "rle") (fault_number fault) (fault_place fault)
 
--- words without control characters (0 to 31, 127), and ` (NUMBER)`
+-- this line is words without control characters (0 to 31, 127), and ` (NUMBER)`
 pub record IsFaultLine (fault : RleFault) (line : List ℕ) : Type 0 where
   pub words : List ℕ
   pub shown : list_all is_name_byte words ≡ true

@@ -14,18 +14,20 @@ abbrev pub times_in : ℕ → List ℕ → ℕ
 times_in byte [] = 0
 times_in byte (c ∷ rest) = (if c == byte then 1 else 0) + times_in byte rest
 
--- the line is one more than the LFs before the place, and the column one more than the bytes between the last LF before the place and the place
+-- the line is one more than the LFs before the place, and the column one more than the bytes between the last LF before the
+-- place and the place
 abbrev pub line_and_column : List ℕ → ℕ → Place
 line_and_column text at = record {
   line = times_in 10 (take at text) + 1;
   column = suffix_len (λ c. not (c == 10)) (take at text) + 1;
 }
 
--- where the header line begins: the first byte that is neither blank nor LF nor in a line of comment, or the text's end
+-- the beginning of the header line: the first byte that is neither blank nor LF nor in a line of comment, or the text's end
 abbrev pub header_place : List ℕ → ℕ
 header_place text = prefix_len is_space (without_comments text)
 
--- the byte to look at: the fault's own, else the header line's first, the text's end where the end is missing, or the text's first byte
+-- the byte at which a reader should look: the fault's own, else the header line's first, the text's end where the end is
+-- missing, or the text's first byte
 abbrev pub place_in : List ℕ → RleFault → ℕ
 place_in text NoEnd = length text
 place_in text Memory = 0

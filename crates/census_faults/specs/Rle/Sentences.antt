@@ -4,7 +4,7 @@ use Rattle.life_cells.specs.declared.rule.RuleFault.TheVariants.{NotLifeLike, Ha
 use Rattle.life_text.specs.declared.rle.RleFault.{RleFault}
 use Rattle.life_text.specs.declared.rle.RleFault.TheVariants.{NoHeader, BadHeader, Rule, ManyStates, BadChar, BadRun, TooFar, TooMany, NoEnd, Memory}
 
--- what is wrong, and what would be right
+-- the sentence for a fault: what is wrong, and what would be right
 abbrev pub sentence_of : RleFault → List ℕ
 sentence_of NoHeader = codes "there is no header line: the first line that is neither blank nor a comment must begin with `x`, as in `x = 3, y = 3`"
 sentence_of BadHeader = codes "the header line is malformed: it must have the form `x = 3, y = 3` or `x = 3, y = 3, rule = B3/S23`"

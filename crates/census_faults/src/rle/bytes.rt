@@ -1,4 +1,4 @@
-//! Bytes that are counted.
+//! Counts of bytes.
 ghost use Rattle.std.specs.Prelude.{◌≡◌, ◌≤◌, ◌==◌, length, not};
 ghost use Rattle.std.specs.List.{suffix_len};
 ghost use Rattle.census_faults.specs.Rle.Places.{times_in};

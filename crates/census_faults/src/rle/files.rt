@@ -1,9 +1,9 @@
 //! Files of patterns that are not RLE texts.
 
-/// What a text without a header line is, by its first bytes.
+/// The kind of a text without a header line, by its first bytes.
 #[derive(Clone, Copy, Debug, PartialEq, Eq, Drop)]
 pub enum FileKind {
-    /// Compressed by gzip, as a file `.rle.gz` or `.mc.gz`.
+    /// A file compressed by gzip, such as `.rle.gz` or `.mc.gz`.
     Gzip,
     /// A macrocell file, which begins with `[M2]`.
     Macrocell,

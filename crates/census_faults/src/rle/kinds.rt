@@ -6,35 +6,35 @@ use life_text::{is_blank, is_digit, is_letter};
 /// The kind of a rule that is not Life-like.
 #[derive(Clone, Copy, Debug, PartialEq, Eq, Drop)]
 pub enum RuleKind {
-    /// A name, as `HighLife`.
+    /// A name, such as `HighLife`.
     Named,
-    /// A rule on a bounded grid, which has `:`, as `B3/S23:T100,100`.
+    /// A rule on a bounded grid, which has `:`, such as `B3/S23:T100,100`.
     Bounded,
-    /// A rule with states for what a cell has been, as `LifeHistory` or `LifeSuper`.
+    /// A rule with states for the history of a cell, such as `LifeHistory` or `LifeSuper`.
     History,
-    /// A rule with a number of states, as `B2/S/C3` or `23/3/4`.
+    /// A rule with a number of states, such as `B2/S/C3` or `23/3/4`.
     Generations,
-    /// A rule with a range, as `R5,C0,M1,S34..58,B34..45,NM`.
+    /// A rule with a range, such as `R5,C0,M1,S34..58,B34..45,NM`.
     LargerThanLife,
-    /// An isotropic rule that tells arrangements of neighbours apart, as `B2-a/S12`.
+    /// An isotropic rule that distinguishes arrangements of neighbours, such as `B2-a/S12`.
     NonTotalistic,
-    /// A rule with a blank inside, as `B3 / S23`.
+    /// A rule with a blank inside, such as `B3 / S23`.
     Blank,
     /// None of these.
     Other,
 }
 
-// What an isotropic rule that tells arrangements of neighbours apart is made of, and the letters of arrangements.
+// The characters of an isotropic rule that distinguishes arrangements of neighbours, with the letters of arrangements.
 const ISOTROPIC: &[u8] = b"012345678/-BSbsceakinyqjrtwz";
 
 const ARRANGEMENTS: &[u8] = b"ceakinyqjrtwz";
 
-// Whether a rule's name ends in `History` or `Super`.
+// True where a rule's name ends in `History` or `Super`.
 fn has_history(rule: &[u8]) -> bool {
     rule.ends_with(b"History") || rule.ends_with(b"Super")
 }
 
-// Whether a rule has a range, as `R5`, and more after a comma, or is five numbers.
+// True where a rule has a range, such as `R5`, and a comma, or is five numbers.
 fn is_larger(rule: &[u8]) -> bool {
     let has_range = match rule {
         [b'R' | b'r', second, ..] => is_digit(*second),
@@ -44,12 +44,12 @@ fn is_larger(rule: &[u8]) -> bool {
     (has_range && rule.contains(&b',')) || (count_of(rule, b',') == 4 && is_numbers)
 }
 
-// Whether a text is one or more digits.
+// True where a text is one or more digits.
 fn is_number(text: &[u8]) -> bool {
     !text.is_empty() && text.iter().all(|byte| is_digit(*byte))
 }
 
-// Whether a text is a number, with or without `C` or `G` before it.
+// True where a text is a number, with or without `C` or `G` before it.
 fn is_states(text: &[u8]) -> bool {
     match text {
         [b'C' | b'c' | b'G' | b'g', rest @ ..] => is_number(rest),
@@ -57,14 +57,14 @@ fn is_states(text: &[u8]) -> bool {
     }
 }
 
-// Whether a rule has three parts between two `/`, of which the last is a number of states.
+// True where a rule has two `/` and after the second a number of states.
 fn is_generations(rule: &[u8]) -> bool {
     let last = rule.split(|byte| *byte == b'/').last();
     count_of(rule, b'/') == 2 && last.is_some_and(is_states)
 }
 
-// Whether a rule is made of what isotropic rules are made of, and the letter of an arrangement comes right after a number of
-// neighbours, or after the `-` of those that are left out.
+// True where a rule has only the characters of isotropic rules, and the letter of an arrangement comes right after a number of
+// neighbours, or after the `-` before those that are left out.
 fn is_non_totalistic(rule: &[u8]) -> bool {
     let mut before = b'/';
     let mut is_arranged = false;
@@ -75,7 +75,7 @@ fn is_non_totalistic(rule: &[u8]) -> bool {
     is_arranged && rule.iter().all(|byte| ISOTROPIC.contains(byte))
 }
 
-// Whether a rule is a name: two letters are side by side, it has no `/`, and it is no map of all neighbourhoods.
+// True where a rule is a name: two letters are side by side, it has no `/`, and it is not a map of all neighbourhoods.
 fn is_rule_name(rule: &[u8]) -> bool {
     let mut before = b'/';
     let mut has_word = false;

@@ -7,9 +7,9 @@ use crate::rle::header::header_place;
 use crate::rle::places::Place;
 use life_text::RleFault;
 
-/// The line and the column of a byte, or of the end of the text, both counted from 1. LF ends a line, and belongs to it. CR is a
-/// byte like any other: where a line ends with CR and LF, CR is the last but one byte of its line, and CR alone does not end a
-/// line.
+/// The line and the column of a byte, or of the end of the text, both counted from 1. LF ends a line, and belongs to it. CR is
+/// a byte like any other: where a line ends with CR and LF, CR is the second-to-last byte of its line, and CR alone does not
+/// end a line.
 pub fn line_and_column(text: &[u8], at: usize) -> Place
     requires { at ≤ length text.now }
     ensures { result ≡ line_and_column text.now at }
@@ -21,7 +21,7 @@ pub fn line_and_column(text: &[u8], at: usize) -> Place
     }
 }
 
-// The byte to look at for a fault.
+// The byte at which a reader should look for a fault.
 fn place_in(text: &[u8], fault: RleFault) -> usize
     ensures { result ≡ place_in text.now fault }
 {
@@ -37,9 +37,9 @@ fn place_in(text: &[u8], fault: RleFault) -> usize
     }
 }
 
-/// Where a reader should look for a fault of a text: at the byte that the fault names; at the header line's first byte
-/// for a fault of the header; at the text's end where the end is missing; and at the text's first byte where memory was
-/// refused. A byte after the text's end counts as the end.
+/// The place at which a reader should look for a fault of a text: the byte that the fault names; the header line's first byte
+/// for a fault of the header; the text's end where the end is missing; and the text's first byte where memory ran out. A byte
+/// after the text's end counts as the end.
 pub fn place_of(text: &[u8], fault: &RleFault) -> Place
     ensures { result ≡ place_of_fault text.now fault.now }
 {

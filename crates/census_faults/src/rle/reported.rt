@@ -1,4 +1,4 @@
-//! What a report says of a text that has a fault.
+//! The words of a report for a text that has a fault.
 ghost use Rattle.std.specs.Prelude.{◌≡◌, ◌++◌, IfOk, OnOk, codes, decimal};
 ghost use Rattle.census_faults.specs.Rle.Reported.{fault_words, unnamed_words};
 

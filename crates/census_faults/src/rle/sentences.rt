@@ -77,8 +77,8 @@ pub fn file_sentence(kind: FileKind) -> &'static str {
     }
 }
 
-/// The sentence for a fault of a text. Where there is no header line, it says what the text is. Where the rule is not Life-like,
-/// it says of which kind the header's rule is.
+/// The sentence for a fault of a text. Where there is no header line, it says what the text is instead. Where the rule is not
+/// Life-like, it says of which kind the header's rule is.
 pub fn words_of(text: &[u8], fault: RleFault) -> &'static str {
     match fault {
         RleFault::NoHeader => file_sentence(file_kind(text)),

@@ -11,7 +11,7 @@ use itoa::Buffer;
 use life_text::RleFault;
 use std::alloc::{AllocError, Global};
 
-// The most bytes of a place: two numbers of 20 digits, two `:` and a blank.
+// Room for the bytes of a place: two numbers of 20 digits, two `:` and a blank.
 const PLACE_LIMIT: usize = 48;
 
 /// The name of a fault in the program's lines: `rle fault N`, with its byte as in `rle fault 6 at 17` where it names one, or
@@ -25,7 +25,7 @@ pub fn fault_name(fault: RleFault) -> Message
     }
 }
 
-/// Where a reader should look for a fault of a text, as `LINE:COLUMN: `. It asks for no memory.
+/// The place at which a reader should look for a fault of a text, as `LINE:COLUMN: `. It allocates no memory.
 pub fn place_text(text: &[u8], fault: RleFault) -> ArrayString<PLACE_LIMIT> {
     let place = place_of(text, &fault);
     let mut buffer = Buffer::new();
@@ -37,8 +37,8 @@ pub fn place_text(text: &[u8], fault: RleFault) -> ArrayString<PLACE_LIMIT> {
     shown
 }
 
-/// The line `LINE:COLUMN: WORDS (NUMBER)` that reports a fault of a text, without a line feed: where a reader should look, the
-/// sentence, and the fault's number with its byte, counted from 0, as in `rle fault 6 at 17`.
+/// The line `LINE:COLUMN: WORDS (NUMBER)` that reports a fault of a text, without a line feed: the place at which a reader
+/// should look, the sentence, and the fault's number with its byte, counted from 0, as in `rle fault 6 at 17`.
 pub fn fault_line(alloc: Global, text: &[u8], fault: &RleFault) -> Result<Vec<u8>, AllocError>
     ensures { IfOk result (λ line. IsFaultLine fault.now line.items) }
 {
