@@ -1,4 +1,4 @@
--- How a proof tells the values of tickets, folders and sets of tickets apart.
+-- Codes by which proofs distinguish the values of tickets, folders and sets of tickets.
 use Rattle.std.specs.Coded.{Coded}
 use Rattle.std.specs.FinSet.{code}
 use Rattle.census_bundle.specs.contracts.ticket.Ticket as ticket_row

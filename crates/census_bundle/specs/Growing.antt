@@ -13,7 +13,7 @@ abbrev pub on_last : {A : Type 0} → (A → A) → List A → List A
 on_last f [] = []
 on_last f (x ∷ xs) = on_last_of f x xs
 
--- one more folder at the end, with no entry
+-- the folders with one more at the end, which has no entry
 abbrev pub with_folder : List Folder → List ℕ → List Folder
 with_folder b name = b ++ record { name = name; entries = [] } ∷ []
 
@@ -21,7 +21,7 @@ with_folder b name = b ++ record { name = name; entries = [] } ∷ []
 abbrev pub with_one_more : Entry → Folder → Folder
 with_one_more e f = record f { entries = f.entries ++ e ∷ [] }
 
--- one more entry at the end of the last folder
+-- the folders with one more entry at the end of the last of them
 abbrev pub with_entry : List Folder → Entry → List Folder
 with_entry b e = on_last (with_one_more e) b
 

@@ -1,4 +1,4 @@
--- What a line begins.
+-- The kinds of lines.
 use Rattle.std.specs.Prelude.{◌≡◌, ℕ, true, false, List}
 use Rattle.census_bundle.specs.declared.lines.Line.{Line}
 use Rattle.census_bundle.specs.declared.lines.Line.TheVariants.{Folder, File, OtherAt, Plain}

@@ -22,6 +22,6 @@ is_folder_line line = starts_with nat_eq line (codes "@folder ")
 abbrev pub is_file_line : List ℕ → Bool
 is_file_line line = starts_with nat_eq line (codes "@file ")
 
--- the name on such a line: what follows the blank, without the line's ending
+-- the name on such a line: the text after the blank, without the line's ending
 abbrev pub line_name : List ℕ → List ℕ
 line_name line = content (drop (if is_folder_line line then 8 else 6) line)

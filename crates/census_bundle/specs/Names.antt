@@ -5,11 +5,11 @@ use Rattle.census_bundle.specs.declared.bundle.Folder.{Folder}
 use Rattle.census_bundle.specs.declared.bundle.Entry.{Entry}
 use Rattle.census_bundle.specs.Sizes.{name_limit}
 
--- no control character
+-- true where a byte is not a control character
 abbrev pub is_name_byte : ℕ → Bool
 is_name_byte c = nat_le 32 c && not (c == 127)
 
--- 1 to 255 such bytes, the first and the last not blank
+-- true where a name has 1 to 255 such bytes, the first and the last not blank
 abbrev pub is_name : List ℕ → Bool
 is_name name = nat_lt 0 (length name) && (nat_le (length name) name_limit && (list_all is_name_byte name && not (starts_with nat_eq name (codes " ") || ends_with nat_eq name (codes " "))))
 

@@ -1,4 +1,4 @@
--- What a bundle text holds, and its first fault.
+-- The content of a bundle text, and its first fault.
 use Rattle.std.specs.Prelude.{ℕ, ◌+◌, Bool, true, false, not, ◌&&◌, ◌||◌, List, [], ◌∷◌, ◌++◌, length, Option, Some, None, count_by, nat_le, ◌==◌, if◌then◌else◌}
 use Rattle.std.specs.List.{list_all, after_last}
 use Rattle.std.specs.Option.{option_or}
@@ -15,13 +15,13 @@ use Rattle.census_bundle.specs.Sizes.{count_limit}
 
 -- # Folders and entries
 
--- What lines hold: the text before their first entry or folder, the entries before their first folder, and their folders.
+-- The content of lines: the text before their first entry or folder, the entries before their first folder, and their folders.
 pub record LinesContent : Type 0 where
   pub text : List ℕ
   pub entries : List Entry
   pub folders : List Folder
 
--- what a line and the lines after it hold, by what those hold
+-- the content of a line and the lines after it, by that of those lines
 abbrev pub content_with_line : List ℕ → LinesContent → LinesContent
 content_with_line line behind =
     if is_folder_line line then record { text = []; entries = []; folders = record { name = line_name line; entries = behind.entries } ∷ behind.folders } else
@@ -38,14 +38,14 @@ folders_of text = (content_of_lines (whole_lines text)).folders
 
 -- # Faults
 
--- how many folders begin on these lines, and how many entries of the last of them
+-- the number of folders that begin on these lines, and the number of entries of the last of them
 abbrev pub folder_count : List (List ℕ) → ℕ
 folder_count before = count_by is_folder_line before
 
 abbrev pub entry_count : List (List ℕ) → ℕ
 entry_count before = count_by is_file_line (after_last is_folder_line before)
 
--- after `folders` folders and `entries` entries of the last of them no entry has begun
+-- true where no entry has begun after `folders` folders and `entries` entries of the last of them
 abbrev pub is_outside : ℕ → ℕ → Bool
 is_outside folders entries = (folders == 0) || (entries == 0)
 
@@ -61,11 +61,11 @@ is_bad_at_line line = is_at_line line && not (is_folder_line line || is_file_lin
 abbrev pub has_bad_name : List ℕ → Bool
 has_bad_name line = (is_folder_line line || is_file_line line) && not (is_name (line_name line))
 
--- the line begins a folder or an entry for which there is no room
+-- true where the line begins a folder or an entry for which there is no room
 abbrev pub is_one_too_many : ℕ → ℕ → List ℕ → Bool
 is_one_too_many folders entries line = (is_folder_line line && nat_le count_limit folders) || (is_file_line line && nat_le count_limit entries)
 
--- the fault of the line of this number after `folders` folders and `entries` entries of the last of them: the first that there is
+-- the first fault, if any, of the line with this number, after `folders` folders and `entries` entries of the last of them
 abbrev pub line_fault : ℕ → ℕ → ℕ → List ℕ → Option BundleFault
 line_fault number folders entries line =
     fault_if (is_stray folders entries line) (StrayText number)
@@ -74,7 +74,7 @@ line_fault number folders entries line =
     (fault_if (has_bad_name line) (BadName number)
     (fault_if (is_one_too_many folders entries line) (TooMany number) None))))
 
--- the first fault of lines that come after these
+-- the first fault of lines that come after `before`
 abbrev pub first_fault : List (List ℕ) → List (List ℕ) → Option BundleFault
 first_fault before [] = None
 first_fault before (line ∷ lines) =

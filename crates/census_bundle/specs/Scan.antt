@@ -18,11 +18,11 @@ entry_with_text t e = record e { text = e.text ++ t }
 abbrev pub folder_with_text : List ℕ → Folder → Folder
 folder_with_text t f = record { name = f.name; entries = on_last (entry_with_text t) f.entries }
 
--- more text in the last entry of the last folder
+-- the folders with more text in the last entry of the last of them
 abbrev pub with_entry_text : List Folder → List ℕ → List Folder
 with_entry_text b t = on_last (folder_with_text t) b
 
--- the folders with those of one more line
+-- the folders after one more line
 abbrev pub after_line : List Folder → List ℕ → List Folder
 after_line b line =
     if is_folder_line line then with_folder b (line_name line) else
@@ -36,7 +36,7 @@ abbrev pub unless : Option BundleFault → Result (List Folder) BundleFault → 
 unless None read = read
 unless (Some fault) read = Err fault
 
--- the folders with those of these lines, of which the first has this number, or the first fault
+-- the folders after these lines, of which the first has this number, or the first fault
 abbrev pub read_on : List Folder → ℕ → List (List ℕ) → Result (List Folder) BundleFault
 read_on b number [] = Ok b
 read_on b number (line ∷ lines) = unless (fault_behind b number line) (read_on (after_line b line) (number + 1) lines)
@@ -48,15 +48,15 @@ abbrev pub line_len : List ℕ → ℕ
 line_len [] = 0
 line_len (c ∷ rest) = if c == 10 then 1 else suc (line_len rest)
 
--- nothing is left, or the first line begins with `@`
+-- true where nothing is left, or the first line begins with `@`
 abbrev pub begins_section : List ℕ → Bool
 begins_section rest = (length rest == 0) || is_at_line rest
 
--- what comes first is not text that belongs to an entry
+-- the text does not begin with text that belongs to an entry
 abbrev pub IsClosedText : List Folder → List ℕ → Type 0
 IsClosedText b rest = (is_outside (length b) (length (last_entries b)) || begins_section rest) ≡ true
 
--- the text of an entry, its number of lines, and what comes after it
+-- the text of an entry, its number of lines, and the rest after it
 pub record SplitText : Type 0 where
   pub text : List ℕ
   pub lines : ℕ
@@ -66,7 +66,7 @@ pub record SplitText : Type 0 where
 pub record IsTextOf (whole : List ℕ) (split : SplitText) : Type 0 where
   pub reads : (b : List Folder) (name t : List ℕ) (n : ℕ) → 0 < length b → read_on (with_entry b (entry_of name t)) n (whole_lines whole) ≡ read_on (with_entry b (entry_of name (t ++ split.text))) (n + split.lines) (whole_lines split.rest)
 
--- the folders with those of some lines of the text, and what is then left to read
+-- the folders after some lines of the text, and the rest to be read
 pub record ReadsOn (old new : List Folder) (number next : ℕ) (text rest : List ℕ) : Type 0 where
   pub same : read_on old number (whole_lines text) ≡ read_on new next (whole_lines rest)
   pub closed : IsClosedText new rest

@@ -16,7 +16,7 @@ folder_of t = t.folder
 abbrev pub number_in_folder : Ticket → ℕ
 number_in_folder t = t.number
 
--- by folder, and then by number
+-- the order of tickets: by folder, and then by number
 abbrev pub ticket_cmp : Ticket → Ticket → Ordering
 ticket_cmp = then_cmp (on folder_of nat_cmp) (on number_in_folder nat_cmp)
 
@@ -50,7 +50,7 @@ entry_at b t = entry_in (element_at b t.folder) t.number
 abbrev pub IsTicketOf : List Folder → Ticket → Type 0
 IsTicketOf b t = (e : Entry) × (entry_at b t ≡ Some e)
 
--- each ticket of the bundle is taken
+-- each ticket of the bundle is in the set
 abbrev pub HasAllTickets : List Folder → Tickets → Type 0
 HasAllTickets b taken = (t : Ticket) → IsTicketOf b t → has_ticket taken t ≡ true
 

@@ -11,10 +11,10 @@ use std::alloc::{AllocError, AllocFailed, Global};
 use std::marker::Model;
 use thiserror::Error;
 
-/// The most bytes of a text that need no memory of their own. They are enough for most lines.
+/// The greatest length of a text, in bytes, that needs no memory of its own. It is enough for most lines.
 const SHORT_LEN: usize = 48;
 
-/// Bytes that are reported of a bundle, as a line or a path.
+/// Bytes of a report about a bundle, as a line or a path.
 #[derive(Drop)]
 pub struct Text {
     bytes: SmallVec<u8, SHORT_LEN>,
@@ -50,9 +50,9 @@ impl Text {
 pub struct Entry {
     /// Its name.
     pub name: Bytes,
-    /// The text that is read as RLE. It isn't looked at where it is lost.
+    /// The text that is read as RLE. It isn't examined where it is lost.
     pub text: Bytes,
-    /// Whether the text is lost, since it couldn't be read.
+    /// True where the text is lost, since it couldn't be read.
     pub is_lost: bool,
 }
 
@@ -81,7 +81,7 @@ impl Entries {
         Entries { items }
     }
 
-    // One more at the end.
+    // Adds one more at the end.
     pub(crate) fn push(&mut self, entry: Entry) -> Result<(), AllocError>
         ensures added { OnOk result (self.new ≡ self.old ++ entry ∷ []) }
         ensures unchanged { OnErr result (self.new ≡ self.old) }
@@ -128,19 +128,19 @@ fn folder_of(alloc: Global, name: &[u8]) -> Result<Folder, AllocError>
     Ok(Folder { name, entries })
 }
 
-/// Why a folder or an entry is not added.
+/// The reason why a folder or an entry is not added.
 #[derive(Clone, Copy, Debug, PartialEq, Eq, Drop, Error)]
 pub enum AddFault {
     /// The name isn't lawful.
     #[error("folder fault 1")]
     BadName,
-    /// There is no folder that the entry could go to.
+    /// There is no folder to which the entry could be added.
     #[error("folder fault 2")]
     NoFolder,
     /// There are 65,535 folders, or 65,535 entries in the last folder.
     #[error("folder fault 3")]
     TooMany,
-    /// A growth was refused, where nothing else is wrong.
+    /// Memory ran out, where nothing else is wrong.
     #[error("out of memory")]
     Memory,
 }

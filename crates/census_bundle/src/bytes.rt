@@ -4,10 +4,11 @@ ghost use Rattle.std.specs.Prelude.{◌≡◌, ◌≤◌, IfOk, IsOk, length};
 use std::alloc::{AllocError, Global};
 use std::marker::Model;
 
-/// The most bytes that need no memory of their own. They are enough for most names. With them a value takes 16 bytes in all.
+/// The greatest number of bytes that need no memory of their own. It is enough for most names. With them a value takes 16 bytes
+/// in all.
 const PLACE_LEN: usize = 14;
 
-// Where bytes are kept: at most `PLACE_LEN` in the value itself, with their number, or any number in memory of their own.
+// The place of bytes: at most `PLACE_LEN` in the value itself, with their number, or any number in memory of their own.
 #[derive(Drop)]
 enum Place {
     Short(u8, [u8; PLACE_LEN]),

@@ -5,7 +5,7 @@ ghost use Rattle.census_bundle.specs.Growing.{with_entry, last_entries};
 use crate::bundle::{Entry, Folder};
 use std::alloc::AllocError;
 
-// How many entries the last folder has.
+// The number of entries in the last folder.
 pub fn last_len(folders: &[Folder]) -> usize
     ensures { result ≡ length (last_entries folders.now) }
 {
@@ -15,7 +15,7 @@ pub fn last_len(folders: &[Folder]) -> usize
     }
 }
 
-// One more entry in the last folder.
+// Adds one more entry to the last folder.
 pub fn push_to_last(folders: &mut Vec<Folder>, entry: Entry) -> Result<(), AllocError>
     requires { 0 < length folders.old.items }
     ensures added { OnOk result (folders.new.items ≡ with_entry folders.old.items entry) }

@@ -1,10 +1,10 @@
-//! How large a bundle may be, and a text that is read.
+//! The limits on the sizes of bundles and of texts that are read.
 
-/// The most folders of a bundle, and the most entries of a folder.
+/// The greatest number of folders in a bundle, and of entries in a folder.
 pub const COUNT_LIMIT: usize = 65_535;
 
-/// The most bytes of a text that is read, of a file or of standard input.
+/// The greatest length of a text that is read from a file or from standard input, in bytes.
 pub const INPUT_LIMIT: usize = 67_108_864;
 
-/// The most bytes of a name.
+/// The greatest length of a name, in bytes.
 pub const NAME_LIMIT: usize = 255;

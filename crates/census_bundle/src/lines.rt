@@ -8,20 +8,20 @@ ghost use Rattle.census_bundle.specs.Scan.{line_len, begins_section, IsTextOf};
 
 use memchr::memchr;
 
-// What a line begins.
+// The kind of a line.
 #[derive(Clone, Copy)]
 pub enum Line<'a> {
-    // A folder of this name.
+    // The line begins a folder of this name.
     Folder(&'a [u8]),
-    // An entry of this name.
+    // The line begins an entry of this name.
     File(&'a [u8]),
-    // Nothing, though it begins with `@`.
+    // The line begins neither, though its first byte is `@`.
     OtherAt,
-    // Nothing.
+    // The line has another first byte, or none.
     Plain,
 }
 
-// The text of an entry, and what comes after it.
+// The text of an entry, its number of lines, and the rest after it.
 #[derive(Clone, Copy)]
 pub struct EntryText<'a> {
     pub text: &'a [u8],
@@ -40,7 +40,7 @@ fn line_len(text: &[u8]) -> usize
     }
 }
 
-// The first line with its ending, and what comes after it.
+// The first line with its ending, and the rest after it.
 pub fn split_line(text: &[u8]) -> (&[u8], &[u8])
     requires { 0 < length text.now }
     ensures lines { whole_lines text.now ≡ result.0.now ∷ whole_lines result.1.now }
@@ -63,14 +63,14 @@ fn without_ending(line: &[u8]) -> &[u8]
     line
 }
 
-// Whether a line is blanks, tabs and CR alone.
+// True where a line has nothing but blanks, tabs and CR.
 pub fn is_blank(line: &[u8]) -> bool
     ensures { result ≡ list_all is_space line.now }
 {
     line.iter().all(|byte| *byte == b' ' || *byte == b'\t' || *byte == b'\r' || *byte == b'\n')
 }
 
-// What a line begins.
+// The kind of a line.
 pub fn line_of(line: &[u8]) -> Line
     ensures { IsLineKind line.now result }
 {
@@ -87,7 +87,7 @@ pub fn line_of(line: &[u8]) -> Line
     }
 }
 
-// Whether nothing is left, or the first line begins with `@`.
+// True where nothing is left, or the first line begins with `@`.
 fn begins_section(rest: &[u8]) -> bool
     ensures { result ≡ begins_section rest.now }
 {

@@ -5,14 +5,14 @@ ghost use Rattle.census_bundle.specs.Names.{is_name, is_name_byte};
 
 use crate::limits::NAME_LIMIT;
 
-// Whether no byte is below 32 or equal to 127.
+// True where no byte is below 32 or equal to 127.
 fn is_printed(name: &[u8]) -> bool
     ensures { result ≡ list_all is_name_byte name.now }
 {
     name.iter().all(|byte| *byte >= 32 && *byte != 127)
 }
 
-// Whether the first or the last byte is a blank.
+// True where the first or the last byte is a blank.
 fn has_blank_end(name: &[u8]) -> bool
     ensures { result ≡
         (starts_with nat_eq name.now (codes " ") || ends_with nat_eq name.now (codes " ")) }
@@ -20,8 +20,8 @@ fn has_blank_end(name: &[u8]) -> bool
     name.starts_with(b" ") || name.ends_with(b" ")
 }
 
-/// Whether a name is lawful: it has 1 to 255 bytes, none of them below 32 or equal to 127, the first and the last not
-/// blank.
+/// True where a name is lawful: it has 1 to 255 bytes, none of them below 32 or equal to 127, and the first and the last are
+/// not blank.
 pub fn is_lawful_name(name: &[u8]) -> bool
     ensures { result ≡ is_name name.now }
 {

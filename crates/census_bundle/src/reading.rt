@@ -1,10 +1,9 @@
-//! Reading bundle texts, a format of this project's own.
+//! Reading bundle texts, which are in a format of this project's own.
 //!
 //! A bundle is a text of lines that end with LF or CR LF; the last may have no ending. A line whose first byte is `@` is
-//! `@folder NAME` or `@file NAME`, with exactly one blank before the name. `@folder` begins a folder. `@file` begins an entry of
-//! the
-//! last folder, whose text is all bytes from the next line up to the next line that begins with `@`, or up to the end, unchanged.
-//! Elsewhere only blank lines are allowed. Names may repeat.
+//! `@folder NAME` or `@file NAME`, with exactly one blank before the name. `@folder` begins a folder. `@file` begins an entry
+//! of the last folder, whose text is all bytes from the next line up to the next line that begins with `@`, or up to the end,
+//! unchanged. Elsewhere only blank lines are allowed. Names may repeat.
 ghost use Rattle.std.specs.Prelude.{◌≡◌, ◌≢◌, ◌+◌, ◌<◌, ◌^◌, length, IfOk, IfErr, OnOk, None, Some, Err};
 ghost use Rattle.census_bundle.specs.declared.fault.BundleFault.TheVariants.{Memory};
 ghost use Rattle.census_bundle.specs.Lines.{whole_lines};
@@ -17,7 +16,7 @@ use crate::fault::BundleFault;
 use crate::lines::{Line, is_blank, line_of, split_line, split_text};
 use std::alloc::Global;
 
-// A place in a bundle text: what is left, and the number of its first line.
+// A place in a bundle text: the rest of the text, and the number of its first line.
 #[derive(Clone, Copy)]
 struct Place<'a> {
     rest: &'a [u8],
@@ -85,8 +84,8 @@ fn read_section<'a>(
     }
 }
 
-/// The folders of a bundle text, or its first fault: that of the first line that is wrong, and on one line the fault of the lower
-/// number. `Memory` may occur at any growth before that line.
+/// The folders of a bundle text, or its first fault: that of the first line that is wrong, and on one line the fault of the
+/// lower number. `Memory` may be returned instead at any allocation before that line.
 pub fn read_bundle(alloc: Global, text: &[u8]) -> Result<Bundle, BundleFault>
     ensures found { IfOk result (λ b. b ≡ folders_of text.now) }
     ensures lawful { OnOk result (fault_of text.now ≡ None) }
