@@ -1,4 +1,4 @@
--- What each kind of outcome says.
+-- The content of `line` lines, for each kind of outcome.
 use Rattle.std.specs.Prelude.{ℕ, ℤ, ◌==◌, Bool, true, false, Option, Some, None as Nothing, if◌then◌else◌, List, [], ◌∷◌, codes, decimal}
 use Rattle.std.specs.Borrow.{Bor}
 use Rattle.std.specs.Fmt.{signed_decimal}
@@ -18,7 +18,7 @@ use Rattle.census_rows.specs.declared.row.Outcome.{Outcome}
 use Rattle.census_rows.specs.declared.row.Outcome.TheVariants.{Found, Bad}
 use Rattle.census_rows.specs.Values.{unfolded}
 
--- what a `line` line says of a pattern: a word, the fields after it, how it counts, and which lines stand behind it
+-- the content of a `line` line about a pattern: a word, the fields after it, its class, and the lines that follow it
 pub record Said : Type 0 where
   pub word : List ℕ
   pub fields : List Field
@@ -35,7 +35,7 @@ signed label z = record { label = label; value = Signed z }
 abbrev pub text : Label → Bor (List ℕ) → Field
 text label bytes = record { label = label; value = Text bytes }
 
--- what a kind says, without rule and population
+-- the content for a finding, without rule and population
 abbrev pub said_of : Finding → Said
 said_of (finding.Ok onset period dx dy code) = record {
   word = codes "ok";
@@ -55,7 +55,7 @@ said_of (finding.Large generation) =
 said_of (finding.Grows engines) =
     record { word = codes "grows"; fields = number label.Engines engines ∷ []; class = Resolved; behind = behind.Engines }
 
--- how many kinds there are
+-- the number of kinds
 abbrev pub kinds : ℕ
 kinds = 5
 
@@ -75,7 +75,7 @@ finding_of_kind kind number word =
     else (if kind == 4 then finding.Large (number 0)
     else (if kind == 5 then finding.Grows (number 0) else finding.Unresolved)))
 
--- what an outcome says
+-- the content for an outcome
 abbrev pub said : Outcome → Said
 said (Found rule population found) =
     record (said_of found) { fields = text label.Rule rule ∷ number label.Population population ∷ (said_of found).fields }
@@ -87,25 +87,25 @@ same_class Unresolved Unresolved = true
 same_class Refused Refused = true
 same_class _ _ = false
 
--- it comes again, has fallen apart or grows for ever
+-- true where it recurs, has fallen apart or grows forever
 abbrev pub is_resolved : Outcome → Bool
 is_resolved outcome = same_class (said outcome).class Resolved
 
--- it does none of these within the bound, or has too many cells
+-- true where it does none of these within the bound, or has too many cells
 abbrev pub is_unresolved : Outcome → Bool
 is_unresolved outcome = same_class (said outcome).class Unresolved
 
--- it is lost, or its text has a fault
+-- true where it is lost, or its text has a fault
 abbrev pub is_refused : Outcome → Bool
 is_refused outcome = same_class (said outcome).class Refused
 
--- the fields that there are
+-- the fields that are there
 abbrev pub present : List (Option Field) → List Field
 present [] = []
 present (Nothing ∷ fields) = present fields
 present (Some field ∷ fields) = field ∷ present fields
 
--- how many labels are declared before one
+-- the number of labels that are declared before one
 abbrev pub label_number : Label → ℕ
 label_number label.Rule = 0
 label_number label.Population = 1
@@ -119,7 +119,7 @@ label_number label.Generation = 8
 label_number label.Fault = 9
 label_number label.Engines = 10
 
--- what the field with a label has, where there is one
+-- the value of the field with a label, where there is one
 abbrev pub value_at : Label → List Field → Option Value
 value_at label [] = Nothing
 value_at label (field ∷ fields) = if nat_eq (label_number field.label) (label_number label) then Some field.value else value_at label fields

@@ -1,4 +1,4 @@
--- The lines of a report, by themselves.
+-- The lines of a report, one at a time.
 use Rattle.std.specs.Prelude.{ℕ, Bool, true, false, FitsSigned, List, [], ◌∷◌, ◌++◌, ◌≡◌, ◌≢◌, ◌<◌, ◌^◌, ⊤, length, codes, decimal}
 use Rattle.std.specs.Int.{w64}
 use Rattle.std.specs.Fmt.{signed_decimal}
@@ -15,12 +15,12 @@ abbrev pub fields_text : List (List ℕ) → List ℕ
 fields_text [] = []
 fields_text (field ∷ fields) = 32 ∷ field ++ fields_text fields
 
--- what is found of a pattern
+-- the fields of a pattern's outcome
 abbrev pub outcome_fields : Outcome → List (List ℕ)
 outcome_fields outcome = (said outcome).word ∷ texts_of (said outcome).fields
 
--- How a line is spelled: its word, its number, which is that of its collection (of `end` how many there are), and its other
--- fields.
+-- The spelling of a line: its word, its number, which is that of its collection (for `end`, the number of collections), and its
+-- other fields.
 pub record Spelling : Type 0 where
   pub word : List ℕ
   pub number : ℕ
@@ -49,16 +49,17 @@ spelling_text s = s.word ++ fields_text (decimal s.number ∷ s.fields)
 abbrev pub row_text : Row → List ℕ
 row_text row = spelling_text (spelling row)
 
--- with its LF
+-- the bytes of a line, with its LF
 abbrev pub line_of : Row → List ℕ
 line_of row = row_text row ++ codes "\n"
 
--- the rows' lines, one after the other
+-- the lines of the rows, one after another
 abbrev pub text_of : List Row → List ℕ
 text_of [] = []
 text_of (row ∷ rows) = line_of row ++ text_of rows
 
--- whether a row describes a collection: that it begins, how often an object is in it, or what became of all its patterns
+-- true where a row describes a collection: that it begins, the number of times that an object occurs in it, or the outcomes of
+-- all its patterns
 abbrev pub describes_collection : Row → Bool
 describes_collection (Open collection patterns name) = true
 describes_collection (Line collection pattern outcome name) = false
@@ -69,7 +70,7 @@ describes_collection (Code collection rule code count) = true
 describes_collection (Close collection patterns resolved unresolved refused) = true
 describes_collection (End collections patterns) = false
 
--- whether a row tells of growth: of engines of a pattern, or of what they emit
+-- true where a row is about growth: about engines of a pattern, or about objects that they emit
 abbrev pub describes_growth : Row → Bool
 describes_growth (Engine collection pattern number period dx dy count) = true
 describes_growth (Emits collection pattern engine code count) = true
@@ -80,16 +81,16 @@ abbrev pub HasNoBlank : List ℕ → Type 0
 HasNoBlank [] = ⊤
 HasNoBlank (byte ∷ bytes) = (byte ≢ 32) × HasNoBlank bytes
 
--- a field that isn't the last
+-- a field that isn't the last has at least one byte and no blank
 abbrev pub IsWord : List ℕ → Type 0
 IsWord bytes = (0 < length bytes) × HasNoBlank bytes
 
--- what stands after a field: nothing, or a blank first
+-- the text after a field is empty, or begins with a blank
 abbrev pub EndsField : List ℕ → Type 0
 EndsField [] = ⊤
 EndsField (byte ∷ bytes) = byte ≡ 32
 
--- a number that fits 64 bits, or a word
+-- a value is a number that fits 64 bits, or a word
 abbrev pub IsValue : Value → Type 0
 IsValue (Number n) = n < 2 ^ 64
 IsValue (Signed z) = FitsSigned w64 z
@@ -99,7 +100,7 @@ abbrev pub AreFields : List Field → Type 0
 AreFields [] = ⊤
 AreFields (field ∷ fields) = IsValue field.value × AreFields fields
 
--- two values say the same
+-- two values are the same
 abbrev pub SameValue : Value → Value → Type 0
 SameValue (Number n) (Number m) = n ≡ m
 SameValue (Signed z) (Signed y) = z ≡ y
@@ -111,19 +112,19 @@ SameFields [] [] = ⊤
 SameFields (field ∷ fields) (other ∷ others) = (field.label ≡ other.label) × SameValue field.value other.value × SameFields fields others
 SameFields _ _ = ⊥
 
--- the same word with the same fields, which counts alike
+-- two contents are the same: the word, the fields, the class, and the lines that follow
 abbrev pub SameSaid : Said → Said → Type 0
 SameSaid s t = (s.word ≡ t.word) × (s.class ≡ t.class) × (s.behind ≡ t.behind) × SameFields s.fields t.fields
 
--- what can be found: rule and code are words, and the numbers fit 64 bits
+-- an outcome can be written: rule and code are words, and the numbers fit 64 bits
 abbrev pub IsOutcome : Outcome → Type 0
 IsOutcome outcome = AreFields (said outcome).fields
 
--- two outcomes say the same
+-- two outcomes are the same
 abbrev pub SameOutcome : Outcome → Outcome → Type 0
 SameOutcome outcome other = SameSaid (said outcome) (said other)
 
--- what a line can say; a name may have any bytes
+-- a row can be written as a line; a name may have any bytes
 abbrev pub IsRow : Row → Type 0
 IsRow (Open collection patterns name) = (collection < 2 ^ 64) × (patterns < 2 ^ 64)
 IsRow (Line collection pattern outcome name) = (collection < 2 ^ 64) × (pattern < 2 ^ 64) × IsOutcome outcome
@@ -137,7 +138,7 @@ IsRow (Close collection patterns resolved unresolved refused) =
     (collection < 2 ^ 64) × (patterns < 2 ^ 64) × (resolved < 2 ^ 64) × (unresolved < 2 ^ 64) × (refused < 2 ^ 64)
 IsRow (End collections patterns) = (collections < 2 ^ 64) × (patterns < 2 ^ 64)
 
--- two rows say the same
+-- two rows are the same
 abbrev pub SameRow : Row → Row → Type 0
 SameRow (Open collection patterns name) (Open collection2 patterns2 name2) =
     (collection ≡ collection2) × (patterns ≡ patterns2) × (name.now ≡ name2.now)

@@ -1,4 +1,4 @@
--- The values of a finding's fields, by themselves.
+-- The values of a finding's fields, without their labels.
 use Rattle.std.specs.Prelude.{ℕ, ℤ, pos, negsuc, ◌+◌, ◌*◌, ◌/◌, ◌%◌, ◌==◌, if◌then◌else◌, Option, Some, None, List, [], ◌∷◌}
 use Rattle.std.specs.Borrow.{Bor}
 use Rattle.census_rows.specs.declared.kinds.Field.{Field}
@@ -10,11 +10,11 @@ abbrev pub folded : ℤ → ℕ
 folded (pos n) = n * 2
 folded (negsuc n) = n * 2 + 1
 
--- the signed number that was folded
+-- the signed number that was folded to this one
 abbrev pub unfolded : ℕ → ℤ
 unfolded n = if n % 2 == 0 then pos (n / 2) else negsuc (n / 2)
 
--- a value, and then the numbers of others
+-- the number of a value, if it is one, and then the numbers of others
 abbrev pub number_then : Value → List ℕ → List ℕ
 number_then (Number n) numbers = n ∷ numbers
 number_then (Signed z) numbers = folded z ∷ numbers
@@ -25,7 +25,7 @@ abbrev pub numbers_of : List Field → List ℕ
 numbers_of [] = []
 numbers_of (field ∷ fields) = number_then field.value (numbers_of fields)
 
--- a value, and then the words of others
+-- the word of a value, if it is one, and then the words of others
 abbrev pub word_then : Value → List (Bor (List ℕ)) → List (Bor (List ℕ))
 word_then (Text bytes) words = bytes ∷ words
 word_then _ words = words

@@ -6,7 +6,7 @@ use itoa::Integer;
 use std::io::Write;
 use watched::{Block, Output, put, put_number as put_digits};
 
-/// Tells a blank and these bytes.
+/// Puts a blank and these bytes.
 pub fn put_field<W: Write>(field: &[u8], block: &mut Block, writer: &mut Output<W>)
     ensures { TellsAfter (32 ∷ field.now) (sheet block.old writer.old)
         (sheet block.new writer.new) }
@@ -15,7 +15,7 @@ pub fn put_field<W: Write>(field: &[u8], block: &mut Block, writer: &mut Output<
     put(field, block, writer);
 }
 
-/// Tells a blank and a number.
+/// Puts a blank and a number.
 pub fn put_number<I: Integer, W: Write>(number: I, block: &mut Block, writer: &mut Output<W>)
     ensures { TellsAfter (32 ∷ I.text number) (sheet block.old writer.old)
         (sheet block.new writer.new) }

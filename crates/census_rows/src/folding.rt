@@ -2,7 +2,7 @@
 ghost use Rattle.std.specs.Prelude.{◌≡◌};
 ghost use Rattle.census_rows.specs.Values.{folded, unfolded};
 
-/// A signed number as one without a sign: those from 0 on are even, the others odd.
+/// A signed number as one without a sign: those from 0 on become even, the others odd.
 pub fn folded(number: i64) -> u64
     ensures { result ≡ folded number }
 {
@@ -14,7 +14,7 @@ pub fn folded(number: i64) -> u64
     }
 }
 
-/// The signed number that was folded.
+/// The signed number that was folded to this one.
 pub fn unfolded(number: u64) -> i64
     ensures { result ≡ unfolded number }
 {

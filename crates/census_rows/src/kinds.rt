@@ -1,4 +1,4 @@
-//! What each kind of outcome says.
+//! The content of `line` lines, for each kind of outcome.
 ghost use Rattle.std.specs.Prelude.{◌≡◌, ◌≤◌, ◌∷◌, [], Some, take};
 ghost use Rattle.census_rows.specs.Kinds.{number, signed, text, said_of, said, value_at, present, label_number, finding_of_kind, kind_of};
 ghost use Rattle.census_rows.specs.Values.{list_of, numbers_of, words_of};
@@ -7,10 +7,10 @@ use crate::folding::unfolded;
 use crate::row::{Finding, Outcome};
 use crate::values::{ValueReader, Values};
 
-/// How a pattern counts in the line that closes its collection.
+/// The class in which a pattern is counted in the line that closes its collection.
 #[derive(Clone, Copy, Debug, PartialEq, Eq)]
 pub enum Class {
-    /// It comes again, has fallen apart or grows for ever.
+    /// It recurs, has fallen apart or grows forever.
     Resolved,
     /// It does none of these within the bound, or has too many cells.
     Unresolved,
@@ -18,45 +18,45 @@ pub enum Class {
     Refused,
 }
 
-/// Which lines stand behind a `line` line.
+/// The lines that follow a `line` line.
 #[derive(Clone, Copy, Debug, PartialEq, Eq)]
 pub enum Behind {
     /// None.
     Nothing,
     /// `part` lines.
     Parts,
-    /// `engine` lines, each with its `emits` lines behind it.
+    /// `engine` lines, each followed by its `emits` lines.
     Engines,
 }
 
-/// What a field tells, and so in which column of a table it stands, if in any.
+/// The meaning of a field, and so the column of a table that it is in, if it is in any.
 #[derive(Clone, Copy)]
 pub enum Label {
     /// Its rule.
     Rule,
-    /// How many live cells it has.
+    /// The number of its live cells.
     Population,
-    /// The first generation of its cycle, or that is ash.
+    /// The first generation of its cycle, or the first that is ash.
     Onset,
     /// The length of its cycle.
     Period,
-    /// How far it moves to the right in a period.
+    /// The distance that it moves to the right in a period.
     Dx,
-    /// How far it moves down in a period.
+    /// The distance that it moves down in a period.
     Dy,
     /// Its code.
     Code,
-    /// How many objects are left.
+    /// The number of objects that are left.
     Objects,
     /// The first generation that has too many cells.
     Generation,
     /// The number of its text's fault.
     Fault,
-    /// How many engines it has.
+    /// The number of its engines.
     Engines,
 }
 
-/// What a field has.
+/// The value of a field.
 #[derive(Clone, Copy)]
 pub enum Value<'a> {
     /// A number.
@@ -85,11 +85,11 @@ const LARGE: u8 = 4;
 
 const GROWS: u8 = 5;
 
-/// How many kinds of findings there are: they have the numbers from 1 to this.
+/// The number of kinds of findings: they are numbered from 1 to this.
 pub const KINDS: u8 = 5;
 
-/// What a kind says: its number, its word, its fields after rule and population, how it counts, and which lines
-/// stand behind it.
+/// The content of a `line` line: the number of its kind, its word, the fields after rule and population, its class, and the
+/// kind of the lines that follow it.
 #[derive(Clone, Copy)]
 pub struct Said<'a> {
     pub kind: u8,
@@ -130,7 +130,7 @@ fn text(label: Label, bytes: &[u8]) -> Option<Field>
 }
 
 impl<'a> Finding<'a> {
-    // What it says. (It is inlined, so that where one part is asked for the others aren't made.)
+    // The content of its line. (It is inlined, so that where only one part is used the others aren't made.)
     #[inline(always)]
     pub(crate) fn said(&self) -> Said<'a>
         ensures kind { result.kind ≡ kind_of self.now }
@@ -204,7 +204,7 @@ impl<'a> Finding<'a> {
 }
 
 impl<'a> Finding<'a> {
-    /// The word that says which kind it is.
+    /// The word for its kind.
     #[inline(always)]
     pub fn word(&self) -> &'static [u8]
         ensures { result.now ≡ (said_of self.now).word }
@@ -212,7 +212,7 @@ impl<'a> Finding<'a> {
         self.said().word
     }
 
-    /// How it counts.
+    /// The class in which it is counted.
     #[inline(always)]
     pub fn class(&self) -> Class
         ensures { result ≡ (said_of self.now).class }
@@ -239,7 +239,7 @@ impl<'a> Finding<'a> {
         Values::of(&self.said().fields)
     }
 
-    /// The finding of the kind with this number, whose numbers and whose word are read.
+    /// The finding of the kind with this number, whose numbers and word are read from `values`.
     #[inline(always)]
     pub fn of_kind<R: ValueReader<'a>>(kind: u8, values: &mut R) -> Finding<'a>
         ensures { result ≡ finding_of_kind kind (R.number_at values.old) (R.first_word values.old) }
@@ -272,7 +272,7 @@ impl<'a> Finding<'a> {
 }
 
 impl Label {
-    // How many labels are declared before it.
+    // The number of labels that are declared before it.
     fn number(self) -> u8
         ensures { result ≡ label_number self }
     {
@@ -280,7 +280,7 @@ impl Label {
     }
 }
 
-// What a field has, where there is one with this label.
+// The value of a field, where there is one with this label.
 fn value_if<'a>(field: &Option<Field<'a>>, label: Label) -> Option<Value<'a>>
     ensures { result ≡ value_at label (present (field.now ∷ [])) }
 {
@@ -290,7 +290,7 @@ fn value_if<'a>(field: &Option<Field<'a>>, label: Label) -> Option<Value<'a>>
     }
 }
 
-// What the field with a label has, where there is one.
+// The value of the field with a label, where there is one.
 fn value_in<'a>(fields: &[Option<Field<'a>>], label: Label) -> Option<Value<'a>>
     ensures { result ≡ value_at label (present fields.now) }
 {
@@ -303,7 +303,7 @@ fn value_in<'a>(fields: &[Option<Field<'a>>], label: Label) -> Option<Value<'a>>
 }
 
 impl<'a> Outcome<'a> {
-    /// The word that says which kind it is.
+    /// The word for its kind.
     pub fn word(&self) -> &'static [u8]
         ensures { result.now ≡ (said self.now).word }
     {
@@ -313,7 +313,7 @@ impl<'a> Outcome<'a> {
         }
     }
 
-    /// What the field with a label has, where there is one.
+    /// The value of the field with a label, where there is one.
     pub fn value(&self, label: Label) -> Option<Value<'a>>
         ensures { result ≡ value_at label (said self.now).fields }
     {
@@ -334,7 +334,7 @@ impl<'a> Outcome<'a> {
         }
     }
 
-    /// How it counts.
+    /// The class in which it is counted.
     pub fn class(&self) -> Class
         ensures { result ≡ (said self.now).class }
     {
@@ -344,7 +344,7 @@ impl<'a> Outcome<'a> {
         }
     }
 
-    /// Which lines stand behind it.
+    /// The lines that follow it.
     pub fn behind(&self) -> Behind
         ensures { result ≡ (said self.now).behind }
     {

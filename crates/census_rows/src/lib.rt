@@ -1,4 +1,4 @@
-//! The lines of a report, by themselves, and rows held in little room.
+//! The lines of a report, one at a time, and rows held in little memory.
 //!
 //! Tested in `tests_reports`.
 #![tactic(auto)]

@@ -5,7 +5,7 @@ ghost use Rattle.std.specs.Fmt.{signed_decimal};
 
 use itoa::Buffer;
 
-/// The number whose text this is.
+/// The number that has this text, if there is one.
 pub fn number_of(field: &[u8]) -> Option<u64>
     ensures some { IfSome result (λ n. (n < 2 ^ 64) × (field.now ≡ decimal n)) }
     ensures all { (n : ℕ) → n < 2 ^ 64 → field.now ≡ decimal n → result ≡ Some n }
@@ -24,7 +24,7 @@ pub fn number_of(field: &[u8]) -> Option<u64>
     }
 }
 
-/// The signed number whose text this is.
+/// The signed number that has this text, if there is one.
 pub fn signed_of(field: &[u8]) -> Option<i64>
     ensures some { IfSome result (λ n. FitsSigned w64 n × (field.now ≡ signed_decimal n)) }
     ensures all { (n : ℤ) → FitsSigned w64 n → field.now ≡ signed_decimal n → result ≡ Some n }

@@ -19,7 +19,7 @@ pub fn push_field(text: &mut Vec<u8>, field: &[u8]) -> Result<(), AllocError>
     Ok(())
 }
 
-// A blank and a number.
+// Appends a blank and a number.
 fn push_number<I: Integer>(text: &mut Vec<u8>, number: I) -> Result<(), AllocError>
     ensures { OnOk result (text.new.items ≡ text.old.items ++ 32 ∷ I.text number) }
 {
@@ -27,7 +27,7 @@ fn push_number<I: Integer>(text: &mut Vec<u8>, number: I) -> Result<(), AllocErr
     push_field(text, buffer.format(number).as_bytes())
 }
 
-// A blank and a digit.
+// Appends a blank and a digit.
 #[inline(always)]
 fn push_digit(text: &mut Vec<u8>, digit: u8) -> Result<(), AllocError>
     requires { digit < 10 }
@@ -48,7 +48,7 @@ pub fn push_count(text: &mut Vec<u8>, count: u64) -> Result<(), AllocError>
     push_number(text, count)
 }
 
-// A blank and a number with its sign, which often has one digit.
+// Appends a blank and a number with its sign, which often has one digit.
 #[inline(always)]
 fn push_signed(text: &mut Vec<u8>, number: i64) -> Result<(), AllocError>
     ensures { OnOk result (text.new.items ≡ text.old.items ++ 32 ∷ signed_decimal number) }
@@ -59,7 +59,7 @@ fn push_signed(text: &mut Vec<u8>, number: i64) -> Result<(), AllocError>
     push_number(text, number)
 }
 
-// A blank and a value.
+// Appends a blank and a value.
 #[inline(always)]
 fn push_value(text: &mut Vec<u8>, value: &Value) -> Result<(), AllocError>
     ensures { OnOk result (text.new.items ≡ text.old.items ++ 32 ∷ value_text value.now) }
@@ -71,7 +71,7 @@ fn push_value(text: &mut Vec<u8>, value: &Value) -> Result<(), AllocError>
     }
 }
 
-// The fields that there are.
+// Appends the fields that are there.
 #[inline(always)]
 fn push_fields(text: &mut Vec<u8>, fields: &[Option<Field>]) -> Result<(), AllocError>
     ensures { OnOk result
@@ -85,8 +85,8 @@ fn push_fields(text: &mut Vec<u8>, fields: &[Option<Field>]) -> Result<(), Alloc
     Ok(())
 }
 
-/// Appends what is said of what was found, after rule and population: a blank before each field. It is inlined, so
-/// that the fields needn't be gathered first.
+/// Appends the fields of a finding, after rule and population: a blank before each field. It is inlined, so that the fields
+/// needn't be collected first.
 #[inline(always)]
 pub fn push_finding(text: &mut Vec<u8>, finding: &Finding) -> Result<(), AllocError>
     ensures { OnOk result

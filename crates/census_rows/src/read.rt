@@ -1,4 +1,4 @@
-//! Lines read.
+//! Reading lines.
 ghost use Rattle.std.specs.Prelude.{◌≡◌, ◌==◌, ◌++◌, ◌∷◌, [], ◌<◌, ◌^◌, ℕ, ℤ, List, length, drop, position, true, IsTrue, IfSome, MatchOption, codes, decimal, FitsSigned};
 ghost use Rattle.std.specs.Fmt.{signed_decimal};
 ghost use Rattle.std.specs.Int.{w64};
@@ -11,7 +11,7 @@ ghost use Rattle.census_rows.specs.Lines.{AreFields, SameSaid, IsWord, HasNoBlan
 use crate::numbers::{number_of, signed_of};
 use crate::row::{Finding, Outcome, Row};
 
-// Where the first blank is.
+// The index of the first blank.
 fn first_blank(text: &[u8]) -> Option<usize>
     ensures { result ≡ position (λ byte. byte == 32) text.now }
 {
@@ -27,7 +27,7 @@ fn split_field(text: &[u8]) -> (&[u8], &[u8])
     text.split_at(first_blank(text).unwrap_or(text.len()))
 }
 
-// Whether two texts have the same bytes.
+// True where two texts have the same bytes.
 fn are_same(text: &[u8], word: &[u8]) -> bool
     ensures yes { result ≡ true → text.now ≡ word.now }
     ensures no { text.now ≡ word.now → result ≡ true }
@@ -35,7 +35,7 @@ fn are_same(text: &[u8], word: &[u8]) -> bool
     text == word
 }
 
-// What isn't read yet of a line, and whether all before it had its form.
+// The rest of a line, and whether all before it was well-formed.
 #[derive(Drop)]
 struct Fields<'a> {
     rest: &'a [u8],
@@ -114,7 +114,7 @@ impl<'a> Fields<'a> {
         }
     }
 
-    // All that is left after a blank.
+    // Everything after a blank, up to the end.
     fn name(&mut self) -> &'a [u8]
         ensures sound { self.new.whole ≡ true → (self.old.whole ≡ true)
             × (self.old.rest.now ≡ 32 ∷ result.now) × (self.new.rest.now ≡ []) }
@@ -133,7 +133,7 @@ impl<'a> Fields<'a> {
         }
     }
 
-    // What was found of a pattern.
+    // The outcome of a pattern.
     fn outcome(&mut self) -> Outcome<'a>
         ensures sound { self.new.whole ≡ true → (self.old.whole ≡ true) × IsOutcome result
             × (self.old.rest.now ≡ fields_text (outcome_fields result) ++ self.new.rest.now) }
@@ -146,7 +146,7 @@ impl<'a> Fields<'a> {
         self.outcome_of(found)
     }
 
-    // What was found, after its first word.
+    // The outcome, after its first word.
     fn outcome_of(&mut self, found: &[u8]) -> Outcome<'a>
         ensures sound { self.new.whole ≡ true → (self.old.whole ≡ true) × IsOutcome result
             × (32 ∷ found.now ++ self.old.rest.now
@@ -172,7 +172,7 @@ impl<'a> Fields<'a> {
         }
     }
 
-    // What was found apart from rule and population, after its word: the fields of each kind.
+    // The finding, after rule, population and its word: the fields of each kind.
     fn finding(&mut self, word: &[u8]) -> Finding<'a>
         ensures sound { self.new.whole ≡ true → (self.old.whole ≡ true)
             × (word.now ≡ (said_of result).word) × AreFields (said_of result).fields
@@ -330,9 +330,8 @@ impl<'a> Fields<'a> {
     }
 }
 
-/// The row that a line says, without its LF: `None` where no row is written so. Numbers have no
-/// leading zeros and fit 64 bits, rules and codes have a byte at least and no blank, and a name
-/// is all that is left, blanks too.
+/// The row of a line without its LF, or `None` where no row is written like this. Numbers have no leading zeros and fit 64
+/// bits, rules and codes have at least one byte and no blank, and a name is the rest of the line, with its blanks.
 pub fn read_row(line: &[u8]) -> Option<Row<'_>>
     ensures sound { IfSome result (λ row. IsRow row × (line.now ≡ row_text row)) }
     ensures all { (row : Row) → IsRow row → line.now ≡ row_text row

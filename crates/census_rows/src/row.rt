@@ -1,7 +1,7 @@
 //! The lines of a report.
 
-/// What was found of a pattern, apart from its rule and its population. What each kind says is one
-/// arm of `Finding::said`.
+/// The finding about a pattern, apart from its rule and its population. The content of the line for each kind is one arm of
+/// `Finding::said`.
 #[derive(Clone, Copy)]
 pub enum Finding<'a> {
     /// It recurs.
@@ -19,20 +19,20 @@ pub enum Finding<'a> {
     },
     /// It does none of these within the bound.
     Unresolved,
-    /// A generation has more cells than are allowed.
+    /// A generation has more cells than the limit.
     Large {
         generation: u64,
     },
-    /// It grows for ever, by this number of engines.
+    /// It grows forever, by this number of engines.
     Grows {
         engines: u64,
     },
 }
 
-/// What a `line` line says of a pattern.
+/// The outcome of a pattern, as in a `line` line.
 #[derive(Clone, Copy)]
 pub enum Outcome<'a> {
-    /// This was found of it.
+    /// A finding about it, with its rule and its population.
     Found {
         rule: &'a [u8],
         population: u64,
@@ -53,22 +53,22 @@ pub enum Row<'a> {
         patterns: u64,
         name: &'a [u8],
     },
-    /// What was found of a pattern.
+    /// The outcome of a pattern.
     Line {
         collection: u64,
         pattern: u64,
         outcome: Outcome<'a>,
         name: &'a [u8],
     },
-    /// How many parts of a pattern are one object.
+    /// The number of parts of a pattern that have one code.
     Part {
         collection: u64,
         pattern: u64,
         code: &'a [u8],
         count: u64,
     },
-    /// Engines of a pattern of which the same is told: after how many generations each comes again,
-    /// how far to the right and down it then stands, and how many they are.
+    /// Engines of a pattern with the same description: the period of each, how far to the right and down it moves in one, and
+    /// the number of these engines.
     Engine {
         collection: u64,
         pattern: u64,
@@ -78,7 +78,7 @@ pub enum Row<'a> {
         dy: i64,
         count: u64,
     },
-    /// How many parts of what an engine emits in a period are one object.
+    /// The number of objects with one code that an engine emits in a period.
     Emits {
         collection: u64,
         pattern: u64,
@@ -86,7 +86,7 @@ pub enum Row<'a> {
         code: &'a [u8],
         count: u64,
     },
-    /// How often an object is in a collection.
+    /// The number of times that an object occurs in a collection.
     Code {
         collection: u64,
         rule: &'a [u8],

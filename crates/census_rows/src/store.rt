@@ -1,5 +1,5 @@
-//! Rows of reports, held in little room: each takes its numbers' bytes, its texts' loans, and some 7
-//! bytes more.
+//! Rows of reports, held in little memory: each takes the bytes of its numbers, the references to its texts, and some 7 bytes
+//! more.
 //!
 //! Tested in `tests_reports`.
 mod numbers;

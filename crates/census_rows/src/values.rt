@@ -1,4 +1,4 @@
-//! The values of a finding's fields, by themselves.
+//! The values of a finding's fields, without their labels.
 ghost use Rattle.std.specs.Prelude.{◌≡◌, ◌≤◌, ◌<◌, ◌+◌, ◌++◌, ◌∷◌, [], ℕ, suc, length, take};
 ghost use Rattle.census_rows.specs.Kinds.{present};
 ghost use Rattle.census_rows.specs.Values.{list_of, numbers_of, words_of};
@@ -11,10 +11,10 @@ pub trait ValueReader<'a> {
     ghost use Rattle.std.specs.Prelude.{ℕ, List};
     ghost use Rattle.std.specs.Borrow.{Bor};
 
-    // The number at a place of those that aren't read yet.
+    // The number at an index among those that aren't read yet.
     ghost number_at: { Self → ℕ → ℕ };
 
-    // The first word of those that aren't read yet.
+    // The first of the words that aren't read yet.
     ghost first_word: { Self → Bor (List ℕ) };
 
     /// Reads a number.
@@ -31,16 +31,16 @@ pub trait ValueReader<'a> {
 /// The values of fields: numbers, of which those with a sign are folded, and a word, which is a rule or a code.
 #[derive(Clone, Copy)]
 pub struct Values<'a> {
-    /// The numbers; what stands after them means nothing.
+    /// The numbers; the elements after them have no meaning.
     pub numbers: [u64; 4],
-    /// How many numbers there are.
+    /// The number of `numbers`.
     pub count: u8,
     /// The word, where there is one.
     pub word: Option<&'a [u8]>,
 }
 
 impl<'a> Values<'a> {
-    // One number more.
+    // Adds one more number.
     #[inline(always)]
     fn push(&mut self, number: u64)
         requires { self.old.count < 4 }
@@ -53,7 +53,7 @@ impl<'a> Values<'a> {
         self.count += 1;
     }
 
-    // The value of one field more, where there is one.
+    // Adds the value of one more field, where there is one.
     #[inline(always)]
     fn add(&mut self, field: &Option<Field<'a>>)
         requires room { self.old.count
@@ -77,7 +77,7 @@ impl<'a> Values<'a> {
         }
     }
 
-    // The values of these fields: four numbers at most, and one word.
+    // The values of these fields: at most four numbers and one word.
     #[inline(always)]
     pub(crate) fn of(fields: &[Option<Field<'a>>; 5]) -> Values<'a>
         requires few { length (numbers_of (present fields.now)) ≤ 4 }

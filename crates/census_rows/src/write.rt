@@ -1,4 +1,4 @@
-//! Lines written.
+//! Writing lines.
 ghost use Rattle.std.specs.Prelude.{◌≡◌, ◌∷◌, ◌++◌, [], decimal, if◌then◌else◌};
 ghost use Rattle.std.specs.Fmt.{signed_decimal};
 ghost use Rattle.watched.specs.Telling.{TellsAfter, sheet};
@@ -11,7 +11,7 @@ use crate::row::{Finding, Outcome, Row};
 use std::io::Write;
 use watched::{Block, Output, put};
 
-// A signed number.
+// Puts a signed number.
 fn put_signed<W: Write>(number: &i64, block: &mut Block, writer: &mut Output<W>)
     ensures { TellsAfter (32 ∷ signed_decimal number.now)
         (sheet block.old writer.old) (sheet block.new writer.new) }
@@ -19,7 +19,7 @@ fn put_signed<W: Write>(number: &i64, block: &mut Block, writer: &mut Output<W>)
     put_number(*number, block, writer);
 }
 
-// What a field has.
+// Puts the value of a field.
 fn put_value<W: Write>(value: &Value, block: &mut Block, writer: &mut Output<W>)
     ensures { TellsAfter (32 ∷ value_text value.now)
         (sheet block.old writer.old) (sheet block.new writer.new) }
@@ -31,7 +31,7 @@ fn put_value<W: Write>(value: &Value, block: &mut Block, writer: &mut Output<W>)
     }
 }
 
-// A field, where there is one.
+// Puts a field, where there is one.
 fn put_optional<W: Write>(field: &Option<Field>, block: &mut Block, writer: &mut Output<W>)
     ensures { TellsAfter (fields_text (texts_of (present (field.now ∷ []))))
         (sheet block.old writer.old) (sheet block.new writer.new) }
@@ -42,7 +42,7 @@ fn put_optional<W: Write>(field: &Option<Field>, block: &mut Block, writer: &mut
     }
 }
 
-// The fields that there are.
+// Puts the fields that are there.
 fn put_fields<W: Write>(fields: &[Option<Field>], block: &mut Block, writer: &mut Output<W>)
     ensures { TellsAfter (fields_text (texts_of (present fields.now)))
         (sheet block.old writer.old) (sheet block.new writer.new) }
@@ -52,7 +52,7 @@ fn put_fields<W: Write>(fields: &[Option<Field>], block: &mut Block, writer: &mu
     }
 }
 
-// The fields of a finding: those of most lines at once.
+// Puts the fields of a finding: those of most lines at once.
 fn put_finding<W: Write>(finding: &Finding, block: &mut Block, writer: &mut Output<W>)
     ensures { TellsAfter (fields_text (texts_of (said_of finding.now).fields))
         (sheet block.old writer.old) (sheet block.new writer.new) }
@@ -75,7 +75,7 @@ fn put_finding<W: Write>(finding: &Finding, block: &mut Block, writer: &mut Outp
     }
 }
 
-// What was found of a pattern.
+// Puts the outcome of a pattern.
 fn put_outcome<W: Write>(outcome: &Outcome, block: &mut Block, writer: &mut Output<W>)
     ensures { TellsAfter (fields_text (outcome_fields outcome.now))
         (sheet block.old writer.old) (sheet block.new writer.new) }
@@ -95,7 +95,7 @@ fn put_outcome<W: Write>(outcome: &Outcome, block: &mut Block, writer: &mut Outp
     }
 }
 
-// A line's first word, and its first two numbers.
+// Puts a line's first word, and its first two numbers.
 fn put_start<W: Write>(
     kind: &[u8],
     first: u64,
@@ -111,7 +111,7 @@ fn put_start<W: Write>(
     put_number(second, block, writer);
 }
 
-// A line that tells of growth; of another row nothing.
+// Puts a line about growth, and nothing for another row.
 fn put_of_growth<W: Write>(row: &Row, block: &mut Block, writer: &mut Output<W>)
     ensures { TellsAfter (if describes_growth row.now then row_text row.now else [])
         (sheet block.old writer.old) (sheet block.new writer.new) }
@@ -149,7 +149,7 @@ fn put_of_growth<W: Write>(row: &Row, block: &mut Block, writer: &mut Output<W>)
     }
 }
 
-// A line that describes a collection; of another row nothing.
+// Puts a line that describes a collection, and nothing for another row.
 fn put_of_collection<W: Write>(row: &Row, block: &mut Block, writer: &mut Output<W>)
     ensures { TellsAfter (if describes_collection row.now then row_text row.now else [])
         (sheet block.old writer.old) (sheet block.new writer.new) }
@@ -191,7 +191,7 @@ fn put_of_collection<W: Write>(row: &Row, block: &mut Block, writer: &mut Output
     }
 }
 
-/// Tells a line, without its LF, and asks for no memory but the block's.
+/// Puts a line, without its LF. It allocates no memory except for the block.
 pub fn put_row<W: Write>(row: &Row, block: &mut Block, writer: &mut Output<W>)
     ensures { TellsAfter (row_text row.now)
         (sheet block.old writer.old) (sheet block.new writer.new) }

@@ -22,7 +22,7 @@ pub record Packed : Type 0 where
 abbrev pub pack : ℕ → List ℕ → List Text → Packed
 pack tag numbers texts = record { tag = tag; numbers = numbers; texts = texts }
 
--- of a pattern of which this is found
+-- the row of a pattern with this finding
 abbrev pub packed_finding : ℕ → ℕ → ℕ → Text → Text → Finding → Packed
 packed_finding collection pattern population rule name found =
     pack (kind_of found) (collection ∷ pattern ∷ population ∷ numbers_of (said_of found).fields) (rule ∷ name ∷ words_of (said_of found).fields)
@@ -41,7 +41,7 @@ packed (Code collection rule code count) = pack (kinds + 5) (collection ∷ coun
 packed (Close collection patterns resolved unresolved refused) = pack (kinds + 6) (collection ∷ patterns ∷ resolved ∷ unresolved ∷ refused ∷ []) ([])
 packed (End collections patterns) = pack (kinds + 7) (collections ∷ patterns ∷ []) ([])
 
--- the number at this place of those that bytes begin with
+-- the number at this index among those at the start of bytes
 abbrev pub number_at : ℕ → List ℕ → ℕ
 number_at zero bytes = (number_in bytes).0
 number_at (suc place) bytes = number_at place (number_in bytes).1
@@ -55,12 +55,12 @@ abbrev pub other_texts : List Text → List Text
 other_texts [] = []
 other_texts (text ∷ texts) = texts
 
--- the text at this place
+-- the text at this index
 abbrev pub text_at : Text → ℕ → List Text → Text
 text_at nothing zero texts = first_text nothing texts
 text_at nothing (suc place) texts = text_at nothing place (other_texts texts)
 
--- what stands behind so many numbers, and behind so many texts
+-- the bytes after this many numbers, and the texts after this many
 abbrev pub behind_numbers : ℕ → List ℕ → List ℕ
 behind_numbers zero bytes = bytes
 behind_numbers (suc count) bytes = behind_numbers count (number_in bytes).1
@@ -69,7 +69,7 @@ abbrev pub behind_texts : ℕ → List Text → List Text
 behind_texts zero texts = texts
 behind_texts (suc count) texts = behind_texts count (other_texts texts)
 
--- what was found of a pattern, after its collection, its number, its population, its rule and its name
+-- the finding about a pattern, after its collection, its number, its population, its rule and its name
 abbrev pub finding_of : Text → ℕ → List ℕ → List Text → Finding
 finding_of nothing kind bytes texts = finding_of_kind kind (λ place. number_at place bytes) (text_at nothing 0 texts)
 

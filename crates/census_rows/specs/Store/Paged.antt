@@ -2,7 +2,7 @@
 use Rattle.std.specs.Prelude.{◌≡◌, ⊤, List, [], ◌∷◌, ◌++◌, length}
 use Rattle.census_rows.specs.declared.row.Row.{Row}
 
--- the rows of pages, one after the other
+-- the rows of pages, one page after another
 abbrev pub rows_of_pages : List (List Row) → List Row
 rows_of_pages [] = []
 rows_of_pages (page ∷ pages) = page ++ rows_of_pages pages

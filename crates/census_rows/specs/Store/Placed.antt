@@ -14,7 +14,7 @@ rows_numbered rows numbers = map (row_numbered rows) numbers
 abbrev pub IsWithin : List Row → ℕ → Type 0
 IsWithin rows number = number < length rows
 
--- there are rows with these numbers
+-- there are rows with all of these numbers
 abbrev pub AreWithin : List Row → List ℕ → Type 0
 AreWithin rows [] = ⊤
 AreWithin rows (number ∷ numbers) = IsWithin rows number × AreWithin rows numbers

@@ -4,7 +4,7 @@ ghost use Rattle.census_rows.specs.Store.Numbers.{Grown, number_bytes, number_in
 
 use std::alloc::AllocError;
 
-// The number that bytes begin with, and the bytes behind it.
+// The number at the start of bytes, and the bytes after it.
 pub fn number_in(bytes: &[u8]) -> (u64, &[u8])
     ensures number { result.0 ≡ (number_in bytes.now).0 }
     ensures rest { result.1.now ≡ (number_in bytes.now).1 }

@@ -1,4 +1,4 @@
-//! Some rows, held in little room.
+//! A page of rows, held in little memory.
 ghost use Rattle.std.specs.Prelude.{◌≡◌, ◌<◌, ◌≤◌, ◌^◌, ◌++◌, ◌∷◌, [], drop, length, slice_index_or, MatchResult, OnOk, OnErr};
 ghost use Rattle.census_rows.specs.declared.row.Outcome.TheVariants.{Found};
 ghost use Rattle.census_rows.specs.declared.row.Row.{Row};
@@ -15,17 +15,17 @@ use crate::store::tags;
 use std::alloc::{AllocError, Global};
 use std::marker::Model;
 
-// Rows, of which each is held as its kind, its numbers in as few bytes as they need, and the loans
-// of its texts. A row takes 2 bytes, 16 for each text, one for its kind, and as many for each number
-// as it has digits at most; and 1 to 5 for the place of its texts.
+// Rows, each of which is held as its kind, its numbers in as few bytes as they need, and references to its texts. A row takes 2
+// bytes for its place, one for its kind, 1 to 5 for the place of its texts, 16 for each text, and for each number at most as
+// many as it has digits.
 #[derive(Drop)]
 pub struct Page<'a> {
     // The kind of each row, the place of its first text, and its numbers.
     bytes: Vec<u8>,
     texts: Vec<&'a [u8]>,
-    // Where in `bytes` each row begins: those of a page are far fewer than 65,536.
+    // The place in `bytes` where each row begins. A page has far fewer than 65,536 bytes.
     places: Vec<u16>,
-    // What stands where a text is missing; none is.
+    // A placeholder for a missing text; none is missing.
     nothing: &'a [u8],
 }
 
@@ -62,7 +62,7 @@ fn texts_from<'b, 'a>(texts: &'b [&'a [u8]], first: u64) -> &'b [&'a [u8]]
     }
 }
 
-// The row that bytes begin with.
+// The row at the start of bytes.
 fn row_from<'a>(nothing: &'a [u8], bytes: &[u8], texts: &[&'a [u8]]) -> Row<'a>
     ensures { result ≡ row_from nothing.entry bytes.now texts.now }
 {
@@ -83,8 +83,7 @@ fn row_from<'a>(nothing: &'a [u8], bytes: &[u8], texts: &[&'a [u8]]) -> Row<'a>
     }
 }
 
-// Appends the bytes of a row, of which the first text stands at this place. On `Err` some of them
-// may have been appended.
+// Appends the bytes of a row, whose first text is at this place. On `Err` some of them may have been appended.
 fn push_row(bytes: &mut Vec<u8>, tag: u8, first: u64, numbers: &[u64]) -> Result<(), AllocError>
     ensures grown { Grown bytes.old.items bytes.new.items }
     ensures all { OnOk result
@@ -108,7 +107,7 @@ impl<'a> Page<'a> {
         }
     }
 
-    // How many there are.
+    // The number of rows.
     pub fn len(&self) -> usize
         ensures value { result ≡ length self.now }
         ensures small { result < 2 ^ 62 }
@@ -126,7 +125,7 @@ impl<'a> Page<'a> {
         row_from(self.nothing, bytes, self.texts.as_slice())
     }
 
-    // Gives back what memory it doesn't need.
+    // Releases the memory that it doesn't need.
     pub fn shrink(&mut self)
         ensures { self.new ≡ self.old }
     {
@@ -151,7 +150,7 @@ impl<'a> Page<'a> {
         Ok(())
     }
 
-    // Appends the row of a pattern of which this was found.
+    // Appends the row of a pattern with this finding.
     fn push_found(
         &mut self,
         collection: u64,
@@ -200,7 +199,7 @@ impl<'a> Page<'a> {
         }
     }
 
-    // Appends a row. The only error is out of memory: the rows are as they were then.
+    // Appends a row. The only error is out of memory, which leaves the rows unchanged.
     pub fn push(&mut self, row: &Row<'a>) -> Result<(), AllocError>
         ensures { MatchResult result (λ _. self.new ≡ self.old ++ row.now ∷ [])
             (λ _. self.new ≡ self.old) }

@@ -1,4 +1,4 @@
-//! Rows read from bytes and texts.
+//! Reading rows from bytes and texts.
 ghost use Rattle.std.specs.Prelude.{◌≡◌};
 ghost use Rattle.census_rows.specs.Store.Numbers.{number_in};
 ghost use Rattle.census_rows.specs.Store.Packed.{first_text, other_texts, number_at, finding_of, line_of, open_of, part_of, engine_of, emits_of, code_of, close_of, end_of, row_of};
@@ -9,7 +9,7 @@ use crate::store::numbers::number_in;
 use crate::store::tags;
 use crate::values::ValueReader;
 
-// What isn't read yet of a row's numbers and texts, and what stands where a text is missing.
+// The rest of a row's numbers and texts, and a placeholder for a missing text.
 #[derive(Drop)]
 pub struct Reader<'b, 'a> {
     pub bytes: &'b [u8],
@@ -139,7 +139,7 @@ impl<'b, 'a> Reader<'b, 'a> {
         }
     }
 
-    // What was found of a pattern.
+    // The finding about a pattern.
     fn finding(&mut self, kind: u8) -> Finding<'a>
         ensures { result ≡ finding_of self.old.nothing kind self.old.bytes.now self.old.texts.now }
     {

@@ -1,4 +1,4 @@
-//! Rows, held in little room.
+//! Rows, held in little memory.
 ghost use Rattle.std.specs.Prelude.{◌≡◌, ◌<◌, ◌++◌, ◌∷◌, [], length, slice_index_or, MatchResult, OnOk};
 
 use crate::row::Row;
@@ -7,17 +7,17 @@ use std::alloc::{AllocError, Global};
 use std::marker::Model;
 use std::mem::replace;
 
-// How many rows a full page has.
+// The number of rows on a full page.
 const PAGE_LEN: usize = 64;
 
-/// Rows, of which each is held as its kind, its numbers in as few bytes as they need, and the loans
-/// of its texts. A row takes some 7 bytes, 16 for each text, and as many for each number as it has digits
-/// at most. More rows move none of those before them.
+/// Rows, each of which is held as its kind, its numbers in as few bytes as they need, and references to its texts. A row takes
+/// some 7 bytes, 16 for each text, and for each number at most as many as it has digits. Adding rows moves none of those before
+/// them.
 #[derive(Drop)]
 pub struct Rows<'a> {
-    // These are full.
+    // The full pages.
     pages: Vec<Page<'a>>,
-    // The rows after those.
+    // The rows after those of the full pages.
     last: Page<'a>,
     alloc: Global,
 }
@@ -46,7 +46,7 @@ impl<'a> Rows<'a> {
         }
     }
 
-    /// How many there are.
+    /// The number of rows.
     pub fn len(&self) -> usize
         ensures { result ≡ length self.now }
     {
@@ -66,7 +66,7 @@ impl<'a> Rows<'a> {
         }
     }
 
-    // Begins a new page, where the last one is full.
+    // Begins a new page if the last one is full.
     fn turn(&mut self) -> Result<(), AllocError>
         ensures { self.new ≡ self.old }
     {
@@ -79,7 +79,7 @@ impl<'a> Rows<'a> {
         Ok(())
     }
 
-    /// Appends a row. The only error is out of memory: the rows are as they were then.
+    /// Appends a row. The only error is out of memory, which leaves the rows unchanged.
     pub fn push(&mut self, row: &Row<'a>) -> Result<(), AllocError>
         ensures { MatchResult result (λ _. self.new ≡ self.old ++ row.now ∷ [])
             (λ _. self.new ≡ self.old) }

@@ -1,4 +1,4 @@
-//! Some of the rows.
+//! Selections of rows.
 ghost use Rattle.std.specs.Prelude.{◌≡◌, ◌<◌, ◌≤◌, ◌∷◌, [], drop, length, slice_index_or, take, MatchOption};
 ghost use Rattle.census_rows.specs.Store.Placed.{AreWithin, rows_numbered};
 
@@ -6,7 +6,7 @@ use crate::row::Row;
 use crate::store::rows::Rows;
 use std::marker::Model;
 
-/// Some of the rows, in an order of their own: lent, by their numbers.
+/// Some of the rows, in an order of their own: borrowed, by their numbers.
 #[derive(Drop)]
 pub struct Section<'b, 'a> {
     rows: &'b Rows<'a>,
@@ -35,7 +35,7 @@ impl<'b, 'a> Section<'b, 'a> {
         Section { rows, numbers }
     }
 
-    /// How many there are.
+    /// The number of rows.
     pub fn len(&self) -> usize
         ensures { result ≡ length self.now }
     {
@@ -52,7 +52,7 @@ impl<'b, 'a> Section<'b, 'a> {
         rows.row(numbers[index] as usize)
     }
 
-    /// The first, and those behind it.
+    /// The first row, and those after it.
     pub fn split_first(&self) -> Option<(Row<'a>, Section<'b, 'a>)>
         ensures { MatchOption result (self.now ≡ [])
             (λ parts. self.now ≡ parts.0 ∷ parts.1) }
@@ -63,7 +63,7 @@ impl<'b, 'a> Section<'b, 'a> {
         Some((self.row(0), self.from(1)))
     }
 
-    /// Those from this index on.
+    /// The rows from this index on.
     pub fn from(&self, index: usize) -> Section<'b, 'a>
         requires { index ≤ length self.now }
         ensures { result ≡ drop index self.now }
@@ -75,7 +75,7 @@ impl<'b, 'a> Section<'b, 'a> {
         }
     }
 
-    /// Those before this index.
+    /// The rows before this index.
     pub fn before(&self, index: usize) -> Section<'b, 'a>
         requires { index ≤ length self.now }
         ensures { result ≡ take index self.now }

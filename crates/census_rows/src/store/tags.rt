@@ -1,5 +1,5 @@
-//! The bytes that tell kinds of rows apart. What was found of a pattern has the number of its kind, and the others have 0 and the
-//! numbers after those.
+//! The bytes that distinguish kinds of rows. A row with a finding about a pattern has the number of the finding's kind, and the
+//! others have 0 and the numbers after those.
 
 use crate::kinds::KINDS;
 
