@@ -6,7 +6,7 @@ use std::io;
 use std::io::{Eprint, Read};
 use std::time::Clock;
 
-/// A reader that says on standard error, before its first read, that standard input is read.
+/// A reader that announces on standard error, before its first read, that standard input is read.
 #[derive(Drop)]
 pub struct Announced<'a, I, R> {
     reader: I,
@@ -15,7 +15,7 @@ pub struct Announced<'a, I, R> {
 }
 
 impl<'a, I: Read, R: Clock + Eprint> Announced<'a, I, R> {
-    /// A reader that says so, or, where standard input is not a terminal, one that doesn't.
+    /// A reader that announces this if standard input is a terminal, and otherwise announces nothing.
     pub fn new(reader: I, is_terminal: bool, screen: &'a Screen<'a, R>) -> Self
         ensures { I.remaining result.reader ≡ I.remaining reader }
     {

@@ -4,7 +4,7 @@ use arrayvec::ArrayString;
 use std::fmt;
 use std::fmt::Write;
 
-/// The most columns of the line.
+/// The greatest number of columns of the line.
 const WIDTH: usize = 80;
 
 /// A name is left out where it would have fewer columns.
@@ -33,7 +33,7 @@ impl fmt::Display for Grouped {
     }
 }
 
-// Seconds, as people say how long something takes.
+// Seconds, rounded as people say them: in seconds, minutes or hours.
 #[derive(Drop)]
 struct RoughTime(u64);
 
@@ -51,7 +51,7 @@ impl fmt::Display for RoughTime {
     }
 }
 
-/// The beginning of the line: how many patterns are finished, and how many seconds are left, if that is known.
+/// Writes the beginning of the line: the number of patterns that are finished, and the time that is left, if it is known.
 pub(crate) fn write_head(
     line: &mut Line,
     finished: u64,
@@ -70,8 +70,8 @@ pub(crate) fn write_head(
     Ok(())
 }
 
-/// The rest of the line: a pattern, and the generation that it has reached. A long name is cut, so that the line has at most
-/// `WIDTH` columns.
+/// Writes the rest of the line: a pattern, and the generation that it has reached. A long name is cut, so that the line has at
+/// most `WIDTH` columns.
 pub(crate) fn write_pattern(line: &mut Line, name: &[u8], generation: u64) -> fmt::Result {
     let mut end = ArrayString::<48>::new();
     write!(end, ", generation {}", Grouped(generation))?;

@@ -1,5 +1,5 @@
 //! The program `census`: its arguments, its standard streams and its exit status, and what people see at a terminal in addition
-//! to what a command writes to files and pipes.
+//! to the output of a command.
 #![tactic(auto)]
 
 mod announced;

@@ -1,15 +1,15 @@
-//! How long a run still takes, by how fast its last patterns were finished.
+//! The time that a run still takes, by the rate at which its last patterns were finished.
 
-/// The rate is that of at least this many patterns, once so many are finished.
+/// The rate is that of at least this many patterns, once this many are finished.
 const MANY: u64 = 16;
 
-/// The rate is that of at least this many milliseconds, once the run has taken so long.
+/// The rate is that over at least this many milliseconds, once the run has taken this long.
 const SPAN: u64 = 2_000;
 
-/// There is no rate of fewer patterns.
+/// There is no rate while fewer patterns are finished.
 const FEW: u64 = 3;
 
-/// How many patterns were finished at a millisecond.
+/// The number of patterns that were finished at a millisecond.
 #[derive(Clone, Copy, Drop)]
 struct Mark {
     time: u64,
@@ -33,8 +33,8 @@ impl Pace {
         }
     }
 
-    /// How many seconds are left of a run of `patterns` patterns, of which so many are finished now. `None` while few are
-    /// finished, and once all are.
+    /// The number of seconds that are left of a run of `patterns` patterns, of which `finished` are finished now. `None` while
+    /// few are finished, and once all are.
     pub(crate) fn left(&mut self, time: u64, finished: u64, patterns: u64) -> Option<u64> {
         let since = finished.saturating_sub(self.later.finished);
         if since >= MANY && time.saturating_sub(self.later.time) >= SPAN {

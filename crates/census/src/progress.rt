@@ -1,4 +1,4 @@
-//! The gate of the program.
+//! The gate of the program, which shows progress.
 use crate::screen::Screen;
 use census_bundle::Ticket;
 use census_crew::Gate;

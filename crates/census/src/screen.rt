@@ -11,7 +11,7 @@ use std::time::Clock;
 /// The progress of a run, or of a pattern, is shown once it has taken this many milliseconds.
 const PATIENCE: u64 = 500;
 
-/// The progress is shown again after this many milliseconds, which is at most four times a second.
+/// The progress is shown again after this many milliseconds, so at most four times a second.
 const PAUSE: u64 = 250;
 
 /// The clock is read once in this many generations.
@@ -23,17 +23,17 @@ const STRIDE: u32 = 64;
 pub struct Screen<'a, R> {
     rt: &'a R,
     is_terminal: bool,
-    /// Whether the last line shows the progress of something.
+    /// True where the last line shows the progress of a run or of a pattern.
     stands: AtomicBool,
-    /// How many patterns the run has, or 0 where none has begun.
+    /// The number of patterns of the run, or 0 where none has begun.
     patterns: AtomicU64,
-    /// How many of them workers have finished with.
+    /// The number of them that workers have finished.
     finished: AtomicU64,
-    /// The millisecond from which on progress may be shown again; the greatest number where none is known.
+    /// The millisecond from which on progress may be shown again, or the greatest number where there is none.
     next: AtomicU64,
-    /// How fast the run is. It is locked only while it is looked at.
+    /// The pace of the run. It is locked only while it is read or written.
     pace: Mutex<Pace>,
-    /// What the workers of the run work on.
+    /// The patterns that the workers of the run work on.
     slots: Slots,
 }
 
@@ -74,12 +74,12 @@ impl<'a, R: Clock + Eprint> Screen<'a, R> {
         }
     }
 
-    // Whether a run has begun whose progress is shown.
+    // True where a run has begun whose progress is shown.
     fn is_running(&self) -> bool {
         self.next.load(Ordering::SeqCst) < u64::MAX
     }
 
-    /// A run of `patterns` patterns is about to begin.
+    /// Notes that a run of `patterns` patterns is about to begin.
     pub(crate) fn begin(&self, patterns: u64) {
         if !self.is_terminal {
             return;
@@ -94,7 +94,7 @@ impl<'a, R: Clock + Eprint> Screen<'a, R> {
             .store(now.saturating_add(PATIENCE), Ordering::SeqCst);
     }
 
-    /// A worker works a pattern from now on.
+    /// Notes that a worker begins a pattern now.
     pub(crate) fn start(&self, worker: u32, collection: &[u8], name: &[u8]) {
         if self.is_running() {
             let now = self.now();
@@ -103,7 +103,7 @@ impl<'a, R: Clock + Eprint> Screen<'a, R> {
         }
     }
 
-    /// A worker has come to a generation of its pattern.
+    /// Notes that a worker has reached a generation of its pattern.
     pub(crate) fn advance(&self, worker: u32, generation: u32) {
         if self.is_running() {
             self.slots.advance(worker, generation);
@@ -111,7 +111,7 @@ impl<'a, R: Clock + Eprint> Screen<'a, R> {
         }
     }
 
-    /// A worker has finished with its pattern.
+    /// Notes that a worker has finished its pattern.
     pub(crate) fn finish(&self, worker: u32) {
         if self.is_running() {
             self.slots.finish(worker);
@@ -119,13 +119,13 @@ impl<'a, R: Clock + Eprint> Screen<'a, R> {
         }
     }
 
-    /// The run has ended.
+    /// Notes that the run has ended, and wipes its progress.
     pub(crate) fn end(&self) {
         self.next.store(u64::MAX, Ordering::SeqCst);
         self.wipe();
     }
 
-    // Whether progress is to be shown now. Where it is, it counts as shown.
+    // True where progress is to be shown now. Then it counts as shown.
     fn is_due(&self, next: u64, now: u64) -> bool {
         if now < next {
             return false;
@@ -141,13 +141,13 @@ impl<'a, R: Clock + Eprint> Screen<'a, R> {
         is_first
     }
 
-    // How many seconds are left of the run, if that is known.
+    // The number of seconds that are left of the run, if it is known.
     fn left(&self, now: u64, finished: u64, patterns: u64) -> Option<u64> {
         let mut pace = self.pace.try_lock()?;
         pace.left(now, finished, patterns)
     }
 
-    // Shows the progress of the run, where that is due.
+    // Shows the progress of the run, if it is due.
     fn tell(&self, now: u64) {
         let next = self.next.load(Ordering::SeqCst);
         if !self.is_due(next, now) {
@@ -162,7 +162,7 @@ impl<'a, R: Clock + Eprint> Screen<'a, R> {
         let _ = eprint!(self.rt; "\r{line}\x1b[K");
     }
 
-    /// The pattern of a file has reached generation `generation` of `last`.
+    /// Notes that the pattern of a file has reached generation `generation` of `last`.
     pub(crate) fn reach(&self, name: &[u8], generation: u32, last: u32) {
         if !self.is_terminal || generation % STRIDE != 0 {
             return;

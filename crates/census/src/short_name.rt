@@ -1,27 +1,27 @@
-//! A name in a line that has to fit into one line of a terminal.
+//! Names, shortened for a line that has to fit into one line of a terminal.
 use crate::shown::is_steering;
 use std::fmt;
 
-/// The most columns of a name.
+/// The greatest number of columns of a name.
 pub(crate) const LONGEST: usize = 40;
 
-/// A name as it is shown at a terminal in at most so many columns: of a long one its end, after three dots. What could steer the
-/// terminal is escaped as `Shown` does, and so are a line feed and a tab.
+/// A name as it is shown at a terminal in at most `columns` columns: for a long one its end, after three dots. Characters that
+/// could control the terminal are escaped as by `Shown`, and so are a line feed and a tab.
 #[derive(Drop)]
 pub(crate) struct ShortName<'a> {
     pub(crate) name: &'a [u8],
     pub(crate) columns: usize,
 }
 
-// Whether a character is shown as its bytes.
+// True where a character is shown as its escaped bytes.
 fn is_escaped(one: char) -> bool {
     one == '\n' || one == '\t' || is_steering(one)
 }
 
-// How many columns an escaped byte has.
+// The number of columns of an escaped byte.
 const ESCAPED: usize = 4;
 
-// The most columns of a character: none has more than its bytes.
+// An upper bound of the number of columns of a character, escaped or not: none has more columns than bytes.
 fn columns_of(one: char) -> usize {
     let bytes = one.len_utf8();
     if is_escaped(one) {
@@ -31,7 +31,7 @@ fn columns_of(one: char) -> usize {
     }
 }
 
-// The most columns of a name.
+// An upper bound of the number of columns of a name.
 fn columns(name: &[u8]) -> usize {
     let mut all: usize = 0;
     for chunk in name.utf8_chunks() {
@@ -60,7 +60,7 @@ fn write_char<W: fmt::Write>(one: char, f: &mut fmt::Formatter<W>) -> fmt::Resul
     write!(f, "{one}")
 }
 
-// Writes a name, except for what is in its first columns.
+// Writes a name without the characters in its first `skipped` columns.
 fn write_end<W: fmt::Write>(name: &[u8], skipped: usize, f: &mut fmt::Formatter<W>) -> fmt::Result {
     let mut at: usize = 0;
     for chunk in name.utf8_chunks() {

@@ -1,4 +1,4 @@
-//! What is written to a terminal, where no name can steer it.
+//! Output to a terminal, which no name can control.
 ghost use Rattle.std.specs.Prelude.{◌≡◌, None, if◌then◌else◌};
 
 use crate::screen::Screen;
@@ -7,17 +7,17 @@ use std::io;
 use std::io::{Eprint, Write};
 use std::time::Clock;
 
-/// The most bytes that are handed on at once.
+/// The greatest number of bytes that are passed on at once.
 const ROOM: usize = 4096;
 
 const DIGITS: [u8; 16] = *b"0123456789abcdef";
 
-/// A writer that first wipes what a screen shows. Where it is a terminal, each byte that belongs to no character of UTF-8, and
-/// each byte of a character that could steer the terminal, is written as `\x` and its two hexadecimal digits; every other byte is
-/// written unchanged. Such characters are the controls below U+0020 except the tab and the line feed, and those from U+007F to
-/// U+009F; those that turn the direction of what is written (U+061C, U+200E, U+200F, U+202A to U+202E, U+2066 to U+2069); and the
-/// separators of lines and paragraphs (U+2028, U+2029). Where it is not a terminal, it holds what the writer that it writes to
-/// holds.
+/// A writer that first wipes the progress that a screen shows. Where it is a terminal, each byte that belongs to no character
+/// of UTF-8, and each byte of a character that could control the terminal, is written as `\x` and its two hexadecimal digits;
+/// every other byte is written unchanged. Such characters are the controls below U+0020 except the tab and the line feed, and
+/// those from U+007F to U+009F; those that change the direction of text (U+061C, U+200E, U+200F, U+202A to U+202E, U+2066 to
+/// U+2069); and the separators of lines and paragraphs (U+2028, U+2029). Where it is not a terminal, its contents are those of
+/// the writer below it.
 #[derive(Drop)]
 pub struct Shown<'a, W, R> {
     writer: W,
@@ -25,7 +25,7 @@ pub struct Shown<'a, W, R> {
     screen: &'a Screen<'a, R>,
 }
 
-/// Bytes that are held, to be handed on together.
+/// Bytes that are held, to be passed on together.
 type Block = ArrayVec<u8, ROOM>;
 
 // Writes the bytes that are held.
@@ -35,7 +35,7 @@ fn hand_on<W: Write>(block: &mut Block, writer: &mut W) -> io::Result<()> {
     Ok(())
 }
 
-// Adds bytes; where there is no room for one, those that are held are written first.
+// Adds bytes. Where there is no room for one, those that are held are written first.
 fn add<W: Write>(block: &mut Block, writer: &mut W, bytes: &[u8]) -> io::Result<()> {
     for byte in bytes {
         if block.is_full() {
@@ -56,8 +56,8 @@ fn add_escaped<W: Write>(block: &mut Block, writer: &mut W, bytes: &[u8]) -> io:
     Ok(())
 }
 
-// Whether a terminal could take a character as a command, or as the direction in which to write, or as the end of a line though
-// it is not a line feed.
+// True where a terminal could take a character for a command, for a change of the text's direction, or for the end of a line
+// though it is not a line feed.
 pub(crate) fn is_steering(one: char) -> bool {
     matches!(
         one,
@@ -73,7 +73,7 @@ pub(crate) fn is_steering(one: char) -> bool {
 }
 
 impl<'a, W: Write, R: Clock + Eprint> Shown<'a, W, R> {
-    /// A writer to a terminal, or, where it is not a terminal, one that hands on each byte unchanged.
+    /// A writer to a terminal, or, where it is not a terminal, one that passes on each byte unchanged.
     pub fn new(writer: W, is_terminal: bool, screen: &'a Screen<'a, R>) -> Self
         ensures terminal { result.is_terminal ≡ is_terminal }
         ensures contents { W.contents result.writer ≡ W.contents writer }
@@ -86,7 +86,7 @@ impl<'a, W: Write, R: Clock + Eprint> Shown<'a, W, R> {
     }
 }
 
-// Writes bytes, those that could steer a terminal escaped.
+// Writes bytes, and escapes those that could control a terminal.
 fn write_escaped<W: Write>(writer: &mut W, bytes: &[u8]) -> io::Result<()> {
     let mut block = Block::new();
     for chunk in bytes.utf8_chunks() {
