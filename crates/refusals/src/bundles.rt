@@ -1,4 +1,4 @@
-//! Bundles.
+//! Calls on bundles.
 
 use crate::call;
 use crate::calls::promised;
@@ -7,7 +7,7 @@ use std::alloc::Global;
 
 const SHORT: &[u8] = b"before";
 
-// A name and a text that take memory.
+// A name and a text that need memory of their own.
 const NAME: &[u8] = b"a name that takes more bytes than a name that needs no memory of its own has";
 
 const PATTERN: &[u8] =
@@ -24,7 +24,7 @@ x = 3, y = 1
 3o!
 ";
 
-// Whether a bundle has this number of folders, and the last of them this name and this number of patterns.
+// True where a bundle has this number of folders, and the last of them this name and this number of patterns.
 fn has(bundle: &Bundle, folders: usize, name: &[u8], entries: usize) -> bool {
     match bundle.folders().last() {
         Some(folder) => {
@@ -36,7 +36,7 @@ fn has(bundle: &Bundle, folders: usize, name: &[u8], entries: usize) -> bool {
     }
 }
 
-// Whether the last pattern of a bundle is `PATTERN` under the name `NAME`.
+// True where the last pattern of a bundle is `PATTERN` under the name `NAME`.
 fn ends_in_pattern(bundle: &Bundle) -> bool {
     match bundle.folders().last() {
         Some(folder) => match folder.entries.as_slice().last() {

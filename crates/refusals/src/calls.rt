@@ -1,24 +1,24 @@
-//! How a call is made and shown. The first write of its line begins it, and the second ends it.
+//! Calls, and the line that shows each. The first write of the line is before the call, and the second after it.
 
-/// What a text has before something is appended to it.
+/// The content of a text before anything is appended to it.
 pub const START: &[u8] = b"before ";
 
-/// Begins a call.
+/// Begins the line of a call.
 pub fn begin(rt: &impl Print, name: &str) {
     let _ = rt.print(name);
 }
 
-/// Ends a call.
+/// Ends the line of a call.
 pub fn end(rt: &impl Print, is_made: bool) {
     let _ = rt.print(if is_made { ": made\n" } else { ": refused\n" });
 }
 
-/// `None` if something is not as promised.
+/// `Some` if a promise is kept, and otherwise `None`.
 pub fn promised(is_so: bool) -> Option<()> {
     if is_so { Some(()) } else { None }
 }
 
-/// Whether a text is `START` and then these bytes.
+/// True where a text is `START` and then these bytes.
 pub fn has_appended(text: &[u8], appended: &[u8]) -> bool {
     match text.split_at_checked(START.len()) {
         Some((start, rest)) => start == START && rest == appended,
@@ -26,8 +26,8 @@ pub fn has_appended(text: &[u8], appended: &[u8]) -> bool {
     }
 }
 
-// What a call makes. Where it is refused memory, it must leave all as it was, and is made again. `None` if it doesn't leave
-// that, or is refused again.
+// The value of a call. A call that is refused memory must leave everything unchanged, and is made again. `None` if it doesn't,
+// or is refused again.
 #[macro_export]
 macro_rules! call {
     ($rt:expr, $name:expr, $call:expr $(,)?) => {

@@ -10,7 +10,7 @@ const CELLS: &[(i32, i32)] = &[(9, 7), (7, 9), (8, 9), (10, 8), (9, 9), (8, 9), 
 
 const IN_ORDER: &[(i32, i32)] = &[(9, 7), (10, 8), (7, 9), (8, 9), (9, 9), (10, 9)];
 
-// Their shape, and that with x and y exchanged.
+// Their shape, and the same with x and y exchanged.
 const SHAPE: &[(i32, i32)] = &[(2, 0), (3, 1), (0, 2), (1, 2), (2, 2), (3, 2)];
 
 const TURNED: &[(i32, i32)] = &[(2, 0), (2, 1), (0, 2), (2, 2), (1, 3), (2, 3)];
@@ -26,7 +26,7 @@ fn shape_of(alloc: Global, list: &CellList) -> Result<(Shape, (i32, i32)), Alloc
     Shape::of(alloc, list)
 }
 
-/// Calls that make a list, its shape, and that turned.
+/// Calls that make a list, its shape, and the shape turned.
 pub fn call_shapes(rt: &impl Print, alloc: Global) -> Option<()> {
     let list = call!(rt, "CellList::of", CellList::of(alloc, CELLS))?;
     promised(list.as_slice() == IN_ORDER)?;

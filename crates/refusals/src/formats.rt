@@ -1,4 +1,4 @@
-//! Rules, RLE texts, and readers.
+//! Calls on rules, RLE texts, and readers.
 
 use crate::call;
 use crate::calls::{START, has_appended, promised};

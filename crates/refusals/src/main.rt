@@ -1,8 +1,8 @@
-//! Calls that can run out of memory: `checks/refused` refuses each growth of each call in turn. What a call that ran out of
-//! memory promises to leave must be as it was, and the same call with memory must give its answer.
+//! Calls that can run out of memory: `checks/refused` refuses each allocation of each call in turn. Whatever a call that ran
+//! out of memory promises to leave unchanged must be unchanged, and the same call with memory must succeed.
 //!
-//! A line names a call, and says whether it was refused memory. The program ends, with status 1, at the first call that is not
-//! as promised.
+//! A line names a call, and says whether it was refused memory. The program ends, with status 1, at the first call that breaks
+//! a promise.
 #![tactic(auto)]
 
 mod bundles;
@@ -50,7 +50,7 @@ fn call_planes(rt: &impl Print, alloc: Global) -> Option<()> {
     call_steps::<Board>(rt, alloc, "Board::step", &LONG_WALK)
 }
 
-// Each call.
+// Makes each call.
 fn call_all<R: Print + Threads + Wait + Sync>(rt: &R, alloc: Global) -> Option<()> {
     formats::call_texts(rt, alloc)?;
     formats::call_readers(rt, alloc)?;

@@ -1,4 +1,4 @@
-//! Planes of each kind.
+//! Calls on planes of each kind.
 
 use crate::call;
 use crate::calls::promised;
@@ -26,7 +26,7 @@ pub const SPREAD: Cells = &[
 
 const GLIDER: Cells = &[(1, 0), (2, 1), (0, 2), (1, 2), (2, 2)];
 
-/// The steps of that glider, and where it then is.
+/// A number of steps of that glider, and its cells after them.
 pub struct Walk {
     steps: u32,
     end: Cells,
@@ -51,7 +51,7 @@ fn plane_of<P: Plane>(alloc: Global, list: &CellList) -> Result<P, AllocError> {
     P::from_cells(alloc, list)
 }
 
-// Whether a plane has these cells and this age.
+// True where a plane has these cells and this age.
 fn shows<P: Plane>(plane: &P, cells: &[(i32, i32)], age: u32) -> bool {
     plane.age() == age && plane.cells().is_ok_and(|list| list.as_slice() == cells)
 }
@@ -67,7 +67,7 @@ fn walk_to<P: Plane>(plane: &mut P, age: u32) -> Result<(), AllocError> {
     Ok(())
 }
 
-// Whether a plane is as another that was begun with these cells and has made as many steps.
+// True where a plane is equal to another that began with these cells and has made as many steps.
 fn is_as_new<P: Plane>(alloc: Global, plane: &P, start: &CellList) -> bool {
     let Ok(mut other) = plane_of::<P>(alloc, start) else {
         return false;

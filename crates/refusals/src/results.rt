@@ -36,10 +36,10 @@ x = 2, y = 2
 // The code of the second pattern.
 const BLINKER: &[u8] = b"xp2_7";
 
-// What is released before any result has come.
+// The text that is released before any result has come.
 const START: &[u8] = b"open 1 3 f\n";
 
-// What is released when the first result has come, and the third.
+// The text that is released once the first and the third result have come.
 const FIRST: &[u8] = b"open 1 3 f\nline 1 1 ok B3/S23 4 0 1 0 0 xs4_33 a\n";
 
 const LAST: &[u8] = b"open 1 3 f
@@ -52,7 +52,7 @@ close 1 3 3 0 0
 end 1 3
 ";
 
-// The number of each ticket, and what is released before its result has come and after it.
+// The number of each ticket, and the texts that are released before its result has come and after it.
 const OFFERS: &[(u32, &str, [&[u8]; 2])] = &[
     (
         3,
@@ -63,7 +63,7 @@ const OFFERS: &[(u32, &str, [&[u8]; 2])] = &[
     (2, "Collector::offer, of the last result", [FIRST, LAST]),
 ];
 
-// Works a pattern of the first collection.
+// The result of a pattern of the first collection.
 fn done<'a>(
     alloc: Global,
     bundle: &'a Bundle,
@@ -79,7 +79,7 @@ fn done<'a>(
     }
 }
 
-// Whether a blinker was found, or one that something fell apart into.
+// True where the pattern becomes a blinker, alone or as the first of several parts.
 fn is_blinker(done: &Done<'_>) -> bool {
     match done.answer() {
         Answer::Found { finding, .. } => match &finding.outcome {
@@ -93,7 +93,7 @@ fn is_blinker(done: &Done<'_>) -> bool {
     }
 }
 
-/// Calls that work a pattern.
+/// Calls that compute the result of a pattern.
 pub fn call_work(rt: &impl Print, alloc: Global) -> Option<()> {
     let bundle = read_bundle(alloc, TEXT).ok()?;
     let settled = call!(
@@ -117,7 +117,7 @@ struct Desk<'a> {
     result: Option<Done<'a>>,
 }
 
-// Offers the result, which comes back where there is no room for it.
+// Offers the result, which is returned where there is no room for it.
 fn offer(desk: &mut Desk<'_>) -> Result<Offer, AllocError> {
     let Some(result) = desk.result.take() else {
         return Err(AllocError);
@@ -131,7 +131,7 @@ fn offer(desk: &mut Desk<'_>) -> Result<Offer, AllocError> {
     }
 }
 
-// A call that offers the result of a ticket, with what is released before it and after it.
+// A call that offers the result of a ticket, with the texts that are released before it and after it.
 fn call_offer<'a>(
     rt: &impl Print,
     desk: &mut Desk<'a>,

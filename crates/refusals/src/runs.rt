@@ -1,4 +1,4 @@
-//! Feeds and runs.
+//! Calls on feeds and runs.
 ghost use Rattle.std.specs.Prelude.{◌≤◌};
 ghost use Rattle.census_bundle.specs.Sizes.{worker_limit};
 
@@ -19,7 +19,7 @@ const SETTLES: Question = Question::Settles {
     cells: None,
 };
 
-// The first two are soon done. The others show only later generations, or a fault.
+// A bundle in which the first two patterns are quick. The third needs more generations, and the last has a fault.
 const TEXT: &[u8] = b"@folder demo
 @file block
 x = 2, y = 2, rule = B3/S23
@@ -53,7 +53,7 @@ pub fn call_feed(rt: &impl Print, alloc: Global) -> Option<()> {
     promised(hands.len() == 2 && feed.close(hands) == 100)
 }
 
-// Runs a bundle. `written` becomes what it has written.
+// Runs a bundle. `written` becomes its output.
 fn report<R: Threads + Wait + Sync>(
     rt: &R,
     alloc: Global,
@@ -69,8 +69,8 @@ fn report<R: Threads + Wait + Sync>(
     tally
 }
 
-// Runs a bundle, and loses the patterns for which memory is refused. `written` becomes what it has written, and `lost` their
-// tickets.
+// Runs a bundle, and loses the patterns for which memory is refused. `written` becomes its output, and `lost` the tickets of
+// these patterns.
 fn report_keeping<R: Threads + Wait + Sync>(
     rt: &R,
     alloc: Global,
@@ -127,7 +127,8 @@ fn report_losing<R: Threads + Wait + Sync>(
     Some(written)
 }
 
-// Whether this begins the report of a bundle in which the texts of these tickets are lost, or is it.
+// True where this is a prefix of the report of a bundle in which the texts of these tickets are lost, and where `is_whole`, all
+// of it.
 fn begins<R: Threads + Wait + Sync>(
     rt: &R,
     alloc: Global,
@@ -144,7 +145,7 @@ fn begins<R: Threads + Wait + Sync>(
     }
 }
 
-// Runs a bundle's text. `written` becomes what it has written.
+// Runs a bundle's text. `written` becomes its output.
 fn report_text<R: Threads + Wait + Sync>(
     rt: &R,
     alloc: Global,
@@ -160,7 +161,7 @@ fn report_text<R: Threads + Wait + Sync>(
     tally
 }
 
-/// Calls that run a bundle and its text, by some number of workers.
+/// Calls that run a bundle and its text, with this number of workers.
 pub fn call_runs<R: Print + Threads + Wait + Sync>(
     rt: &R,
     alloc: Global,
@@ -187,7 +188,7 @@ pub fn call_runs<R: Print + Threads + Wait + Sync>(
     promised(written.as_slice() == REPORT)
 }
 
-/// A call that runs a bundle by some number of workers, and loses the patterns for which memory is refused.
+/// A call that runs a bundle with this number of workers, and loses the patterns for which memory is refused.
 pub fn call_keeping<R: Print + Threads + Wait + Sync>(
     rt: &R,
     alloc: Global,
