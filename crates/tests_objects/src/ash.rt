@@ -1,4 +1,4 @@
-//! What patterns of Life fall apart into, on planes of both kinds.
+//! The ash of patterns of Life, on planes of both kinds.
 
 use crate::beginnings::{GUN, HIT, generation_on};
 use life_answer::{Answer, Outcome};
@@ -16,7 +16,7 @@ const BLOCK_CODE: &[u8] = b"xs4_33";
 // A glider that vanishes with a block, and a block far off.
 const VANISHING: &[u8] = b"x = 42, y = 22\nbo$2bo$3o37b2o$40b2o17$20b2o$20b2o!";
 
-// A block is left, from generation 70 on.
+// True where a block is left, from generation 70 on.
 fn is_a_block(outcome: &Outcome) -> bool {
     match outcome {
         Outcome::Recurs {
@@ -49,7 +49,7 @@ fn what_is_left_is_counted<P: Plane>(rt: &impl Abort, alloc: Global) -> Result<(
         assert!(rt; is_a_block(&found.outcome));
     }
     let fate = fate::<P, Unobserved>(alloc, &Unobserved, &rule, cells, 60, None)?;
-    // (it is seen to end after the bound)
+    // (its end is found after the bound)
     assert!(rt; matches!(fate, Fate::Unresolved { ends: true }));
     let plane: P = generation_on(rt, alloc, &pattern, 70)?;
     assert!(rt; plane.age() == 70);
@@ -78,5 +78,5 @@ fn texts_are_answered(rt: HostRuntime) -> Result<(), Fail> {
     Ok(())
 }
 
-/// A text, a bound, and how many kinds of engines it has.
+/// A text, a bound, and the number of kinds of engines that it has.
 const TEXTS: &[(&[u8], u32, usize)] = &[(GUN, 31, 1), (GUN, 30, 0), (HIT, 60, 0)];

@@ -9,7 +9,7 @@ use life_tile::TilePlane;
 use std::alloc::Global;
 use std::test::Fail;
 
-/// How many cells a class has at first, and at last.
+/// The number of cells of a class at first, and at last.
 type Sizes = (usize, usize);
 
 fn sizes_of(alloc: Global, classes: &[Class]) -> Result<Vec<Sizes>, Fail> {

@@ -1,4 +1,5 @@
-//! What comes back of guns and switch engines and what leaves them, what falls apart, and what is seen to be no engine.
+//! The parts of guns and switch engines that recur, and those that leave them; patterns that fall apart, and patterns that are
+//! found to have no engine.
 
 use crate::beginnings::{ACORN, BLOCK, GLIDER, GUN, PENTOMINO, generation_on};
 use life_board::Board;
@@ -27,7 +28,7 @@ fn a_gun_comes_back(rt: HostRuntime) -> Result<(), Fail> {
     Ok(())
 }
 
-// The gun in generation 100, and a block beside the way of its gliders.
+// The gun in generation 100, and a block beside the path of its gliders.
 const GUN_AND_BLOCK: &[u8] = b"x = 76, y = 42
 64bo$62bobo$52b2o6b2o12b2o$51bo3bo4b2o12b2o$40b2o8bo5bo3b2o$40b2o8bo3b
 ob2o4bobo$50bo5bo7bo$51bo3bo$52b2o32$10b2o$10b2o!
@@ -67,7 +68,8 @@ fn a_glider_has_four_things(rt: HostRuntime) -> Result<(), Fail> {
 // The pentomino between two blocks.
 const BETWEEN: &[u8] = b"x = 402, y = 3\n2o199b2o197b2o$2o198b2o198b2o$201bo!";
 
-/// Patterns, a generation, and a bound within which it is seen to be no engine: since it comes again, or has no more cells later.
+/// Patterns, a generation, and a bound within which it is found not to be an engine, since it recurs, or has no more cells
+/// later.
 const NO_ENGINES: &[(&[u8], u32, u32)] = &[
     (BLOCK, 0, 20),
     (GLIDER, 0, 20),
@@ -83,7 +85,7 @@ fn what_is_no_engine_is_refused(rt: HostRuntime) -> Result<(), Fail> {
     Ok(())
 }
 
-// Whether a pattern's generation is seen to be no engine within the bound.
+// True where a pattern's generation is found not to be an engine within the bound.
 fn is_refused(
     rt: &impl Abort,
     alloc: Global,
@@ -99,8 +101,8 @@ fn is_refused(
     Ok(are_no_engine::<Board>(alloc, &pattern.rule(), &plane.cells()?, age, bound)?)
 }
 
-/// Patterns, for how many generations from generation 200 on their population is looked at, and whether it seems to rise steadily.
-/// A period of more than a third of the generations is not seen.
+/// Patterns, the number of generations from generation 200 on over which their population is observed, and whether it seems to
+/// rise steadily. A period of more than a third of the generations is not found.
 const TRENDS: &[(&[u8], u32, bool)] = &[
     (GUN, 128, true),
     (GUN, 90, true),

@@ -34,7 +34,7 @@ fn faults_are_explained(rt: HostRuntime) -> Result<(), Fail> {
     assert!(rt; line.as_slice().ends_with(FAULT_END));
     let bundle = read_bundle(alloc, BROKEN_BUNDLE)?;
     assert!(rt; refusal_lines(alloc, &bundle, &[])?.as_slice() == REFUSAL.as_bytes());
-    // (where memory is refused, which no row shows)
+    // (out of memory, which no row shows)
     let memory = "memory ran out: what was given may be right, but more memory is needed";
     assert!(rt; sentence(Fault::Text(RleFault::Memory)) == memory);
     Ok(())
@@ -55,7 +55,7 @@ fn what_is_said_has_no_control_character(rt: HostRuntime) -> Result<(), Fail> {
 
 #[test]
 fn no_two_faults_have_one_sentence(rt: HostRuntime) -> Result<(), Fail> {
-    // (a rule that isn't Life-like, or a text without a header line, of which no more is known, is a fault of the text)
+    // (a rule that isn't Life-like, or a text without a header line, is a fault of the text where no more is known about it)
     const FAULTS: &[Fault] = &[
         Fault::Text(RleFault::NoHeader),
         Fault::Text(RleFault::BadHeader),

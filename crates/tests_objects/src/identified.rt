@@ -1,4 +1,4 @@
-//! What is reported of single patterns.
+//! Reports on single patterns.
 
 use crate::beginnings::{ACORN, GLIDER};
 use census_facts::{Form, Names, read_names};

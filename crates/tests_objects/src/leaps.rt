@@ -1,4 +1,4 @@
-//! The plane that leaps, and generations that are made by steps and by leaps.
+//! The plane that leaps, and generations that are computed by steps and by leaps.
 
 use crate::beginnings::{GLIDER, GUN};
 use life_advance::{LeapPlane, Side, generation_of, outgrows};

@@ -1,8 +1,8 @@
-//! Tests of sets that recur, of what patterns fall apart into, of their growth, of the plane that leaps, and of what is reported
-//! about single patterns: that each call succeeds where there is memory enough, and what no contract says of those that may give
-//! up.
+//! Tests of sets that recur, of the ash of patterns, of their growth, of the plane that leaps, and of reports on single
+//! patterns: that each call succeeds where there is enough memory, and, for calls that may give up, the results that no
+//! contract promises.
 //!
-//! What the built program finds of patterns, and what it says of faults, is in `checks/rows`.
+//! The findings of the built program about patterns, and its words about faults, are in `checks/rows`.
 #![tactic(auto)]
 
 #[cfg(test)]

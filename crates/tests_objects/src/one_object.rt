@@ -18,7 +18,7 @@ const TWO_BLOCKS: &[u8] = b"x = 5, y = 2\n2ob2o$2ob2o!";
 // A cell, which dies.
 const CELL: &[u8] = b"x = 1, y = 1\no!";
 
-// What is found of a text within 200 generations.
+// The outcome of a text within 200 generations.
 fn outcome_of(alloc: Global, text: &[u8], near: bool) -> Result<Outcome, Fail> {
     match answer(alloc, &Unobserved, text, 200, None, near, 10)? {
         Answer::Found { finding, .. } => Ok(finding.outcome),
@@ -26,7 +26,8 @@ fn outcome_of(alloc: Global, text: &[u8], near: bool) -> Result<Outcome, Fail> {
     }
 }
 
-/// Texts, whether things near one another count as one, and the onset, the period, the displacement and the code of what is left.
+/// Texts, whether objects near one another count as one, and the onset, the period, the displacement and the code of the object
+/// that is left.
 const ALONE: &[(&[u8], bool, u32, u32, (i32, i32), &[u8])] = &[
     (GLIDER, false, 0, 4, (1, 1), b"xq4_153"),
     (GLIDER, true, 0, 4, (1, 1), b"xq4_153"),
@@ -56,7 +57,7 @@ fn what_ends_as_one_object_recurs(rt: HostRuntime) -> Result<(), Fail> {
     Ok(())
 }
 
-/// Texts, the onset, and how many kinds of objects and how many objects are left.
+/// Texts, the onset, and the number of kinds of objects and of objects that are left.
 const OTHERS: &[(&[u8], u32, usize, u64)] = &[(TWO_BLOCKS, 0, 1, 2), (CELL, 1, 0, 0)];
 
 #[test]

@@ -12,7 +12,7 @@ use life_tile::TilePlane;
 use std::alloc::{AllocError, Global};
 use std::test::Fail;
 
-/// The onset of the ash of some cells, whose generation of this age is ash. A trail is kept on the way.
+/// The onset of the ash of some cells, whose generation of this age is ash. A trail is kept from generation 0 on.
 fn onset_by<P: Plane>(alloc: Global, cells: &CellList, age: u32) -> Result<Option<u32>, AllocError>
     requires fits { All (IsWithin 0) (generations.cells cells.now) }
     requires age { age ≤ 100000 }

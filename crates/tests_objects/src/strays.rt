@@ -1,5 +1,5 @@
-//! What islands that come back nowhere show: that cells are no ash, and that they do not grow. A negative answer would meet the
-//! contracts, but would be expensive.
+//! The conclusions from islands that never recur: that cells are not ash, and that they do not grow. A negative answer would
+//! satisfy the contracts, but would be expensive.
 
 use crate::beginnings::{ACORN, GLIDER, GUN, generation_on};
 use life_board::Board;
@@ -10,7 +10,7 @@ use std::alloc::Global;
 use std::process::Abort;
 use std::test::Fail;
 
-/// Whether a pattern's generation is seen to be no ash within the bound, and not to grow.
+/// True where a pattern's generation is found not to be ash within the bound, and true where it is found not to grow.
 fn seen<P: Plane>(
     rt: &impl Abort,
     alloc: Global,
@@ -36,7 +36,7 @@ fn what_lives_on_in_disorder_is_refused(rt: HostRuntime) -> Result<(), Fail> {
     Ok(())
 }
 
-// Its islands come back, and what it has shot since then was not there.
+// Its islands recur, and the gliders that it has emitted in the meantime are new.
 #[test]
 fn a_gun_is_no_ash(rt: HostRuntime) -> Result<(), Fail> {
     assert!(rt; seen::<Board>(&rt, rt.alloc(), GUN, 30, 30)?.0);
@@ -44,7 +44,7 @@ fn a_gun_is_no_ash(rt: HostRuntime) -> Result<(), Fail> {
     Ok(())
 }
 
-/// The totals before each stretch and after the last, which are too uneven.
+/// The totals before each stretch and after the last one, where the growth is too uneven.
 const TOTALS: &[&[u128]] = &[
     // more than twice as many as in the stretch before or after
     &[0, 10, 31],
