@@ -1,4 +1,4 @@
-//! Calls on rules, lists of cells, texts, codes and what is counted by codes.
+//! Calls on rules, lists of cells, texts, codes and counts by code.
 
 use life_answer::{Code, EngineList, Parts, Tale};
 use life_cells::{CellFault, CellList, CodeFault, Rule, RuleFault};
@@ -21,7 +21,7 @@ const CELLS: &[(i32, i32)] = &[(1, 1), (0, 1), (1, 1), (-5, 0)];
 
 const IN_ORDER: &[(i32, i32)] = &[(-5, 0), (0, 1), (1, 1)];
 
-// The cells of a word, 5, from (-3, 7) on.
+// The cells of the bits of 5, from (-3, 7) on.
 const ROW: &[(i32, i32)] = &[(-3, 7), (-1, 7)];
 
 const CORNER: &[(i32, i32)] = &[(100, 200), (103, 200), (131, 231)];
@@ -49,7 +49,7 @@ fn texts_are_read_and_written(rt: HostRuntime) -> Result<(), Fail> {
     Ok(())
 }
 
-// A code that is too long to be held without memory.
+// A code that is too long to be held without memory of its own.
 const LONG: &[u8] = b"xs14_123456789012345678901234567890";
 
 #[test]

@@ -1,4 +1,4 @@
-//! What is found of texts, soon or later, and whether two sets of cells become one object.
+//! Findings about texts, early or late, and pairs of sets of cells that become one object or not.
 
 use life_answer::{Answer, Outcome};
 use life_cells::{CellList, Rule};
@@ -28,7 +28,7 @@ fn texts_are_answered(rt: HostRuntime) -> Result<(), Fail> {
     Ok(())
 }
 
-// Whether a pattern settles in this generation.
+// True where a pattern settles in this generation.
 fn is_settled(found: &Answer, generation: u32) -> bool {
     match found {
         Answer::Found { finding, .. } => match &finding.outcome {
@@ -39,12 +39,12 @@ fn is_settled(found: &Answer, generation: u32) -> bool {
     }
 }
 
-/// Cells.
+/// The coordinates of live cells.
 type Cells = &'static [(i32, i32)];
 
 const GLIDER: Cells = &[(1, 0), (2, 1), (0, 2), (1, 2), (2, 2)];
 
-// A glider that flies the other way, two generations later.
+// A glider that moves to the left and down, two generations later.
 const MIRRORED_GLIDER: Cells = &[(5, 1), (5, 2), (7, 2), (5, 3), (6, 3)];
 
 const BLINKER: Cells = &[(0, 0), (1, 0), (2, 0)];

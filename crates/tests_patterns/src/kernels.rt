@@ -1,4 +1,4 @@
-//! The kernel that makes eight rows, and the plain one by which it is judged.
+//! The kernel that computes eight rows, and the plain one to which it is compared.
 
 use life_cells::Rule;
 use life_plane::{Around, Change, Logic, Tile, Window, band};
@@ -7,7 +7,7 @@ use life_plane::{Around, Change, Logic, Tile, Window, band};
 fn both_kernels_turn_two_blinkers_across_the_edges_of_a_band(rt: HostRuntime) {
     let empty = Tile::EMPTY;
     let mut here = Tile::EMPTY;
-    // One lies across the western edge in the first row.
+    // One blinker lies across the western edge in the first row.
     let mut west = Tile::EMPTY;
     west.set(63, 8, true);
     here.set(0, 8, true);

@@ -1,4 +1,4 @@
-//! Planes of each kind: their calls, a cell that grows as fast as it can, and patterns that come again.
+//! Planes of each kind: their calls, a cell that grows as fast as it can, and patterns that recur.
 
 use life_answer::{Finding, Outcome};
 use life_board::Board;
@@ -80,7 +80,8 @@ const CELL: &[(i32, i32)] = &[(0, 0)];
 /// Onset, period, displacement and code.
 type Settled = (u32, u32, (i32, i32), &'static [u8]);
 
-/// A pattern, a bound, the population, and how it settles within the bound, if it does.
+/// A pattern, a bound, the population, and the onset, period, displacement and code with which it settles within the bound, if
+/// it does.
 type Example = (&'static [u8], u32, u64, Option<Settled>);
 
 const EXAMPLES: &[Example] = &[
@@ -121,7 +122,7 @@ const EXAMPLES: &[Example] = &[
     ),
 ];
 
-// Whether this was found.
+// True where a finding has this population and settles with these facts, or where there are none, doesn't settle.
 fn is_found(finding: &Finding, population: u64, settled: Option<Settled>) -> bool {
     let found = match &finding.outcome {
         Outcome::Recurs {

@@ -6,7 +6,7 @@ use std::alloc::Global;
 use std::process::Abort;
 use std::test::Fail;
 
-/// The shape of cells of the field, and its corner.
+/// The shape of cells with coordinates that are in range, and its corner.
 fn shape_of(alloc: Global, cells: &[(i32, i32)]) -> Result<(Shape, (i32, i32)), CellFault> {
     let list = CellList::of(alloc, cells)?;
     if !list.fits() {
@@ -47,7 +47,7 @@ fn the_glider_is_turned(rt: HostRuntime) -> Result<(), Fail> {
     Ok(())
 }
 
-/// The least text of the sets that these texts spell.
+/// The least text of the sets that these texts describe.
 fn least_of(rt: &impl Abort, alloc: Global, texts: &[&str]) -> Result<Vec<u8>, Fail> {
     let mut least = LeastText::new(alloc);
     for text in texts {
