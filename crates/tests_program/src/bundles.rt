@@ -1,4 +1,4 @@
-//! A bundle, and what is known of its report.
+//! A bundle, and its report and tally.
 
 use census_crew::Tally;
 use life_answer::Question;
@@ -41,7 +41,7 @@ pub(crate) const SETTLES: Question = Question::Settles {
     cells: None,
 };
 
-// The tally of `DEMO`, if the caller worked `caught_up` tickets.
+// The tally of `DEMO`, if the caller itself worked `caught_up` tickets.
 pub(crate) fn demo_tally(caught_up: u64) -> Tally {
     Tally {
         patterns: 5,

@@ -1,4 +1,4 @@
-//! What the program answers to a command line: its exit status and what it writes to its standard streams.
+//! The response of the program to a command line: its exit status and its output to the standard streams.
 
 use crate::program::{called, called_through};
 use census_crew::OpenGate;
@@ -10,7 +10,7 @@ const GUN: &[u8] = b"x = 36, y = 9, rule = B3/S23
 24bo$22bobo$12b2o6b2o12b2o$11bo3bo4b2o12b2o$2o8bo5bo3b2o$2o8bo3bob2o4bobo$10bo5bo7bo$11bo3bo$12b2o!
 ";
 
-// A traffic light, a text without its end behind which a pattern is lost, and a folder without a pattern.
+// A traffic light after whose end the next pattern is lost, a text without its end, and a folder without a pattern.
 const BUNDLE: &[u8] = b"@folder f
 @file l
 x = 9, y = 9
@@ -73,7 +73,7 @@ const CODE_FAULT: &[u8] = b"census: code fault 1
   1:5: the code has no body: something must follow its first `_`, as `153` in `xq4_153`
 ";
 
-/// The words, whether standard error is a terminal, standard input, the exit status, standard output and standard error.
+/// The arguments, whether standard error is a terminal, standard input, the exit status, standard output and standard error.
 type Call = (
     &'static [&'static str],
     bool,

@@ -1,4 +1,4 @@
-//! Readers and writers that fail, and standard streams that do.
+//! Readers, writers and standard streams that fail.
 
 use crate::program::called;
 use std::alloc::Global;
@@ -56,7 +56,7 @@ impl Write for FailingWriter {
 
 #[test]
 fn standard_streams_that_fail(rt: HostRuntime) {
-    // The words, the room of standard output and of standard error, the status, and what is written to standard error.
+    // The arguments, the room of standard output and of standard error, the status, and the text on standard error.
     const CALLS: &[(&[&str], usize, usize, u8, &[u8])] = &[
         (&["run"], 0, 0, 4, b""),
         (&["draw", "A"], 0, 0, 1, b""),

@@ -1,4 +1,4 @@
-//! What errors say, and which pattern is named where memory ran out.
+//! The messages of errors, and the pattern that is named where memory ran out.
 
 use census_bundle::{AddFault, BundleFault, Ticket, read_bundle};
 use census_errors::{
@@ -45,7 +45,7 @@ fn lines_on_standard_error_are_the_texts_of_errors(rt: HostRuntime) -> Result<()
     Ok(())
 }
 
-// Whether this is what a fault says.
+// True where this is the message of a fault.
 fn says<D: Display>(alloc: Global, fault: &D, text: &str) -> Result<bool, AllocError> {
     let shown = format!(in alloc; "{fault}")?;
     Ok(shown.as_str() == text)
@@ -90,7 +90,7 @@ fn a_pattern_for_which_memory_ran_out_is_named(rt: HostRuntime) -> Result<(), Fa
     let mut errors = Output::new(Vec::new(rt.alloc()));
     say_if(true, run_saying(error).at(&place), &mut errors);
     assert!(rt; errors.into_inner().as_slice() == LINE);
-    // That of a folder is named by its path.
+    // A pattern of a folder is named by its path.
     let bundle = read_bundle(rt.alloc(), TWO_PATTERNS)?;
     let stopped = RunStopped::running(rt.alloc(), &bundle, RunFault::Memory { ticket });
     let path = stopped.place.path.as_ref().map(|path| path.as_slice());

@@ -1,4 +1,4 @@
-//! Feeds that hands draw from, in one thread and in several.
+//! Feeds from which hands take tickets, in one thread and in several.
 
 use census_bundle::{Bundle, Ticket};
 use census_crew::Feed;

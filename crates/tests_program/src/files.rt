@@ -1,4 +1,4 @@
-//! What the program answers where it reads folders and files of a disk.
+//! The response of the program where it reads folders and files of a disk.
 
 use crate::program::called;
 use std::rt::Files;
@@ -7,7 +7,7 @@ use std::{fs, io};
 
 const TREE: &str = "tests_tree";
 
-// A folder whose name ends in `.rle` is no file.
+// A folder is not a file, even if its name ends in `.rle`.
 const FOLDERS: &[&str] = &[
     "tests_tree",
     "tests_tree/below",
@@ -32,7 +32,7 @@ close 1 2 2 0 0
 end 1 2
 ";
 
-/// The words, standard input, the exit status, standard output and standard error.
+/// The arguments, standard input, the exit status, standard output and standard error.
 type Call = (
     &'static [&'static str],
     &'static [u8],

@@ -1,4 +1,4 @@
-//! A gate that holds workers until others have come.
+//! A gate that holds workers until others have arrived.
 
 use crate::bundles::{DEMO, DEMO_REPORT, SETTLES, demo_tally};
 use crate::program::called_through;
@@ -10,11 +10,11 @@ use std::sync::atomic::{AtomicU64, Ordering};
 use std::test::Fail;
 use watched::{Output, Streams};
 
-// How often a worker checks whether the others have come.
+// The number of times that a worker checks whether the others have arrived.
 const TURNS: u64 = 1_000_000_000;
 
-/// Holds each worker until `awaited` tickets have entered, unless it gives up. It notes the patterns of the last run, and how
-/// many runs have begun and ended.
+/// Holds each worker until `awaited` tickets have entered, unless it gives up. It notes the number of patterns of the last run,
+/// and the numbers of runs that have begun and ended.
 #[derive(Drop)]
 pub(crate) struct Crowd {
     awaited: u64,
@@ -37,12 +37,12 @@ impl Crowd {
         }
     }
 
-    // Whether this many tickets have entered, and no worker waited in vain.
+    // True where this many tickets have entered, and no worker has given up waiting.
     pub(crate) fn has_met(&self, entered: u64) -> bool {
         self.entered.load(Ordering::SeqCst) == entered && self.gave_up.load(Ordering::SeqCst) == 0
     }
 
-    // The patterns of the last run, and how many runs have begun and ended.
+    // The number of patterns of the last run, and the numbers of runs that have begun and ended.
     fn runs(&self) -> (u64, u64, u64) {
         (self.patterns, self.begun, self.ended)
     }
@@ -169,7 +169,7 @@ fn one_worker_works_what_is_not_soon_done(rt: HostRuntime) -> Result<(), Fail> {
 // The name of that collection.
 const MIXED: &[u8] = b"mixed";
 
-// Notes what at most two workers report of the patterns of that collection.
+// Notes the progress that at most two workers report about the patterns of that collection.
 #[derive(Drop)]
 struct Reports {
     started: AtomicU64,

@@ -1,7 +1,7 @@
-//! Tests of feeds, workers and runs, and of what the program answers to a command line.
+//! Tests of feeds, workers and runs, and of the response of the program to a command line.
 //!
-//! More commands and bundles are in `checks/rows`, what is read of a disk in `checks/disk`, and failing ends and refused memory in
-//! `checks/ends` and `checks/growths`.
+//! More commands and bundles are in `checks/rows`, reading from a disk is in `checks/disk`, and failing streams and refused
+//! memory are in `checks/ends` and `checks/growths`.
 #![tactic(auto)]
 
 #[cfg(test)]

@@ -1,4 +1,4 @@
-//! One call of the program.
+//! Calls of the program.
 
 use census_command::dispatch;
 use census_crew::{Gate, OpenGate};
@@ -9,8 +9,8 @@ use std::sync::Wait;
 use std::thread::Threads;
 use watched::Streams;
 
-// The exit status of the program with these words, standard input, standard output and standard error, and the last two
-// as they are afterwards.
+// The exit status of the program with these arguments, standard input, standard output and standard error, and the last two as
+// they are afterwards.
 pub(crate) fn called<
     I: Read + Drop,
     O: Write + Drop,

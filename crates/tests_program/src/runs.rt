@@ -1,4 +1,4 @@
-//! Runs from a feed of the caller's, reports that the caller works out alone, and readers and writers that fail.
+//! Runs from a feed of the caller's, reports that the caller computes alone, and readers and writers that fail.
 
 use crate::bundles::{DEMO, DEMO_REPORT, SETTLES, demo_tally};
 use crate::ends::{FailingReader, FailingWriter};
@@ -152,7 +152,7 @@ fn a_writer_that_fails_has_taken_a_prefix_of_the_report(rt: HostRuntime) -> Resu
     Ok(())
 }
 
-// The fault of a run over what a reader gives, and what is written if there is room for `room` bytes.
+// The fault, if any, of a run over the bytes of a reader, and its output to a writer with room for `room` bytes.
 fn fault_of<I: Read + Drop, R: Threads + Wait + Sync>(
     rt: &R,
     alloc: Global,
