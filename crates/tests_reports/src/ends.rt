@@ -1,4 +1,4 @@
-//! Readers and writers that end, fail, stop or go on without end, watched, and bytes that are more than a block holds.
+//! Watched readers and writers that end, fail, stop or go on without end, and bytes that do not fit into a block.
 
 use std::alloc::{AllocError, Global};
 use std::io;
@@ -70,7 +70,7 @@ impl Write for FailingWriter {
     }
 }
 
-/// Passes every second call on to what it holds, one byte at a time. A signal interrupts the others.
+/// Passes every second call on to the reader or writer that it holds, one byte at a time. A signal interrupts the others.
 #[derive(Drop)]
 struct Interrupted<T> {
     inner: T,
@@ -85,7 +85,7 @@ impl<T> Interrupted<T> {
         }
     }
 
-    // Whether this call is interrupted.
+    // True where this call is interrupted.
     fn interrupt(&mut self) -> bool {
         self.next_passes = !self.next_passes;
         self.next_passes
@@ -134,7 +134,7 @@ fn many(alloc: Global, count: u32) -> Result<Vec<u8>, AllocError> {
     (0..count).map(|i| (i % 251) as u8).collect(alloc)
 }
 
-// Whether a text is read whole with this limit of bytes.
+// True where a text is read whole with this limit of bytes.
 fn is_read(alloc: Global, text: &[u8], limit: usize) -> Result<bool, ReadFault> {
     let mut reader = Input::new(text);
     let bytes = read_all(alloc, &mut reader, limit)?;

@@ -1,4 +1,4 @@
-//! Reports as a page: its options, in which order its parts stand, and what it has of patterns that grow.
+//! Reports as a page: its options, the order of its parts, and its words about patterns that grow.
 
 use census_page::{PageOptions, Sort, default_options};
 use census_reports::{Form, Reading, write_reports};
@@ -66,7 +66,7 @@ const GROWTH_TABLE: &str = "<tbody>
 </section>
 ";
 
-// Names of codes: one that a pattern has, one that brings markup, and one that no code of the reports has.
+// Names of codes: one of a pattern's code, one with markup in it, and one of a code that no report has.
 const NAMES: &[u8] = b"xs4_33\tblock
 xq4_153\t</b><script>\"'&
 xp2_111\tblinker
@@ -80,7 +80,7 @@ const FIFTEEN: &str = "<code>xp15_4r4z4r4</code>";
 
 const GLIDER: &str = "<code>xq4_153</code>";
 
-// The page by default.
+// The default options of a page.
 const PLAIN: PageOptions<'static> = PageOptions {
     title: b"Census",
     note: b"",
@@ -91,7 +91,7 @@ const PLAIN: PageOptions<'static> = PageOptions {
     patterns: true,
 };
 
-// The page of the codes in an order.
+// The options of a page with the codes in an order.
 macro_rules! sorted {
     ($sort:ident) => {
         PageOptions {
@@ -102,7 +102,7 @@ macro_rules! sorted {
     };
 }
 
-/// Options, a text of names if there is one, a report, parts that their page has one after another, and parts that it has
+/// Options, a text of names if there is one, a report, parts that the page has one after another, and parts that it has
 /// nowhere.
 type Case = (
     PageOptions<'static>,
@@ -245,7 +245,7 @@ const CASES: &[Case] = &[
     ),
 ];
 
-// Whether a text has these parts one after another.
+// True where a text has these parts one after another.
 fn stand_in_order(text: &str, parts: &[&str]) -> bool {
     let mut left = text;
     for part in parts {

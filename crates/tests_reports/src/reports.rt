@@ -1,4 +1,5 @@
-//! Reports from a file and standard input, written as one report, as tables, as what is one object, and as a verdict.
+//! Reports from a file and standard input, written as one report, as tables, as groups of patterns that are one object, and as
+//! a verdict.
 
 use crate::ends::{FailingReader, FailingWriter};
 use census_folders::{ShelfFault, Unread};
@@ -14,7 +15,7 @@ use watched::{Block, Output, Streams, send};
 // The file that has the first report.
 const FILE: &str = "tests_reports_first";
 
-// Why a file that is not there can't be read.
+// The reason why a missing file can't be read.
 const MISSING: Unread = Unread {
     code: Some(2),
     is_file: false,
@@ -189,12 +190,12 @@ macro_rules! table {
 
 const CSV_FORM: Form<'static> = table!(Subject::Patterns, Format::Csv { safe: false }, None);
 
-// Words of the file and of standard input, or of standard input alone.
+// Arguments for the file and standard input, or for standard input alone.
 const BOTH: &[&str] = &[FILE, "-"];
 
 const INPUT: &[&str] = &[];
 
-/// What is made of the texts of words, with this standard input, or why nothing is.
+/// A form, arguments, standard input, and the output that is made of them, or the fault for which there is none.
 type Case = (
     Form<'static>,
     &'static [&'static str],
@@ -277,7 +278,7 @@ const CASES: &[Case] = &[
     ),
 ];
 
-// The same for tables of codes in their orders, and of engines.
+// Cases for tables of codes in their orders, and for tables of engines.
 const TABLES: &[Case] = &[
     (
         table!(RAREST, Format::Csv { safe: false }, None),
@@ -309,13 +310,13 @@ const TABLES: &[Case] = &[
     ),
 ];
 
-// Texts as they are, however long all of them are together.
+// Texts are read as they are, however long all of them are together.
 const PLAIN: Reading = Reading {
     cut: false,
     limit: None,
 };
 
-// What is made of reports, where memory is ample, is what these cases want.
+// The output for reports, where there is enough memory, is that of these cases.
 macro_rules! makes {
     ($rt:ident, $cases:expr $(,)?) => {
         for (form, words, input, wanted) in $cases {
